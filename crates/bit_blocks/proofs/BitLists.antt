@@ -1,0 +1,48 @@
+-- Sums of bit lists, place by place.
+use Rattle.std.proofs.Common.{◌≡◌, ◌≢◌, ℕ, zero, suc, ◌+◌, ◌%◌, ◌<◌, ◌≤◌, List, [], ◌∷◌, length, get_or, refl, ap, sym, ◌∙◌, arith, bit_xor, below_more, get_or-set_other, get_or-set_same}
+use Rattle.std.proofs.Math.ListN.{set}
+use Rattle.bit_blocks.specs.Bits.{AllBits, add_bits}
+
+-- the sum of two bits, as the machine adds them without a carry
+pub bit_xor-bits : (x y : ℕ) → x ≤ 1 → y ≤ 1 → bit_xor x y ≡ (x + y) % 2
+bit_xor-bits zero zero _ _ = refl
+bit_xor-bits zero (suc zero) _ _ = refl
+bit_xor-bits (suc zero) zero _ _ = refl
+bit_xor-bits (suc zero) (suc zero) _ _ = refl
+bit_xor-bits zero (suc (suc y)) _ h = absurd (omega arith)
+bit_xor-bits (suc (suc x)) y h _ = absurd (omega arith)
+bit_xor-bits (suc zero) (suc (suc y)) _ h = absurd (omega arith)
+
+pub bit_xor-at_most_1 : (x y : ℕ) → x ≤ 1 → y ≤ 1 → bit_xor x y ≤ 1
+bit_xor-at_most_1 x y hx hy = rw (bit_xor-bits x y hx hy) (omega arith)
+
+pub length-add_bits : (xs ys : List ℕ) → length xs ≡ length ys → length (add_bits xs ys) ≡ length xs
+length-add_bits [] ys e = refl
+length-add_bits (x ∷ xs) [] e = absurd (omega arith)
+length-add_bits (x ∷ xs) (y ∷ ys) e =
+    let e' : length xs ≡ length ys = omega arith in
+    ap suc (length-add_bits xs ys e')
+
+pub get_or-add_bits : (xs ys : List ℕ) (k : ℕ) → length xs ≡ length ys → k < length xs →
+    get_or (add_bits xs ys) k 0 ≡ (get_or xs k 0 + get_or ys k 0) % 2
+get_or-add_bits [] ys k e h = absurd (omega arith)
+get_or-add_bits (x ∷ xs) [] k e h = absurd (omega arith)
+get_or-add_bits (x ∷ xs) (y ∷ ys) zero e h = refl
+get_or-add_bits (x ∷ xs) (y ∷ ys) (suc k) e h =
+    let e' : length xs ≡ length ys = omega arith in
+    let h' : k < length xs = omega arith in
+    get_or-add_bits xs ys k e' h'
+
+-- one more place of a sum is written
+pub add_bits_more : (sum xs ys : List ℕ) (i : ℕ) → length sum ≡ length xs → length xs ≡ length ys → i < length xs →
+    AllBits xs → AllBits ys →
+    ((k : ℕ) → k < i → get_or sum k 0 ≡ get_or (add_bits xs ys) k 0) →
+    (k : ℕ) → k < i + 1 → get_or (set sum i (bit_xor (get_or xs i 0) (get_or ys i 0))) k 0 ≡ get_or (add_bits xs ys) k 0
+add_bits_more sum xs ys i e e' h bx by below =
+    let within : i < length sum = omega arith in
+    let within' : i < length ys = omega arith in
+    let x = bx i 0 h in
+    let y = by i 0 within' in
+    below_more _ i
+    (λ k lt. let ne : k ≢ i = omega arith in rw get_or-set_other (below k lt))
+    (rw get_or-set_same (bit_xor-bits _ _ x y ∙ sym (get_or-add_bits xs ys i e' h)))

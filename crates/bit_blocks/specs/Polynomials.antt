@@ -1,0 +1,20 @@
+-- Bit lists as polynomials over the field of two elements, the highest power first (GSM 05.03 section 4.1.2).
+use Rattle.std.specs.Prelude.{ℕ, ◌≡◌, ◌<◌, ◌+◌, ◌*◌, ◌%◌, List, [], ◌∷◌, length, slice_index}
+use Rattle.std.proofs.Common.{zero, suc}
+use Rattle.bit_blocks.specs.Bits.{AllBits}
+
+-- the sum of q(i)g(j) over all pairs of places with i + j = m
+abbrev pub product_at : List ℕ → List ℕ → ℕ → ℕ
+product_at [] g m = 0
+product_at (x ∷ q) g zero = x * slice_index g 0
+product_at (x ∷ q) g (suc m) = x * slice_index g (suc m) + product_at q g m
+
+-- x is the product of q and g
+pub record IsProduct (x q g : List ℕ) : Type 0 where
+  pub count : length q + length g ≡ length x + 1
+  pub bits : AllBits q
+  pub each : (m : ℕ) → m < length x → slice_index x m ≡ product_at q g m % 2
+
+-- x is a multiple of g: the product of g and some quotient
+abbrev pub IsMultiple : List ℕ → List ℕ → Type 0
+IsMultiple x g = (q : List ℕ) × IsProduct x q g

@@ -1,0 +1,83 @@
+ghost use Rattle.std.specs.Prelude.{◌≡◌, ℕ, ◌<◌, ◌≤◌, ◌↔◌, List, length, replicate, slice_index, slice_set, IsSome, IfSome};
+ghost use Rattle.bit_blocks.specs.Bits.{AllBits, add_bits};
+
+use std::marker::Model;
+
+/// `N` bits, one octet 0 or 1 for each.
+#[derive(Clone, Copy, PartialEq, Eq, Debug)]
+pub struct Bits<const N: usize> {
+    places: [u8; N],
+}
+
+// Clauses see the list of bits.
+impl<const N: usize> Model for Bits<N> {
+    ghost Value = { List ℕ };
+
+    ghost view = { λ b. b.places };
+
+    ghost invariant = { λ b. AllBits b.places };
+
+    ghost inverse = { λ bits. record { places = bits } };
+}
+
+impl<const N: usize> Bits<N> {
+    /// All bits 0.
+    pub fn zero() -> Bits<N>
+        ensures value { result ≡ replicate N 0 }
+        ensures count { length result ≡ N }
+    {
+        Bits { places: [0; N] }
+    }
+
+    /// The bits of a slice, or `None` where its length is not `N` or an octet is neither 0 nor 1.
+    pub fn from_slice(bits: &[u8]) -> Option<Bits<N>>
+        ensures found { IsSome result ↔ ((length bits.now ≡ N) × AllBits bits.now) }
+        ensures value { IfSome result (λ found. found ≡ bits.now) }
+    {
+        if !bits.iter().all(|bit| *bit <= 1) {
+            return None;
+        }
+        let places: &[u8; N] = bits.try_into().ok()?;
+        Some(Bits { places: *places })
+    }
+
+    /// Bit `i`, the first being bit 0.
+    pub fn get(&self, i: usize) -> u8
+        requires { i < N }
+        ensures value { result ≡ slice_index self.now i }
+        ensures bit { result ≤ 1 }
+    {
+        self.places[i]
+    }
+
+    /// Writes bit `i`; all other bits stay.
+    pub fn set(&mut self, i: usize, bit: u8)
+        requires within { i < N }
+        requires bit { bit ≤ 1 }
+        ensures { self.new ≡ slice_set self.old i bit }
+    {
+        self.places[i] = bit;
+    }
+
+    /// The sum place by place, modulo 2.
+    pub fn xor(&self, other: &Bits<N>) -> Bits<N>
+        ensures value { result ≡ add_bits self.now other.now }
+        ensures count { length result ≡ N }
+        ensures bits { AllBits result }
+    {
+        let mut sum = [0; N];
+        for i in 0..N {
+            sum[i] = self.places[i] ^ other.places[i];
+        }
+        Bits { places: sum }
+    }
+
+    /// The bits as octets 0 or 1.
+    pub fn as_slice(&self) -> &[u8]
+        ensures value { result.now ≡ self.now }
+        ensures count { length result.now ≡ N }
+        ensures bits { AllBits result.now }
+    {
+        &self.places
+    }
+}
