@@ -1,0 +1,6 @@
+//! The top call.
+#![tactic(auto)]
+
+mod words;
+
+pub use words::Words;
