@@ -1,0 +1,62 @@
+-- The coded list, one place more at a time.
+use Rattle.std.proofs.Common.{◌≡◌, ℕ, zero, suc, ◌+◌, ◌-◌, ◌*◌, ◌%◌, ◌<◌, ◌≤◌, true, false, nat_lt, if◌then◌else◌, List, [], ◌∷◌, ◌++◌, length, get_or, take, ap, ap₂, sym, append_assoc, ◌∙◌, arith, bit_xor, inl, inr}
+use Rattle.std.proofs.Math.ListN.{set}
+use Rattle.std.specs.List.{flat_map, range_with_len}
+use Rattle.std.proofs.lemmas.Bool.{cases_lt}
+use Rattle.std.proofs.lemmas.Bool.Decides.{nat_tests}
+use Rattle.std.proofs.lemmas.List.{take_more_set, length-set, get_or_past}
+use Rattle.std.proofs.lemmas.Grind.{flat_map-append}
+use Rattle.bit_blocks.specs.Bits.{AllBits}
+use Rattle.bit_blocks.proofs.BitLists.{bit_xor-bits}
+use Rattle.conv_code.specs.Code.{delayed, first_sum, second_sum, coded_pair}
+
+pub delayed-more : (u : List ℕ) (k d e : ℕ) → e ≡ d + 1 → delayed u (k + 1) e ≡ delayed u k d
+delayed-more u k d e h = grind (arith, nat_tests)
+
+pub delayed-none : (u : List ℕ) (k : ℕ) → delayed u k 0 ≡ get_or u k 0
+delayed-none u k = grind (arith, nat_tests)
+
+-- every place of a list of bits has a bit, past its end too
+pub bit_at-most_1 : (u : List ℕ) (k : ℕ) → AllBits u → get_or u k 0 ≤ 1
+bit_at-most_1 u k bits = elim (cases_lt k (length u)) [ inl within ↦ bits k 0 within | inr past ↦ rw (get_or_past u k 0 past) (omega arith) ]
+
+pub delayed-at_most_1 : (u : List ℕ) (k d : ℕ) → AllBits u → delayed u k d ≤ 1
+delayed-at_most_1 u k d bits =
+    elim (nat_lt k d) as (λ early. (if early then 0 else get_or u (k - d) 0) ≤ 1) [ true ↦ omega arith | false ↦ bit_at-most_1 u (k - d) bits ]
+
+-- the machine's sums without a carry are the two sums
+pub first_by_xor : (x three four : ℕ) → x ≤ 1 → three ≤ 1 → four ≤ 1 →
+    bit_xor (bit_xor x three) four ≡ (x + three + four) % 2
+first_by_xor x three four hx h3 h4 =
+    let part : (x + three) % 2 ≤ 1 = omega arith in
+    rw (bit_xor-bits x three hx h3, bit_xor-bits ((x + three) % 2) four part h4) (omega arith)
+
+pub second_by_xor : (x one three four : ℕ) → x ≤ 1 → one ≤ 1 → three ≤ 1 → four ≤ 1 →
+    bit_xor (bit_xor (bit_xor x three) four) one ≡ (x + one + three + four) % 2
+second_by_xor x one three four hx h1 h3 h4 =
+    let part : (x + three + four) % 2 ≤ 1 = omega arith in
+    rw (first_by_xor x three four hx h3 h4, bit_xor-bits ((x + three + four) % 2) one part h1) (omega arith)
+
+pub range_more : (a n last : ℕ) → a + n ≡ last → range_with_len a (n + 1) ≡ range_with_len a n ++ last ∷ []
+range_more a zero last e = let same : a ≡ last = omega arith in ap (λ x. x ∷ []) same
+range_more a (suc n) last e =
+    let longer : suc n + 1 ≡ suc (n + 1) = omega arith in
+    let e' : a + 1 + n ≡ last = omega arith in
+    rw longer (ap (λ rest. a ∷ rest) (range_more (a + 1) n last e'))
+
+-- one more place is written
+pub coded_more : (u out : List ℕ) (k a b : ℕ) → 2 * k + 1 < length out →
+    take (2 * k) out ≡ flat_map (coded_pair u) (range_with_len 0 k) → a ≡ first_sum u k → b ≡ second_sum u k →
+    take (2 * (k + 1)) (set (set out (2 * k) a) (2 * k + 1) b) ≡ flat_map (coded_pair u) (range_with_len 0 (k + 1))
+coded_more u out k a b within before first second =
+    let half : 2 * k < length out = omega arith in
+    let whole : 2 * k + 1 < length (set out (2 * k) a) = rw length-set within in
+    let at : 2 * (k + 1) ≡ (2 * k + 1) + 1 = omega arith in
+    ap (λ n. take n (set (set out (2 * k) a) (2 * k + 1) b)) at
+    ∙ take_more_set (set out (2 * k) a) (2 * k + 1) b whole
+    ∙ ap (λ front. front ++ b ∷ []) (take_more_set out (2 * k) a half)
+    ∙ append_assoc (take (2 * k) out) (a ∷ []) (b ∷ [])
+    ∙ ap (λ pair. take (2 * k) out ++ pair) (ap₂ (λ x y. x ∷ y ∷ []) first second)
+    ∙ ap (λ front. front ++ coded_pair u k) before
+    ∙ sym (flat_map-append (coded_pair u) (range_with_len 0 k) (k ∷ []))
+    ∙ ap (flat_map (coded_pair u)) (sym (range_more 0 k k (omega arith)))
