@@ -1,7 +1,12 @@
 -- How well a coded list fits soft values, and which information list fits best (this project's own rule; GSM 05.03 leaves decoding open).
 -- A soft value is positive for a 0, negative for a 1, and the greater the surer.
-use Rattle.std.specs.Prelude.{ℕ, ◌≡◌, ◌≢◌, ◌<◌, ◌*◌, ◌⊎◌, ℤ, pos, ◌+ℤ◌, ◌-ℤ◌, ◌*ℤ◌, ◌≤ℤ◌, ◌<ℤ◌, List, [], ◌∷◌, length, slice_index, slice_index_or}
+use Rattle.std.specs.Prelude.{ℕ, ◌≡◌, ◌≢◌, ◌<◌, ◌*◌, ◌⊎◌, ℤ, pos, negsuc, ◌+ℤ◌, ◌-ℤ◌, ◌*ℤ◌, ◌≤ℤ◌, ◌<ℤ◌, List, [], ◌∷◌, length, slice_index, slice_index_or}
+use Rattle.std.specs.List.{All}
 use Rattle.conv_code.specs.Code.{coded, IsInformation}
+
+-- every value is from -127 to 127: none is -128
+abbrev pub AllSoft : List ℤ → Type 0
+AllSoft s = All (λ value. value ≢ negsuc 127) s
 
 -- what a soft value counts for a bit: itself for 0, its negative for 1
 abbrev pub agreement : ℤ → ℕ → ℤ
