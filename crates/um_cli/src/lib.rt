@@ -1,6 +1,8 @@
 //! The top call.
 #![tactic(auto)]
 
+mod top;
 mod words;
 
+pub use top::{Status, run};
 pub use words::Words;
