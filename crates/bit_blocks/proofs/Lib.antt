@@ -1,2 +1,4 @@
 pub mod BitLists
+pub mod Multiples
 pub mod OctetLists
+pub mod Sums

@@ -1,0 +1,217 @@
+-- What the multiples of a bit polynomial are closed under, and which of them begin with zeros.
+use Rattle.std.proofs.Common.{◌≡◌, ℕ, zero, suc, ◌+◌, ◌-◌, ◌*◌, ◌%◌, ◌≤◌, ◌<◌, List, [], ◌∷◌, ◌++◌, length, replicate, get_or, refl, ap, sym, ◌∙◌, arith, append_assoc, below_more}
+use Rattle.std.proofs.lemmas.List.{length-replicate, get_or-replicate, length-append, get_or_past, append-nil, get_or_append_left, get_or-append-add}
+use Rattle.std.proofs.lemmas.List.Elements.{All-replicate, All-append, All-cons, All-head, All-tail, All-nil}
+use Rattle.std.proofs.lemmas.Nat.{mul-mod_first}
+use Rattle.std.proofs.lemmas.Grind.{same_number_lists}
+use Rattle.std.proofs.Math.Seq.{get_or-append_seam}
+use Rattle.bit_blocks.specs.Bits.{AllBits, add_bits}
+use Rattle.bit_blocks.specs.Polynomials.{product_at, IsProduct, IsMultiple}
+use Rattle.bit_blocks.proofs.BitLists.{length-add_bits, get_or-add_bits}
+use Rattle.bit_blocks.proofs.Sums.{AllBits-add_bits, add_bits-append, add_bits_self, add_bits-zeros, same_from_zero_sum}
+
+product_at-zeros : (n : ℕ) (g : List ℕ) (m : ℕ) → product_at (replicate n 0) g m ≡ 0
+product_at-zeros zero g m = refl
+product_at-zeros (suc n) g zero = omega arith
+product_at-zeros (suc n) g (suc m) = omega (arith, product_at-zeros n g m)
+
+-- one term of a product of a sum
+term_of_sum : (x y k : ℕ) → ((x + y) % 2 * k) % 2 ≡ (x * k + y * k) % 2
+term_of_sum x y k = mul-mod_first (x + y) k 2 ∙ omega arith
+
+product_at-add_bits : (q r g : List ℕ) (m : ℕ) → length q ≡ length r →
+    product_at (add_bits q r) g m % 2 ≡ (product_at q g m + product_at r g m) % 2
+product_at-add_bits [] [] g m e = refl
+product_at-add_bits [] (y ∷ r) g m e = absurd (omega arith)
+product_at-add_bits (x ∷ q) [] g m e = absurd (omega arith)
+product_at-add_bits (x ∷ q) (y ∷ r) g zero e = term_of_sum x y (get_or g 0 0)
+product_at-add_bits (x ∷ q) (y ∷ r) g (suc m) e =
+    let e' : length q ≡ length r = omega arith in
+    let term = term_of_sum x y (get_or g (suc m) 0) in
+    let rest = product_at-add_bits q r g m e' in
+    omega arith
+
+-- past its last place a product is 0
+product_at_past : (q g : List ℕ) (m : ℕ) → length q + length g ≤ m + 1 → product_at q g m ≡ 0
+product_at_past [] g m h = refl
+product_at_past (x ∷ q) [] zero h = omega arith
+product_at_past (x ∷ q) (y ∷ g) zero h = absurd (omega arith)
+product_at_past (x ∷ q) g (suc m) h =
+    let past : length g ≤ suc m = omega arith in
+    let rest = product_at_past q g m (omega arith) in
+    rw (get_or_past g (suc m) 0 past, rest) (omega arith)
+
+product_at-append_zero : (q g : List ℕ) (m : ℕ) → product_at (q ++ 0 ∷ []) g m ≡ product_at q g m
+product_at-append_zero [] g zero = omega arith
+product_at-append_zero [] g (suc m) = omega arith
+product_at-append_zero (x ∷ q) g zero = refl
+product_at-append_zero (x ∷ q) g (suc m) = ap (λ rest. x * get_or g (suc m) 0 + rest) (product_at-append_zero q g m)
+
+get_or-zeros : (n m : ℕ) → get_or (replicate n 0) m 0 ≡ 0 % 2
+get_or-zeros zero m = refl
+get_or-zeros (suc n) zero = refl
+get_or-zeros (suc n) (suc m) = get_or-zeros n m
+
+once : (g : List ℕ) (m : ℕ) → get_or g m 0 ≤ 1 → get_or g m 0 ≡ product_at (1 ∷ []) g m % 2
+once g zero h = omega arith
+once g (suc m) h = omega arith
+
+added : (a b c d : ℕ) → a ≡ c % 2 → b ≡ d % 2 → (a + b) % 2 ≡ (c + d) % 2
+added a b c d e e' = omega arith
+
+shifted : (x q g : List ℕ) (m : ℕ) → IsProduct x q g → m < length x + 1 → get_or (x ++ 0 ∷ []) m 0 ≡ product_at q g m % 2
+shifted x q g m qx lt =
+    let past = product_at_past q g (length x) (omega (arith, qx.count)) in
+    below_more (λ k. get_or (x ++ 0 ∷ []) k 0 ≡ product_at q g k % 2) (length x)
+    (λ k within. get_or_append_left x (0 ∷ []) 0 k within ∙ qx.each k within)
+    (get_or-append_seam x 0 [] 0 ∙ rw past refl)
+    m lt
+
+lower : (x q g : List ℕ) → IsProduct x q g → (m : ℕ) → m < length (0 ∷ x) → get_or (0 ∷ x) m 0 ≡ product_at (0 ∷ q) g m % 2
+lower x q g qx zero lt = omega arith
+lower x q g qx (suc m) lt =
+    let lt' : m < length x = omega arith in
+    let here = qx.each m lt' in
+    omega arith
+
+pub IsMultiple-zeros : (n : ℕ) (g : List ℕ) → length g ≤ n + 1 → IsMultiple (replicate n 0) g
+IsMultiple-zeros n g h = (
+  replicate (n + 1 - length g) 0,
+  record {
+    count = simp length-replicate (omega arith);
+    bits = All-replicate (λ bit. bit ≤ 1) (n + 1 - length g) 0 (omega arith);
+    each = λ m lt. rw (product_at-zeros (n + 1 - length g) g m) (get_or-zeros n m);
+  },
+)
+
+pub IsMultiple_self : (g : List ℕ) → AllBits g → IsMultiple g g
+IsMultiple_self g b = (
+  1 ∷ [],
+  record {
+    count = omega arith;
+    bits = All-cons (λ bit. bit ≤ 1) 1 [] (omega arith) (All-nil (λ bit. bit ≤ 1));
+    each = λ m lt. once g m (b m 0 lt);
+  },
+)
+
+pub IsMultiple-add_bits : (x y g : List ℕ) → length x ≡ length y → IsMultiple x g → IsMultiple y g → IsMultiple (add_bits x y) g
+IsMultiple-add_bits x y g same (q, qx) (r, ry) =
+    let e : length q ≡ length r = omega (arith, qx.count, ry.count) in (
+      add_bits q r,
+      record {
+        count = simp (length-add_bits q r e, length-add_bits x y same) qx.count;
+        bits = AllBits-add_bits q r;
+        each = λ m lt.
+            let m<x : m < length x = omega (arith, length-add_bits x y same) in
+            let m<y : m < length y = omega arith in
+            get_or-add_bits x y m same m<x
+            ∙ added _ _ _ _ (qx.each m m<x) (ry.each m m<y)
+            ∙ sym (product_at-add_bits q r g m e);
+      },
+    )
+
+-- a factor D
+pub IsMultiple-append_zero : (x g : List ℕ) → IsMultiple x g → IsMultiple (x ++ 0 ∷ []) g
+IsMultiple-append_zero x g (q, qx) = (
+  q ++ 0 ∷ [],
+  record {
+    count = simp length-append (omega (arith, qx.count));
+    bits = All-append (λ bit. bit ≤ 1) q (0 ∷ []) qx.bits (All-replicate (λ bit. bit ≤ 1) 1 0 (omega arith));
+    each = λ m lt. rw (product_at-append_zero q g m) (shifted x q g m qx (simp length-append at lt));
+  },
+)
+
+pub IsMultiple-append_zeros : (n : ℕ) (x g : List ℕ) → IsMultiple x g → IsMultiple (x ++ replicate n 0) g
+IsMultiple-append_zeros zero x g h = rw append-nil h
+IsMultiple-append_zeros (suc n) x g h =
+    rw (← append_assoc x (0 ∷ []) (replicate n 0)) (IsMultiple-append_zeros n (x ++ 0 ∷ []) g (IsMultiple-append_zero x g h))
+
+IsMultiple-cons_zero : (x g : List ℕ) → IsMultiple x g → IsMultiple (0 ∷ x) g
+IsMultiple-cons_zero x g (q, qx) = (
+  0 ∷ q,
+  record {
+    count = omega (arith, qx.count);
+    bits = All-cons (λ bit. bit ≤ 1) 0 q (omega arith) qx.bits;
+    each = lower x q g qx;
+  },
+)
+
+-- zeros before the highest power
+pub IsMultiple-zeros_append : (n : ℕ) (x g : List ℕ) → IsMultiple x g → IsMultiple (replicate n 0 ++ x) g
+IsMultiple-zeros_append zero x g h = h
+IsMultiple-zeros_append (suc n) x g h = IsMultiple-cons_zero (replicate n 0 ++ x) g (IsMultiple-zeros_append n x g h)
+
+without_zero_term : (x k p : ℕ) → x ≡ 0 → 0 ≡ (x * k + p) % 2 → 0 ≡ p % 2
+without_zero_term zero k p e h = omega arith
+without_zero_term (suc x) k p e h = absurd (omega arith)
+
+-- zeros at the first places of a product leave no power in the quotient
+quotient_of_zeros : (k : ℕ) (q t : List ℕ) → length q ≡ k → AllBits q →
+    ((m : ℕ) → m < k → 0 ≡ product_at q (1 ∷ t) m % 2) → q ≡ replicate k 0
+quotient_of_zeros zero [] t e b h = refl
+quotient_of_zeros zero (x ∷ q) t e b h = absurd (omega arith)
+quotient_of_zeros (suc k) [] t e b h = absurd (omega arith)
+quotient_of_zeros (suc k) (x ∷ q) t e b h =
+    let head : x ≤ 1 = All-head (λ bit. bit ≤ 1) x q b in
+    let first : 0 ≡ x * 1 % 2 = h 0 (omega arith) in
+    let none : x ≡ 0 = omega arith in
+    let e' : length q ≡ k = omega arith in
+    ap (λ y. y ∷ q) none ∙ ap (λ rest. 0 ∷ rest)
+    (quotient_of_zeros k q t e' (All-tail (λ bit. bit ≤ 1) x q b)
+    (λ m lt. without_zero_term x (get_or t m 0) (product_at q (1 ∷ t) m) none (h (suc m) (omega arith))))
+
+-- a multiple has no power below those of its generator alone
+pub zeros_of_multiple : (k : ℕ) (r t : List ℕ) → length r ≡ length t → IsMultiple (replicate k 0 ++ r) (1 ∷ t) →
+    r ≡ replicate (length r) 0
+zeros_of_multiple k r t e (q, qx) =
+    let count : length (replicate k 0 ++ r) ≡ k + length r = simp (length-append, length-replicate) in
+    let e' : length q ≡ k = omega (arith, qx.count) in
+    let none : q ≡ replicate k 0 = quotient_of_zeros k q t e' qx.bits
+    (λ m lt. sym (get_or-replicate k m 0 0 lt)
+    ∙ sym (get_or_append_left (replicate k 0) r 0 m (simp length-replicate lt))
+    ∙ qx.each m (omega arith)) in
+    same_number_lists r (replicate (length r) 0) (simp length-replicate)
+    (λ j lt. sym (get_or-append-add (replicate k 0) r j 0)
+    ∙ simp length-replicate (qx.each (k + j) (omega arith))
+    ∙ ap (λ p. product_at p (1 ∷ t) (k + j) % 2) none
+    ∙ ap (λ p. p % 2) (product_at-zeros k (1 ∷ t) (k + j))
+    ∙ sym (get_or-replicate (length r) j 0 0 lt))
+
+-- one list of as many bits as the generator has below its highest power completes a list to a multiple
+pub same_remainder : (front r s t : List ℕ) → AllBits r → AllBits s → length r ≡ length t → length s ≡ length t →
+    IsMultiple (front ++ r) (1 ∷ t) → IsMultiple (front ++ s) (1 ∷ t) → r ≡ s
+same_remainder front r s t br bs er es mr ms =
+    let same : length (front ++ r) ≡ length (front ++ s) = simp length-append (omega arith) in
+    let e : length r ≡ length s = omega arith in
+    let sum : IsMultiple (add_bits (front ++ r) (front ++ s)) (1 ∷ t) = IsMultiple-add_bits (front ++ r) (front ++ s) (1 ∷ t) same mr ms in
+    let split : add_bits (front ++ r) (front ++ s) ≡ replicate (length front) 0 ++ add_bits r s =
+    add_bits-append front front r s refl ∙ ap (λ zeros. zeros ++ add_bits r s) (add_bits_self front) in
+    let count : length (add_bits r s) ≡ length r = length-add_bits r s e in
+    let zeros = zeros_of_multiple (length front) (add_bits r s) t (omega arith) (rw (← split) sum) in
+    same_from_zero_sum r s (length r) br bs refl (sym e) (zeros ∙ ap (λ n. replicate n 0) count)
+
+-- A step of a division, by as many places as `out` has. What completes the places so far goes on: its first places,
+-- and a multiple that begins with their sum with the next places is added.
+pub divided_more : (front out rest next start tail g : List ℕ) → AllBits front → length start ≡ length out →
+    length tail ≡ length rest + length out → add_bits out start ≡ next →
+    IsMultiple (front ++ (out ++ rest)) g → IsMultiple (start ++ tail) g →
+    IsMultiple ((front ++ next) ++ add_bits (rest ++ replicate (length out) 0) tail) g
+divided_more front out rest next start tail g bits es et sum before multiple =
+    let zeros = replicate (length out) 0 in
+    let moved : IsMultiple (front ++ (out ++ (rest ++ zeros))) g =
+    rw (← append_assoc out rest zeros, ← append_assoc front (out ++ rest) zeros)
+    (IsMultiple-append_zeros (length out) (front ++ (out ++ rest)) g before) in
+    let padded : IsMultiple (replicate (length front) 0 ++ (start ++ tail)) g =
+    IsMultiple-zeros_append (length front) (start ++ tail) g multiple in
+    let e : length (out ++ (rest ++ zeros)) ≡ length (start ++ tail) = simp (length-append, length-replicate) (omega arith) in
+    let e' : length (rest ++ zeros) ≡ length tail = simp (length-append, length-replicate) (omega arith) in
+    let same : length (front ++ (out ++ (rest ++ zeros))) ≡ length (replicate (length front) 0 ++ (start ++ tail)) =
+    simp (length-append, length-replicate) (omega arith) in
+    let parts : add_bits (front ++ (out ++ (rest ++ zeros))) (replicate (length front) 0 ++ (start ++ tail))
+    ≡ (front ++ next) ++ add_bits (rest ++ zeros) tail =
+    add_bits-append front (replicate (length front) 0) _ _ (simp length-replicate)
+    ∙ ap (λ begin. begin ++ add_bits (out ++ (rest ++ zeros)) (start ++ tail)) (add_bits-zeros front (length front) bits refl)
+    ∙ ap (λ end. front ++ end) (add_bits-append out start (rest ++ zeros) tail (sym es))
+    ∙ ap (λ middle. front ++ (middle ++ add_bits (rest ++ zeros) tail)) sum
+    ∙ sym (append_assoc front next (add_bits (rest ++ zeros) tail)) in
+    rw (← parts) (IsMultiple-add_bits _ _ g same moved padded)

@@ -1,0 +1,4 @@
+pub mod ParityParts
+pub mod RegisterBits
+pub mod Steps
+pub mod WorkedWords

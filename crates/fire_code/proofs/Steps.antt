@@ -1,0 +1,112 @@
+-- One step of a division by a register.
+use Rattle.std.proofs.Common.{◌≡◌, ℕ, zero, suc, ◌+◌, ◌*◌, ◌/◌, ◌%◌, ◌^◌, ◌≤◌, ◌<◌, List, [], ◌∷◌, ◌++◌, length, replicate, refl, ap, sym, ◌∙◌, arith, bit_xor, bit_and, subst, get_or, below_more, ◌≢◌, take}
+use Rattle.std.proofs.Math.ListN.{set}
+use Rattle.bit_blocks.proofs.BitLists.{bit_xor-bits, get_or-add_bits, length-add_bits}
+use Rattle.std.proofs.lemmas.Grind.{same_number_lists}
+use Rattle.std.proofs.lemmas.Nat.{and_mask, and_le_r, mul-le, xor_lt}
+use Rattle.std.proofs.lemmas.Nat.Bits.{shr_and_one}
+use Rattle.std.proofs.lemmas.List.{get_or-replicate, get_or-set_other, get_or-set_same, length-set, length-replicate, take_more}
+use Rattle.std.proofs.lemmas.List.Elements.{All-cons, All-set, All-take}
+use Rattle.bit_blocks.specs.Bits.{AllBits, add_bits}
+use Rattle.bit_blocks.specs.Polynomials.{IsMultiple}
+use Rattle.bit_blocks.proofs.Multiples.{IsMultiple_self, IsMultiple-zeros, divided_more}
+use Rattle.fire_code.specs.Registers.{register_bits}
+use Rattle.fire_code.proofs.RegisterBits.{length-register_bits, get_or-register_bits, AllBits-register_bits, register_bits-zero, register_bits_beyond, register_bits-xor, register_bits-suc, half_below, lowest_of_xor}
+
+-- the generator or nothing
+taken_multiple : (n carry taps : ℕ) → carry ≤ 1 → IsMultiple (carry ∷ register_bits n (carry * taps)) (1 ∷ register_bits n taps)
+taken_multiple n zero taps h =
+    let g = 1 ∷ register_bits n taps in
+    let nothing : 0 * taps ≡ 0 = omega arith in
+    let none : register_bits n (0 * taps) ≡ replicate n 0 = ap (λ x. register_bits n x) nothing ∙ register_bits-zero n in
+    let room : length g ≤ suc n + 1 = omega (arith, length-register_bits n taps) in
+    subst (λ rest. IsMultiple (0 ∷ rest) g) (sym none) (IsMultiple-zeros (suc n) g room)
+taken_multiple n (suc zero) taps h =
+    let g = 1 ∷ register_bits n taps in
+    let once : 1 * taps ≡ taps = omega arith in
+    let bits = All-cons (λ bit. bit ≤ 1) 1 (register_bits n taps) (omega arith) (AllBits-register_bits n taps) in
+    subst (λ x. IsMultiple (1 ∷ register_bits n x) g) (sym once) (IsMultiple_self g bits)
+taken_multiple n (suc (suc carry)) taps h = absurd (omega arith)
+
+pub carry_is : (register bit : ℕ) → bit ≤ 1 → bit_and (bit_xor register bit) 1 ≡ (register % 2 + bit) % 2
+carry_is register bit h = and_mask (bit_xor register bit) 1 ∙ omega (arith, lowest_of_xor register bit)
+
+cancelled : (lowest bit carry : ℕ) → bit ≤ 1 → carry ≡ (lowest + bit) % 2 → (lowest + carry) % 2 ≡ bit
+cancelled lowest bit carry h e = omega arith
+
+-- one place more
+pub remainder_more : (n : ℕ) (front : List ℕ) (register bit taps : ℕ) → 0 < n → AllBits front → register < 2 ^ n → bit ≤ 1 →
+    IsMultiple (front ++ register_bits n register) (1 ∷ register_bits n taps) →
+    IsMultiple ((front ++ bit ∷ []) ++ register_bits n (bit_xor (register / 2) (bit_and (bit_xor register bit) 1 * taps))) (1 ∷ register_bits n taps)
+remainder_more zero front register bit taps positive bits within is_bit before = absurd (omega arith)
+remainder_more (suc n) front register bit taps positive bits within is_bit before =
+    let g = 1 ∷ register_bits (suc n) taps in
+    let carry = bit_and (bit_xor register bit) 1 in
+    let half = register / 2 in
+    let sum = carry_is register bit is_bit in
+    let below : half < 2 ^ n = half_below n register within in
+    let split : register_bits (suc n) register ≡ register % 2 ∷ register_bits n half = register_bits-suc n register in
+    let next : add_bits (register % 2 ∷ []) (carry ∷ []) ≡ bit ∷ [] = ap (λ b. b ∷ []) (cancelled (register % 2) bit carry is_bit sum) in
+    let count : length (register_bits (suc n) (carry * taps)) ≡ length (register_bits n half) + 1 =
+    length-register_bits (suc n) (carry * taps) ∙ omega (arith, length-register_bits n half) in
+    let rest : add_bits (register_bits n half ++ replicate 1 0) (register_bits (suc n) (carry * taps)) ≡ register_bits (suc n) (bit_xor half (carry * taps)) =
+    ap (λ r. add_bits r (register_bits (suc n) (carry * taps))) (sym (register_bits_beyond n 1 (suc n) half (omega arith) below))
+    ∙ sym (register_bits-xor (suc n) half (carry * taps)) in
+    let divided = divided_more front (register % 2 ∷ []) (register_bits n half) (bit ∷ []) (carry ∷ []) (register_bits (suc n) (carry * taps)) g
+    bits refl count next (subst (λ r. IsMultiple (front ++ r) g) split before) (taken_multiple (suc n) carry taps (omega arith)) in
+    subst (λ r. IsMultiple ((front ++ bit ∷ []) ++ r) g) rest divided
+
+-- the same along a list
+pub remainder_along : (n : ℕ) (bits : List ℕ) (i register taps : ℕ) → 0 < n → i < length bits → AllBits bits → register < 2 ^ n →
+    IsMultiple (take i bits ++ register_bits n register) (1 ∷ register_bits n taps) →
+    IsMultiple (take (i + 1) bits ++ register_bits n (bit_xor (register / 2) (bit_and (bit_xor register (get_or bits i 0)) 1 * taps))) (1 ∷ register_bits n taps)
+remainder_along n bits i register taps positive here all within before =
+    let next = register_bits n (bit_xor (register / 2) (bit_and (bit_xor register (get_or bits i 0)) 1 * taps)) in
+    subst (λ front. IsMultiple (front ++ next) (1 ∷ register_bits n taps)) (sym (take_more bits i 0 here))
+    (remainder_more n (take i bits) register (get_or bits i 0) taps positive (All-take (λ bit. bit ≤ 1) i bits all) within (all i 0 here) before)
+
+pub remainder_within : (n register bit taps : ℕ) → register < 2 ^ n → taps < 2 ^ n →
+    bit_xor (register / 2) (bit_and (bit_xor register bit) 1 * taps) < 2 ^ n
+remainder_within n register bit taps within small =
+    let carry : bit_and (bit_xor register bit) 1 * taps ≤ 1 * taps = mul-le _ _ 1 taps (and_le_r (bit_xor register bit) 1) (omega arith) in
+    xor_lt n (register / 2) (bit_and (bit_xor register bit) 1 * taps) (omega arith) (omega arith)
+
+turned_bit : (register i : ℕ) → bit_xor (bit_and (register / 2 ^ i) 1) 1 ≡ (register / 2 ^ i % 2 + 1) % 2
+turned_bit register i =
+    bit_xor-bits (bit_and (register / 2 ^ i) 1) 1 (and_le_r (register / 2 ^ i) 1) (omega arith)
+    ∙ ap (λ bit. (bit + 1) % 2) (shr_and_one register i)
+
+-- the places of a register, turned over
+turned_place : (n register i : ℕ) → i < n →
+    get_or (add_bits (register_bits n register) (replicate n 1)) i 0 ≡ (register / 2 ^ i % 2 + 1) % 2
+turned_place n register i within =
+    let count = length-register_bits n register in
+    get_or-add_bits (register_bits n register) (replicate n 1) i (count ∙ sym (length-replicate n 1)) (omega arith)
+    ∙ ap (λ bit. (bit + get_or (replicate n 1) i 0) % 2) (get_or-register_bits n register i within)
+    ∙ ap (λ one. (register / 2 ^ i % 2 + one) % 2) (get_or-replicate n i 1 0 within)
+
+pub turned_more : (n register i : ℕ) (bits next : List ℕ) → i < n → length bits ≡ n → AllBits bits →
+    ((k : ℕ) → k < i → get_or bits k 0 ≡ get_or (add_bits (register_bits n register) (replicate n 1)) k 0) →
+    next ≡ set bits i (bit_xor (bit_and (register / 2 ^ i) 1) 1) →
+    (length next ≡ n) × AllBits next ×
+    ((k : ℕ) → k < i + 1 → get_or next k 0 ≡ get_or (add_bits (register_bits n register) (replicate n 1)) k 0)
+turned_more n register i bits next within count all below is =
+    let here : i < length bits = omega arith in
+    let bit : bit_xor (bit_and (register / 2 ^ i) 1) 1 ≤ 1 = omega (arith, turned_bit register i) in
+    rw is (
+      simp length-set count,
+      All-set (λ b. b ≤ 1) bits i _ bit all,
+      below_more _ i
+          (λ k lt. let other : k ≢ i = omega arith in rw get_or-set_other (below k lt))
+          (get_or-set_same bits i _ 0 here ∙ turned_bit register i ∙ sym (turned_place n register i within)),
+    )
+
+pub turned_all : (n register : ℕ) (bits : List ℕ) → length bits ≡ n →
+    ((k : ℕ) → k < n → get_or bits k 0 ≡ get_or (add_bits (register_bits n register) (replicate n 1)) k 0) →
+    bits ≡ add_bits (register_bits n register) (replicate n 1)
+turned_all n register bits count each =
+    let all : length (add_bits (register_bits n register) (replicate n 1)) ≡ n =
+    length-add_bits (register_bits n register) (replicate n 1) (length-register_bits n register ∙ sym (length-replicate n 1))
+    ∙ length-register_bits n register in
+    same_number_lists bits (add_bits (register_bits n register) (replicate n 1)) (count ∙ sym all)
+    (λ k lt. each k (omega arith))

@@ -1,0 +1,80 @@
+-- The definitions at worked values.
+use Rattle.std.proofs.Common.{◌≡◌, ℕ, zero, suc, ◌+◌, ◌%◌, List, [], ◌∷◌, ◌++◌, replicate, refl, arith, ap, subst, get_or}
+use Rattle.bit_blocks.specs.Bits.{AllBits, add_bits}
+use Rattle.bit_blocks.specs.Polynomials.{product_at}
+use Rattle.bit_blocks.proofs.Sums.{AllBits-add_bits}
+use Rattle.bit_blocks.proofs.Multiples.{IsMultiple_self, IsMultiple-zeros, IsMultiple-zeros_append}
+use Rattle.fire_code.specs.Words.{g40, g6, g10, IsXcchWord, IsRachWord, IsSchWord}
+use Rattle.fire_code.proofs.ParityParts.{same_rach_parity}
+
+-- the places m, m + 1 and so on of a product, modulo 2
+product_from : List ℕ → List ℕ → ℕ → ℕ → List ℕ
+product_from q g m zero = []
+product_from q g m (suc n) = product_at q g m % 2 ∷ product_from q g (m + 1) n
+
+-- (D^23 + 1)(D^17 + D^3 + 1)
+product_of_g40 :
+    product_from (1 ∷ replicate 22 0 ++ 1 ∷ []) (1 ∷ replicate 13 0 ++ 1 ∷ 0 ∷ 0 ∷ 1 ∷ []) 0 41 ≡ g40
+unfolding product_from
+product_of_g40 = refl
+
+-- a literal is a list of bits where adding zeros to it changes nothing
+checked_bits : (n : ℕ) (xs : List ℕ) → add_bits xs (replicate n 0) ≡ xs → AllBits xs
+checked_bits n xs same = subst AllBits same (AllBits-add_bits xs (replicate n 0))
+
+-- eight zeros and six ones are a word where the code is zeros
+zeros_of_rach : IsRachWord (replicate 8 0 ++ replicate 6 1) (replicate 6 0)
+zeros_of_rach = record {
+  count = refl;
+  bits = checked_bits 14 (replicate 8 0 ++ replicate 6 1) refl;
+  code_count = refl;
+  code_bits = checked_bits 6 (replicate 6 0) refl;
+  multiple = IsMultiple-zeros 14 g6 (omega arith);
+}
+
+-- fourteen zeros are one where it is ones, and none where it is zeros
+zeros_of_rach_under_ones : IsRachWord (replicate 14 0) (replicate 6 1)
+zeros_of_rach_under_ones = record {
+  count = refl;
+  bits = checked_bits 14 (replicate 14 0) refl;
+  code_count = refl;
+  code_bits = checked_bits 6 (replicate 6 1) refl;
+  multiple = IsMultiple-zeros 14 g6 (omega arith);
+}
+
+not_under_zeros : IsRachWord (replicate 14 0) (replicate 6 0) → ⊥
+not_under_zeros word =
+    let zeros : List ℕ = 0 ∷ 0 ∷ 0 ∷ 0 ∷ 0 ∷ 0 ∷ [] in
+    let ones : List ℕ = 1 ∷ 1 ∷ 1 ∷ 1 ∷ 1 ∷ 1 ∷ [] in
+    let same : zeros ≡ ones =
+    same_rach_parity (replicate 8 0) zeros zeros zeros refl (checked_bits 8 (replicate 8 0) refl) refl
+    (checked_bits 6 zeros refl) (IsMultiple-zeros 14 g6 (omega arith)) word in
+    let first : 0 ≡ 1 = ap (λ (xs : List ℕ). get_or xs 0 0) same in
+    omega (arith, first)
+
+zeros_of_sch : IsSchWord (replicate 25 0 ++ replicate 10 1)
+zeros_of_sch = record {
+  count = refl;
+  bits = checked_bits 35 (replicate 25 0 ++ replicate 10 1) refl;
+  multiple = IsMultiple-zeros 35 g10 (omega arith);
+}
+
+zeros_of_xcch : IsXcchWord (replicate 184 0 ++ replicate 40 1)
+zeros_of_xcch = record {
+  count = refl;
+  bits = checked_bits 224 (replicate 184 0 ++ replicate 40 1) refl;
+  multiple = IsMultiple-zeros 224 g40 (omega arith);
+}
+
+-- where the last bit alone is 1, the parity is all ones but the places 13, 16, 22, 36 and 39
+last_of_xcch_word : List ℕ
+last_of_xcch_word =
+    replicate 183 0 ++ 1 ∷ replicate 13 1 ++ 0 ∷ 1 ∷ 1 ∷ 0 ∷ replicate 5 1 ++ 0 ∷ replicate 13 1 ++ 0 ∷ 1 ∷ 1 ∷ 0 ∷ []
+
+last_of_xcch : IsXcchWord last_of_xcch_word
+unfolding last_of_xcch_word
+last_of_xcch = record {
+  count = refl;
+  bits = checked_bits 224 last_of_xcch_word refl;
+  multiple = IsMultiple-zeros_append 183 g40 g40 (IsMultiple_self g40 (checked_bits 41 g40 refl));
+}
