@@ -1,0 +1,155 @@
+//! A source over any reader and a sink over any writer.
+ghost use Rattle.std.specs.Prelude.{◌≡◌, ◌≤◌, OnOk, OnErr};
+ghost use Rattle.std.specs.Io.{ReadsAtMost, WritesAtMost};
+ghost use Rattle.std.specs.Io.KnownBytes.{ReadConsumes, WriteAppends};
+ghost use Rattle.um_io.specs.Outside.{raised, Rose, TakesSome};
+
+use crate::outside::{Failed, Sink, Source, fault};
+use std::io::{Read, Write};
+
+/// A source over a reader. An error of the reader is a fault.
+///
+/// It tells what is left where the reader tells it.
+#[derive(Debug, Drop)]
+pub struct ReadSource<R> {
+    reader: R,
+    faults: u64,
+}
+
+impl<R: Read> ReadSource<R> {
+    pub fn new(reader: R) -> Self
+        ensures left { ⟦<ReadSource<R> as Source>⟧.left result ≡ R.remaining reader }
+        ensures faults { ⟦<ReadSource<R> as Source>⟧.faults result ≡ 0 }
+    {
+        ReadSource { reader, faults: 0 }
+    }
+}
+
+impl<R: Read> Source for ReadSource<R> {
+    ghost left = { λ s. R.remaining s.reader };
+
+    ghost faults = { λ s. s.faults };
+
+    fn take(&mut self, into: &mut [u8]) -> Result<usize, Failed>
+        ensures bound { ReadsAtMost result into.new }
+        ensures octets { ReadConsumes (⟦<ReadSource<R> as Source>⟧.left self.old) (⟦<ReadSource<R> as Source>⟧.left self.new) result into.new }
+        ensures later { ⟦<ReadSource<R> as Source>⟧.faults self.old ≤ ⟦<ReadSource<R> as Source>⟧.faults self.new }
+        ensures cause { OnErr result (Rose (⟦<ReadSource<R> as Source>⟧.faults self.old) (⟦<ReadSource<R> as Source>⟧.faults self.new)) }
+
+        // The count changes only where the call fails.
+        ensures kept { OnOk result (⟦<ReadSource<R> as Source>⟧.faults self.new ≡ ⟦<ReadSource<R> as Source>⟧.faults self.old) }
+        ensures counted { OnErr result (⟦<ReadSource<R> as Source>⟧.faults self.new ≡ raised (⟦<ReadSource<R> as Source>⟧.faults self.old)) }
+    {
+        match self.reader.read(into) {
+            Ok(count) => Ok(count),
+            Err(_) => Err(fault(&mut self.faults)),
+        }
+    }
+}
+
+/// A sink over a writer. An error of the writer is a fault, and so is a writer that takes nothing of
+/// a piece that is not empty.
+///
+/// It tells what was taken where the writer tells it.
+#[derive(Debug, Drop)]
+pub struct WriteSink<W> {
+    writer: W,
+    faults: u64,
+}
+
+impl<W: Write> WriteSink<W> {
+    pub fn new(writer: W) -> Self
+        ensures taken { ⟦<WriteSink<W> as Sink>⟧.taken result ≡ W.contents writer }
+        ensures faults { ⟦<WriteSink<W> as Sink>⟧.faults result ≡ 0 }
+    {
+        WriteSink { writer, faults: 0 }
+    }
+}
+
+impl<W: Write> Sink for WriteSink<W> {
+    ghost taken = { λ s. W.contents s.writer };
+
+    ghost faults = { λ s. s.faults };
+
+    fn put(&mut self, piece: &[u8]) -> Result<usize, Failed>
+        ensures bound { WritesAtMost result piece.now }
+        ensures some { TakesSome result piece.now }
+        ensures octets { WriteAppends (⟦<WriteSink<W> as Sink>⟧.taken self.old) (⟦<WriteSink<W> as Sink>⟧.taken self.new) result piece.now }
+        ensures later { ⟦<WriteSink<W> as Sink>⟧.faults self.old ≤ ⟦<WriteSink<W> as Sink>⟧.faults self.new }
+        ensures cause { OnErr result (Rose (⟦<WriteSink<W> as Sink>⟧.faults self.old) (⟦<WriteSink<W> as Sink>⟧.faults self.new)) }
+
+        // The count changes only where the call fails.
+        ensures kept { OnOk result (⟦<WriteSink<W> as Sink>⟧.faults self.new ≡ ⟦<WriteSink<W> as Sink>⟧.faults self.old) }
+        ensures counted { OnErr result (⟦<WriteSink<W> as Sink>⟧.faults self.new ≡ raised (⟦<WriteSink<W> as Sink>⟧.faults self.old)) }
+    {
+        match self.writer.write(piece) {
+            Ok(count) if count > 0 || piece.is_empty() => Ok(count),
+            _ => Err(fault(&mut self.faults)),
+        }
+    }
+}
+
+#[cfg(test)]
+mod tests {
+    use super::*;
+    use std::io;
+    use std::io::ErrorKind;
+
+    /// Reads two octets, then fails, then is at its end.
+    #[derive(Drop)]
+    struct Breaking(u8);
+
+    impl Read for Breaking {
+        fn read(&mut self, buf: &mut [u8]) -> io::Result<usize> {
+            self.0 = self.0.saturating_add(1);
+            if self.0 == 2 {
+                return Err(ErrorKind::BrokenPipe.into());
+            }
+            if self.0 > 2 || buf.len() < 2 {
+                return Ok(0);
+            }
+            buf[0] = 7;
+            buf[1] = 8;
+            Ok(2)
+        }
+    }
+
+    #[test]
+    fn an_error_of_the_reader_is_a_fault(rt: HostRuntime) {
+        let mut source = ReadSource::new(Breaking(0));
+        let mut room = [0u8; 4];
+        assert_eq!(rt; source.take(&mut room), Ok(2));
+        assert_eq!(rt; room, [7, 8, 0, 0]);
+        assert_eq!(rt; source.take(&mut room), Err(Failed));
+        assert_eq!(rt; source.faults, 1);
+        assert_eq!(rt; source.take(&mut room), Ok(0));
+    }
+
+    /// Takes one octet, then nothing, then fails.
+    #[derive(Drop)]
+    struct Filling(u8);
+
+    impl Write for Filling {
+        fn write(&mut self, buf: &[u8]) -> io::Result<usize> {
+            self.0 = self.0.saturating_add(1);
+            match self.0 {
+                1 => Ok(buf.len().min(1)),
+                2 => Ok(0),
+                _ => Err(ErrorKind::StorageFull.into()),
+            }
+        }
+
+        fn flush(&mut self) -> io::Result<()> {
+            Ok(())
+        }
+    }
+
+    #[test]
+    fn a_writer_that_takes_nothing_or_fails_is_a_fault(rt: HostRuntime) {
+        let mut sink = WriteSink::new(Filling(0));
+        assert_eq!(rt; sink.put(b"ab"), Ok(1));
+        assert_eq!(rt; sink.put(b"b"), Err(Failed));
+        assert_eq!(rt; sink.put(b"b"), Err(Failed));
+        assert_eq!(rt; sink.faults, 2);
+    }
+}

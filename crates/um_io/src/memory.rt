@@ -1,0 +1,246 @@
+//! Sources and sinks in memory, which tell their content and fail at the calls that they are told.
+ghost use Rattle.std.specs.Prelude.{◌≡◌, ◌≤◌, ◌+◌, ◌↔◌, ℕ, Some, Ok, Err, [], ◌++◌, length, take, drop, vec_len, vec_capacity, IfOk, OnOk, OnErr, IsErr};
+ghost use Rattle.std.specs.Io.{ReadsAtMost, WritesAtMost};
+ghost use Rattle.std.specs.Io.KnownBytes.{ReadConsumes, WriteAppends};
+ghost use Rattle.um_io.specs.Outside.{raised, Rose, TakesSome};
+ghost use Rattle.um_io.specs.Memory.{Plain, Feed, Store, given_count, taken_count, filled, FailsNext, Refuses};
+
+use crate::outside::{Failed, NoMemory, Sink, Source, fault};
+use std::alloc::Global;
+use std::marker::Model;
+
+/// Moves at most `most` octets from the front of those left to the front of `into`.
+fn give(left: &mut &[u8], most: usize, into: &mut [u8]) -> usize
+    ensures exact { result ≡ given_count most left.old.now into.old }
+    ensures copied { into.new ≡ filled left.old.now result into.old }
+    ensures rest { left.new.now ≡ drop result left.old.now }
+{
+    let octets = *left;
+    let count = most.min(into.len()).min(octets.len());
+    into[..count].copy_from_slice(&octets[..count]);
+    *left = &octets[count..];
+    count
+}
+
+/// A source over octets in memory that never fails.
+#[derive(Debug, Drop)]
+pub struct PlainSource<'a> {
+    octets: &'a [u8],
+    most: usize,
+}
+
+impl<'a> Model for PlainSource<'a> {
+    ghost use Rattle.std.specs.Prelude.{◌≤◌};
+    ghost use Rattle.um_io.specs.Memory.{Plain};
+
+    ghost Value = { Plain };
+
+    ghost view = { λ s. record { left = s.octets.now; most = s.most } };
+
+    ghost invariant = { λ s. 1 ≤ s.most };
+}
+
+impl<'a> PlainSource<'a> {
+    /// A source of `octets`, which gives at most `most` of them a call.
+    pub fn new(octets: &'a [u8], most: usize) -> Self
+        requires { 1 ≤ most }
+        ensures { result ≡ record { left = octets.now; most = most } }
+    {
+        PlainSource { octets, most }
+    }
+}
+
+impl<'a> Source for PlainSource<'a> {
+    ghost left = { λ s. Some s.left };
+
+    ghost faults = { λ _. 0 };
+
+    fn take(&mut self, into: &mut [u8]) -> Result<usize, Failed>
+        ensures bound { ReadsAtMost result into.new }
+        ensures octets { ReadConsumes (Some self.old.left) (Some self.new.left) result into.new }
+        ensures later { let count = ⟦<PlainSource<'a> as Source>⟧.faults in count self.old ≤ count self.new }
+        ensures cause { let count = ⟦<PlainSource<'a> as Source>⟧.faults in OnErr result (Rose (count self.old) (count self.new)) }
+
+        ensures exact { result ≡ Ok (given_count self.old.most self.old.left into.old) }
+        ensures copied { IfOk result (λ n. into.new ≡ filled self.old.left n into.old) }
+        ensures rest { IfOk result (λ n. self.new ≡ record self.old { left = drop n self.old.left }) }
+    {
+        Ok(give(&mut self.octets, self.most, into))
+    }
+}
+
+/// A source over octets in memory, some of whose calls fail.
+///
+/// Its calls are numbered from 1; a number past the greatest `u64` counts as the greatest `u64`.
+#[derive(Debug, Drop)]
+pub struct MemorySource<'a> {
+    octets: &'a [u8],
+    most: usize,
+    failing: &'a [u64],
+    calls: u64,
+    faults: u64,
+}
+
+impl<'a> Model for MemorySource<'a> {
+    ghost use Rattle.std.specs.Prelude.{◌≤◌};
+    ghost use Rattle.um_io.specs.Memory.{Feed};
+
+    ghost Value = { Feed };
+
+    ghost view = { λ s. record { left = s.octets.now; most = s.most; failing = s.failing.now; calls = s.calls; faults = s.faults } };
+
+    ghost invariant = { λ s. 1 ≤ s.most };
+}
+
+impl<'a> MemorySource<'a> {
+    /// A source of `octets`, which gives at most `most` of them a call and fails at the calls whose
+    /// numbers stand in `fails`.
+    pub fn new(octets: &'a [u8], most: usize, fails: &'a [u64]) -> Self
+        requires { 1 ≤ most }
+        ensures { result ≡ record { left = octets.now; most = most; failing = fails.now; calls = 0; faults = 0 } }
+    {
+        MemorySource {
+            octets,
+            most,
+            failing: fails,
+            calls: 0,
+            faults: 0,
+        }
+    }
+}
+
+impl<'a> Source for MemorySource<'a> {
+    ghost left = { λ s. Some s.left };
+
+    ghost faults = { λ s. s.faults };
+
+    fn take(&mut self, into: &mut [u8]) -> Result<usize, Failed>
+        ensures bound { ReadsAtMost result into.new }
+        ensures octets { ReadConsumes (Some self.old.left) (Some self.new.left) result into.new }
+        ensures later { self.old.faults ≤ self.new.faults }
+        ensures cause { OnErr result (Rose self.old.faults self.new.faults) }
+
+        ensures fails { IsErr result ↔ FailsNext self.old.failing self.old.calls }
+        ensures exact { IfOk result (λ n. n ≡ given_count self.old.most self.old.left into.old) }
+        ensures copied { IfOk result (λ n. into.new ≡ filled self.old.left n into.old) }
+        ensures rest { IfOk result (λ n. self.new ≡ record self.old { left = drop n self.old.left; calls = raised self.old.calls }) }
+        ensures failed { OnErr result (self.new ≡ record self.old { calls = raised self.old.calls; faults = raised self.old.faults }) }
+        ensures kept { OnErr result (into.new ≡ into.old) }
+    {
+        self.calls = self.calls.saturating_add(1);
+        if self.failing.contains(&self.calls) {
+            return Err(fault(&mut self.faults));
+        }
+        Ok(give(&mut self.octets, self.most, into))
+    }
+}
+
+/// A sink in memory, some of whose calls fail.
+///
+/// Its calls are numbered from 1; a number past the greatest `u64` counts as the greatest `u64`.
+#[derive(Debug, Drop)]
+pub struct MemorySink<'a> {
+    octets: Vec<u8>,
+    room: usize,
+    most: usize,
+    failing: &'a [u64],
+    calls: u64,
+    faults: u64,
+}
+
+impl<'a> Model for MemorySink<'a> {
+    ghost use Rattle.std.specs.Prelude.{◌≤◌, vec_len, vec_capacity};
+    ghost use Rattle.um_io.specs.Memory.{Store};
+
+    ghost Value = { Store };
+
+    ghost view = { λ s. record { taken = s.octets.items; room = s.room; most = s.most; failing = s.failing.now; calls = s.calls; faults = s.faults } };
+
+    // All the memory is there from the beginning.
+    ghost invariant = { λ s. (1 ≤ s.most) × (vec_len s.octets ≤ s.room) × (s.room ≤ vec_capacity s.octets) };
+}
+
+impl<'a> MemorySink<'a> {
+    /// A sink that takes at most `most` octets a call, holds at most `room` octets in all, and fails
+    /// at the calls whose numbers stand in `fails`. All its memory is taken here.
+    pub fn new(alloc: Global, room: usize, most: usize, fails: &'a [u64]) -> Result<Self, NoMemory>
+        requires { 1 ≤ most }
+        ensures { IfOk result (λ s. s ≡ record { taken = []; room = room; most = most; failing = fails.now; calls = 0; faults = 0 }) }
+    {
+        let octets = Vec::with_capacity(alloc, room).map_err(|_| NoMemory)?;
+        Ok(MemorySink {
+            octets,
+            room,
+            most,
+            failing: fails,
+            calls: 0,
+            faults: 0,
+        })
+    }
+
+    /// What was taken, the first octet first.
+    pub fn octets(&self) -> &[u8]
+        ensures { result.now ≡ self.now.taken }
+    {
+        &self.octets
+    }
+}
+
+impl<'a> Sink for MemorySink<'a> {
+    ghost taken = { λ s. Some s.taken };
+
+    ghost faults = { λ s. s.faults };
+
+    fn put(&mut self, piece: &[u8]) -> Result<usize, Failed>
+        ensures bound { WritesAtMost result piece.now }
+        ensures some { TakesSome result piece.now }
+        ensures octets { WriteAppends (Some self.old.taken) (Some self.new.taken) result piece.now }
+        ensures later { self.old.faults ≤ self.new.faults }
+        ensures cause { OnErr result (Rose self.old.faults self.new.faults) }
+
+        ensures fails { IsErr result ↔ Refuses self.old piece.now }
+        ensures exact { IfOk result (λ n. n ≡ taken_count self.old.most piece.now) }
+        ensures rest { IfOk result (λ n. self.new ≡ record self.old { taken = self.old.taken ++ take n piece.now; calls = raised self.old.calls }) }
+        ensures failed { OnErr result (self.new ≡ record self.old { calls = raised self.old.calls; faults = raised self.old.faults }) }
+    {
+        self.calls = self.calls.saturating_add(1);
+        let count = self.most.min(piece.len());
+        if self.failing.contains(&self.calls) || count > self.room - self.octets.len() {
+            return Err(fault(&mut self.faults));
+        }
+        self.octets.extend_from_slice(&piece[..count]).unwrap();
+        Ok(count)
+    }
+}
+
+#[cfg(test)]
+mod tests {
+    use super::*;
+    use std::test::Fail;
+
+    #[test]
+    fn a_source_gives_octet_after_octet_and_fails_where_told(rt: HostRuntime) {
+        let mut source = MemorySource::new(b"ab", 1, &[2]);
+        let mut room = [0u8; 3];
+        assert_eq!(rt; source.take(&mut room), Ok(1));
+        assert_eq!(rt; source.take(&mut room), Err(Failed));
+        assert_eq!(rt; room, [b'a', 0, 0]);
+        assert_eq!(rt; source.take(&mut room), Ok(1));
+        assert_eq!(rt; room, [b'b', 0, 0]);
+        assert_eq!(rt; source.take(&mut room), Ok(0));
+    }
+
+    #[test]
+    fn a_sink_takes_octet_after_octet_and_fails_where_told_or_full(
+        rt: HostRuntime,
+    ) -> Result<(), Fail> {
+        let mut sink = MemorySink::new(rt.alloc(), 2, 1, &[2])?;
+        assert_eq!(rt; sink.put(b"abc"), Ok(1));
+        assert_eq!(rt; sink.put(b"bc"), Err(Failed));
+        assert_eq!(rt; sink.put(b"bc"), Ok(1));
+        assert_eq!(rt; sink.put(b"c"), Err(Failed));
+        assert_eq!(rt; sink.put(b""), Ok(0));
+        assert_eq!(rt; sink.octets(), b"ab".as_slice());
+        Ok(())
+    }
+}
