@@ -1,0 +1,6 @@
+-- The definitions that the contracts of this crate cite.
+pub mod Divided
+pub mod Outputs
+pub mod Rules
+pub mod Statuses
+pub mod Table

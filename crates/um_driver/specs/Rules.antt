@@ -1,0 +1,47 @@
+-- What a command says of the lines of its input: a machine over lines.
+use Rattle.std.specs.Prelude.{ℕ, ◌≡◌, ◌≤◌, ◌<◌, List, [], ◌∷◌, ◌++◌, length, Option, Some, None, Result, MatchResult, ◌⊎◌}
+use Rattle.um_io.specs.Lines.{IsLine}
+use Rattle.um_text.specs.declared.fault.LineFault.{LineFault}
+use Rattle.um_text.specs.declared.fault.LineFault.TheVariants.{Long}
+
+-- the command's first reason of a line in a state, if there is one; the reason of an input that ends in a state, if
+-- there is one; and what may answer a line in a state, and which state may come then
+pub record Rules (State : Type 0) : Type 1 where
+  pub fault : State → List ℕ → Option LineFault
+  pub end_fault : State → Option LineFault
+  pub Step : State → List ℕ → List ℕ → State → Type 0
+
+-- a line without a reason in this state
+pub record IsGood {State : Type 0} (r : Rules State) (a : State) (line : List ℕ) : Type 0 where
+  pub short : length line ≤ 4096
+  pub no_fault : r.fault a line ≡ None
+
+-- the first reason of a line in this state: above 4,096 octets it is `long`
+abbrev pub IsBad : {State : Type 0} → Rules State → State → List ℕ → LineFault → Type 0
+IsBad r a line fault =
+    ((4096 < length line) × (fault ≡ Long)) ⊎ ((length line ≤ 4096) × (r.fault a line ≡ Some fault))
+
+-- these lines are good one after another, and answered so, from one state to another
+abbrev pub Runs : {State : Type 0} → Rules State → State → List (List ℕ) → List ℕ → State → Type 0
+Runs r a [] y b = (y ≡ []) × (b ≡ a)
+Runs {State} r a (line ∷ lines) y b =
+    (answer : List ℕ) × (rest : List ℕ) × (mid : State) ×
+    IsGood r a line × r.Step a line answer mid × Runs r mid lines rest b × (y ≡ answer ++ rest)
+
+-- what a command answers to a line in a state: an answer, and it stands for the state after it; or the reason of
+-- the line, with no answer, and it stands for the same state
+abbrev pub Answers : {State : Type 0} → Rules State → State → List ℕ → Result Unit LineFault → List ℕ → (State → Type 0) → Type 0
+Answers {State} r a line result text Stands = MatchResult result
+    (λ _. (b : State) × (r.fault a line ≡ None) × r.Step a line text b × Stands b)
+    (λ fault. (r.fault a line ≡ Some fault) × (text ≡ []) × Stands a)
+
+-- no line has two answers in a state
+abbrev pub IsDetermined : {State : Type 0} → Rules State → Type 0
+IsDetermined {State} r =
+    (a : State) (line y y' : List ℕ) (b b' : State) → r.Step a line y b → r.Step a line y' b' → (y ≡ y') × (b ≡ b')
+
+-- whatever good lines came first, a good line has an answer
+abbrev pub IsTotal : {State : Type 0} → Rules State → State → Type 0
+IsTotal {State} r a =
+    (lines : List (List ℕ)) (y : List ℕ) (b : State) → Runs r a lines y b →
+    (line : List ℕ) → IsLine line → IsGood r b line → (answer : List ℕ) × (c : State) × r.Step b line answer c

@@ -1,0 +1,39 @@
+//! How a run ends.
+ghost use Rattle.std.specs.Prelude.{◌≡◌};
+ghost use Rattle.um_driver.specs.Statuses.{number_of};
+
+/// How a run ended.
+#[derive(Clone, Copy, Debug, PartialEq, Eq)]
+pub enum Status {
+    /// The whole input was read, and the whole output was taken.
+    Done,
+    /// The words name no command. Nothing was read or written.
+    BadWords,
+    /// A line of the input is bad, or its end. The last line of the output says which and why.
+    BadInput,
+    /// The source failed.
+    ReadFault,
+    /// The sink failed.
+    WriteFault,
+    /// There was no memory. Nothing was read or written.
+    NoMemory,
+    /// The input goes on past the 67,108,864 octets that count.
+    TooLong,
+}
+
+impl Status {
+    /// The number with which the program ends.
+    pub fn number(self) -> u8
+        ensures { result ≡ number_of self }
+    {
+        match self {
+            Status::Done => 0,
+            Status::BadWords => 2,
+            Status::BadInput => 3,
+            Status::ReadFault => 4,
+            Status::WriteFault => 5,
+            Status::NoMemory => 6,
+            Status::TooLong => 7,
+        }
+    }
+}
