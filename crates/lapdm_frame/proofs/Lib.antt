@@ -1,0 +1,5 @@
+mod Worked
+pub mod Controls
+pub mod Laws
+pub mod Canonical
+pub mod Order

@@ -1,0 +1,15 @@
+-- Where a frame stands in the 23 octets of a block, by the channel (GSM 04.06, section 2.1).
+use Rattle.std.specs.Prelude.{ℕ}
+use Rattle.lapdm_frame.specs.declared.Channel.{Channel}
+use Rattle.lapdm_frame.specs.declared.Channel.TheVariants.{Sdcch, Sacch}
+
+-- the octets before the address: none on SDCCH, the two of layer 1 on SACCH
+abbrev pub header : Channel → ℕ
+header Sdcch = 0
+header Sacch = 2
+
+-- the most octets of information in a frame (N201, section 5.8.3): what the octets before the address,
+-- address, control and length leave of 23
+abbrev pub n201 : Channel → ℕ
+n201 Sdcch = 20
+n201 Sacch = 18
