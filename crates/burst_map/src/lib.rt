@@ -1,0 +1,6 @@
+//! The layouts of the three bursts.
+#![tactic(auto)]
+
+mod layouts;
+
+pub use layouts::{access, sync};
