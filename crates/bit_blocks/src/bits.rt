@@ -64,6 +64,10 @@ impl<const N: usize> Bits<N> {
         ensures value { result ≡ add_bits self.now other.now }
         ensures count { length result ≡ N }
         ensures bits { AllBits result }
+
+        // What is seen of both is as long, and bits.
+        ensures counts { (length self.now ≡ N) × (length other.now ≡ N) }
+        ensures operands { AllBits self.now × AllBits other.now }
     {
         let mut sum = [0; N];
         for i in 0..N {

@@ -1,0 +1,38 @@
+-- Information lists that end in the four tail bits, and the bits of coded lists.
+use Rattle.std.proofs.Common.{◌≡◌, ℕ, zero, suc, ◌+◌, ◌-◌, ◌<◌, ◌≤◌, List, [], ◌∷◌, ◌++◌, length, drop, replicate, sym, ap, subst, ◌∙◌, arith, refl}
+use Rattle.std.specs.List.{All, flat_map, range_with_len}
+use Rattle.std.proofs.Math.ListN.{length-append}
+use Rattle.std.proofs.Math.Seq.{drop-append_seam}
+use Rattle.std.proofs.lemmas.List.Elements.{All-cons, All-nil}
+use Rattle.bit_blocks.specs.Bits.{AllBits}
+use Rattle.burst_map.proofs.Parts.{AllBits-append, AllBits-computed}
+use Rattle.conv_code.specs.Code.{coded, coded_pair, first_sum, second_sum, IsInformation}
+use Rattle.um_block.specs.Sent.{with_tail}
+
+abbrev IsZero : ℕ → Type 0
+IsZero bit = bit ≡ 0
+
+zeros : (n : ℕ) → All IsZero (replicate n 0)
+zeros zero = All-nil IsZero
+zeros (suc n) = All-cons IsZero 0 (replicate n 0) refl (zeros n)
+
+pub IsInformation-with_tail : (word : List ℕ) → 0 < length word → AllBits word → IsInformation (with_tail word)
+IsInformation-with_tail word some bits =
+    let four : List ℕ = replicate 4 0 in
+    let long : length (word ++ four) ≡ length word + 4 = length-append word four in
+    let front : length (word ++ four) - 4 ≡ length word = omega arith in
+    record {
+      count = omega arith;
+      bits = AllBits-append word four bits (AllBits-computed four refl);
+      tail = subst (All IsZero) (sym (ap (λ n. drop n (word ++ four)) front ∙ drop-append_seam word four)) (zeros 4);
+    }
+
+AllBits-pairs : (u ks : List ℕ) → AllBits (flat_map (coded_pair u) ks)
+AllBits-pairs u [] = All-nil (λ bit. bit ≤ 1)
+AllBits-pairs u (k ∷ ks) =
+    All-cons (λ bit. bit ≤ 1) (first_sum u k) (second_sum u k ∷ flat_map (coded_pair u) ks) (omega arith)
+        (All-cons (λ bit. bit ≤ 1) (second_sum u k) (flat_map (coded_pair u) ks) (omega arith) (AllBits-pairs u ks))
+
+-- a coded list is a list of bits
+pub AllBits-coded : (u : List ℕ) → AllBits (coded u)
+AllBits-coded u = AllBits-pairs u (range_with_len 0 (length u))

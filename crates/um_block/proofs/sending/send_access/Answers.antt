@@ -1,0 +1,36 @@
+use Rattle.std.proofs.Common.{◌≡◌, ℕ, ◌+◌, ◌<◌, List, ◌++◌, length, sym, ◌∙◌, ap, ap₂, subst, arith}
+use Rattle.std.proofs.Math.ListN.{length-append}
+use Rattle.bit_blocks.specs.Bits.{AllBits}
+use Rattle.conv_code.specs.Code.{coded, IsInformation}
+use Rattle.fire_code.specs.Words.{IsRachWord}
+use Rattle.burst_map.specs.Layouts.{access_burst}
+use Rattle.burst_map.proofs.Parts.{AllBits-append}
+use Rattle.um_block.specs.Sent.{with_tail}
+use Rattle.um_block.proofs.Information.{IsInformation-with_tail, AllBits-coded}
+use Rattle.um_block.proofs.sending.send_access.Goals as goal
+
+pub access-requires-clause-bits : goal.access-requires-clause-bits
+access-requires-clause-bits c = subst AllBits (sym c.encode.ensures) (AllBits-coded c.add_tail.new.word)
+
+pub encode-requires-clause-information : goal.encode-requires-clause-information
+encode-requires-clause-information c =
+    let d = c.as_slice.result.now in
+    let p = c.as_slice-2.result.now in
+    let some : 0 < length (d ++ p) = omega (arith, length-append d p, c.as_slice.ensures.count) in
+    subst IsInformation (sym c.add_tail.ensures)
+        (IsInformation-with_tail (d ++ p) some (AllBits-append d p c.as_slice.ensures.bits c.as_slice-2.ensures.bits))
+
+pub returns-clause-sent : goal.returns-clause-sent
+returns-clause-sent c =
+    let d = c.args.info.now in
+    let p = c.xor-parity.result in
+    let b = c.args.bsic.now in
+    let word_is : c.add_tail.new.word ≡ with_tail (d ++ p) =
+        c.add_tail.ensures ∙ ap₂ (λ x y. with_tail (x ++ y)) c.as_slice.ensures.value c.as_slice-2.ensures.value in
+    let under = c.rach_parity.ensures.under_code b c.xor-parity.ensures.counts.1 c.xor-parity.ensures.operands.1 in
+    record {
+      parity = p;
+      count = sym (ap length c.as_slice.ensures.value) ∙ c.as_slice.ensures.count;
+      word = subst (λ parity. IsRachWord (d ++ parity) b) (sym c.xor-parity.ensures.value) under;
+      burst = c.access.ensures.value ∙ ap access_burst (c.encode.ensures ∙ ap coded word_is);
+    }

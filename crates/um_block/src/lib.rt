@@ -1,0 +1,6 @@
+//! Blocks, access bursts and synchronisation bursts, from their information to the bits of bursts.
+#![tactic(auto)]
+
+mod sending;
+
+pub use sending::send_access;
