@@ -1,0 +1,63 @@
+-- The first of the greatest scores, one number more at a time.
+use Rattle.std.proofs.Common.{◌≡◌, ◌≢◌, ◌⊎◌, inl, inr, ℕ, ◌+◌, ◌<◌, ◌≤◌, ℤ, ◌<ℤ◌, ◌≤ℤ◌, arith}
+use Rattle.std.proofs.lemmas.Int.{ints, by_lt_z}
+use Rattle.std.proofs.lemmas.Bool.{cases_eq}
+use Rattle.training_seq.specs.Choice.{IsFirstGreatest}
+
+-- every other number below the end has a smaller score, or an equal one and comes later
+pub record LeadsBelow (score : ℕ → ℤ) (end best : ℕ) : Type 0 where
+  pub within : best < end
+  pub others : (n : ℕ) → n < end → n ≢ best → (score n <ℤ score best) ⊎ ((score n ≡ score best) × (best < n))
+
+-- a number alone leads
+pub LeadsBelow-one : (score : ℕ → ℤ) → LeadsBelow score 1 0
+LeadsBelow-one score = record {
+  within = omega arith;
+  others = λ n h ne. absurd (omega arith);
+}
+
+-- the next number has a greater score, and leads
+pub LeadsBelow-overtaken : (score : ℕ → ℤ) (end best : ℕ) → LeadsBelow score end best → score best <ℤ score end →
+    LeadsBelow score (end + 1) end
+LeadsBelow-overtaken score end best leads more = record {
+  within = omega arith;
+  others = λ n h ne. inl (behind n (omega arith) (cases_eq n best));
+} where
+  behind : (n : ℕ) → n < end → (n ≡ best) ⊎ (n ≢ best) → score n <ℤ score end
+  behind n h (inl same) = rw same more
+  behind n h (inr other) = elim (leads.others n h other) [ inl less ↦ omega (arith, ints) | inr equal ↦ let e = equal.0 in omega (arith, ints) ]
+
+-- the next number has no greater score
+pub LeadsBelow-kept : (score : ℕ → ℤ) (end best : ℕ) → LeadsBelow score end best → score end ≤ℤ score best →
+    LeadsBelow score (end + 1) best
+LeadsBelow-kept score end best leads less = record {
+  within = let w = leads.within in omega arith;
+  others = λ n h ne. behind n h ne (cases_eq n end);
+} where
+  behind : (n : ℕ) → n < end + 1 → n ≢ best → (n ≡ end) ⊎ (n ≢ end) → (score n <ℤ score best) ⊎ ((score n ≡ score best) × (best < n))
+  behind n h ne (inl same) =
+      rw same
+      (by_lt_z (score end) (score best)
+      (λ under. inl under)
+      (λ over. let w = leads.within in inr (omega (arith, ints), omega arith)))
+  behind n h ne (inr other) = leads.others n (omega arith) ne
+
+pub IsFirstGreatest-from_LeadsBelow : (score : ℕ → ℤ) (best : ℕ) → LeadsBelow score 8 best → IsFirstGreatest score 7 best
+IsFirstGreatest-from_LeadsBelow score best leads = record {
+  within = let w = leads.within in omega arith;
+  others = λ n h ne. leads.others n (omega arith) ne;
+}
+
+-- scores that are equal up to the last number have the same first greatest one
+pub IsFirstGreatest-same : (score total : ℕ → ℤ) (last best : ℕ) → ((n : ℕ) → n ≤ last → score n ≡ total n) →
+    IsFirstGreatest score last best → IsFirstGreatest total last best
+IsFirstGreatest-same score total last best same first = record {
+  within = first.within;
+  others = λ n h ne.
+      let here = same n h in
+      let there = same best first.within in
+      elim (first.others n h ne) [
+        | inl less ↦ inl (omega (arith, ints))
+        | inr equal ↦ let e = equal.0 in let later = equal.1 in inr (omega (arith, ints), later)
+      ];
+}

@@ -1,0 +1,4 @@
+pub mod Correlations
+pub mod Greatest
+pub mod SequenceTable
+pub mod Widths

@@ -1,0 +1,11 @@
+use Rattle.std.proofs.Common.{◌≡◌}
+use Rattle.training_seq.specs.Correlation.{correlation}
+use Rattle.training_seq.specs.Sequences.{training_sequence}
+use Rattle.training_seq.proofs.Greatest.{LeadsBelow}
+use Rattle.training_seq.proofs.choice.strongest.Given as goal
+
+-- the best of the sequences so far, and its correlation
+abbrev pub invariant-loop-tsc : goal.invariant-loop-tsc
+invariant-loop-tsc l =
+    (l.greatest ≡ correlation l.sums (training_sequence l.best))
+    × LeadsBelow (λ tsc. correlation l.sums (training_sequence tsc)) l.tsc l.best

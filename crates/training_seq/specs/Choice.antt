@@ -1,0 +1,25 @@
+-- Which training sequence a receiver takes four bursts to have (this project's own rule).
+use Rattle.std.specs.Prelude.{ℕ, ◌≡◌, ◌≢◌, ◌+◌, ◌<◌, ◌≤◌, ◌⊎◌, ℤ, ◌+ℤ◌, ◌<ℤ◌, List}
+use Rattle.training_seq.specs.Sequences.{training_sequence}
+use Rattle.training_seq.specs.Correlation.{correlation, wrong_places}
+
+-- every other number up to the last has a smaller score, or an equal one and comes later
+pub record IsFirstGreatest (score : ℕ → ℤ) (last best : ℕ) : Type 0 where
+  pub within : best ≤ last
+  pub others : (n : ℕ) → n ≤ last → n ≢ best → (score n <ℤ score best) ⊎ ((score n ≡ score best) × (best < n))
+
+-- the sum of the correlations of four training parts with a training sequence
+abbrev pub total_correlation : (a b c d : List ℤ) → ℕ → ℤ
+total_correlation a b c d tsc =
+    let bits = training_sequence tsc in
+    ((correlation a bits +ℤ correlation b bits) +ℤ correlation c bits) +ℤ correlation d bits
+
+-- the sequence with the greatest sum, and the least code among equal sums
+abbrev pub IsBestSequence : (a b c d : List ℤ) → ℕ → Type 0
+IsBestSequence a b c d tsc = IsFirstGreatest (total_correlation a b c d) 7 tsc
+
+-- the number of wrong places of four training parts
+abbrev pub total_wrong_places : (a b c d : List ℤ) → ℕ → ℕ
+total_wrong_places a b c d tsc =
+    let bits = training_sequence tsc in
+    wrong_places a bits + wrong_places b bits + wrong_places c bits + wrong_places d bits

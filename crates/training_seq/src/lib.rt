@@ -1,0 +1,60 @@
+//! The eight training sequences of the normal burst, and which of them a block was sent with.
+#![tactic(auto)]
+
+mod choice;
+mod correlation;
+mod sequences;
+
+pub use choice::best;
+pub use correlation::correlate;
+pub use sequences::sequence;
+
+#[cfg(test)]
+mod tests {
+    use super::*;
+
+    // The codes 0 to 7 in order.
+    const DIGITS: [&[u8; 26]; 8] = [
+        b"00100101110000100010010111",
+        b"00101101110111100010110111",
+        b"01000011101110100100001110",
+        b"01000111101101000100011110",
+        b"00011010111001000001101011",
+        b"01001110101100000100111010",
+        b"10100111110110001010011111",
+        b"11101111000100101110111100",
+    ];
+
+    fn received(digits: &[u8; 26]) -> [i8; 26] {
+        let mut soft = [127; 26];
+        for (i, digit) in digits.iter().enumerate() {
+            if *digit == b'1' {
+                soft[i] = -127;
+            }
+        }
+        soft
+    }
+
+    #[test]
+    fn finds_each_sequence_that_was_sent(rt: HostRuntime) {
+        for tsc in 0..8 {
+            let part = received(DIGITS[tsc as usize]);
+            assert_eq!(rt; correlate(&part, tsc), 26 * 127, "code {tsc}");
+            assert_eq!(rt; best(&part, &part, &part, &part), (tsc, 0), "code {tsc}");
+        }
+    }
+
+    #[test]
+    fn a_lost_block_has_the_first_code_and_no_right_place(rt: HostRuntime) {
+        let lost = [0; 26];
+        assert_eq!(rt; best(&lost, &lost, &lost, &lost), (0, 104));
+    }
+
+    // The codes 5 and 2 differ in 8 places.
+    #[test]
+    fn strength_outweighs_the_number_of_parts(rt: HostRuntime) {
+        let strong = received(DIGITS[5]);
+        let weak = received(DIGITS[2]).map(|value| value / 127);
+        assert_eq!(rt; best(&strong, &weak, &weak, &weak), (5, 24));
+    }
+}
