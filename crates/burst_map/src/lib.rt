@@ -3,4 +3,4 @@
 
 mod layouts;
 
-pub use layouts::{access, sync};
+pub use layouts::{access, normal, sync};

@@ -31,7 +31,7 @@ AllBits-pairs : (u ks : List ℕ) → AllBits (flat_map (coded_pair u) ks)
 AllBits-pairs u [] = All-nil (λ bit. bit ≤ 1)
 AllBits-pairs u (k ∷ ks) =
     All-cons (λ bit. bit ≤ 1) (first_sum u k) (second_sum u k ∷ flat_map (coded_pair u) ks) (omega arith)
-        (All-cons (λ bit. bit ≤ 1) (second_sum u k) (flat_map (coded_pair u) ks) (omega arith) (AllBits-pairs u ks))
+    (All-cons (λ bit. bit ≤ 1) (second_sum u k) (flat_map (coded_pair u) ks) (omega arith) (AllBits-pairs u ks))
 
 -- a coded list is a list of bits
 pub AllBits-coded : (u : List ℕ) → AllBits (coded u)

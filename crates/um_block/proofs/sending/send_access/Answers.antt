@@ -1,4 +1,4 @@
-use Rattle.std.proofs.Common.{◌≡◌, ℕ, ◌+◌, ◌<◌, List, ◌++◌, length, sym, ◌∙◌, ap, ap₂, subst, arith}
+use Rattle.std.proofs.Common.{◌≡◌, ◌<◌, ◌++◌, length, sym, ◌∙◌, ap, ap₂, subst, arith}
 use Rattle.std.proofs.Math.ListN.{length-append}
 use Rattle.bit_blocks.specs.Bits.{AllBits}
 use Rattle.conv_code.specs.Code.{coded, IsInformation}
@@ -18,7 +18,7 @@ encode-requires-clause-information c =
     let p = c.as_slice-2.result.now in
     let some : 0 < length (d ++ p) = omega (arith, length-append d p, c.as_slice.ensures.count) in
     subst IsInformation (sym c.add_tail.ensures)
-        (IsInformation-with_tail (d ++ p) some (AllBits-append d p c.as_slice.ensures.bits c.as_slice-2.ensures.bits))
+    (IsInformation-with_tail (d ++ p) some (AllBits-append d p c.as_slice.ensures.bits c.as_slice-2.ensures.bits))
 
 pub returns-clause-sent : goal.returns-clause-sent
 returns-clause-sent c =
@@ -26,7 +26,7 @@ returns-clause-sent c =
     let p = c.xor-parity.result in
     let b = c.args.bsic.now in
     let word_is : c.add_tail.new.word ≡ with_tail (d ++ p) =
-        c.add_tail.ensures ∙ ap₂ (λ x y. with_tail (x ++ y)) c.as_slice.ensures.value c.as_slice-2.ensures.value in
+    c.add_tail.ensures ∙ ap₂ (λ x y. with_tail (x ++ y)) c.as_slice.ensures.value c.as_slice-2.ensures.value in
     let under = c.rach_parity.ensures.under_code b c.xor-parity.ensures.counts.1 c.xor-parity.ensures.operands.1 in
     record {
       parity = p;
