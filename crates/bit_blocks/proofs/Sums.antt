@@ -57,6 +57,12 @@ add_bits_twice xs ys b e =
     ∙ ap (λ sum. add_bits xs sum) (add_bits_self ys)
     ∙ add_bits-zeros xs (length ys) b e
 
+pub add_bits_again : (xs ys : List ℕ) → AllBits ys → length ys ≡ length xs → add_bits xs (add_bits xs ys) ≡ ys
+add_bits_again xs ys bits e =
+    ap (λ sum. add_bits xs sum) (add_bits-comm xs ys)
+    ∙ add_bits-comm xs (add_bits ys xs)
+    ∙ add_bits_twice ys xs bits e
+
 -- lists whose sum is zeros are the same
 pub same_from_zero_sum : (xs ys : List ℕ) (n : ℕ) → AllBits xs → AllBits ys → length xs ≡ n → length ys ≡ n →
     add_bits xs ys ≡ replicate n 0 → xs ≡ ys

@@ -1,9 +1,16 @@
 -- The bits of registers: sums, shifts and what two registers with the same bits are.
-use Rattle.std.proofs.Common.{◌≡◌, ℕ, zero, suc, ◌+◌, ◌/◌, ◌%◌, ◌^◌, ◌≤◌, ◌<◌, ◌∷◌, ◌++◌, length, replicate, get_or, refl, ap, sym, ◌∙◌, arith, bit_xor, add-one}
-use Rattle.std.proofs.lemmas.Nat.{xor_shr, shr-shr, shr_below}
-use Rattle.std.proofs.lemmas.Nat.Bits.{bit_at_lowest, bit_at-suc, bit_at_xor}
-use Rattle.std.proofs.lemmas.List.Elements.{All-cons, All-nil}
-use Rattle.std.specs.Int.{bit_at}
+use Rattle.std.proofs.Common.{◌≡◌, ℕ, zero, suc, ◌+◌, ◌-◌, ◌*◌, ◌/◌, ◌%◌, ◌^◌, ◌≤◌, ◌<◌, List, [], ◌∷◌, ◌++◌, length, replicate, get_or, refl, ap, sym, ◌∙◌, arith, bit_xor, add-one}
+use Rattle.std.proofs.Math.Nat.{pow-suc}
+use Rattle.std.proofs.Math.Pow.{mod-mod-pow}
+use Rattle.std.proofs.lemmas.Grind.{same_number_lists}
+use Rattle.std.proofs.lemmas.Nat.{xor_shr, shr-shr, shr_below, shr_high, mod_low, field_of}
+use Rattle.std.proofs.lemmas.Nat.Bits.{bit_at_lowest, bit_at-suc, bit_at_xor, bit_at_not, bit_at-lt, same_from_bits_below}
+use Rattle.std.proofs.lemmas.List.{length-replicate, get_or-replicate}
+use Rattle.std.proofs.lemmas.List.Elements.{All-cons, All-nil, All-head, All-tail}
+use Rattle.std.specs.Int.{bit_at, bit_not, w64}
+use Rattle.bit_blocks.specs.Octets.{octet_bits}
+use Rattle.bit_blocks.proofs.BitLists.{length-add_bits, get_or-add_bits}
+use Rattle.bit_blocks.proofs.Sums.{add_bits_twice}
 use Rattle.bit_blocks.specs.Bits.{AllBits, add_bits}
 use Rattle.fire_code.specs.Registers.{register_bits}
 
@@ -76,3 +83,101 @@ register_bits_split (suc k) n (suc m) number count =
     (register_bits_split k n m (number / 2) (omega arith)
     ∙ ap (λ x. register_bits k (number / 2) ++ register_bits n x)
     (shr-shr number 1 k ∙ ap (λ j. number / 2 ^ j) next))
+
+lowest_of_mod : (n number : ℕ) → number % 2 ^ suc n % 2 ≡ number % 2
+lowest_of_mod n number =
+    let next : n + 1 ≡ suc n = omega arith in
+    ap (λ k. number % 2 ^ k % 2) (sym next) ∙ mod-mod-pow number n 1
+
+turned_over : (bit : ℕ) → bit < 2 → 1 - bit ≡ (bit + 1) % 2
+turned_over bit h = omega arith
+
+-- the places of a number and those of its lowest part
+pub register_bits-mod : (n number : ℕ) → register_bits n (number % 2 ^ n) ≡ register_bits n number
+unfolding register_bits
+register_bits-mod zero number = refl
+register_bits-mod (suc n) number =
+    let lowest : number % 2 ^ suc n % 2 ≡ number % 2 = lowest_of_mod n number in
+    let next : n + 1 ≡ suc n = omega arith in
+    let half : number % 2 ^ suc n / 2 ≡ number / 2 % 2 ^ n =
+      ap (λ k. number % 2 ^ k / 2) (sym next) ∙ field_of number n 1 in
+    ap (λ bit. bit ∷ register_bits n (number % 2 ^ suc n / 2)) lowest
+    ∙ ap (λ rest. number % 2 ∷ register_bits n rest) half
+    ∙ ap (λ rest. number % 2 ∷ rest) (register_bits-mod n (number / 2))
+
+-- two registers with the same places are the same
+pub same_register : (n a b : ℕ) → a < 2 ^ n → b < 2 ^ n → register_bits n a ≡ register_bits n b → a ≡ b
+same_register n a b within within' same =
+    same_from_bits_below n a b within within'
+      (λ i lt. sym (get_or-register_bits n a i lt) ∙ ap (λ xs. get_or xs i 0) same ∙ get_or-register_bits n b i lt)
+
+-- a low part and a high one
+pub register_bits-parts : (k n m low high : ℕ) → m ≡ k + n → low < 2 ^ k →
+    register_bits m (high * 2 ^ k + low) ≡ register_bits k low ++ register_bits n high
+register_bits-parts k n m low high count within =
+    register_bits_split k n m (high * 2 ^ k + low) count
+    ∙ ap (λ x. register_bits k (high * 2 ^ k + low) ++ register_bits n x) (shr_high high k low within)
+    ∙ ap (λ front. front ++ register_bits n high)
+      (sym (register_bits-mod k (high * 2 ^ k + low)) ∙ ap (λ x. register_bits k x) (mod_low high k low within))
+
+-- a register with each bit turned over
+pub register_bits-not : (n number : ℕ) → n ≤ 64 → number < 2 ^ 64 →
+    register_bits n (bit_not w64 number) ≡ add_bits (register_bits n number) (replicate n 1)
+register_bits-not n number small within =
+    let count = length-register_bits n number in
+    let same : length (register_bits n number) ≡ length (replicate {A = ℕ} n 1) = count ∙ sym (length-replicate n 1) in
+    same_number_lists (register_bits n (bit_not w64 number)) (add_bits (register_bits n number) (replicate n 1))
+      (length-register_bits n (bit_not w64 number) ∙ sym (length-add_bits _ _ same ∙ count))
+      (λ i lt.
+        let lt' : i < n = omega (arith, length-register_bits n (bit_not w64 number)) in
+        let below : i < length (register_bits n number) = omega arith in
+        get_or-register_bits n (bit_not w64 number) i lt'
+        ∙ bit_at_not w64 number i within (omega arith)
+        ∙ turned_over (bit_at number i) (bit_at-lt number i)
+        ∙ ap (λ bit. (bit + 1) % 2) (sym (get_or-register_bits n number i lt'))
+        ∙ ap (λ one. (get_or (register_bits n number) i 0 + one) % 2) (sym (get_or-replicate n i 1 0 lt'))
+        ∙ sym (get_or-add_bits (register_bits n number) (replicate n 1) i same below))
+
+-- turned over twice
+pub turned_register : (n number : ℕ) (turned : List ℕ) → n ≤ 64 → number < 2 ^ 64 →
+    turned ≡ register_bits n (bit_not w64 number) → add_bits turned (replicate n 1) ≡ register_bits n number
+turned_register n number turned small within is =
+    ap (λ x. add_bits x (replicate n 1)) (is ∙ register_bits-not n number small within)
+    ∙ add_bits_twice (register_bits n number) (replicate n 1) (AllBits-register_bits n number)
+      (length-register_bits n number ∙ sym (length-replicate n 1))
+
+-- the number whose places are these bits
+unfoldable pub number_of : List ℕ → ℕ
+number_of [] = 0
+number_of (bit ∷ bits) = bit + 2 * number_of bits
+
+pub register_bits-number_of : (bits : List ℕ) → AllBits bits → register_bits (length bits) (number_of bits) ≡ bits
+unfolding register_bits number_of
+register_bits-number_of [] all = refl
+register_bits-number_of (bit ∷ bits) all =
+    let head : bit ≤ 1 = All-head (λ b. b ≤ 1) bit bits all in
+    let lowest : (bit + 2 * number_of bits) % 2 ≡ bit = omega arith in
+    let rest : (bit + 2 * number_of bits) / 2 ≡ number_of bits = omega arith in
+    ap (λ b. b ∷ register_bits (length bits) ((bit + 2 * number_of bits) / 2)) lowest
+    ∙ ap (λ x. bit ∷ register_bits (length bits) x) rest
+    ∙ ap (λ b. bit ∷ b) (register_bits-number_of bits (All-tail (λ b. b ≤ 1) bit bits all))
+
+pub number_of_within : (bits : List ℕ) → AllBits bits → number_of bits < 2 ^ length bits
+unfolding number_of
+number_of_within [] all = omega arith
+number_of_within (bit ∷ bits) all =
+    let head : bit ≤ 1 = All-head (λ b. b ≤ 1) bit bits all in
+    let rest = number_of_within bits (All-tail (λ b. b ≤ 1) bit bits all) in
+    let double : 2 ^ suc (length bits) ≡ 2 ^ length bits * 2 = pow-suc 2 (length bits) in
+    rw double (omega arith)
+
+pub octet_bits-register_bits : (octet : ℕ) → octet_bits octet ≡ register_bits 8 octet
+unfolding register_bits
+octet_bits-register_bits octet =
+    let by_4 : octet / 2 / 2 ≡ octet / 4 = omega arith in
+    let by_8 : octet / 4 / 2 ≡ octet / 8 = omega arith in
+    let by_16 : octet / 8 / 2 ≡ octet / 16 = omega arith in
+    let by_32 : octet / 16 / 2 ≡ octet / 32 = omega arith in
+    let by_64 : octet / 32 / 2 ≡ octet / 64 = omega arith in
+    let by_128 : octet / 64 / 2 ≡ octet / 128 = omega arith in
+    cc

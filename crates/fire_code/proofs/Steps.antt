@@ -71,42 +71,25 @@ remainder_within n register bit taps within small =
     let carry : bit_and (bit_xor register bit) 1 * taps ≤ 1 * taps = mul-le _ _ 1 taps (and_le_r (bit_xor register bit) 1) (omega arith) in
     xor_lt n (register / 2) (bit_and (bit_xor register bit) 1 * taps) (omega arith) (omega arith)
 
-turned_bit : (register i : ℕ) → bit_xor (bit_and (register / 2 ^ i) 1) 1 ≡ (register / 2 ^ i % 2 + 1) % 2
-turned_bit register i =
-    bit_xor-bits (bit_and (register / 2 ^ i) 1) 1 (and_le_r (register / 2 ^ i) 1) (omega arith)
-    ∙ ap (λ bit. (bit + 1) % 2) (shr_and_one register i)
-
--- the places of a register, turned over
-turned_place : (n register i : ℕ) → i < n →
-    get_or (add_bits (register_bits n register) (replicate n 1)) i 0 ≡ (register / 2 ^ i % 2 + 1) % 2
-turned_place n register i within =
-    let count = length-register_bits n register in
-    get_or-add_bits (register_bits n register) (replicate n 1) i (count ∙ sym (length-replicate n 1)) (omega arith)
-    ∙ ap (λ bit. (bit + get_or (replicate n 1) i 0) % 2) (get_or-register_bits n register i within)
-    ∙ ap (λ one. (register / 2 ^ i % 2 + one) % 2) (get_or-replicate n i 1 0 within)
-
-pub turned_more : (n register i : ℕ) (bits next : List ℕ) → i < n → length bits ≡ n → AllBits bits →
-    ((k : ℕ) → k < i → get_or bits k 0 ≡ get_or (add_bits (register_bits n register) (replicate n 1)) k 0) →
-    next ≡ set bits i (bit_xor (bit_and (register / 2 ^ i) 1) 1) →
+-- one place more is written
+pub place_more : (n register i : ℕ) (bits next : List ℕ) → i < n → length bits ≡ n → AllBits bits →
+    ((k : ℕ) → k < i → get_or bits k 0 ≡ get_or (register_bits n register) k 0) →
+    next ≡ set bits i (bit_and (register / 2 ^ i) 1) →
     (length next ≡ n) × AllBits next ×
-    ((k : ℕ) → k < i + 1 → get_or next k 0 ≡ get_or (add_bits (register_bits n register) (replicate n 1)) k 0)
-turned_more n register i bits next within count all below is =
+    ((k : ℕ) → k < i + 1 → get_or next k 0 ≡ get_or (register_bits n register) k 0)
+place_more n register i bits next within count all below is =
     let here : i < length bits = omega arith in
-    let bit : bit_xor (bit_and (register / 2 ^ i) 1) 1 ≤ 1 = omega (arith, turned_bit register i) in
     rw is (
       simp length-set count,
-      All-set (λ b. b ≤ 1) bits i _ bit all,
+      All-set (λ b. b ≤ 1) bits i _ (and_le_r (register / 2 ^ i) 1) all,
       below_more _ i
-          (λ k lt. let other : k ≢ i = omega arith in rw get_or-set_other (below k lt))
-          (get_or-set_same bits i _ 0 here ∙ turned_bit register i ∙ sym (turned_place n register i within)),
+        (λ k lt. let other : k ≢ i = omega arith in rw get_or-set_other (below k lt))
+        (get_or-set_same bits i _ 0 here ∙ shr_and_one register i ∙ sym (get_or-register_bits n register i within)),
     )
 
-pub turned_all : (n register : ℕ) (bits : List ℕ) → length bits ≡ n →
-    ((k : ℕ) → k < n → get_or bits k 0 ≡ get_or (add_bits (register_bits n register) (replicate n 1)) k 0) →
-    bits ≡ add_bits (register_bits n register) (replicate n 1)
-turned_all n register bits count each =
-    let all : length (add_bits (register_bits n register) (replicate n 1)) ≡ n =
-    length-add_bits (register_bits n register) (replicate n 1) (length-register_bits n register ∙ sym (length-replicate n 1))
-    ∙ length-register_bits n register in
-    same_number_lists bits (add_bits (register_bits n register) (replicate n 1)) (count ∙ sym all)
-    (λ k lt. each k (omega arith))
+pub places_all : (n register : ℕ) (bits : List ℕ) → length bits ≡ n →
+    ((k : ℕ) → k < n → get_or bits k 0 ≡ get_or (register_bits n register) k 0) →
+    bits ≡ register_bits n register
+places_all n register bits count each =
+    same_number_lists bits (register_bits n register) (count ∙ sym (length-register_bits n register))
+      (λ k lt. each k (omega arith))

@@ -4,8 +4,10 @@ use Rattle.bit_blocks.specs.Bits.{AllBits, add_bits}
 use Rattle.bit_blocks.specs.Polynomials.{product_at}
 use Rattle.bit_blocks.proofs.Sums.{AllBits-add_bits}
 use Rattle.bit_blocks.proofs.Multiples.{IsMultiple_self, IsMultiple-zeros, IsMultiple-zeros_append}
+use Rattle.fire_code.specs.Registers.{register_bits}
+use Rattle.fire_code.proofs.RegisterBits.{length-register_bits}
 use Rattle.fire_code.specs.Words.{g40, g6, g10, IsXcchWord, IsRachWord, IsSchWord}
-use Rattle.fire_code.proofs.ParityParts.{same_rach_parity}
+use Rattle.fire_code.proofs.RachWords.{same_rach_parity}
 
 -- the places m, m + 1 and so on of a product, modulo 2
 product_from : List ℕ → List ℕ → ℕ → ℕ → List ℕ
@@ -47,8 +49,8 @@ not_under_zeros word =
     let zeros : List ℕ = 0 ∷ 0 ∷ 0 ∷ 0 ∷ 0 ∷ 0 ∷ [] in
     let ones : List ℕ = 1 ∷ 1 ∷ 1 ∷ 1 ∷ 1 ∷ 1 ∷ [] in
     let same : zeros ≡ ones =
-    same_rach_parity (replicate 8 0) zeros zeros zeros refl (checked_bits 8 (replicate 8 0) refl) refl
-    (checked_bits 6 zeros refl) (IsMultiple-zeros 14 g6 (omega arith)) word in
+      same_rach_parity (replicate 8 0) zeros ones zeros refl refl (checked_bits 6 ones refl)
+        (IsMultiple-zeros 14 (1 ∷ register_bits 6 61) (omega (arith, length-register_bits 6 61))) word in
     let first : 0 ≡ 1 = ap (λ (xs : List ℕ). get_or xs 0 0) same in
     omega (arith, first)
 

@@ -5,9 +5,22 @@ ghost use Rattle.fire_code.specs.Registers.{register_bits};
 
 use bit_blocks::Bits;
 
-/// The `N` bits that complete a list to a multiple of a generator, by a shift register. Bit `i` of a register stands
-/// for place `i`; `taps` is the generator without its highest power.
-pub fn remainder<const N: usize>(bits: &[u8], taps: u64) -> u64
+/// The parity of `N` bits under a generator: turned over, it completes the information bits to a multiple.
+/// `taps` is the generator without its highest power, bit `i` of the number standing for place `i`.
+pub fn parity<const N: usize>(info: &[u8], taps: u64) -> Bits<N>
+    requires bits { AllBits info.now }
+    requires degree { 0 < N }
+    requires fits { N ≤ 64 }
+    requires taps { taps < 2 ^ N }
+    ensures multiple { IsMultiple (info.now ++ add_bits result (replicate N 1)) (1 ∷ register_bits N taps) }
+    ensures count { length result ≡ N }
+    ensures bits { AllBits result }
+{
+    places(!remainder::<N>(info, taps))
+}
+
+/// What completes bits to a multiple of a generator, by a shift register, bit `i` of which stands for place `i`.
+fn remainder<const N: usize>(bits: &[u8], taps: u64) -> u64
     requires bits { AllBits bits.now }
     requires degree { 0 < N }
     requires taps { taps < 2 ^ N }
@@ -22,16 +35,16 @@ pub fn remainder<const N: usize>(bits: &[u8], taps: u64) -> u64
     register
 }
 
-/// The bits of a register, turned over.
-pub fn inverted<const N: usize>(register: u64) -> Bits<N>
+/// The first `N` places of a register.
+pub fn places<const N: usize>(register: u64) -> Bits<N>
     requires { N ≤ 64 }
-    ensures value { result ≡ add_bits (register_bits N register) (replicate N 1) }
+    ensures value { result ≡ register_bits N register }
     ensures count { length result ≡ N }
     ensures bits { AllBits result }
 {
     let mut bits = Bits::zero();
     for i in 0..N {
-        bits.set(i, ((register >> i) & 1) as u8 ^ 1);
+        bits.set(i, ((register >> i) & 1) as u8);
     }
     bits
 }

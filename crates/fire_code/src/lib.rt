@@ -1,8 +1,14 @@
-//! The parity of three channel codes of GSM: the Fire code of the control channels, and the codes of the access and
-//! the synchronisation burst.
+//! The parity of three channel codes of GSM: the Fire code of the control channels (xCCH), and the codes of the access
+//! burst (RACH) and of the synchronisation burst (SCH).
 #![tactic(auto)]
 
 mod division;
+mod octets;
 mod rach;
+mod sch;
+mod xcch;
 
-pub use rach::rach_parity;
+pub use octets::octet_remainder;
+pub use rach::{rach_holds, rach_parity};
+pub use sch::{sch_holds, sch_parity};
+pub use xcch::{xcch_holds, xcch_parity};

@@ -1,16 +1,17 @@
-ghost use Rattle.std.specs.Prelude.{◌≡◌, ◌++◌, List, ℕ, length, replicate};
+ghost use Rattle.std.specs.Prelude.{◌≡◌, ◌↔◌, ◌++◌, List, ℕ, length, replicate, IsTrue};
 ghost use Rattle.bit_blocks.specs.Bits.{AllBits, add_bits};
 ghost use Rattle.fire_code.specs.Words.{IsRachWord};
 
-use crate::division::{inverted, remainder};
 use bit_blocks::Bits;
+
+use crate::division::parity;
 
 // D^5 + D^3 + D^2 + D + 1, the bit of value 1 standing for D^5
 const TAPS: u64 = 0b11_1101;
 
 /// The parity of the eight bits of an access burst, before the base station's colour code (BSIC) is added.
 ///
-/// The burst carries the sum of this parity and the code.
+/// The burst carries the sum of this parity and the code (GSM 05.03 section 4.6).
 pub fn rach_parity(d: &Bits<8>) -> Bits<6>
     ensures word { IsRachWord (d.now ++ result) (replicate 6 0) }
     ensures only { (p : List ℕ) → IsRachWord (d.now ++ p) (replicate 6 0) → p ≡ result }
@@ -22,7 +23,18 @@ pub fn rach_parity(d: &Bits<8>) -> Bits<6>
     ensures count { length result ≡ 6 }
     ensures bits { AllBits result }
 {
-    inverted(remainder::<6>(d.as_slice(), TAPS))
+    parity(d.as_slice(), TAPS)
+}
+
+/// Whether fourteen bits, eight and their parity with a code added, are a word under this code (BSIC).
+pub fn rach_holds(w: &Bits<14>, bsic: &Bits<6>) -> bool
+    ensures { IsTrue result ↔ IsRachWord w.now bsic.now }
+{
+    let (info, sum) = w.as_slice().split_at(8);
+    let sum = Bits::<6>::from_slice(sum).unwrap();
+    // the one code under which these bits are a word
+    let code = parity::<6>(info, TAPS).xor(&sum);
+    code.as_slice() == bsic.as_slice()
 }
 
 #[cfg(test)]
@@ -31,8 +43,16 @@ mod tests {
     use std::test::Fail;
 
     #[test]
-    fn parity_of_zeros_is_ones(rt: HostRuntime) -> Result<(), Fail> {
+    fn zeros_have_ones_as_parity(rt: HostRuntime) -> Result<(), Fail> {
         assert_eq!(rt; rach_parity(&Bits::zero()).as_slice(), [1; 6].as_slice());
+        Ok(())
+    }
+
+    #[test]
+    fn zeros_hold_under_the_code_of_ones_alone(rt: HostRuntime) -> Result<(), Fail> {
+        let ones = Bits::from_slice(&[1; 6]).ok_or("bits")?;
+        assert!(rt; rach_holds(&Bits::zero(), &ones));
+        assert!(rt; !rach_holds(&Bits::zero(), &Bits::zero()));
         Ok(())
     }
 }

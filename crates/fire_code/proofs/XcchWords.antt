@@ -1,0 +1,77 @@
+-- Words of a control channel's block and their parity parts.
+use Rattle.std.proofs.Common.{◌≡◌, ℕ, ◌+◌, ◌^◌, ◌≤◌, ◌<◌, List, ◌++◌, length, replicate, refl, ap, sym, ◌∙◌, arith, subst, length-append, bit_xor}
+use Rattle.std.proofs.lemmas.Nat.{xor_lt}
+use Rattle.std.proofs.lemmas.List.Elements.{All-append}
+use Rattle.bit_blocks.specs.Bits.{AllBits, add_bits}
+use Rattle.bit_blocks.specs.Polynomials.{IsMultiple}
+use Rattle.bit_blocks.proofs.BitLists.{length-add_bits}
+use Rattle.bit_blocks.proofs.Sums.{AllBits-add_bits, add_bits-comm, add_bits_again, add_bits_twice}
+use Rattle.fire_code.specs.Registers.{register_bits}
+use Rattle.fire_code.specs.Words.{g40, IsXcchWord}
+use Rattle.fire_code.proofs.OctetSteps.{same_remainder_of_g40}
+use Rattle.fire_code.proofs.ParityParts.{first_bits, second_bits, multiple_of_word, multiple_of_parts}
+use Rattle.fire_code.proofs.RegisterBits.{length-register_bits, AllBits-register_bits, register_bits-xor, same_register}
+
+pub xcch_word : (d p : List ℕ) → length d ≡ 184 → AllBits d → length p ≡ 40 → AllBits p →
+    IsMultiple (d ++ add_bits p (replicate 40 1)) g40 → IsXcchWord (d ++ p)
+xcch_word d p ed bd ep bp multiple = record {
+  count = length-append d p ∙ omega arith;
+  bits = All-append (λ bit. bit ≤ 1) d p bd bp;
+  multiple = multiple_of_word 184 40 d p g40 ed bd multiple;
+}
+
+-- what completes the information bits is the parity of a word, turned over
+pub turned_parity : (d p r : List ℕ) → length d ≡ 184 → length r ≡ 40 → AllBits r → IsMultiple (d ++ r) g40 →
+    IsXcchWord (d ++ p) → add_bits p (replicate 40 1) ≡ r
+turned_parity d p r ed er br multiple word =
+    let ep : length p ≡ 40 = omega (arith, word.count, length-append d p) in
+    same_remainder_of_g40 d (add_bits p (replicate 40 1)) r
+      (length-add_bits p (replicate 40 1) ep ∙ ep) (AllBits-add_bits p (replicate 40 1)) er br
+      (multiple_of_parts 184 40 d p g40 ed (first_bits d p word.bits) word.multiple) multiple
+
+pub same_xcch_parity : (d p p' : List ℕ) (register : ℕ) → length d ≡ 184 → AllBits p' → length p' ≡ 40 →
+    add_bits p' (replicate 40 1) ≡ register_bits 40 register → IsMultiple (d ++ register_bits 40 register) g40 →
+    IsXcchWord (d ++ p) → p ≡ p'
+same_xcch_parity d p p' register ed bp' ep' is multiple word =
+    let ep : length p ≡ 40 = omega (arith, word.count, length-append d p) in
+    let turned = turned_parity d p (register_bits 40 register) ed (length-register_bits 40 register) (AllBits-register_bits 40 register) multiple word in
+    sym (add_bits_twice p (replicate 40 1) (second_bits d p word.bits) ep)
+    ∙ ap (λ x. add_bits x (replicate 40 1)) (turned ∙ sym is)
+    ∙ add_bits_twice p' (replicate 40 1) bp' ep'
+
+forty_ones : register_bits 40 0xffffffffff ≡ replicate 40 1
+unfolding register_bits
+forty_ones = refl
+
+-- a word is 184 bits and what completes them, turned over
+pub xcch_word_of : (w d p : List ℕ) (register check : ℕ) → w ≡ d ++ p → length d ≡ 184 → AllBits d → length p ≡ 40 → AllBits p →
+    register_bits 40 check ≡ p → IsMultiple (d ++ register_bits 40 register) g40 →
+    bit_xor register check ≡ 0xffffffffff → IsXcchWord w
+xcch_word_of w d p register check split ed bd ep bp held multiple same =
+    let r = register_bits 40 register in
+    let er : length r ≡ 40 = length-register_bits 40 register in
+    let sum : add_bits p r ≡ replicate 40 1 =
+      add_bits-comm p r
+      ∙ ap (λ x. add_bits r x) (sym held)
+      ∙ sym (register_bits-xor 40 register check)
+      ∙ ap (λ x. register_bits 40 x) same
+      ∙ forty_ones in
+    let turned : r ≡ add_bits p (replicate 40 1) =
+      sym (add_bits_again p r (AllBits-register_bits 40 register) (er ∙ sym ep)) ∙ ap (λ x. add_bits p x) sum in
+    subst IsXcchWord (sym split) (xcch_word d p ed bd ep bp (subst (λ x. IsMultiple (d ++ x) g40) turned multiple))
+
+pub register_of_xcch_word : (w d p : List ℕ) (register check : ℕ) → w ≡ d ++ p → length d ≡ 184 → length p ≡ 40 →
+    register_bits 40 check ≡ p → register < 2 ^ 40 → check < 2 ^ 40 → IsMultiple (d ++ register_bits 40 register) g40 →
+    IsXcchWord w → bit_xor register check ≡ 0xffffffffff
+register_of_xcch_word w d p register check split ed ep held within within' multiple word =
+    let r = register_bits 40 register in
+    let turned : add_bits p (replicate 40 1) ≡ r =
+      turned_parity d p r ed (length-register_bits 40 register) (AllBits-register_bits 40 register) multiple (subst IsXcchWord split word) in
+    let ones : AllBits (replicate 40 1) = subst AllBits forty_ones (AllBits-register_bits 40 0xffffffffff) in
+    same_register 40 (bit_xor register check) 0xffffffffff (xor_lt 40 register check within within') (omega arith)
+      (register_bits-xor 40 register check
+      ∙ ap (λ x. add_bits r x) held
+      ∙ add_bits-comm r p
+      ∙ ap (λ x. add_bits p x) (sym turned)
+      ∙ add_bits_again p (replicate 40 1) ones (sym ep)
+      ∙ sym forty_ones)

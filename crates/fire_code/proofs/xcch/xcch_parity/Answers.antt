@@ -1,0 +1,21 @@
+use Rattle.std.proofs.Common.{◌++◌, sym, subst, arith}
+use Rattle.bit_blocks.specs.Polynomials.{IsMultiple}
+use Rattle.fire_code.specs.Words.{g40, IsXcchWord}
+use Rattle.fire_code.proofs.RegisterBits.{turned_register}
+use Rattle.fire_code.proofs.XcchWords.{xcch_word, same_xcch_parity}
+use Rattle.fire_code.proofs.xcch.xcch_parity.Goals as goal
+
+pub returns-clause-word : goal.returns-clause-word
+returns-clause-word c =
+    let turned = turned_register 40 c.remainder.result c.places.result (omega arith) c.remainder.type_inv c.places.ensures.value in
+    let d = c.as_slice.result.now in
+    subst (λ d. IsXcchWord (d ++ c.places.result)) c.as_slice.ensures.value
+      (xcch_word d c.places.result c.as_slice.ensures.count c.as_slice.ensures.bits c.places.ensures.count c.places.ensures.bits
+        (subst (λ r. IsMultiple (d ++ r) g40) (sym turned) c.remainder.ensures.multiple))
+
+pub returns-clause-only : goal.returns-clause-only
+returns-clause-only c p word =
+    let turned = turned_register 40 c.remainder.result c.places.result (omega arith) c.remainder.type_inv c.places.ensures.value in
+    same_xcch_parity c.as_slice.result.now p c.places.result c.remainder.result c.as_slice.ensures.count
+      c.places.ensures.bits c.places.ensures.count turned c.remainder.ensures.multiple
+      (subst (λ d. IsXcchWord (d ++ p)) (sym c.as_slice.ensures.value) word)

@@ -1,0 +1,81 @@
+ghost use Rattle.std.specs.Prelude.{◌≡◌, ◌↔◌, ◌++◌, List, ℕ, length, IsTrue};
+ghost use Rattle.bit_blocks.specs.Bits.{AllBits};
+ghost use Rattle.fire_code.specs.Words.{IsXcchWord};
+
+use bit_blocks::Bits;
+
+use crate::division::places;
+use crate::octets::{register_of, remainder};
+
+const ALL_ONES: u64 = 0xff_ffff_ffff;
+
+/// The parity of the 184 bits of a control channel's block (GSM 05.03 section 4.1.2).
+pub fn xcch_parity(d: &Bits<184>) -> Bits<40>
+    ensures word { IsXcchWord (d.now ++ result) }
+    ensures only { (p : List ℕ) → IsXcchWord (d.now ++ p) → p ≡ result }
+    ensures count { length result ≡ 40 }
+    ensures bits { AllBits result }
+{
+    places(!remainder(d.as_slice()))
+}
+
+/// Whether 224 bits are 184 and their parity.
+pub fn xcch_holds(w: &Bits<224>) -> bool
+    ensures { IsTrue result ↔ IsXcchWord w.now }
+{
+    let (info, check) = w.as_slice().split_at(184);
+    remainder(info) ^ register_of(check) == ALL_ONES
+}
+
+#[cfg(test)]
+mod tests {
+    use super::*;
+    use crate::division::parity;
+    use crate::octets::octet_remainder;
+    use std::test::Fail;
+
+    // D^26 + D^23 + D^17 + D^3 + 1, the bit of value 1 standing for D^39
+    const TAPS: u64 = 0x90_0041_2000;
+
+    #[test]
+    fn zeros_have_ones_as_parity(rt: HostRuntime) -> Result<(), Fail> {
+        assert_eq!(rt; xcch_parity(&Bits::zero()).as_slice(), [1; 40].as_slice());
+        assert!(rt; !xcch_holds(&Bits::zero()));
+        Ok(())
+    }
+
+    #[test]
+    fn last_bit_alone(rt: HostRuntime) -> Result<(), Fail> {
+        let mut info = Bits::zero();
+        info.set(183, 1);
+        let mut expected = [1; 40];
+        for place in [13, 16, 22, 36, 39] {
+            expected[place] = 0;
+        }
+        assert_eq!(rt; xcch_parity(&info).as_slice(), expected.as_slice());
+        Ok(())
+    }
+
+    #[test]
+    fn remainders_of_octets(rt: HostRuntime) -> Result<(), Fail> {
+        assert_eq!(rt; octet_remainder(0).as_slice(), [0; 40].as_slice());
+        let mut expected = [0; 40];
+        for place in [13, 16, 22, 36, 39] {
+            expected[place] = 1;
+        }
+        assert_eq!(rt; octet_remainder(128).as_slice(), expected.as_slice());
+        Ok(())
+    }
+
+    #[test]
+    fn table_and_division_agree(rt: HostRuntime) -> Result<(), Fail> {
+        for step in 1..24 {
+            let mut info = Bits::<184>::zero();
+            for i in 0..184 {
+                info.set(i, ((i * i / step) & 1) as u8);
+            }
+            assert_eq!(rt; xcch_parity(&info).as_slice(), parity::<40>(info.as_slice(), TAPS).as_slice());
+        }
+        Ok(())
+    }
+}
