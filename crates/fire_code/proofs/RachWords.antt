@@ -13,7 +13,7 @@ unfolding register_bits
 taps_of_g6 = refl
 
 -- a code is added to the parity alone
-code_added : (d p b : List ℕ) → length d ≡ 8 → AllBits d → add_bits (d ++ p) (replicate 8 0 ++ b) ≡ d ++ add_bits p b
+pub code_added : (d p b : List ℕ) → length d ≡ 8 → AllBits d → add_bits (d ++ p) (replicate 8 0 ++ b) ≡ d ++ add_bits p b
 code_added d p b count bits = add_after 8 d p b count bits
 
 pub rach_word : (d p b : List ℕ) → length d ≡ 8 → AllBits d → length p ≡ 6 → AllBits p → length b ≡ 6 → AllBits b →

@@ -36,3 +36,10 @@ AllBits-pairs u (k ∷ ks) =
 -- a coded list is a list of bits
 pub AllBits-coded : (u : List ℕ) → AllBits (coded u)
 AllBits-coded u = AllBits-pairs u (range_with_len 0 (length u))
+
+-- information, parity and the tail bits make an information list
+pub IsInformation-joined : (word d p : List ℕ) → word ≡ with_tail (d ++ p) → 0 < length d → AllBits d → AllBits p →
+    IsInformation word
+IsInformation-joined word d p joined some d_bits p_bits =
+    let longer : 0 < length (d ++ p) = omega (arith, length-append d p) in
+    subst IsInformation (sym joined) (IsInformation-with_tail (d ++ p) longer (AllBits-append d p d_bits p_bits))

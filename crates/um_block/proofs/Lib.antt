@@ -1,1 +1,2 @@
 pub mod Information
+pub mod SentOnce

@@ -3,4 +3,4 @@
 
 mod sending;
 
-pub use sending::send_access;
+pub use sending::{send_access, send_sync};

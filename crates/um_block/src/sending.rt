@@ -1,11 +1,11 @@
 ghost use Rattle.std.specs.Prelude.{◌≡◌, ◌+◌, ◌<◌, ◌++◌, length};
 ghost use Rattle.bit_blocks.specs.Bits.{AllBits};
-ghost use Rattle.um_block.specs.Sent.{with_tail, IsSentAccess};
+ghost use Rattle.um_block.specs.Sent.{with_tail, IsSentAccess, IsSentSync};
 
 use bit_blocks::Bits;
-use burst_map::access;
+use burst_map::{access, sync};
 use conv_code::encode;
-use fire_code::rach_parity;
+use fire_code::{rach_parity, sch_parity};
 
 /// The access burst of eight bits of information under the six bits of a base station's colour
 /// code (BSIC), the highest bit of the network's part first.
@@ -19,6 +19,19 @@ pub fn send_access(info: &Bits<8>, bsic: &Bits<6>) -> [u8; 88]
     let mut coded = [0; 36];
     encode(&word, &mut coded);
     access(&coded)
+}
+
+/// The synchronisation burst of 25 bits of information.
+pub fn send_sync(info: &Bits<25>) -> [u8; 148]
+    ensures sent { IsSentSync info.now result }
+    ensures bits { AllBits result }
+{
+    let mut word = [0; 39];
+    add_tail(info.as_slice(), sch_parity(info).as_slice(), &mut word);
+    let mut coded = [0; 78];
+    encode(&word, &mut coded);
+    let (first, second) = coded.split_at(39);
+    sync(first, second)
 }
 
 /// Writes information, parity and the four tail bits, one after the other.

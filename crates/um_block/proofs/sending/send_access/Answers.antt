@@ -6,7 +6,7 @@ use Rattle.fire_code.specs.Words.{IsRachWord}
 use Rattle.burst_map.specs.Layouts.{access_burst}
 use Rattle.burst_map.proofs.Parts.{AllBits-append}
 use Rattle.um_block.specs.Sent.{with_tail}
-use Rattle.um_block.proofs.Information.{IsInformation-with_tail, AllBits-coded}
+use Rattle.um_block.proofs.Information.{IsInformation-joined, AllBits-coded}
 use Rattle.um_block.proofs.sending.send_access.Goals as goal
 
 pub access-requires-clause-bits : goal.access-requires-clause-bits
@@ -14,11 +14,8 @@ access-requires-clause-bits c = subst AllBits (sym c.encode.ensures) (AllBits-co
 
 pub encode-requires-clause-information : goal.encode-requires-clause-information
 encode-requires-clause-information c =
-    let d = c.as_slice.result.now in
-    let p = c.as_slice-2.result.now in
-    let some : 0 < length (d ++ p) = omega (arith, length-append d p, c.as_slice.ensures.count) in
-    subst IsInformation (sym c.add_tail.ensures)
-    (IsInformation-with_tail (d ++ p) some (AllBits-append d p c.as_slice.ensures.bits c.as_slice-2.ensures.bits))
+    IsInformation-joined _ _ _ c.add_tail.ensures (omega (arith, c.as_slice.ensures.count))
+        c.as_slice.ensures.bits c.as_slice-2.ensures.bits
 
 pub returns-clause-sent : goal.returns-clause-sent
 returns-clause-sent c =
