@@ -1,0 +1,4 @@
+pub mod Computed
+pub mod PlaceTable
+pub mod PuttingLemmas
+pub mod GatheringLemmas

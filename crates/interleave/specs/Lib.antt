@@ -1,0 +1,4 @@
+-- The definitions that the contracts of this crate cite.
+pub mod Places
+pub mod Interleaved
+pub mod Putting
