@@ -41,6 +41,15 @@ impl<const N: usize> Bits<N> {
         Some(Bits { places: *places })
     }
 
+    /// The bits that an array holds.
+    pub fn from_array(bits: [u8; N]) -> Bits<N>
+        requires { AllBits bits }
+        ensures value { result ≡ bits.entry }
+        ensures count { length result ≡ N }
+    {
+        Bits { places: bits }
+    }
+
     /// Bit `i`, the first being bit 0.
     pub fn get(&self, i: usize) -> u8
         requires { i < N }

@@ -1,10 +1,11 @@
 -- Information lists that end in the four tail bits, and the bits of coded lists.
-use Rattle.std.proofs.Common.{◌≡◌, ℕ, zero, suc, ◌+◌, ◌-◌, ◌<◌, ◌≤◌, List, [], ◌∷◌, ◌++◌, length, drop, replicate, sym, ap, subst, ◌∙◌, arith, refl}
+use Rattle.std.proofs.Common.{◌≡◌, ℕ, zero, suc, ◌+◌, ◌-◌, ◌<◌, ◌≤◌, ◌/◌, ◌%◌, List, [], ◌∷◌, ◌++◌, map, length, drop, replicate, sym, ap, subst, ◌∙◌, arith, refl}
 use Rattle.std.specs.List.{All, flat_map, range_with_len}
 use Rattle.std.proofs.Math.ListN.{length-append}
 use Rattle.std.proofs.Math.Seq.{drop-append_seam}
 use Rattle.std.proofs.lemmas.List.Elements.{All-cons, All-nil}
 use Rattle.bit_blocks.specs.Bits.{AllBits}
+use Rattle.bit_blocks.specs.Octets.{octet_bits, bits_of}
 use Rattle.burst_map.proofs.Parts.{AllBits-append, AllBits-computed}
 use Rattle.conv_code.specs.Code.{coded, coded_pair, first_sum, second_sum, IsInformation}
 use Rattle.um_block.specs.Sent.{with_tail}
@@ -33,6 +34,17 @@ AllBits-pairs u (k ∷ ks) =
     All-cons (λ bit. bit ≤ 1) (first_sum u k) (second_sum u k ∷ flat_map (coded_pair u) ks) (omega arith)
     (All-cons (λ bit. bit ≤ 1) (second_sum u k) (flat_map (coded_pair u) ks) (omega arith) (AllBits-pairs u ks))
 
+half_at_most_1 : (n : ℕ) → n % 2 ≤ 1
+half_at_most_1 n = omega arith
+
+AllBits-halves : (ns : List ℕ) → AllBits (map (λ n. n % 2) ns)
+AllBits-halves [] = All-nil (λ bit. bit ≤ 1)
+AllBits-halves (n ∷ ns) = All-cons (λ bit. bit ≤ 1) (n % 2) (map (λ m. m % 2) ns) (half_at_most_1 n) (AllBits-halves ns)
+
+AllBits-octet : (octet : ℕ) → AllBits (octet_bits octet)
+AllBits-octet octet =
+    AllBits-halves (octet ∷ octet / 2 ∷ octet / 4 ∷ octet / 8 ∷ octet / 16 ∷ octet / 32 ∷ octet / 64 ∷ octet / 128 ∷ [])
+
 -- a coded list is a list of bits
 pub AllBits-coded : (u : List ℕ) → AllBits (coded u)
 AllBits-coded u = AllBits-pairs u (range_with_len 0 (length u))
@@ -43,3 +55,9 @@ pub IsInformation-joined : (word d p : List ℕ) → word ≡ with_tail (d ++ p)
 IsInformation-joined word d p joined some d_bits p_bits =
     let longer : 0 < length (d ++ p) = omega (arith, length-append d p) in
     subst IsInformation (sym joined) (IsInformation-with_tail (d ++ p) longer (AllBits-append d p d_bits p_bits))
+
+-- the bits of octets are bits
+pub AllBits-bits_of : (octets : List ℕ) → AllBits (bits_of octets)
+AllBits-bits_of [] = All-nil (λ bit. bit ≤ 1)
+AllBits-bits_of (octet ∷ octets) =
+    AllBits-append (octet_bits octet) (bits_of octets) (AllBits-octet octet) (AllBits-bits_of octets)

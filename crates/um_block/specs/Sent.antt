@@ -1,12 +1,31 @@
 -- What is sent: a word of information and parity, four tail bits, the coded list, and the burst around it.
-use Rattle.std.specs.Prelude.{ℕ, ◌≡◌, List, ◌++◌, length, take, drop, replicate}
-use Rattle.fire_code.specs.Words.{IsRachWord, IsSchWord}
+use Rattle.std.specs.Prelude.{ℕ, ◌≡◌, ◌≤◌, List, ◌++◌, length, map, take, drop, replicate}
+use Rattle.bit_blocks.specs.Octets.{bits_of}
+use Rattle.fire_code.specs.Words.{IsXcchWord, IsRachWord, IsSchWord}
 use Rattle.conv_code.specs.Code.{coded}
-use Rattle.burst_map.specs.Layouts.{access_burst, sync_burst}
+use Rattle.interleave.specs.Interleaved.{IsSpread}
+use Rattle.burst_map.specs.Layouts.{normal_burst, access_burst, sync_burst}
 
 -- the word and the four zeros that bring the coder back to rest (GSM 05.03 section 4.1.3)
 abbrev pub with_tail : List ℕ → List ℕ
 with_tail word = word ++ replicate 4 0
+
+-- c are the coded bits of 23 octets (GSM 05.03 section 4.1)
+pub record IsCodedBlock (octets c : List ℕ) : Type 0 where
+  pub parity : List ℕ
+  pub count : length octets ≡ 23
+  pub word : IsXcchWord (bits_of octets ++ parity)
+  pub code : c ≡ coded (with_tail (bits_of octets ++ parity))
+
+-- these are the four normal bursts of 23 octets with a training sequence: the coded bits stand at their places in the
+-- bursts, half of each burst before the training sequence and half behind it (GSM 05.03 section 4.1, GSM 05.02 section 5.2.3)
+pub record IsSentBlock (octets : List ℕ) (tsc : ℕ) (bursts : List (List ℕ)) : Type 0 where
+  pub coded_bits : List ℕ
+  pub parts : List (List ℕ)
+  pub known : tsc ≤ 7
+  pub code : IsCodedBlock octets coded_bits
+  pub spread : IsSpread coded_bits parts
+  pub layout : bursts ≡ map (λ part. normal_burst (take 57 part) (drop 57 part) tsc) parts
 
 -- x is the access burst of eight bits d under the code b of a base station (GSM 05.03 section 4.6, GSM 05.02 section 5.2.7)
 pub record IsSentAccess (d b x : List ℕ) : Type 0 where

@@ -3,4 +3,4 @@
 
 mod sending;
 
-pub use sending::{send_access, send_sync};
+pub use sending::{send_access, send_block, send_sync};

@@ -1,11 +1,54 @@
-ghost use Rattle.std.specs.Prelude.{◌≡◌, ◌+◌, ◌<◌, ◌++◌, length};
+ghost use Rattle.std.specs.Prelude.{◌≡◌, ◌+◌, ◌<◌, ◌≤◌, ◌++◌, length, take, drop, All};
 ghost use Rattle.bit_blocks.specs.Bits.{AllBits};
-ghost use Rattle.um_block.specs.Sent.{with_tail, IsSentAccess, IsSentSync};
+ghost use Rattle.burst_map.specs.Layouts.{normal_burst};
+ghost use Rattle.um_block.specs.Sent.{with_tail, IsCodedBlock, IsSentBlock, IsSentAccess, IsSentSync};
 
-use bit_blocks::Bits;
-use burst_map::{access, sync};
+use bit_blocks::{Bits, from_octets};
+use burst_map::{access, normal, sync};
 use conv_code::encode;
-use fire_code::{rach_parity, sch_parity};
+use fire_code::{rach_parity, sch_parity, xcch_parity};
+use interleave::spread;
+
+/// The four normal bursts of a block of 23 octets, with a training sequence 0 to 7.
+pub fn send_block(octets: &[u8; 23], tsc: u8) -> [[u8; 148]; 4]
+    requires { tsc ≤ 7 }
+    ensures sent { IsSentBlock octets.now tsc result }
+    ensures bits { All AllBits result }
+{
+    let coded = code_block(octets);
+    let parts = spread(&coded);
+    [
+        normal_of(&parts[0], tsc),
+        normal_of(&parts[1], tsc),
+        normal_of(&parts[2], tsc),
+        normal_of(&parts[3], tsc),
+    ]
+}
+
+/// The 456 coded bits of 23 octets.
+fn code_block(octets: &[u8; 23]) -> [u8; 456]
+    ensures { IsCodedBlock octets.now result }
+{
+    let mut bits = [0; 184];
+    from_octets(octets, &mut bits);
+    let info = Bits::from_array(bits);
+    let mut word = [0; 228];
+    add_tail(info.as_slice(), xcch_parity(&info).as_slice(), &mut word);
+    let mut coded = [0; 456];
+    encode(&word, &mut coded);
+    coded
+}
+
+/// The normal burst of 114 coded bits.
+fn normal_of(part: &[u8; 114], tsc: u8) -> [u8; 148]
+    requires bits { AllBits part.now }
+    requires known { tsc ≤ 7 }
+    ensures layout { result ≡ normal_burst (take 57 part.now) (drop 57 part.now) tsc }
+    ensures bits { AllBits result }
+{
+    let (first, second) = part.split_at(57);
+    normal(first, second, tsc)
+}
 
 /// The access burst of eight bits of information under the six bits of a base station's colour
 /// code (BSIC), the highest bit of the network's part first.
