@@ -1,5 +1,5 @@
 -- Information lists that end in the four tail bits, and the bits of coded lists.
-use Rattle.std.proofs.Common.{◌≡◌, ℕ, zero, suc, ◌+◌, ◌-◌, ◌<◌, ◌≤◌, ◌/◌, ◌%◌, List, [], ◌∷◌, ◌++◌, map, length, drop, replicate, sym, ap, subst, ◌∙◌, arith, refl}
+use Rattle.std.proofs.Common.{◌≡◌, ℕ, zero, suc, ◌+◌, ◌-◌, ◌*◌, ◌<◌, ◌≤◌, ◌/◌, ◌%◌, List, [], ◌∷◌, ◌++◌, map, length, drop, replicate, sym, ap, subst, ◌∙◌, arith, refl}
 use Rattle.std.specs.List.{All, flat_map, range_with_len}
 use Rattle.std.proofs.Math.ListN.{length-append}
 use Rattle.std.proofs.Math.Seq.{drop-append_seam}
@@ -61,3 +61,9 @@ pub AllBits-bits_of : (octets : List ℕ) → AllBits (bits_of octets)
 AllBits-bits_of [] = All-nil (λ bit. bit ≤ 1)
 AllBits-bits_of (octet ∷ octets) =
     AllBits-append (octet_bits octet) (bits_of octets) (AllBits-octet octet) (AllBits-bits_of octets)
+
+pub length-bits_of : (octets : List ℕ) → length (bits_of octets) ≡ 8 * length octets
+length-bits_of [] = refl
+length-bits_of (octet ∷ octets) =
+    let rest = length-bits_of octets in
+    length-append (octet_bits octet) (bits_of octets) ∙ omega arith

@@ -26,8 +26,8 @@ AllBits-part coded parts b bits spread hb j d within =
     let long = length-part coded parts b spread hb in
     let hj : j < 114 = omega arith in
     subst (λ bit. bit ≤ 1)
-        (sym (get_or_default (part parts b) j d 0 within ∙ get_or-part coded parts b j spread hb hj))
-        (bit_at-most_1 coded (coded_place b j) bits)
+    (sym (get_or_default (part parts b) j d 0 within ∙ get_or-part coded parts b j spread hb hj))
+    (bit_at-most_1 coded (coded_place b j) bits)
 
 -- a list of four
 pub four : {A : Type 0} (xs : List A) (d : A) → length xs ≡ 4 →
@@ -46,4 +46,4 @@ same_four a a' b b' x x' y y' ea eb ex ey = cc
 pub AllBits-four : (a b c d : List ℕ) → AllBits a → AllBits b → AllBits c → AllBits d → All AllBits (a ∷ b ∷ c ∷ d ∷ [])
 AllBits-four a b c d ba bb bc bd =
     All-cons AllBits a (b ∷ c ∷ d ∷ []) ba
-        (All-cons AllBits b (c ∷ d ∷ []) bb (All-cons AllBits c (d ∷ []) bc (All-cons AllBits d [] bd (All-nil AllBits))))
+    (All-cons AllBits b (c ∷ d ∷ []) bb (All-cons AllBits c (d ∷ []) bc (All-cons AllBits d [] bd (All-nil AllBits))))

@@ -14,7 +14,7 @@ from_array-info-requires c =
 pub encode-requires-clause-information : goal.encode-requires-clause-information
 encode-requires-clause-information c =
     IsInformation-joined _ _ _ c.add_tail.ensures (omega (arith, c.as_slice.ensures.count))
-        c.as_slice.ensures.bits c.as_slice-2.ensures.bits
+    c.as_slice.ensures.bits c.as_slice-2.ensures.bits
 
 pub returns : goal.returns
 returns c =
@@ -22,8 +22,8 @@ returns c =
     let bits_are : d ≡ bits_of c.args.octets.now = c.from_octets.ensures in
     let p = c.xcch_parity.result in
     let word_is : c.add_tail.new.word ≡ with_tail (bits_of c.args.octets.now ++ p) =
-        c.add_tail.ensures
-        ∙ ap₂ (λ x y. with_tail (x ++ y)) (c.as_slice.ensures.value ∙ c.from_array-info.ensures.value ∙ bits_are) c.as_slice-2.ensures.value in
+    c.add_tail.ensures
+    ∙ ap₂ (λ x y. with_tail (x ++ y)) (c.as_slice.ensures.value ∙ c.from_array-info.ensures.value ∙ bits_are) c.as_slice-2.ensures.value in
     record {
       parity = p;
       count = c.told-octets;

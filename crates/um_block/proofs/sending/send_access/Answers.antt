@@ -15,7 +15,7 @@ access-requires-clause-bits c = subst AllBits (sym c.encode.ensures) (AllBits-co
 pub encode-requires-clause-information : goal.encode-requires-clause-information
 encode-requires-clause-information c =
     IsInformation-joined _ _ _ c.add_tail.ensures (omega (arith, c.as_slice.ensures.count))
-        c.as_slice.ensures.bits c.as_slice-2.ensures.bits
+    c.as_slice.ensures.bits c.as_slice-2.ensures.bits
 
 pub returns-clause-sent : goal.returns-clause-sent
 returns-clause-sent c =

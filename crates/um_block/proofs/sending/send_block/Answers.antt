@@ -36,7 +36,7 @@ returns c =
         spread = c.spread-parts.ensures;
         layout = same_four _ (burst (part parts 0)) _ (burst (part parts 1)) _ (burst (part parts 2)) _ (burst (part parts 3))
             c.normal_of.ensures.layout c.normal_of-2.ensures.layout c.normal_of-3.ensures.layout c.normal_of-4.ensures.layout
-          ∙ sym (ap (map burst) (four parts [] c.spread-parts.ensures.count));
+            ∙ sym (ap (map burst) (four parts [] c.spread-parts.ensures.count));
       };
       bits = AllBits-four _ _ _ _ c.normal_of.ensures.bits c.normal_of-2.ensures.bits c.normal_of-3.ensures.bits c.normal_of-4.ensures.bits;
     }

@@ -10,7 +10,7 @@ use Rattle.um_block.proofs.sending.send_sync.Goals as goal
 pub encode-requires-clause-information : goal.encode-requires-clause-information
 encode-requires-clause-information c =
     IsInformation-joined _ _ _ c.add_tail.ensures (omega (arith, c.as_slice.ensures.count))
-        c.as_slice.ensures.bits c.as_slice-2.ensures.bits
+    c.as_slice.ensures.bits c.as_slice-2.ensures.bits
 
 pub sync-requires : goal.sync-requires
 sync-requires c =
@@ -27,12 +27,12 @@ returns-clause-sent c =
     let d = c.args.info.now in
     let p = c.sch_parity.result in
     let word_is : c.add_tail.new.word ≡ with_tail (d ++ p) =
-        c.add_tail.ensures ∙ ap₂ (λ x y. with_tail (x ++ y)) c.as_slice.ensures.value c.as_slice-2.ensures.value in
+    c.add_tail.ensures ∙ ap₂ (λ x y. with_tail (x ++ y)) c.as_slice.ensures.value c.as_slice-2.ensures.value in
     let coded_is : c.encode.new.out ≡ coded (with_tail (d ++ p)) = c.encode.ensures ∙ ap coded word_is in
     record {
       parity = p;
       count = sym (ap length c.as_slice.ensures.value) ∙ c.as_slice.ensures.count;
       word = c.sch_parity.ensures.word;
       burst = c.sync.ensures.value
-        ∙ ap₂ sync_burst (c.split_at.ensures.front ∙ ap (take 39) coded_is) (c.split_at.ensures.back ∙ ap (drop 39) coded_is);
+          ∙ ap₂ sync_burst (c.split_at.ensures.front ∙ ap (take 39) coded_is) (c.split_at.ensures.back ∙ ap (drop 39) coded_is);
     }
