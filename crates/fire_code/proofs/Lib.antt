@@ -1,8 +1,10 @@
+pub mod OctetBits
 pub mod OctetSteps
 pub mod ParityParts
 pub mod RachWords
 pub mod RegisterBits
 pub mod SchWords
 pub mod Steps
+pub mod Tests
 pub mod WorkedWords
 pub mod XcchWords

@@ -1,11 +1,10 @@
 -- Division by whole octets: the table's entries, the gathering of eight bits, and one step.
-use Rattle.std.proofs.Common.{◌≡◌, ℕ, zero, suc, ◌+◌, ◌*◌, ◌/◌, ◌%◌, ◌^◌, ◌≤◌, ◌<◌, List, [], ◌∷◌, ◌++◌, length, replicate, get_or, take, drop, refl, ap, sym, subst, ◌∙◌, arith, bit_xor, bit_and, bit_or, Bool, true, ◌&&◌, eqb, append_assoc}
-use Rattle.std.specs.Int.{from_le_bytes, w64}
-use Rattle.std.proofs.lemmas.Bool.Decides.{Decides-below_and, Decides-eqb}
+use Rattle.std.proofs.Common.{◌≡◌, ℕ, ◌+◌, ◌*◌, ◌/◌, ◌^◌, ◌≤◌, ◌<◌, List, [], ◌∷◌, ◌++◌, length, replicate, get_or, take, drop, refl, ap, sym, subst, ◌∙◌, arith, bit_xor, bit_and, Bool, true, eqb, append_assoc}
+use Rattle.std.proofs.lemmas.Bool.Decides.{Decides-eqb}
 use Rattle.std.proofs.Math.Seq.{take-add}
 use Rattle.std.proofs.lemmas.List.{append-nil}
 use Rattle.std.proofs.lemmas.List.Elements.{All-nil, All-head, All-tail, All-push, All-take, All-drop}
-use Rattle.std.proofs.lemmas.Nat.{and_mask, shr_below, xor_lt, shl_whole, or_comm, or_shifted, mul-add-lt, pow-add}
+use Rattle.std.proofs.lemmas.Nat.{and_mask, shr_below, xor_lt}
 use Rattle.bit_blocks.specs.Bits.{AllBits, add_bits}
 use Rattle.bit_blocks.specs.Octets.{octet_bits}
 use Rattle.bit_blocks.specs.Polynomials.{IsMultiple}
@@ -14,17 +13,9 @@ use Rattle.bit_blocks.proofs.Multiples.{IsMultiple-zeros, divided_more, same_rem
 use Rattle.fire_code.specs.declared.octets.TheConstants.{REMAINDERS}
 use Rattle.fire_code.specs.Registers.{register_bits}
 use Rattle.fire_code.specs.Words.{g40}
-use Rattle.fire_code.proofs.RegisterBits.{length-register_bits, AllBits-register_bits, register_bits-zero, register_bits-mod, register_bits-xor, register_bits-parts, octet_bits-register_bits, register_bits_split, register_bits_beyond, register_bits-number_of, number_of, number_of_within}
+use Rattle.fire_code.proofs.Tests.{tested, passed}
+use Rattle.fire_code.proofs.RegisterBits.{length-register_bits, AllBits-register_bits, register_bits-zero, register_bits-mod, register_bits-xor, octet_bits-register_bits, register_bits_split, register_bits_beyond}
 use Rattle.fire_code.proofs.Steps.{remainder_more, remainder_within}
-
--- whether a test holds of each number below n
-tested : (ℕ → Bool) → ℕ → Bool
-tested p zero = true
-tested p (suc n) = p n && tested p n
-
-passed : (p : ℕ → Bool) (n : ℕ) → tested p n ≡ true → (k : ℕ) → k < n → p k ≡ true
-unfolding tested
-passed p n all = (Decides-below_and p (λ k. p k ≡ true) (tested p) (λ k. ((λ h. h), (λ h. h))) refl (λ _. refl) n).0 all
 
 taps_of_g40 : 1 ∷ register_bits 40 618479558656 ≡ g40
 unfolding register_bits
@@ -46,9 +37,9 @@ divided_multiple front (bit ∷ bits) register bf bb within before =
     let head : bit ≤ 1 = All-head (λ b. b ≤ 1) bit bits bb in
     let next = bit_xor (register / 2) (bit_and (bit_xor register bit) 1 * 618479558656) in
     let step : IsMultiple ((front ++ bit ∷ []) ++ register_bits 40 next) g40 =
-      subst (λ g. IsMultiple ((front ++ bit ∷ []) ++ register_bits 40 next) g) taps_of_g40
-        (remainder_more 40 front register bit 618479558656 (omega arith) bf within head
-          (subst (λ g. IsMultiple (front ++ register_bits 40 register) g) (sym taps_of_g40) before)) in
+    subst (λ g. IsMultiple ((front ++ bit ∷ []) ++ register_bits 40 next) g) taps_of_g40
+    (remainder_more 40 front register bit 618479558656 (omega arith) bf within head
+    (subst (λ g. IsMultiple (front ++ register_bits 40 register) g) (sym taps_of_g40) before)) in
     let small : next < 2 ^ 40 = remainder_within 40 register bit 618479558656 within (omega arith) in
     let front' = All-push (λ b. b ≤ 1) front bit bf head in
     let rest = divided_multiple (front ++ bit ∷ []) bits next front' (All-tail (λ b. b ≤ 1) bit bits bb) small step in
@@ -70,33 +61,9 @@ pub entry_multiple : (octet : ℕ) → octet < 256 →
 unfolding is_entry
 entry_multiple octet within =
     let is : get_or REMAINDERS octet 0 ≡ divided (register_bits 8 octet) 0 =
-      (Decides-eqb (get_or REMAINDERS octet 0) (divided (register_bits 8 octet) 0)).0 (passed is_entry 256 all_entries octet within) in
+    (Decides-eqb (get_or REMAINDERS octet 0) (divided (register_bits 8 octet) 0)).0 (passed is_entry 256 all_entries octet within) in
     let found = divided_multiple [] (register_bits 8 octet) 0 (All-nil (λ b. b ≤ 1)) (AllBits-register_bits 8 octet) (omega arith) empty_register in
     subst (λ r. IsMultiple (register_bits 8 octet ++ register_bits 40 r) g40 × (r < 2 ^ 40)) (sym is) found
-
--- the number that eight bits are gathered to
-abbrev pub gathering : List ℕ → ℕ
-gathering bits =
-    (from_le_bytes w64 (get_or bits 0 0 ∷ get_or bits 1 0 ∷ get_or bits 2 0 ∷ get_or bits 3 0 ∷
-      get_or bits 4 0 ∷ get_or bits 5 0 ∷ get_or bits 6 0 ∷ get_or bits 7 0 ∷ []) * 0x0102040810204080) % 2 ^ 64 / 2 ^ 56
-
-is_gathered : ℕ → Bool
-is_gathered octet = eqb (gathering (register_bits 8 octet)) octet
-
-all_gathered : tested is_gathered 256 ≡ true
-unfolding tested is_gathered register_bits
-all_gathered = refl
-
-pub gathered_bits : (bits : List ℕ) → length bits ≡ 8 → AllBits bits → register_bits 8 (gathering bits) ≡ bits
-unfolding is_gathered
-gathered_bits bits count all =
-    let octet = number_of bits in
-    let places : register_bits 8 octet ≡ bits =
-      ap (λ n. register_bits n octet) (sym count) ∙ register_bits-number_of bits all in
-    let within : octet < 256 = subst (λ n. octet < 2 ^ n) count (number_of_within bits all) in
-    let same : gathering (register_bits 8 octet) ≡ octet =
-      (Decides-eqb (gathering (register_bits 8 octet)) octet).0 (passed is_gathered 256 all_gathered octet within) in
-    ap (λ b. register_bits 8 (gathering b)) (sym places) ∙ ap (λ n. register_bits 8 n) same ∙ places
 
 -- eight places more
 pub octet_more : (front next : List ℕ) (register octet entry : ℕ) → AllBits front → AllBits next → register < 2 ^ 40 →
@@ -111,21 +78,21 @@ octet_more front next register octet entry bf bn within is before multiple =
     let count : length out ≡ 8 = length-register_bits 8 register in
     let parts : register_bits 40 register ≡ out ++ rest = register_bits_split 8 32 40 register (omega arith) in
     let started : start ≡ add_bits out next =
-      ap (λ x. register_bits 8 x) (and_mask (bit_xor register octet) 8)
-      ∙ register_bits-mod 8 (bit_xor register octet)
-      ∙ register_bits-xor 8 register octet
-      ∙ ap (λ x. add_bits out x) is in
+    ap (λ x. register_bits 8 x) (and_mask (bit_xor register octet) 8)
+    ∙ register_bits-mod 8 (bit_xor register octet)
+    ∙ register_bits-xor 8 register octet
+    ∙ ap (λ x. add_bits out x) is in
     let eight : length next ≡ length out = ap length (sym is) ∙ length-register_bits 8 octet ∙ sym count in
     let sum : add_bits out start ≡ next = ap (λ x. add_bits out x) started ∙ add_bits_again out next bn eight in
     let ends : add_bits (rest ++ replicate (length out) 0) tail ≡ register_bits 40 (bit_xor (register / 2 ^ 8) entry) =
-      ap (λ n. add_bits (rest ++ replicate n 0) tail) count
-      ∙ ap (λ x. add_bits x tail) (sym (register_bits_beyond 32 8 40 (register / 2 ^ 8) (omega arith) (shr_below register 32 8 within)))
-      ∙ sym (register_bits-xor 40 (register / 2 ^ 8) entry) in
+    ap (λ n. add_bits (rest ++ replicate n 0) tail) count
+    ∙ ap (λ x. add_bits x tail) (sym (register_bits_beyond 32 8 40 (register / 2 ^ 8) (omega arith) (shr_below register 32 8 within)))
+    ∙ sym (register_bits-xor 40 (register / 2 ^ 8) entry) in
     subst (λ x. IsMultiple ((front ++ next) ++ x) g40) ends
-      (divided_more front out rest next start tail g40 bf
-        (length-register_bits 8 (bit_and (bit_xor register octet) 255) ∙ sym count)
-        (length-register_bits 40 entry ∙ omega (arith, length-register_bits 32 (register / 2 ^ 8)))
-        sum (subst (λ x. IsMultiple (front ++ x) g40) parts before) multiple)
+    (divided_more front out rest next start tail g40 bf
+    (length-register_bits 8 (bit_and (bit_xor register octet) 255) ∙ sym count)
+    (length-register_bits 40 entry ∙ omega (arith, length-register_bits 32 (register / 2 ^ 8)))
+    sum (subst (λ x. IsMultiple (front ++ x) g40) parts before) multiple)
 
 pub octet_within : (register entry : ℕ) → register < 2 ^ 40 → entry < 2 ^ 40 → bit_xor (register / 2 ^ 8) entry < 2 ^ 40
 octet_within register entry within small = xor_lt 40 (register / 2 ^ 8) entry (omega arith) small
@@ -139,16 +106,16 @@ octet_along bits m n register octet entry all eight within is before multiple =
     let next = take n (drop (8 * m) bits) in
     let at : 8 * m + n ≡ 8 * (m + 1) = omega arith in
     let taken : take (8 * m) bits ++ next ≡ take (8 * (m + 1)) bits =
-      sym (take-add (8 * m) n bits) ∙ ap (λ k. take k bits) at in
+    sym (take-add (8 * m) n bits) ∙ ap (λ k. take k bits) at in
     subst (λ w. IsMultiple (w ++ register_bits 40 (bit_xor (register / 2 ^ 8) entry)) g40) taken
-      (octet_more (take (8 * m) bits) next register octet entry (All-take (λ b. b ≤ 1) (8 * m) bits all)
-        (All-take (λ b. b ≤ 1) n (drop (8 * m) bits) (All-drop (λ b. b ≤ 1) (8 * m) bits all)) within is before multiple)
+    (octet_more (take (8 * m) bits) next register octet entry (All-take (λ b. b ≤ 1) (8 * m) bits all)
+    (All-take (λ b. b ≤ 1) n (drop (8 * m) bits) (All-drop (λ b. b ≤ 1) (8 * m) bits all)) within is before multiple)
 
 pub remainder_of_octet : (octet register : ℕ) (r : List ℕ) → r ≡ register_bits 40 register →
     IsMultiple (register_bits 8 octet ++ register_bits 40 register) g40 → IsMultiple (octet_bits octet ++ r) g40
 remainder_of_octet octet register r is multiple =
     subst (λ o. IsMultiple (o ++ r) g40) (sym (octet_bits-register_bits octet))
-      (subst (λ x. IsMultiple (register_bits 8 octet ++ x) g40) (sym is) multiple)
+    (subst (λ x. IsMultiple (register_bits 8 octet ++ x) g40) (sym is) multiple)
 
 pub same_remainder_of_g40 : (front r s : List ℕ) → length r ≡ 40 → AllBits r → length s ≡ 40 → AllBits s →
     IsMultiple (front ++ r) g40 → IsMultiple (front ++ s) g40 → r ≡ s
@@ -156,30 +123,5 @@ same_remainder_of_g40 front r s er br es bs mr ms =
     let t = register_bits 40 618479558656 in
     let et = length-register_bits 40 618479558656 in
     same_remainder front r s t br bs (er ∙ sym et) (es ∙ sym et)
-      (subst (λ g. IsMultiple (front ++ r) g) (sym taps_of_g40) mr)
-      (subst (λ g. IsMultiple (front ++ s) g) (sym taps_of_g40) ms)
-
-pub no_places : (register_bits 0 0 ≡ []) × (0 < 2 ^ 0)
-unfolding register_bits
-no_places = (refl, omega arith)
-
--- eight places more of a register that is put together
-pub put_together : (bits : List ℕ) (m n register octet : ℕ) → m < 5 → n ≡ 8 → octet < 256 → register < 2 ^ (8 * m) →
-    register_bits 8 octet ≡ take n (drop (8 * m) bits) → register_bits (8 * m) register ≡ take (8 * m) bits →
-    let next = bit_or register (octet * 2 ^ (8 * m) % 2 ^ 64) in
-    (register_bits (8 * (m + 1)) next ≡ take (8 * (m + 1)) bits) × (next < 2 ^ (8 * (m + 1)))
-put_together bits m n register octet within eight small low is before =
-    let k = 8 * m in
-    let width : 8 * (m + 1) ≡ k + 8 = omega arith in
-    let whole : octet * 2 ^ k % 2 ^ 64 ≡ octet * 2 ^ k = shl_whole octet 8 k 64 small (omega arith) in
-    let joined : bit_or register (octet * 2 ^ k % 2 ^ 64) ≡ octet * 2 ^ k + register =
-      ap (λ x. bit_or register x) whole ∙ or_comm register (octet * 2 ^ k) ∙ or_shifted octet k register low in
-    let at : k + n ≡ 8 * (m + 1) = omega arith in
-    rw joined (
-      register_bits-parts k 8 (8 * (m + 1)) register octet width low
-      ∙ ap (λ front. front ++ register_bits 8 octet) before
-      ∙ ap (λ next. take k bits ++ next) is
-      ∙ sym (take-add k n bits)
-      ∙ ap (λ j. take j bits) at,
-      rw (width, pow-add 2 k 8) (mul-add-lt octet (2 ^ k) register 256 small low),
-    )
+    (subst (λ g. IsMultiple (front ++ r) g) (sym taps_of_g40) mr)
+    (subst (λ g. IsMultiple (front ++ s) g) (sym taps_of_g40) ms)

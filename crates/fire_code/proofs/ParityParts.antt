@@ -1,5 +1,5 @@
 -- The one parity part of an information part: turned over, it completes the information part to a multiple.
-use Rattle.std.proofs.Common.{◌≡◌, ℕ, ◌+◌, ◌≤◌, List, ◌∷◌, ◌++◌, length, replicate, refl, ap, sym, ◌∙◌, arith, subst, length-append, take, drop}
+use Rattle.std.proofs.Common.{◌≡◌, ℕ, ◌+◌, ◌≤◌, List, ◌∷◌, ◌++◌, length, replicate, ap, sym, ◌∙◌, arith, subst, length-append, take, drop}
 use Rattle.std.proofs.lemmas.List.{length-replicate, get_or-append-add, get_or_append_left, take-append-drop}
 use Rattle.std.proofs.lemmas.List.Elements.{All-take, All-drop}
 use Rattle.bit_blocks.specs.Bits.{AllBits, add_bits}
@@ -41,8 +41,8 @@ same_parity k d p p' t et bp bp' ep ep' multiple multiple' =
     let e : length p ≡ length ones = ep ∙ sym (length-replicate k 1) in
     let e' : length p' ≡ length ones = ep' ∙ sym (length-replicate k 1) in
     let same : add_bits p ones ≡ add_bits p' ones =
-      same_remainder d (add_bits p ones) (add_bits p' ones) t (AllBits-add_bits p ones) (AllBits-add_bits p' ones)
-        (length-add_bits p ones e ∙ ep ∙ sym et) (length-add_bits p' ones e' ∙ ep' ∙ sym et) multiple multiple' in
+    same_remainder d (add_bits p ones) (add_bits p' ones) t (AllBits-add_bits p ones) (AllBits-add_bits p' ones)
+    (length-add_bits p ones e ∙ ep ∙ sym et) (length-add_bits p' ones e' ∙ ep' ∙ sym et) multiple multiple' in
     sym (add_bits_twice p ones bp e) ∙ ap (λ x. add_bits x ones) same ∙ add_bits_twice p' ones bp' e'
 
 -- bits of a known count, and their sum with others of that count

@@ -1,5 +1,5 @@
 -- Words of an access burst and their parity parts.
-use Rattle.std.proofs.Common.{◌≡◌, ℕ, ◌+◌, ◌≤◌, List, [], ◌∷◌, ◌++◌, length, replicate, refl, ap, sym, ◌∙◌, arith, subst, length-append}
+use Rattle.std.proofs.Common.{◌≡◌, ℕ, ◌≤◌, List, [], ◌∷◌, ◌++◌, length, replicate, refl, ap, sym, ◌∙◌, arith, subst, length-append}
 use Rattle.std.proofs.lemmas.List.Elements.{All-append}
 use Rattle.bit_blocks.specs.Bits.{AllBits, add_bits}
 use Rattle.bit_blocks.specs.Polynomials.{IsMultiple}
@@ -21,14 +21,14 @@ pub rach_word : (d p b : List ℕ) → length d ≡ 8 → AllBits d → length p
 rach_word d p b ed bd ep bp eb bb multiple =
     let multiple' = subst (λ g. IsMultiple (d ++ add_bits p (replicate 6 1)) g) taps_of_g6 multiple in
     let back : add_bits (d ++ add_bits p b) (replicate 8 0 ++ b) ≡ d ++ p =
-      code_added d (add_bits p b) b ed bd ∙ ap (λ x. d ++ x) (add_bits_twice p b bp (ep ∙ sym eb)) in
+    code_added d (add_bits p b) b ed bd ∙ ap (λ x. d ++ x) (add_bits_twice p b bp (ep ∙ sym eb)) in
     record {
       count = length-append d (add_bits p b) ∙ omega (arith, count_of_sum 6 p b ep eb);
       bits = All-append (λ bit. bit ≤ 1) d (add_bits p b) bd (AllBits-add_bits p b);
       code_count = eb;
       code_bits = bb;
       multiple = subst (λ w. IsMultiple (add_bits w (replicate 8 0 ++ replicate 6 1)) g6) (sym back)
-        (multiple_of_word 8 6 d p g6 ed bd multiple');
+          (multiple_of_word 8 6 d p g6 ed bd multiple');
     }
 
 pub same_rach_parity : (d p p' b : List ℕ) → length d ≡ 8 → length p' ≡ 6 → AllBits p' →
@@ -40,10 +40,10 @@ same_rach_parity d p p' b ed ep' bp' multiple' word =
     let e : length p ≡ length b = ep ∙ sym word.code_count in
     let known = subst (λ g. IsMultiple (d ++ add_bits p' (replicate 6 1)) g) taps_of_g6 multiple' in
     let multiple = multiple_of_parts 8 6 d (add_bits p b) g6 ed bd
-      (subst (λ w. IsMultiple (add_bits w (replicate 8 0 ++ replicate 6 1)) g6) (code_added d p b ed bd) word.multiple) in
+    (subst (λ w. IsMultiple (add_bits w (replicate 8 0 ++ replicate 6 1)) g6) (code_added d p b ed bd) word.multiple) in
     let same : add_bits p b ≡ p' =
-      same_parity 6 d (add_bits p b) p' (1 ∷ 0 ∷ 1 ∷ 1 ∷ 1 ∷ 1 ∷ []) refl (AllBits-add_bits p b) bp'
-        (count_of_sum 6 p b ep word.code_count) ep' multiple known in
+    same_parity 6 d (add_bits p b) p' (1 ∷ 0 ∷ 1 ∷ 1 ∷ 1 ∷ 1 ∷ []) refl (AllBits-add_bits p b) bp'
+    (count_of_sum 6 p b ep word.code_count) ep' multiple known in
     sym (add_bits_twice p b bp e) ∙ ap (λ x. add_bits x b) same
 
 -- the sum of the parity and the last six bits is the code under which these are a word

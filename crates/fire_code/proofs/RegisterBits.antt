@@ -100,7 +100,7 @@ register_bits-mod (suc n) number =
     let lowest : number % 2 ^ suc n % 2 ≡ number % 2 = lowest_of_mod n number in
     let next : n + 1 ≡ suc n = omega arith in
     let half : number % 2 ^ suc n / 2 ≡ number / 2 % 2 ^ n =
-      ap (λ k. number % 2 ^ k / 2) (sym next) ∙ field_of number n 1 in
+    ap (λ k. number % 2 ^ k / 2) (sym next) ∙ field_of number n 1 in
     ap (λ bit. bit ∷ register_bits n (number % 2 ^ suc n / 2)) lowest
     ∙ ap (λ rest. number % 2 ∷ register_bits n rest) half
     ∙ ap (λ rest. number % 2 ∷ rest) (register_bits-mod n (number / 2))
@@ -109,7 +109,7 @@ register_bits-mod (suc n) number =
 pub same_register : (n a b : ℕ) → a < 2 ^ n → b < 2 ^ n → register_bits n a ≡ register_bits n b → a ≡ b
 same_register n a b within within' same =
     same_from_bits_below n a b within within'
-      (λ i lt. sym (get_or-register_bits n a i lt) ∙ ap (λ xs. get_or xs i 0) same ∙ get_or-register_bits n b i lt)
+    (λ i lt. sym (get_or-register_bits n a i lt) ∙ ap (λ xs. get_or xs i 0) same ∙ get_or-register_bits n b i lt)
 
 -- a low part and a high one
 pub register_bits-parts : (k n m low high : ℕ) → m ≡ k + n → low < 2 ^ k →
@@ -118,7 +118,7 @@ register_bits-parts k n m low high count within =
     register_bits_split k n m (high * 2 ^ k + low) count
     ∙ ap (λ x. register_bits k (high * 2 ^ k + low) ++ register_bits n x) (shr_high high k low within)
     ∙ ap (λ front. front ++ register_bits n high)
-      (sym (register_bits-mod k (high * 2 ^ k + low)) ∙ ap (λ x. register_bits k x) (mod_low high k low within))
+    (sym (register_bits-mod k (high * 2 ^ k + low)) ∙ ap (λ x. register_bits k x) (mod_low high k low within))
 
 -- a register with each bit turned over
 pub register_bits-not : (n number : ℕ) → n ≤ 64 → number < 2 ^ 64 →
@@ -127,16 +127,16 @@ register_bits-not n number small within =
     let count = length-register_bits n number in
     let same : length (register_bits n number) ≡ length (replicate {A = ℕ} n 1) = count ∙ sym (length-replicate n 1) in
     same_number_lists (register_bits n (bit_not w64 number)) (add_bits (register_bits n number) (replicate n 1))
-      (length-register_bits n (bit_not w64 number) ∙ sym (length-add_bits _ _ same ∙ count))
-      (λ i lt.
-        let lt' : i < n = omega (arith, length-register_bits n (bit_not w64 number)) in
-        let below : i < length (register_bits n number) = omega arith in
-        get_or-register_bits n (bit_not w64 number) i lt'
-        ∙ bit_at_not w64 number i within (omega arith)
-        ∙ turned_over (bit_at number i) (bit_at-lt number i)
-        ∙ ap (λ bit. (bit + 1) % 2) (sym (get_or-register_bits n number i lt'))
-        ∙ ap (λ one. (get_or (register_bits n number) i 0 + one) % 2) (sym (get_or-replicate n i 1 0 lt'))
-        ∙ sym (get_or-add_bits (register_bits n number) (replicate n 1) i same below))
+    (length-register_bits n (bit_not w64 number) ∙ sym (length-add_bits _ _ same ∙ count))
+    (λ i lt.
+    let lt' : i < n = omega (arith, length-register_bits n (bit_not w64 number)) in
+    let below : i < length (register_bits n number) = omega arith in
+    get_or-register_bits n (bit_not w64 number) i lt'
+    ∙ bit_at_not w64 number i within (omega arith)
+    ∙ turned_over (bit_at number i) (bit_at-lt number i)
+    ∙ ap (λ bit. (bit + 1) % 2) (sym (get_or-register_bits n number i lt'))
+    ∙ ap (λ one. (get_or (register_bits n number) i 0 + one) % 2) (sym (get_or-replicate n i 1 0 lt'))
+    ∙ sym (get_or-add_bits (register_bits n number) (replicate n 1) i same below))
 
 -- turned over twice
 pub turned_register : (n number : ℕ) (turned : List ℕ) → n ≤ 64 → number < 2 ^ 64 →
@@ -144,7 +144,7 @@ pub turned_register : (n number : ℕ) (turned : List ℕ) → n ≤ 64 → numb
 turned_register n number turned small within is =
     ap (λ x. add_bits x (replicate n 1)) (is ∙ register_bits-not n number small within)
     ∙ add_bits_twice (register_bits n number) (replicate n 1) (AllBits-register_bits n number)
-      (length-register_bits n number ∙ sym (length-replicate n 1))
+    (length-register_bits n number ∙ sym (length-replicate n 1))
 
 -- the number whose places are these bits
 unfoldable pub number_of : List ℕ → ℕ

@@ -1,5 +1,5 @@
 -- Words of a synchronisation burst and their parity parts.
-use Rattle.std.proofs.Common.{◌≡◌, ℕ, ◌+◌, ◌≤◌, List, [], ◌∷◌, ◌++◌, length, replicate, refl, ap, sym, ◌∙◌, arith, subst, length-append}
+use Rattle.std.proofs.Common.{◌≡◌, ℕ, ◌≤◌, List, [], ◌∷◌, ◌++◌, length, replicate, refl, ap, sym, ◌∙◌, arith, subst, length-append}
 use Rattle.std.proofs.lemmas.List.Elements.{All-append}
 use Rattle.bit_blocks.specs.Bits.{AllBits, add_bits}
 use Rattle.bit_blocks.specs.Polynomials.{IsMultiple}
@@ -17,7 +17,7 @@ sch_word d p ed bd ep bp multiple = record {
   count = length-append d p ∙ omega arith;
   bits = All-append (λ bit. bit ≤ 1) d p bd bp;
   multiple = multiple_of_word 25 10 d p g10 ed bd
-    (subst (λ g. IsMultiple (d ++ add_bits p (replicate 10 1)) g) taps_of_g10 multiple);
+      (subst (λ g. IsMultiple (d ++ add_bits p (replicate 10 1)) g) taps_of_g10 multiple);
 }
 
 pub same_sch_parity : (d p p' : List ℕ) → length d ≡ 25 → length p' ≡ 10 → AllBits p' →
@@ -25,8 +25,8 @@ pub same_sch_parity : (d p p' : List ℕ) → length d ≡ 25 → length p' ≡ 
 same_sch_parity d p p' ed ep' bp' multiple' word =
     let ep : length p ≡ 10 = omega (arith, word.count, length-append d p) in
     same_parity 10 d p p' (0 ∷ 1 ∷ 0 ∷ 1 ∷ 1 ∷ 1 ∷ 0 ∷ 1 ∷ 0 ∷ 1 ∷ []) refl (second_bits d p word.bits) bp' ep ep'
-      (multiple_of_parts 25 10 d p g10 ed (first_bits d p word.bits) word.multiple)
-      (subst (λ g. IsMultiple (d ++ add_bits p' (replicate 10 1)) g) taps_of_g10 multiple')
+    (multiple_of_parts 25 10 d p g10 ed (first_bits d p word.bits) word.multiple)
+    (subst (λ g. IsMultiple (d ++ add_bits p' (replicate 10 1)) g) taps_of_g10 multiple')
 
 -- a word is 25 bits and their one parity
 pub sch_word_of : (w d p p' : List ℕ) → w ≡ d ++ p → length d ≡ 25 → AllBits d → length p' ≡ 10 → AllBits p' →

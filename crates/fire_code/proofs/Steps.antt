@@ -1,11 +1,10 @@
 -- One step of a division by a register.
 use Rattle.std.proofs.Common.{◌≡◌, ℕ, zero, suc, ◌+◌, ◌*◌, ◌/◌, ◌%◌, ◌^◌, ◌≤◌, ◌<◌, List, [], ◌∷◌, ◌++◌, length, replicate, refl, ap, sym, ◌∙◌, arith, bit_xor, bit_and, subst, get_or, below_more, ◌≢◌, take}
 use Rattle.std.proofs.Math.ListN.{set}
-use Rattle.bit_blocks.proofs.BitLists.{bit_xor-bits, get_or-add_bits, length-add_bits}
 use Rattle.std.proofs.lemmas.Grind.{same_number_lists}
 use Rattle.std.proofs.lemmas.Nat.{and_mask, and_le_r, mul-le, xor_lt}
 use Rattle.std.proofs.lemmas.Nat.Bits.{shr_and_one}
-use Rattle.std.proofs.lemmas.List.{get_or-replicate, get_or-set_other, get_or-set_same, length-set, length-replicate, take_more}
+use Rattle.std.proofs.lemmas.List.{get_or-set_other, get_or-set_same, length-set, take_more}
 use Rattle.std.proofs.lemmas.List.Elements.{All-cons, All-set, All-take}
 use Rattle.bit_blocks.specs.Bits.{AllBits, add_bits}
 use Rattle.bit_blocks.specs.Polynomials.{IsMultiple}
@@ -83,8 +82,8 @@ place_more n register i bits next within count all below is =
       simp length-set count,
       All-set (λ b. b ≤ 1) bits i _ (and_le_r (register / 2 ^ i) 1) all,
       below_more _ i
-        (λ k lt. let other : k ≢ i = omega arith in rw get_or-set_other (below k lt))
-        (get_or-set_same bits i _ 0 here ∙ shr_and_one register i ∙ sym (get_or-register_bits n register i within)),
+          (λ k lt. let other : k ≢ i = omega arith in rw get_or-set_other (below k lt))
+          (get_or-set_same bits i _ 0 here ∙ shr_and_one register i ∙ sym (get_or-register_bits n register i within)),
     )
 
 pub places_all : (n register : ℕ) (bits : List ℕ) → length bits ≡ n →
@@ -92,4 +91,4 @@ pub places_all : (n register : ℕ) (bits : List ℕ) → length bits ≡ n →
     bits ≡ register_bits n register
 places_all n register bits count each =
     same_number_lists bits (register_bits n register) (count ∙ sym (length-register_bits n register))
-      (λ k lt. each k (omega arith))
+    (λ k lt. each k (omega arith))

@@ -49,8 +49,8 @@ not_under_zeros word =
     let zeros : List ℕ = 0 ∷ 0 ∷ 0 ∷ 0 ∷ 0 ∷ 0 ∷ [] in
     let ones : List ℕ = 1 ∷ 1 ∷ 1 ∷ 1 ∷ 1 ∷ 1 ∷ [] in
     let same : zeros ≡ ones =
-      same_rach_parity (replicate 8 0) zeros ones zeros refl refl (checked_bits 6 ones refl)
-        (IsMultiple-zeros 14 (1 ∷ register_bits 6 61) (omega (arith, length-register_bits 6 61))) word in
+    same_rach_parity (replicate 8 0) zeros ones zeros refl refl (checked_bits 6 ones refl)
+    (IsMultiple-zeros 14 (1 ∷ register_bits 6 61) (omega (arith, length-register_bits 6 61))) word in
     let first : 0 ≡ 1 = ap (λ (xs : List ℕ). get_or xs 0 0) same in
     omega (arith, first)
 

@@ -1,5 +1,5 @@
 -- Words of a control channel's block and their parity parts.
-use Rattle.std.proofs.Common.{◌≡◌, ℕ, ◌+◌, ◌^◌, ◌≤◌, ◌<◌, List, ◌++◌, length, replicate, refl, ap, sym, ◌∙◌, arith, subst, length-append, bit_xor}
+use Rattle.std.proofs.Common.{◌≡◌, ℕ, ◌^◌, ◌≤◌, ◌<◌, List, ◌++◌, length, replicate, refl, ap, sym, ◌∙◌, arith, subst, length-append, bit_xor}
 use Rattle.std.proofs.lemmas.Nat.{xor_lt}
 use Rattle.std.proofs.lemmas.List.Elements.{All-append}
 use Rattle.bit_blocks.specs.Bits.{AllBits, add_bits}
@@ -26,8 +26,8 @@ pub turned_parity : (d p r : List ℕ) → length d ≡ 184 → length r ≡ 40 
 turned_parity d p r ed er br multiple word =
     let ep : length p ≡ 40 = omega (arith, word.count, length-append d p) in
     same_remainder_of_g40 d (add_bits p (replicate 40 1)) r
-      (length-add_bits p (replicate 40 1) ep ∙ ep) (AllBits-add_bits p (replicate 40 1)) er br
-      (multiple_of_parts 184 40 d p g40 ed (first_bits d p word.bits) word.multiple) multiple
+    (length-add_bits p (replicate 40 1) ep ∙ ep) (AllBits-add_bits p (replicate 40 1)) er br
+    (multiple_of_parts 184 40 d p g40 ed (first_bits d p word.bits) word.multiple) multiple
 
 pub same_xcch_parity : (d p p' : List ℕ) (register : ℕ) → length d ≡ 184 → AllBits p' → length p' ≡ 40 →
     add_bits p' (replicate 40 1) ≡ register_bits 40 register → IsMultiple (d ++ register_bits 40 register) g40 →
@@ -51,13 +51,13 @@ xcch_word_of w d p register check split ed bd ep bp held multiple same =
     let r = register_bits 40 register in
     let er : length r ≡ 40 = length-register_bits 40 register in
     let sum : add_bits p r ≡ replicate 40 1 =
-      add_bits-comm p r
-      ∙ ap (λ x. add_bits r x) (sym held)
-      ∙ sym (register_bits-xor 40 register check)
-      ∙ ap (λ x. register_bits 40 x) same
-      ∙ forty_ones in
+    add_bits-comm p r
+    ∙ ap (λ x. add_bits r x) (sym held)
+    ∙ sym (register_bits-xor 40 register check)
+    ∙ ap (λ x. register_bits 40 x) same
+    ∙ forty_ones in
     let turned : r ≡ add_bits p (replicate 40 1) =
-      sym (add_bits_again p r (AllBits-register_bits 40 register) (er ∙ sym ep)) ∙ ap (λ x. add_bits p x) sum in
+    sym (add_bits_again p r (AllBits-register_bits 40 register) (er ∙ sym ep)) ∙ ap (λ x. add_bits p x) sum in
     subst IsXcchWord (sym split) (xcch_word d p ed bd ep bp (subst (λ x. IsMultiple (d ++ x) g40) turned multiple))
 
 pub register_of_xcch_word : (w d p : List ℕ) (register check : ℕ) → w ≡ d ++ p → length d ≡ 184 → length p ≡ 40 →
@@ -66,12 +66,12 @@ pub register_of_xcch_word : (w d p : List ℕ) (register check : ℕ) → w ≡ 
 register_of_xcch_word w d p register check split ed ep held within within' multiple word =
     let r = register_bits 40 register in
     let turned : add_bits p (replicate 40 1) ≡ r =
-      turned_parity d p r ed (length-register_bits 40 register) (AllBits-register_bits 40 register) multiple (subst IsXcchWord split word) in
+    turned_parity d p r ed (length-register_bits 40 register) (AllBits-register_bits 40 register) multiple (subst IsXcchWord split word) in
     let ones : AllBits (replicate 40 1) = subst AllBits forty_ones (AllBits-register_bits 40 0xffffffffff) in
     same_register 40 (bit_xor register check) 0xffffffffff (xor_lt 40 register check within within') (omega arith)
-      (register_bits-xor 40 register check
-      ∙ ap (λ x. add_bits r x) held
-      ∙ add_bits-comm r p
-      ∙ ap (λ x. add_bits p x) (sym turned)
-      ∙ add_bits_again p (replicate 40 1) ones (sym ep)
-      ∙ sym forty_ones)
+    (register_bits-xor 40 register check
+    ∙ ap (λ x. add_bits r x) held
+    ∙ add_bits-comm r p
+    ∙ ap (λ x. add_bits p x) (sym turned)
+    ∙ add_bits_again p (replicate 40 1) ones (sym ep)
+    ∙ sym forty_ones)

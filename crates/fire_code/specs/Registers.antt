@@ -1,4 +1,4 @@
--- Numbers as registers of bits.
+-- Numbers as registers of bits, for the bodies of this crate alone.
 use Rattle.std.specs.Prelude.{ℕ, ◌/◌, ◌%◌, List, [], ◌∷◌}
 use Rattle.std.proofs.Common.{zero, suc}
 

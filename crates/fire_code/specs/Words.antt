@@ -1,5 +1,5 @@
--- The words of the three parity codes: information bits and parity bits, which the standard gives by what a division
--- leaves over, all ones. So a word with the ones added to its parity is a multiple of the generator.
+-- The words of the three parity codes, information bits and parity bits. Divided by the generator a word leaves ones at
+-- all places, as the standard has it: with these ones added it is a multiple of the generator.
 use Rattle.std.specs.Prelude.{ℕ, ◌≡◌, List, [], ◌∷◌, ◌++◌, length, replicate}
 use Rattle.bit_blocks.specs.Bits.{AllBits, add_bits}
 use Rattle.bit_blocks.specs.Polynomials.{IsMultiple}
@@ -27,13 +27,13 @@ pub record IsXcchWord (w : List ℕ) : Type 0 where
   pub bits : AllBits w
   pub multiple : IsMultiple (add_bits w (replicate 184 0 ++ replicate 40 1)) g40
 
--- a word of an access burst, whose parity has the base station's code added to it (GSM 05.03 section 4.6)
-pub record IsRachWord (w b : List ℕ) : Type 0 where
+-- a word of an access burst under the base station's code (BSIC), whose six bits are added to the parity (GSM 05.03 section 4.6)
+pub record IsRachWord (w bsic : List ℕ) : Type 0 where
   pub count : length w ≡ 14
   pub bits : AllBits w
-  pub code_count : length b ≡ 6
-  pub code_bits : AllBits b
-  pub multiple : IsMultiple (add_bits (add_bits w (replicate 8 0 ++ b)) (replicate 8 0 ++ replicate 6 1)) g6
+  pub code_count : length bsic ≡ 6
+  pub code_bits : AllBits bsic
+  pub multiple : IsMultiple (add_bits (add_bits w (replicate 8 0 ++ bsic)) (replicate 8 0 ++ replicate 6 1)) g6
 
 -- a word of a synchronisation burst (GSM 05.03 section 4.7)
 pub record IsSchWord (w : List ℕ) : Type 0 where

@@ -3,11 +3,12 @@ ghost use Rattle.bit_blocks.specs.Bits.{AllBits, add_bits};
 ghost use Rattle.bit_blocks.specs.Polynomials.{IsMultiple};
 ghost use Rattle.fire_code.specs.Registers.{register_bits};
 
+use crate::registers::places;
 use bit_blocks::Bits;
 
 /// The parity of `N` bits under a generator: turned over, it completes the information bits to a multiple.
 /// `taps` is the generator without its highest power, bit `i` of the number standing for place `i`.
-pub fn parity<const N: usize>(info: &[u8], taps: u64) -> Bits<N>
+pub(crate) fn parity<const N: usize>(info: &[u8], taps: u64) -> Bits<N>
     requires bits { AllBits info.now }
     requires degree { 0 < N }
     requires fits { N ≤ 64 }
@@ -19,7 +20,7 @@ pub fn parity<const N: usize>(info: &[u8], taps: u64) -> Bits<N>
     places(!remainder::<N>(info, taps))
 }
 
-/// What completes bits to a multiple of a generator, by a shift register, bit `i` of which stands for place `i`.
+// What completes bits to a multiple of a generator, by a shift register whose bit `i` stands for place `i`.
 fn remainder<const N: usize>(bits: &[u8], taps: u64) -> u64
     requires bits { AllBits bits.now }
     requires degree { 0 < N }
@@ -33,18 +34,4 @@ fn remainder<const N: usize>(bits: &[u8], taps: u64) -> u64
         register = (register >> 1) ^ (carry * taps);
     }
     register
-}
-
-/// The first `N` places of a register.
-pub fn places<const N: usize>(register: u64) -> Bits<N>
-    requires { N ≤ 64 }
-    ensures value { result ≡ register_bits N register }
-    ensures count { length result ≡ N }
-    ensures bits { AllBits result }
-{
-    let mut bits = Bits::zero();
-    for i in 0..N {
-        bits.set(i, ((register >> i) & 1) as u8);
-    }
-    bits
 }

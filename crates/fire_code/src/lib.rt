@@ -5,6 +5,7 @@
 mod division;
 mod octets;
 mod rach;
+mod registers;
 mod sch;
 mod xcch;
 

@@ -2,9 +2,8 @@ ghost use Rattle.std.specs.Prelude.{◌≡◌, ◌↔◌, ◌++◌, List, ℕ, l
 ghost use Rattle.bit_blocks.specs.Bits.{AllBits, add_bits};
 ghost use Rattle.fire_code.specs.Words.{IsRachWord};
 
-use bit_blocks::Bits;
-
 use crate::division::parity;
+use bit_blocks::Bits;
 
 // D^5 + D^3 + D^2 + D + 1, the bit of value 1 standing for D^5
 const TAPS: u64 = 0b11_1101;

@@ -2,9 +2,8 @@ ghost use Rattle.std.specs.Prelude.{◌≡◌, ◌↔◌, ◌++◌, List, ℕ, l
 ghost use Rattle.bit_blocks.specs.Bits.{AllBits};
 ghost use Rattle.fire_code.specs.Words.{IsSchWord};
 
-use bit_blocks::Bits;
-
 use crate::division::parity;
+use bit_blocks::Bits;
 
 // D^8 + D^6 + D^5 + D^4 + D^2 + 1, the bit of value 1 standing for D^9
 const TAPS: u64 = 0b10_1011_1010;

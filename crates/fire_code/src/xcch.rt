@@ -2,10 +2,9 @@ ghost use Rattle.std.specs.Prelude.{◌≡◌, ◌↔◌, ◌++◌, List, ℕ, l
 ghost use Rattle.bit_blocks.specs.Bits.{AllBits};
 ghost use Rattle.fire_code.specs.Words.{IsXcchWord};
 
+use crate::octets::remainder;
+use crate::registers::{bits_of, register_of};
 use bit_blocks::Bits;
-
-use crate::division::places;
-use crate::octets::{register_of, remainder};
 
 const ALL_ONES: u64 = 0xff_ffff_ffff;
 
@@ -16,7 +15,7 @@ pub fn xcch_parity(d: &Bits<184>) -> Bits<40>
     ensures count { length result ≡ 40 }
     ensures bits { AllBits result }
 {
-    places(!remainder(d.as_slice()))
+    bits_of(!remainder(d.as_slice()))
 }
 
 /// Whether 224 bits are 184 and their parity.
@@ -32,20 +31,34 @@ mod tests {
     use super::*;
     use crate::division::parity;
     use crate::octets::octet_remainder;
+    use bit_blocks::{from_octets, to_octets};
     use std::test::Fail;
 
     // D^26 + D^23 + D^17 + D^3 + 1, the bit of value 1 standing for D^39
     const TAPS: u64 = 0x90_0041_2000;
 
     #[test]
-    fn zeros_have_ones_as_parity(rt: HostRuntime) -> Result<(), Fail> {
-        assert_eq!(rt; xcch_parity(&Bits::zero()).as_slice(), [1; 40].as_slice());
-        assert!(rt; !xcch_holds(&Bits::zero()));
+    fn parity_of_a_fill_frame(rt: HostRuntime) -> Result<(), Fail> {
+        let mut octets = [0x2b; 23];
+        octets[..3].copy_from_slice(&[0x03, 0x03, 0x01]);
+        let mut word = [0; 224];
+        from_octets(&octets, &mut word[..184]);
+        let info = Bits::from_slice(&word[..184]).ok_or("bits")?;
+        let parity = xcch_parity(&info);
+        let mut check = [0; 5];
+        to_octets(parity.as_slice(), &mut check);
+        assert_eq!(rt; check, [0x2c, 0x4e, 0x54, 0x02, 0x33]);
+
+        word[184..].copy_from_slice(parity.as_slice());
+        let mut word = Bits::from_slice(&word).ok_or("bits")?;
+        assert!(rt; xcch_holds(&word));
+        word.set(100, 1 - word.get(100));
+        assert!(rt; !xcch_holds(&word));
         Ok(())
     }
 
     #[test]
-    fn last_bit_alone(rt: HostRuntime) -> Result<(), Fail> {
+    fn parity_of_the_last_bit_alone(rt: HostRuntime) -> Result<(), Fail> {
         let mut info = Bits::zero();
         info.set(183, 1);
         let mut expected = [1; 40];
@@ -68,13 +81,16 @@ mod tests {
     }
 
     #[test]
-    fn table_and_division_agree(rt: HostRuntime) -> Result<(), Fail> {
+    fn table_and_plain_division_agree(rt: HostRuntime) -> Result<(), Fail> {
         for step in 1..24 {
             let mut info = Bits::<184>::zero();
             for i in 0..184 {
                 info.set(i, ((i * i / step) & 1) as u8);
             }
-            assert_eq!(rt; xcch_parity(&info).as_slice(), parity::<40>(info.as_slice(), TAPS).as_slice());
+            assert_eq!(rt;
+                xcch_parity(&info).as_slice(),
+                parity::<40>(info.as_slice(), TAPS).as_slice()
+            );
         }
         Ok(())
     }

@@ -1,14 +1,10 @@
-use Rattle.std.proofs.Common.{◌++◌, ◌∙◌, sym, subst, ap, refl, ◌∷◌, []}
 use Rattle.bit_blocks.specs.Octets.{octet_bits}
-use Rattle.bit_blocks.proofs.Multiples.{same_remainder}
-use Rattle.fire_code.specs.Words.{g40}
-use Rattle.fire_code.proofs.RegisterBits.{octet_bits-register_bits}
 use Rattle.fire_code.proofs.OctetSteps.{remainder_of_octet, same_remainder_of_g40}
 use Rattle.fire_code.proofs.octets.octet_remainder.Goals as goal
 
 pub returns-clause-multiple : goal.returns-clause-multiple
-returns-clause-multiple c = remainder_of_octet c.args.octet c.entry.result c.places.result c.places.ensures.value c.entry.ensures.multiple
+returns-clause-multiple c = remainder_of_octet c.args.octet c.entry.result c.bits_of.result c.bits_of.ensures.value c.entry.ensures.multiple
 
 pub returns-clause-only : goal.returns-clause-only
 returns-clause-only c r count bits multiple =
-    same_remainder_of_g40 (octet_bits c.args.octet) r c.places.result count bits c.places.ensures.count c.places.ensures.bits multiple (returns-clause-multiple c)
+    same_remainder_of_g40 (octet_bits c.args.octet) r c.bits_of.result count bits c.bits_of.ensures.count c.bits_of.ensures.bits multiple (returns-clause-multiple c)

@@ -9,20 +9,20 @@ use Rattle.fire_code.proofs.rach.rach_parity.Goals as goal
 pub returns-clause-under_code : goal.returns-clause-under_code
 returns-clause-under_code c b count bits =
     subst (λ d. IsRachWord (d ++ add_bits c.parity.result b) b) c.as_slice.ensures.value
-      (rach_word c.as_slice.result.now c.parity.result b c.as_slice.ensures.count c.as_slice.ensures.bits
-        c.parity.ensures.count c.parity.ensures.bits count bits c.parity.ensures.multiple)
+    (rach_word c.as_slice.result.now c.parity.result b c.as_slice.ensures.count c.as_slice.ensures.bits
+    c.parity.ensures.count c.parity.ensures.bits count bits c.parity.ensures.multiple)
 
 pub returns-clause-only_under_code : goal.returns-clause-only_under_code
 returns-clause-only_under_code c p b word =
     same_rach_parity c.as_slice.result.now p c.parity.result b c.as_slice.ensures.count
-      c.parity.ensures.count c.parity.ensures.bits c.parity.ensures.multiple
-      (subst (λ d. IsRachWord (d ++ p) b) (sym c.as_slice.ensures.value) word)
+    c.parity.ensures.count c.parity.ensures.bits c.parity.ensures.multiple
+    (subst (λ d. IsRachWord (d ++ p) b) (sym c.as_slice.ensures.value) word)
 
 pub returns-clause-word : goal.returns-clause-word
 returns-clause-word c =
     subst (λ p. IsRachWord (c.args.d.now ++ p) (replicate 6 0))
-      (add_bits-zeros c.parity.result 6 c.parity.ensures.bits c.parity.ensures.count)
-      (returns-clause-under_code c (replicate 6 0) (omega arith) (All-replicate (λ bit. bit ≤ 1) 6 0 (omega arith)))
+    (add_bits-zeros c.parity.result 6 c.parity.ensures.bits c.parity.ensures.count)
+    (returns-clause-under_code c (replicate 6 0) (omega arith) (All-replicate (λ bit. bit ≤ 1) 6 0 (omega arith)))
 
 pub returns-clause-only : goal.returns-clause-only
 returns-clause-only c p word =

@@ -13,8 +13,8 @@ returns c =
     let split = cut 25 c.args.w.now c.as_slice.result.now d check c.as_slice.ensures.value c.split_at.ensures.front c.split_at.ensures.back in
     let bits = bits_of_front 25 c.as_slice.result.now d c.as_slice.ensures.bits c.split_at.ensures.front in
     Decides-like c.eq.result
-      (λ (same : c.as_slice-2.result.now ≡ check). sch_word_of c.args.w.now d check c.parity.result split c.split_at.ensures.front_len bits
-        c.parity.ensures.count c.parity.ensures.bits c.parity.ensures.multiple (sym parity ∙ same))
-      (λ word. parity ∙ parity_of_sch_word c.args.w.now d check c.parity.result split c.split_at.ensures.front_len
-        c.parity.ensures.count c.parity.ensures.bits c.parity.ensures.multiple word)
-      (slice_eq-Decides Decides-eqb c.as_slice-2.result.now check c.eq.result c.eq.ensures)
+    (λ (same : c.as_slice-2.result.now ≡ check). sch_word_of c.args.w.now d check c.parity.result split c.split_at.ensures.front_len bits
+    c.parity.ensures.count c.parity.ensures.bits c.parity.ensures.multiple (sym parity ∙ same))
+    (λ word. parity ∙ parity_of_sch_word c.args.w.now d check c.parity.result split c.split_at.ensures.front_len
+    c.parity.ensures.count c.parity.ensures.bits c.parity.ensures.multiple word)
+    (slice_eq-Decides Decides-eqb c.as_slice-2.result.now check c.eq.result c.eq.ensures)

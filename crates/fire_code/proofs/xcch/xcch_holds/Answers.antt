@@ -1,4 +1,4 @@
-use Rattle.std.proofs.Common.{◌≡◌, ◌∙◌, length, arith, bit_xor}
+use Rattle.std.proofs.Common.{◌≡◌, length, arith, bit_xor}
 use Rattle.std.proofs.lemmas.Bool.Decides.{Decides-like, Decides-eqb}
 use Rattle.fire_code.proofs.ParityParts.{cut, bits_of_front, bits_of_back}
 use Rattle.fire_code.proofs.XcchWords.{xcch_word_of, register_of_xcch_word}
@@ -14,10 +14,10 @@ returns c =
     let split = cut 184 c.args.w.now whole d p c.as_slice.ensures.value c.split_at.ensures.front c.split_at.ensures.back in
     let count : length p ≡ 40 = omega (arith, c.split_at.ensures.back_len, c.as_slice.ensures.count) in
     Decides-like _
-      (λ (same : bit_xor register check ≡ 0xffffffffff). xcch_word_of c.args.w.now d p register check split
-        c.split_at.ensures.front_len (bits_of_front 184 whole d c.as_slice.ensures.bits c.split_at.ensures.front)
-        count (bits_of_back 184 whole p c.as_slice.ensures.bits c.split_at.ensures.back)
-        c.register_of.ensures.value c.remainder.ensures.multiple same)
-      (λ word. register_of_xcch_word c.args.w.now d p register check split c.split_at.ensures.front_len count
-        c.register_of.ensures.value c.remainder.ensures.within c.register_of.ensures.within c.remainder.ensures.multiple word)
-      (Decides-eqb (bit_xor register check) 0xffffffffff)
+    (λ (same : bit_xor register check ≡ 0xffffffffff). xcch_word_of c.args.w.now d p register check split
+    c.split_at.ensures.front_len (bits_of_front 184 whole d c.as_slice.ensures.bits c.split_at.ensures.front)
+    count (bits_of_back 184 whole p c.as_slice.ensures.bits c.split_at.ensures.back)
+    c.register_of.ensures.value c.remainder.ensures.multiple same)
+    (λ word. register_of_xcch_word c.args.w.now d p register check split c.split_at.ensures.front_len count
+    c.register_of.ensures.value c.remainder.ensures.within c.register_of.ensures.within c.remainder.ensures.multiple word)
+    (Decides-eqb (bit_xor register check) 0xffffffffff)

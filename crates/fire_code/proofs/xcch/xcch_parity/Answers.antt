@@ -7,15 +7,15 @@ use Rattle.fire_code.proofs.xcch.xcch_parity.Goals as goal
 
 pub returns-clause-word : goal.returns-clause-word
 returns-clause-word c =
-    let turned = turned_register 40 c.remainder.result c.places.result (omega arith) c.remainder.type_inv c.places.ensures.value in
+    let turned = turned_register 40 c.remainder.result c.bits_of.result (omega arith) c.remainder.type_inv c.bits_of.ensures.value in
     let d = c.as_slice.result.now in
-    subst (λ d. IsXcchWord (d ++ c.places.result)) c.as_slice.ensures.value
-      (xcch_word d c.places.result c.as_slice.ensures.count c.as_slice.ensures.bits c.places.ensures.count c.places.ensures.bits
-        (subst (λ r. IsMultiple (d ++ r) g40) (sym turned) c.remainder.ensures.multiple))
+    subst (λ d. IsXcchWord (d ++ c.bits_of.result)) c.as_slice.ensures.value
+    (xcch_word d c.bits_of.result c.as_slice.ensures.count c.as_slice.ensures.bits c.bits_of.ensures.count c.bits_of.ensures.bits
+    (subst (λ r. IsMultiple (d ++ r) g40) (sym turned) c.remainder.ensures.multiple))
 
 pub returns-clause-only : goal.returns-clause-only
 returns-clause-only c p word =
-    let turned = turned_register 40 c.remainder.result c.places.result (omega arith) c.remainder.type_inv c.places.ensures.value in
-    same_xcch_parity c.as_slice.result.now p c.places.result c.remainder.result c.as_slice.ensures.count
-      c.places.ensures.bits c.places.ensures.count turned c.remainder.ensures.multiple
-      (subst (λ d. IsXcchWord (d ++ p)) (sym c.as_slice.ensures.value) word)
+    let turned = turned_register 40 c.remainder.result c.bits_of.result (omega arith) c.remainder.type_inv c.bits_of.ensures.value in
+    same_xcch_parity c.as_slice.result.now p c.bits_of.result c.remainder.result c.as_slice.ensures.count
+    c.bits_of.ensures.bits c.bits_of.ensures.count turned c.remainder.ensures.multiple
+    (subst (λ d. IsXcchWord (d ++ p)) (sym c.as_slice.ensures.value) word)

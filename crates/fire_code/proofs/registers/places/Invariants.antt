@@ -1,7 +1,7 @@
 use Rattle.std.proofs.Common.{◌≡◌, ℕ, ◌<◌, length, get_or}
 use Rattle.bit_blocks.specs.Bits.{AllBits}
 use Rattle.fire_code.specs.Registers.{register_bits}
-use Rattle.fire_code.proofs.division.places.Given as goal
+use Rattle.fire_code.proofs.registers.places.Given as goal
 
 -- the places so far are those of the register
 abbrev pub invariant-loop-i : goal.invariant-loop-i

@@ -1,7 +1,7 @@
 use Rattle.std.proofs.Common.{◌*◌, ◌%◌, ◌/◌, ◌^◌, ap, ◌∙◌}
 use Rattle.fire_code.specs.Registers.{register_bits}
-use Rattle.fire_code.proofs.OctetSteps.{gathered_bits}
-use Rattle.fire_code.proofs.octets.gathered.Goals as goal
+use Rattle.fire_code.proofs.OctetBits.{gathered_bits}
+use Rattle.fire_code.proofs.registers.gathered.Goals as goal
 
 pub returns-clause-value : goal.returns-clause-value
 returns-clause-value c =

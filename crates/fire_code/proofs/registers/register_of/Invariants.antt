@@ -1,6 +1,6 @@
 use Rattle.std.proofs.Common.{◌≡◌, ◌*◌, ◌<◌, ◌^◌, take}
 use Rattle.fire_code.specs.Registers.{register_bits}
-use Rattle.fire_code.proofs.octets.register_of.Given as goal
+use Rattle.fire_code.proofs.registers.register_of.Given as goal
 
 -- the register holds the octets so far
 abbrev pub invariant-loop-m : goal.invariant-loop-m

@@ -1,0 +1,112 @@
+-- Eight bits as a number and apart.
+use Rattle.std.proofs.Common.{◌≡◌, ℕ, ◌+◌, ◌-◌, ◌*◌, ◌/◌, ◌%◌, ◌^◌, ◌<◌, List, [], ◌∷◌, ◌++◌, length, get_or, take, drop, refl, ap, sym, subst, ◌∙◌, arith, bit_and, bit_or, Bool, true, eqb, append_assoc, length-append}
+use Rattle.std.specs.Int.{from_le_bytes, to_le_bytes, w64}
+use Rattle.std.specs.Str.{bytes_eq}
+use Rattle.std.proofs.Math.Seq.{take-add, take-append_seam}
+use Rattle.std.proofs.lemmas.Bool.Decides.{Decides-eqb}
+use Rattle.std.proofs.lemmas.List.{length-take-le, length-drop, take_all}
+use Rattle.std.proofs.lemmas.Nat.{shl_whole, or_comm, or_shifted, mul-add-lt, pow-add, and_mask}
+use Rattle.std.proofs.lemmas.Slice.Eq.{bytes_eq-Decides}
+use Rattle.bit_blocks.specs.Bits.{AllBits}
+use Rattle.fire_code.specs.Registers.{register_bits}
+use Rattle.fire_code.proofs.Tests.{tested, passed}
+use Rattle.fire_code.proofs.RegisterBits.{length-register_bits, register_bits-mod, register_bits-parts, register_bits_split, register_bits-number_of, number_of, number_of_within}
+
+-- the number that eight bits are gathered to
+abbrev pub gathering : List ℕ → ℕ
+gathering bits =
+    (from_le_bytes w64 (get_or bits 0 0 ∷ get_or bits 1 0 ∷ get_or bits 2 0 ∷ get_or bits 3 0 ∷
+    get_or bits 4 0 ∷ get_or bits 5 0 ∷ get_or bits 6 0 ∷ get_or bits 7 0 ∷ []) * 0x0102040810204080) % 2 ^ 64 / 2 ^ 56
+
+is_gathered : ℕ → Bool
+is_gathered octet = eqb (gathering (register_bits 8 octet)) octet
+
+all_gathered : tested is_gathered 256 ≡ true
+unfolding tested is_gathered register_bits
+all_gathered = refl
+
+pub gathered_bits : (bits : List ℕ) → length bits ≡ 8 → AllBits bits → register_bits 8 (gathering bits) ≡ bits
+unfolding is_gathered
+gathered_bits bits count all =
+    let octet = number_of bits in
+    let places : register_bits 8 octet ≡ bits =
+    ap (λ n. register_bits n octet) (sym count) ∙ register_bits-number_of bits all in
+    let within : octet < 256 = subst (λ n. octet < 2 ^ n) count (number_of_within bits all) in
+    let same : gathering (register_bits 8 octet) ≡ octet =
+    (Decides-eqb (gathering (register_bits 8 octet)) octet).0 (passed is_gathered 256 all_gathered octet within) in
+    ap (λ b. register_bits 8 (gathering b)) (sym places) ∙ ap (λ n. register_bits 8 n) same ∙ places
+
+-- the bits of a number, an octet for each
+abbrev pub spreading : ℕ → List ℕ
+spreading octet =
+    to_le_bytes w64 (bit_and ((bit_and (octet * 0x0101010101010101 % 2 ^ 64) 0x8040201008040201 + 0x7f7f7f7f7f7f7f7f) % 2 ^ 64 / 2 ^ 7) 0x0101010101010101)
+
+is_spread : ℕ → Bool
+is_spread octet = bytes_eq (spreading octet) (register_bits 8 octet)
+
+all_spread : tested is_spread 256 ≡ true
+unfolding tested is_spread register_bits
+all_spread = refl
+
+pub spread_bits : (octet : ℕ) → octet < 256 → spreading octet ≡ register_bits 8 octet
+unfolding is_spread
+spread_bits octet within =
+    (bytes_eq-Decides (spreading octet) (register_bits 8 octet)).0 (passed is_spread 256 all_spread octet within)
+
+pub no_places : (register : ℕ) → register_bits 0 register ≡ []
+unfolding register_bits
+no_places register = refl
+
+-- eight places more of a register that is put together
+pub put_together : (bits : List ℕ) (m n register octet : ℕ) → m < 5 → n ≡ 8 → octet < 256 → register < 2 ^ (8 * m) →
+    register_bits 8 octet ≡ take n (drop (8 * m) bits) → register_bits (8 * m) register ≡ take (8 * m) bits →
+    let next = bit_or register (octet * 2 ^ (8 * m) % 2 ^ 64) in
+    (register_bits (8 * (m + 1)) next ≡ take (8 * (m + 1)) bits) × (next < 2 ^ (8 * (m + 1)))
+put_together bits m n register octet within eight small low is before =
+    let k = 8 * m in
+    let width : 8 * (m + 1) ≡ k + 8 = omega arith in
+    let whole : octet * 2 ^ k % 2 ^ 64 ≡ octet * 2 ^ k = shl_whole octet 8 k 64 small (omega arith) in
+    let joined : bit_or register (octet * 2 ^ k % 2 ^ 64) ≡ octet * 2 ^ k + register =
+    ap (λ x. bit_or register x) whole ∙ or_comm register (octet * 2 ^ k) ∙ or_shifted octet k register low in
+    let at : k + n ≡ 8 * (m + 1) = omega arith in
+    rw joined (
+      register_bits-parts k 8 (8 * (m + 1)) register octet width low
+          ∙ ap (λ front. front ++ register_bits 8 octet) before
+          ∙ ap (λ next. take k bits ++ next) is
+          ∙ sym (take-add k n bits)
+          ∙ ap (λ j. take j bits) at,
+      rw (width, pow-add 2 k 8) (mul-add-lt octet (2 ^ k) register 256 small low),
+    )
+
+-- eight places more of the bits of a register
+pub places_more : (register m : ℕ) (bits octet next : List ℕ) → m < 5 → length bits ≡ 40 →
+    octet ≡ register_bits 8 (bit_and (register / 2 ^ (8 * m)) 255) → take (8 * m) bits ≡ register_bits (8 * m) register →
+    next ≡ take (8 * m) bits ++ (octet ++ drop (8 * m + 8) bits) →
+    (length next ≡ 40) × (take (8 * (m + 1)) next ≡ register_bits (8 * (m + 1)) register)
+places_more register m bits octet next within count is before written =
+    let k = 8 * m in
+    let low = register / 2 ^ k in
+    let front = take k bits in
+    let rest = drop (k + 8) bits in
+    let width : 8 * (m + 1) ≡ k + 8 = omega arith in
+    let eight : length octet ≡ 8 = ap length is ∙ length-register_bits 8 (bit_and low 255) in
+    let taken : length front ≡ k = length-take-le k bits (omega arith) in
+    let left : length rest ≡ 40 - (k + 8) = length-drop (k + 8) bits ∙ ap (λ n. n - (k + 8)) count in
+    let begun : length (front ++ octet) ≡ 8 * (m + 1) = length-append front octet ∙ omega arith in
+    let same : octet ≡ register_bits 8 low =
+    is ∙ ap (λ x. register_bits 8 x) (and_mask low 8) ∙ register_bits-mod 8 low in
+    let joined : next ≡ (front ++ octet) ++ rest = written ∙ sym (append_assoc front octet rest) in (
+      ap length joined ∙ length-append (front ++ octet) rest ∙ omega arith,
+      ap (λ x. take (8 * (m + 1)) x) joined
+          ∙ ap (λ n. take n ((front ++ octet) ++ rest)) (sym begun)
+          ∙ take-append_seam (front ++ octet) rest
+          ∙ ap (λ x. x ++ octet) before
+          ∙ ap (λ x. register_bits k register ++ x) same
+          ∙ sym (register_bits_split k 8 (8 * (m + 1)) register width),
+    )
+
+pub places_end : (register m : ℕ) (bits : List ℕ) → m ≡ 5 → length bits ≡ 40 →
+    take (8 * m) bits ≡ register_bits (8 * m) register → bits ≡ register_bits 40 register
+places_end register m bits last count before =
+    let all : 8 * m ≡ 40 = omega arith in
+    sym (take_all (8 * m) bits (omega arith)) ∙ before ∙ ap (λ n. register_bits n register) all

@@ -1,0 +1,11 @@
+use Rattle.std.proofs.Common.{subst, sym, ◌∙◌}
+use Rattle.bit_blocks.specs.Bits.{AllBits}
+use Rattle.fire_code.proofs.OctetBits.{spread_bits}
+use Rattle.fire_code.proofs.RegisterBits.{AllBits-register_bits}
+use Rattle.fire_code.proofs.registers.spread.Goals as goal
+
+pub returns-clause-value : goal.returns-clause-value
+returns-clause-value c = c.to_le_bytes.ensures ∙ spread_bits c.args.octet c.requires
+
+pub returns-clause-bits : goal.returns-clause-bits
+returns-clause-bits c = subst AllBits (sym (returns-clause-value c)) (AllBits-register_bits 8 c.args.octet)

@@ -1,0 +1,85 @@
+ghost use Rattle.std.specs.Prelude.{◌≡◌, ◌+◌, ◌<◌, ◌≤◌, ◌^◌, ◌++◌, length, take, drop};
+ghost use Rattle.bit_blocks.specs.Bits.{AllBits};
+ghost use Rattle.fire_code.specs.Registers.{register_bits};
+
+use bit_blocks::Bits;
+
+/// The first `N` places of a register.
+pub(crate) fn places<const N: usize>(register: u64) -> Bits<N>
+    requires { N ≤ 64 }
+    ensures value { result ≡ register_bits N register }
+    ensures count { length result ≡ N }
+    ensures bits { AllBits result }
+{
+    let mut bits = Bits::zero();
+    for i in 0..N {
+        bits.set(i, ((register >> i) & 1) as u8);
+    }
+    bits
+}
+
+/// The first forty places of a register, an octet at a time.
+pub(crate) fn bits_of(register: u64) -> Bits<40>
+    ensures value { result ≡ register_bits 40 register }
+    ensures count { length result ≡ 40 }
+    ensures bits { AllBits result }
+{
+    let mut bits = Bits::zero();
+    for m in 0..5 {
+        write(&mut bits, 8 * m, &spread((register >> (8 * m)) & 0xff));
+    }
+    bits
+}
+
+/// Forty bits as a register.
+pub(crate) fn register_of(bits: &[u8]) -> u64
+    requires count { length bits.now ≡ 40 }
+    requires bits { AllBits bits.now }
+    ensures value { register_bits 40 result ≡ bits.now }
+    ensures within { result < 2 ^ 40 }
+{
+    let mut register = 0;
+    for m in 0..5 {
+        register |= gathered(&bits[8 * m..8 * m + 8]) << (8 * m);
+    }
+    register
+}
+
+/// Eight bits as one number, the first being its bit of value 1.
+#[inline]
+pub(crate) fn gathered(bits: &[u8]) -> u64
+    requires count { length bits.now ≡ 8 }
+    requires bits { AllBits bits.now }
+    ensures value { register_bits 8 result ≡ bits.now }
+    ensures within { result < 256 }
+{
+    let apart = u64::from_le_bytes([
+        bits[0], bits[1], bits[2], bits[3], bits[4], bits[5], bits[6], bits[7],
+    ]);
+    // The factor moves bit i of octet i to bit 56 + i, and nothing else to the highest octet.
+    apart.wrapping_mul(0x0102_0408_1020_4080) >> 56
+}
+
+/// The bits of a number apart, the one of value 1 first.
+#[inline]
+fn spread(octet: u64) -> [u8; 8]
+    requires { octet < 256 }
+    ensures value { result ≡ register_bits 8 octet }
+    ensures bits { AllBits result }
+{
+    // Octet i keeps bit i, and so is not 0 where its sum with 127 has the highest bit.
+    let kept = octet.wrapping_mul(0x0101_0101_0101_0101) & 0x8040_2010_0804_0201;
+    ((kept.wrapping_add(0x7f7f_7f7f_7f7f_7f7f) >> 7) & 0x0101_0101_0101_0101).to_le_bytes()
+}
+
+/// Writes eight bits from a place on.
+fn write(bits: &mut Bits<40>, at: usize, octet: &[u8; 8])
+    requires count { length bits.old ≡ 40 }
+    requires within { at + 8 ≤ 40 }
+    requires octet { AllBits octet.now }
+    ensures { bits.new ≡ take at bits.old ++ (octet.now ++ drop (at + 8) bits.old) }
+{
+    for b in 0..8 {
+        bits.set(at + b, octet[b]);
+    }
+}
