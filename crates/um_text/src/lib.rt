@@ -16,3 +16,6 @@ pub use fault::LineFault;
 pub use refusal::refused_line;
 pub use text::Text;
 pub use words::law_words;
+
+#[cfg(test)]
+mod tests;

@@ -1,5 +1,5 @@
 //! The words of lines.
-ghost use Rattle.std.specs.Prelude.{◌≡◌, ◌≢◌, ℕ, List, [], ◌∷◌, length, MatchOption, MatchResult};
+ghost use Rattle.std.specs.Prelude.{◌≡◌, ◌≢◌, ◌==◌, ◌<◌, ℕ, List, [], ◌∷◌, length, position, IfSome, MatchOption, MatchResult};
 ghost use Rattle.std.specs.List.{All, join_with_byte};
 ghost use Rattle.um_text.specs.Words.{IsNoSpace, is_skipped, words};
 
@@ -16,12 +16,20 @@ pub(crate) fn is_skipped(line: &[u8]) -> bool
 }
 
 /// The word before the first space, and what stands after that space.
-#[tactic(auto, using(crate::proofs::WordLists::words_uncut))]
+#[tactic(auto, using(crate::proofs::WordLists::words_unfound))]
 pub(crate) fn first_word(text: &[u8]) -> Option<(&[u8], &[u8])>
     ensures { MatchOption result (words text.now ≡ text.now ∷ []) (λ parts. words text.now ≡ parts.0.now ∷ words parts.1.now) }
 {
-    let end = memchr::memchr(b' ', text)?;
+    let end = first_space(text)?;
     Some((&text[..end], &text[end + 1..]))
+}
+
+// Most words that another follows are short, too short for a search by lanes.
+fn first_space(text: &[u8]) -> Option<usize>
+    ensures value { result ≡ position (λ octet. octet == 32) text.now }
+    ensures within { IfSome result (λ place. place < length text.now) }
+{
+    text.iter().position(|octet| *octet == b' ')
 }
 
 /// The word of a text that has no other, or the fault `Word`.
