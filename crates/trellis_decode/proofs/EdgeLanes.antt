@@ -1,0 +1,111 @@
+-- What the bits count in the sixteen states, as four numbers of a place.
+use Rattle.std.proofs.Common.{◌≡◌, ℕ, zero, suc, ◌+◌, ◌<◌, ℤ, pos, negsuc, ◌+ℤ◌, ◌-ℤ◌, ◌*ℤ◌, ◌≤ℤ◌, List, [], ◌∷◌, length, refl, ap, sym, ◌∙◌, subst, arith, below_more}
+use Rattle.std.proofs.Math.IntN.{one, neg_ℤ, *ℤ-one, *ℤ-negsuc}
+use Rattle.std.proofs.lemmas.Int.{ints}
+use Rattle.std.proofs.lemmas.List.Elements.{All-nil, All-cons}
+use Rattle.conv_code.specs.Likelihood.{agreement}
+use Rattle.trellis_decode.specs.Lanes.{lane, AreModest, IsOctet, AreOctets}
+use Rattle.trellis_decode.specs.Trellis.{edge}
+
+-- P holds below n, one by one
+abbrev EachBelow : (ℕ → Type 0) → ℕ → Type 0
+EachBelow P zero = Unit {0}
+EachBelow P (suc n) = EachBelow P n × P n
+
+each : (P : ℕ → Type 0) (n : ℕ) → EachBelow P n → (s : ℕ) → s < n → P s
+each P zero h s lt = absurd (omega arith)
+each P (suc n) h s lt = below_more P n (each P n h.0) h.1 s (let lt' : s < n + 1 = omega arith in lt')
+
+pub agreement-zero : (p : ℤ) → agreement p 0 ≡ p
+unfolding one
+agreement-zero p = *ℤ-one p
+
+pub agreement-one : (p : ℤ) → agreement p 1 ≡ pos 0 -ℤ p
+agreement-one p =
+    let turned : p *ℤ negsuc 0 ≡ neg_ℤ p = *ℤ-negsuc p 0 ∙ ap neg_ℤ (agreement-zero p) in
+    omega (arith, ints, turned)
+
+pair_is : (pair : List ℤ) → length pair ≡ 2 → pair ≡ lane pair 0 ∷ lane pair 1 ∷ []
+pair_is [] e = absurd (omega arith)
+pair_is (p ∷ []) e = absurd (omega arith)
+pair_is (p ∷ q ∷ []) e = refl
+pair_is (p ∷ q ∷ r ∷ pair) e = absurd (omega arith)
+
+-- a and b are the sum and the difference of the two soft values, c and d their negatives
+module _ (pair : List ℤ) (count : length pair ≡ 2) (a b c d : ℤ)
+    (at_a : a ≡ lane pair 0 +ℤ lane pair 1) (at_b : b ≡ lane pair 0 -ℤ lane pair 1) (at_c : c ≡ pos 0 -ℤ a) (at_d : d ≡ pos 0 -ℤ b) where
+  abbrev pub zero_lanes : List ℤ
+  zero_lanes = a ∷ b ∷ a ∷ b ∷ c ∷ d ∷ c ∷ d ∷ c ∷ d ∷ c ∷ d ∷ a ∷ b ∷ a ∷ b ∷ []
+
+  abbrev pub one_lanes : List ℤ
+  one_lanes = c ∷ d ∷ c ∷ d ∷ a ∷ b ∷ a ∷ b ∷ a ∷ b ∷ a ∷ b ∷ c ∷ d ∷ c ∷ d ∷ []
+
+  zz : a ≡ agreement (lane pair 0) 0 +ℤ (agreement (lane pair 1) 0 +ℤ pos 0)
+  zz = omega (arith, ints, agreement-zero (lane pair 0), agreement-zero (lane pair 1))
+
+  zo : b ≡ agreement (lane pair 0) 0 +ℤ (agreement (lane pair 1) 1 +ℤ pos 0)
+  zo = omega (arith, ints, agreement-zero (lane pair 0), agreement-one (lane pair 1))
+
+  oo : c ≡ agreement (lane pair 0) 1 +ℤ (agreement (lane pair 1) 1 +ℤ pos 0)
+  oo = omega (arith, ints, agreement-one (lane pair 0), agreement-one (lane pair 1))
+
+  oz : d ≡ agreement (lane pair 0) 1 +ℤ (agreement (lane pair 1) 0 +ℤ pos 0)
+  oz = omega (arith, ints, agreement-one (lane pair 0), agreement-zero (lane pair 1))
+
+  pub zero_edges : (s : ℕ) → s < 16 → lane zero_lanes s ≡ edge s 0 pair
+  unfolding edge
+  zero_edges s lt = each (λ s. lane zero_lanes s ≡ edge s 0 (lane pair 0 ∷ lane pair 1 ∷ [])) 16
+      ((((((((((((((((tt, zz), zo), zz), zo), oo), oz), oo), oz), oo), oz), oo), oz), zz), zo), zz), zo) s lt
+      ∙ ap (edge s 0) (sym (pair_is pair count))
+
+  pub one_edges : (s : ℕ) → s < 16 → lane one_lanes s ≡ edge s 1 pair
+  unfolding edge
+  one_edges s lt = each (λ s. lane one_lanes s ≡ edge s 1 (lane pair 0 ∷ lane pair 1 ∷ [])) 16
+      ((((((((((((((((tt, oo), oz), oo), oz), zz), zo), zz), zo), zz), zo), zz), zo), oo), oz), oo), oz) s lt
+      ∙ ap (edge s 1) (sym (pair_is pair count))
+
+  module _ (lp : negsuc 127 ≤ℤ lane pair 0) (hp : lane pair 0 ≤ℤ pos 127) (lq : negsuc 127 ≤ℤ lane pair 1) (hq : lane pair 1 ≤ℤ pos 127) where
+    pub pair_octets : AreOctets pair
+    pair_octets = subst AreOctets (sym (pair_is pair count)) (All-cons IsOctet (lane pair 0) (lane pair 1 ∷ []) (lp, hp) (All-cons IsOctet (lane pair 1) [] (lq, hq) (All-nil IsOctet)))
+
+    low_a : negsuc 65535 ≤ℤ a
+    low_a = omega (arith, ints)
+
+    low_b : negsuc 65535 ≤ℤ b
+    low_b = omega (arith, ints)
+
+    low_c : negsuc 65535 ≤ℤ c
+    low_c = omega (arith, ints)
+
+    low_d : negsuc 65535 ≤ℤ d
+    low_d = omega (arith, ints)
+
+    high_a : a ≤ℤ pos 65536
+    high_a = omega (arith, ints)
+
+    high_b : b ≤ℤ pos 65536
+    high_b = omega (arith, ints)
+
+    high_c : c ≤ℤ pos 65536
+    high_c = omega (arith, ints)
+
+    high_d : d ≤ℤ pos 65536
+    high_d = omega (arith, ints)
+
+    pub zero_modest : AreModest zero_lanes
+    zero_modest = record {
+      count = refl;
+      low = each (λ s. negsuc 65535 ≤ℤ lane zero_lanes s) 16
+          ((((((((((((((((tt, low_a), low_b), low_a), low_b), low_c), low_d), low_c), low_d), low_c), low_d), low_c), low_d), low_a), low_b), low_a), low_b);
+      high = each (λ s. lane zero_lanes s ≤ℤ pos 65536) 16
+          ((((((((((((((((tt, high_a), high_b), high_a), high_b), high_c), high_d), high_c), high_d), high_c), high_d), high_c), high_d), high_a), high_b), high_a), high_b);
+    }
+
+    pub one_modest : AreModest one_lanes
+    one_modest = record {
+      count = refl;
+      low = each (λ s. negsuc 65535 ≤ℤ lane one_lanes s) 16
+          ((((((((((((((((tt, low_c), low_d), low_c), low_d), low_a), low_b), low_a), low_b), low_a), low_b), low_a), low_b), low_c), low_d), low_c), low_d);
+      high = each (λ s. lane one_lanes s ≤ℤ pos 65536) 16
+          ((((((((((((((((tt, high_c), high_d), high_c), high_d), high_a), high_b), high_a), high_b), high_a), high_b), high_a), high_b), high_c), high_d), high_c), high_d);
+    }

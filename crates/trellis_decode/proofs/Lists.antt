@@ -1,0 +1,136 @@
+-- From paths that begin in state 0 to whole lists.
+use Rattle.std.proofs.Common.{◌≡◌, ◌≢◌, ℕ, zero, suc, ◌+◌, ◌-◌, ◌*◌, ◌<◌, ◌≤◌, inl, inr, ℤ, List, [], ◌∷◌, length, get_or, drop, refl, ap, ap₂, sym, ◌∙◌, arith}
+use Rattle.std.proofs.Math.Seq.{drop-cons, drop-length}
+use Rattle.std.proofs.lemmas.Bool.{cases_lt}
+use Rattle.std.proofs.lemmas.List.Elements.{All-nil, All-cons, All-head, All-tail}
+use Rattle.std.specs.List.{All, flat_map, range_with_len}
+use Rattle.bit_blocks.specs.Bits.{AllBits}
+use Rattle.conv_code.specs.Code.{delayed, first_sum, second_sum, coded_pair, coded, IsInformation}
+use Rattle.conv_code.specs.Likelihood.{likelihood, IsBefore, FallsBehind, IsMostLikely}
+use Rattle.conv_code.proofs.Coding.{delayed-more, delayed-none, delayed-at_most_1, bit_at-most_1}
+use Rattle.trellis_decode.specs.Trellis.{next, first_bit, second_bit, coded_from, gain, Ends, IsNotAfter, Less, Later, IsBest}
+
+-- the state in which place k finds the coder
+state_at : List ℕ → ℕ → ℕ
+state_at u k = delayed u k 1 + 2 * delayed u k 2 + 4 * delayed u k 3 + 8 * delayed u k 4
+
+next_state : (u : List ℕ) (k : ℕ) → AllBits u → next (state_at u k) (get_or u k 0) ≡ state_at u (k + 1)
+unfolding state_at
+next_state u k bits =
+    let x = bit_at-most_1 u k bits in
+    let one = delayed-at_most_1 u k 1 bits in
+    let two = delayed-at_most_1 u k 2 bits in
+    let three = delayed-at_most_1 u k 3 bits in
+    let four = delayed-at_most_1 u k 4 bits in
+    rw (delayed-more u k 0 1 refl, delayed-more u k 1 2 refl, delayed-more u k 2 3 refl, delayed-more u k 3 4 refl, delayed-none u k) (omega arith)
+
+first_of_state : (u : List ℕ) (k : ℕ) → AllBits u → first_sum u k ≡ first_bit (state_at u k) (get_or u k 0)
+unfolding state_at
+first_of_state u k bits =
+    let one = delayed-at_most_1 u k 1 bits in
+    let two = delayed-at_most_1 u k 2 bits in
+    let three = delayed-at_most_1 u k 3 bits in
+    let four = delayed-at_most_1 u k 4 bits in
+    omega arith
+
+second_of_state : (u : List ℕ) (k : ℕ) → AllBits u → second_sum u k ≡ second_bit (state_at u k) (get_or u k 0)
+unfolding state_at
+second_of_state u k bits =
+    let one = delayed-at_most_1 u k 1 bits in
+    let two = delayed-at_most_1 u k 2 bits in
+    let three = delayed-at_most_1 u k 3 bits in
+    let four = delayed-at_most_1 u k 4 bits in
+    omega arith
+
+coded_from_place : (u : List ℕ) (k n : ℕ) → AllBits u → k + n ≡ length u →
+    flat_map (coded_pair u) (range_with_len k n) ≡ coded_from (state_at u k) (drop k u)
+coded_from_place u k zero bits e =
+    let end : k ≡ length u = omega arith in
+    rw (end, drop-length u) refl
+coded_from_place u k (suc n) bits e =
+    let within : k < length u = omega arith in
+    let e' : k + 1 + n ≡ length u = omega arith in
+    let rest = coded_from_place u (k + 1) n bits e' in
+    let more : k + 1 ≡ suc k = omega arith in
+    ap₂ (λ x y. x ∷ y ∷ flat_map (coded_pair u) (range_with_len (k + 1) n)) (first_of_state u k bits) (second_of_state u k bits)
+    ∙ ap (λ rest. first_bit (state_at u k) (get_or u k 0) ∷ second_bit (state_at u k) (get_or u k 0) ∷ rest)
+    (rest ∙ ap₂ coded_from (sym (next_state u k bits)) (ap (λ j. drop j u) more))
+    ∙ ap (coded_from (state_at u k)) (sym (drop-cons u k 0 within))
+
+coded_from_start : (u : List ℕ) → AllBits u → coded u ≡ coded_from 0 u
+unfolding state_at
+coded_from_start u bits = coded_from_place u 0 (length u) bits (omega arith)
+
+gain-start : (soft : List ℤ) (u : List ℕ) → AllBits u → gain 0 u soft ≡ likelihood soft (coded u)
+unfolding gain
+gain-start soft u bits = ap (likelihood soft) (sym (coded_from_start u bits))
+
+Ends-from_tail : (u : List ℕ) → AllBits u → All (λ bit. bit ≡ 0) (drop (length u - 4) u) → Ends u
+Ends-from_tail [] bits tail = tt
+Ends-from_tail (x ∷ u) bits tail = (
+  All-head (λ bit. bit ≤ 1) x u bits,
+  (λ short. let all : suc (length u) - 4 ≡ 0 = omega arith in All-head (λ bit. bit ≡ 0) x u (rw all at tail)),
+  Ends-from_tail u (All-tail (λ bit. bit ≤ 1) x u bits) (elim (cases_lt (length u) 4) [
+    | inl short ↦
+        let all : suc (length u) - 4 ≡ 0 = omega arith in
+        let all' : length u - 4 ≡ 0 = omega arith in
+        rw all' (All-tail (λ bit. bit ≡ 0) x u (rw all at tail))
+    | inr long ↦ let one_more : suc (length u) - 4 ≡ suc (length u - 4) = omega arith in rw one_more at tail
+  ]),
+)
+
+Ends-bits : (u : List ℕ) → Ends u → AllBits u
+Ends-bits [] ends = All-nil (λ bit. bit ≤ 1)
+Ends-bits (x ∷ u) ends = All-cons (λ bit. bit ≤ 1) x u ends.0 (Ends-bits u ends.2)
+
+Ends-tail : (u : List ℕ) → Ends u → All (λ bit. bit ≡ 0) (drop (length u - 4) u)
+Ends-tail [] ends = All-nil (λ bit. bit ≡ 0)
+Ends-tail (x ∷ u) ends =
+    let rest = Ends-tail u ends.2 in
+    elim (cases_lt (length u) 4) [
+      | inl short ↦
+          let all : suc (length u) - 4 ≡ 0 = omega arith in
+          let all' : length u - 4 ≡ 0 = omega arith in
+          rw all (All-cons (λ bit. bit ≡ 0) x u (ends.1 short) (rw all' at rest))
+      | inr long ↦ let one_more : suc (length u) - 4 ≡ suc (length u - 4) = omega arith in rw one_more rest
+    ]
+
+IsInformation-ends : (u : List ℕ) → 5 ≤ length u → Ends u → IsInformation u
+IsInformation-ends u count ends = record { count = count; bits = Ends-bits u ends; tail = Ends-tail u ends }
+
+IsBefore-not_after : (u v : List ℕ) → AllBits v → length v ≡ length u → IsNotAfter u v → v ≢ u → IsBefore u v
+IsBefore-not_after [] [] bits count h ne = absurd (ne refl)
+IsBefore-not_after [] (y ∷ v) bits count h ne = absurd (omega arith)
+IsBefore-not_after (x ∷ u) [] bits count h ne = absurd h
+IsBefore-not_after (x ∷ u) (y ∷ v) bits count (inl less) ne =
+    let bit : y ≤ 1 = All-head (λ bit. bit ≤ 1) y v bits in
+    record { place = 0; within = omega arith; same = (λ j lt. absurd (omega arith)); zero = omega arith; differs = (λ e. omega arith) }
+IsBefore-not_after (x ∷ u) (y ∷ v) bits count (inr rest) ne =
+    let count' : length v ≡ length u = omega arith in
+    let tail = IsBefore-not_after u v (All-tail (λ bit. bit ≤ 1) y v bits) count' rest.1 (λ e. ne (ap₂ (λ z w. z ∷ w) (sym rest.0) e)) in
+    record { place = suc tail.place; within = omega arith; same = same tail; zero = tail.zero; differs = tail.differs }
+  where
+    same : (tail : IsBefore u v) (j : ℕ) → j < suc tail.place → get_or (x ∷ u) j 0 ≡ get_or (y ∷ v) j 0
+    same tail zero lt = rest.0
+    same tail (suc j) lt = tail.same j (omega arith)
+
+-- the best list from state 0 is the most likely of all
+pub IsMostLikely-best : (soft : List ℤ) (u : List ℕ) (value : ℤ) → 5 ≤ length u → length soft ≡ 2 * length u →
+    IsBest 0 u soft value → IsMostLikely soft u
+IsMostLikely-best soft u value count pairs best = record {
+  information = IsInformation-ends u count best.ends;
+  count = pairs;
+  others = others;
+} where
+  others : (v : List ℕ) → IsInformation v → length v ≡ length u → v ≢ u → FallsBehind soft v u
+  others v information count ne =
+      let ends = Ends-from_tail v information.bits information.tail in
+      let gu = gain-start soft u (Ends-bits u best.ends) in
+      let gv = gain-start soft v information.bits in
+      elim (best.wins v ends count) [
+        | Less h ↦ inl (rw (← gu, ← gv) h)
+        | Later h after ↦ inr (sym gv ∙ h ∙ gu, IsBefore-not_after u v information.bits count after ne)
+      ]
+
+pub likelihood-best : (soft : List ℤ) (u : List ℕ) (value : ℤ) → IsBest 0 u soft value → value ≡ likelihood soft (coded u)
+likelihood-best soft u value best = best.gained ∙ gain-start soft u (Ends-bits u best.ends)

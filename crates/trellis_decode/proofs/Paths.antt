@@ -1,0 +1,253 @@
+-- The best list from a state on, one place more at a time.
+use Rattle.std.proofs.Common.{◌≡◌, ℕ, zero, suc, ◌+◌, ◌-◌, ◌*◌, ◌/◌, ◌%◌, ◌^◌, ◌<◌, ◌≤◌, inl, inr, ℤ, pos, negsuc, ◌+ℤ◌, ◌-ℤ◌, List, [], ◌∷◌, ◌++◌, length, get_or, take, drop, replicate, refl, ap, sym, ◌∙◌, subst, arith}
+use Rattle.std.specs.Prelude.{◌<ℤ◌, ◌≤ℤ◌}
+use Rattle.std.proofs.Math.Nat.{zero-div}
+use Rattle.std.proofs.lemmas.Int.{ints, by_lt_z}
+use Rattle.std.proofs.lemmas.List.{drop-drop, drop-set, take-append-drop, length-take, length-drop, length-replicate}
+use Rattle.std.proofs.Math.ListN.{set}
+use Rattle.std.proofs.lemmas.List.Elements.{All-nil, All-cons, All-head, All-tail, All-append}
+use Rattle.std.specs.List.{All}
+use Rattle.bit_blocks.specs.Bits.{AllBits}
+use Rattle.conv_code.specs.Likelihood.{likelihood}
+use Rattle.trellis_decode.proofs.EdgeLanes.{agreement-zero, agreement-one}
+use Rattle.trellis_decode.specs.Lanes.{lane, AreModest, IsOctet, AreOctets}
+use Rattle.trellis_decode.specs.Trellis.{next, first_bit, second_bit, coded_from, gain, edge, Ends, IsNotAfter, Loses, Less, Later, read_out, IsBest, way, Chooses}
+
+-- one bit, and then the rest of the list
+pub gain-cons : (state x : ℕ) (u : List ℕ) (pair soft : List ℤ) → length pair ≡ 2 →
+    gain state (x ∷ u) (pair ++ soft) ≡ edge state x pair +ℤ gain (next state x) u soft
+unfolding gain edge
+gain-cons state x u [] soft e = absurd (omega arith)
+gain-cons state x u (p ∷ []) soft e = absurd (omega arith)
+gain-cons state x u (p ∷ q ∷ []) soft e = omega (arith, ints)
+gain-cons state x u (p ∷ q ∷ r ∷ pair) soft e = absurd (omega arith)
+
+length-read_out : (rows : List ℕ) (state : ℕ) → length (read_out rows state) ≡ length rows
+length-read_out [] state = refl
+length-read_out (row ∷ rows) state = ap suc (length-read_out rows (next state (row / 2 ^ state % 2)))
+
+IsNotAfter-refl : (u : List ℕ) → IsNotAfter u u
+IsNotAfter-refl [] = tt
+IsNotAfter-refl (x ∷ u) = inr (refl, IsNotAfter-refl u)
+
+-- the first bit of both is the same
+Loses-same : (state x : ℕ) (v u : List ℕ) (pair soft : List ℤ) → length pair ≡ 2 →
+    Loses (next state x) soft v u → Loses state (pair ++ soft) (x ∷ v) (x ∷ u)
+Loses-same state x v u pair soft e (Less h) =
+    let gv = gain-cons state x v pair soft e in
+    let gu = gain-cons state x u pair soft e in
+    Less (omega (arith, ints))
+Loses-same state x v u pair soft e (Later h after) =
+    let gv = gain-cons state x v pair soft e in
+    let gu = gain-cons state x u pair soft e in
+    Later (omega (arith, ints)) (inr (refl, after))
+
+-- no list that begins with a bit gives more than that bit's way
+way_bounds : (after pair soft : List ℤ) (state bit : ℕ) (u v : List ℕ) → length pair ≡ 2 →
+    IsBest (next state bit) u soft (get_or after (next state bit) (pos 0)) → Ends v → length v ≡ length u →
+    gain state (bit ∷ v) (pair ++ soft) ≤ℤ way after pair state bit
+unfolding way
+way_bounds after pair soft state bit u v e best ends count =
+    let g = gain-cons state bit v pair soft e in
+    let value = best.gained in
+    elim (best.wins v ends count) [ Less h ↦ omega (arith, ints) | Later h later ↦ omega (arith, ints) ]
+
+way_reached : (after pair soft : List ℤ) (state bit : ℕ) (u : List ℕ) → length pair ≡ 2 →
+    IsBest (next state bit) u soft (get_or after (next state bit) (pos 0)) →
+    way after pair state bit ≡ gain state (bit ∷ u) (pair ++ soft)
+unfolding way
+way_reached after pair soft state bit u e best =
+    let g = gain-cons state bit u pair soft e in
+    let value = best.gained in
+    omega (arith, ints)
+
+-- the best lists of both bits, and the better way
+module _ (after pair soft : List ℤ) (state : ℕ) (zeros ones : List ℕ) (e : length pair ≡ 2) (same : length ones ≡ length zeros)
+    (best0 : IsBest (next state 0) zeros soft (get_or after (next state 0) (pos 0)))
+    (best1 : IsBest (next state 1) ones soft (get_or after (next state 1) (pos 0))) where
+  zero_wins : (way after pair state 1) ≤ℤ (way after pair state 0) → (v : List ℕ) → Ends v → length v ≡ suc (length zeros) →
+      Loses state (pair ++ soft) v (0 ∷ zeros)
+  zero_wins h [] ends count = absurd (omega arith)
+  zero_wins h (zero ∷ v) ends count =
+      let count' : length v ≡ length zeros = omega arith in
+      Loses-same state 0 v zeros pair soft e (best0.wins v ends.2 count')
+  zero_wins h (suc zero ∷ v) ends count =
+      let count' : length v ≡ length ones = omega arith in
+      let bound = way_bounds after pair soft state 1 ones v e best1 ends.2 count' in
+      let value = way_reached after pair soft state 0 zeros e best0 in
+      by_lt_z (gain state (1 ∷ v) (pair ++ soft)) (gain state (0 ∷ zeros) (pair ++ soft))
+      (λ less. Less less) (λ not_less. Later (omega (arith, ints)) (inl (omega arith)))
+  zero_wins h (suc (suc x) ∷ v) ends count = absurd (omega (arith, ends.0))
+
+  one_wins : (way after pair state 0) <ℤ (way after pair state 1) → (v : List ℕ) → Ends v → length v ≡ suc (length ones) →
+      Loses state (pair ++ soft) v (1 ∷ ones)
+  one_wins h [] ends count = absurd (omega arith)
+  one_wins h (zero ∷ v) ends count =
+      let count' : length v ≡ length zeros = omega arith in
+      let bound = way_bounds after pair soft state 0 zeros v e best0 ends.2 count' in
+      let value = way_reached after pair soft state 1 ones e best1 in
+      Less (omega (arith, ints))
+  one_wins h (suc zero ∷ v) ends count =
+      let count' : length v ≡ length ones = omega arith in
+      Loses-same state 1 v ones pair soft e (best1.wins v ends.2 count')
+  one_wins h (suc (suc x) ∷ v) ends count = absurd (omega (arith, ends.0))
+
+-- where a bit is free
+pub IsBest-more : (after pair soft : List ℤ) (state row : ℕ) (rows : List ℕ) (value : ℤ) → length pair ≡ 2 → 4 ≤ length rows →
+    IsBest (next state 0) (read_out rows (next state 0)) soft (get_or after (next state 0) (pos 0)) →
+    IsBest (next state 1) (read_out rows (next state 1)) soft (get_or after (next state 1) (pos 0)) →
+    Chooses after pair state value (row / 2 ^ state % 2) →
+    IsBest state (read_out (row ∷ rows) state) (pair ++ soft) value
+IsBest-more after pair soft state row rows value e free best0 best1 choice =
+    let zeros = read_out rows (next state 0) in
+    let ones = read_out rows (next state 1) in
+    let count0 = length-read_out rows (next state 0) in
+    let count1 = length-read_out rows (next state 1) in
+    let same : length ones ≡ length zeros = omega arith in
+    let long : length ones < 4 → ◌≡◌ {A = ℕ} 1 0 = λ short. absurd (omega arith) in
+    let BestAt : ℕ → Type 0 = λ bit. IsBest state (bit ∷ read_out rows (next state bit)) (pair ++ soft) value in
+    elim choice [
+      | inl h ↦ subst BestAt (sym h.0) (record {
+        gained = h.1 ∙ way_reached after pair soft state 0 zeros e best0;
+        ends = (omega arith, (λ _. refl), best0.ends);
+        wins = zero_wins after pair soft state zeros ones e same best0 best1 h.2;
+      })
+      | inr h ↦ subst BestAt (sym h.0) (record {
+        gained = h.1 ∙ way_reached after pair soft state 1 ones e best1;
+        ends = (omega arith, long, best1.ends);
+        wins = one_wins after pair soft state zeros ones e same best0 best1 h.2;
+      })
+    ]
+
+-- where a bit is not free
+pub IsBest-closing : (after pair soft : List ℤ) (state : ℕ) (u : List ℕ) → length pair ≡ 2 → length u < 4 →
+    IsBest (next state 0) u soft (get_or after (next state 0) (pos 0)) →
+    IsBest state (0 ∷ u) (pair ++ soft) (way after pair state 0)
+IsBest-closing after pair soft state u e closing best = record {
+  gained = way_reached after pair soft state 0 u e best;
+  ends = (omega arith, (λ _. refl), best.ends);
+  wins = closing_wins;
+} where
+  closing_wins : (v : List ℕ) → Ends v → length v ≡ suc (length u) → Loses state (pair ++ soft) v (0 ∷ u)
+  closing_wins [] ends count = absurd (omega arith)
+  closing_wins (x ∷ v) ends count =
+      let count' : length v ≡ length u = omega arith in
+      let short : length v < 4 = omega arith in
+      subst (λ x. Loses state (pair ++ soft) (x ∷ v) (0 ∷ u)) (sym (ends.1 short)) (Loses-same state 0 v u pair soft e (best.wins v ends.2 count'))
+
+-- before the end no list is worth more than another
+pub IsBest-none : (state : ℕ) → IsBest state [] [] (pos 0)
+unfolding gain
+IsBest-none state = record { gained = refl; ends = tt; wins = none } where
+  none : (v : List ℕ) → Ends v → length v ≡ 0 → Loses state [] v []
+  none [] ends count = Later refl tt
+  none (x ∷ v) ends count = absurd (omega arith)
+
+-- ---- soft values are octets, so that what a list is worth stays small
+
+likelihood_bound : (soft : List ℤ) (c : List ℕ) → AreOctets soft → AllBits c →
+    ((pos 0 -ℤ pos (128 * length soft)) ≤ℤ likelihood soft c) × (likelihood soft c ≤ℤ pos (128 * length soft))
+likelihood_bound [] c octets bits = (omega (arith, ints), omega (arith, ints))
+likelihood_bound (p ∷ s) [] octets bits = (omega (arith, ints), omega (arith, ints))
+likelihood_bound (p ∷ s) (zero ∷ c) octets bits =
+    let head = All-head IsOctet p s octets in
+    let e = agreement-zero p in
+    let rest = likelihood_bound s c (All-tail IsOctet p s octets) (All-tail (λ bit. bit ≤ 1) 0 c bits) in
+    (omega (arith, ints, head.0, head.1, rest.0, rest.1), omega (arith, ints, head.0, head.1, rest.0, rest.1))
+likelihood_bound (p ∷ s) (suc zero ∷ c) octets bits =
+    let head = All-head IsOctet p s octets in
+    let e = agreement-one p in
+    let rest = likelihood_bound s c (All-tail IsOctet p s octets) (All-tail (λ bit. bit ≤ 1) 1 c bits) in
+    (omega (arith, ints, head.0, head.1, rest.0, rest.1), omega (arith, ints, head.0, head.1, rest.0, rest.1))
+likelihood_bound (p ∷ s) (suc (suc x) ∷ c) octets bits =
+    let head = All-head (λ bit. bit ≤ 1) (suc (suc x)) c bits in
+    absurd (omega arith)
+
+AllBits-coded_from : (state : ℕ) (u : List ℕ) → AllBits (coded_from state u)
+AllBits-coded_from state [] = All-nil (λ bit. bit ≤ 1)
+AllBits-coded_from state (x ∷ u) =
+    let first : first_bit state x ≤ 1 = omega arith in
+    let second : second_bit state x ≤ 1 = omega arith in
+    let rest = AllBits-coded_from (next state x) u in
+    All-cons (λ bit. bit ≤ 1) (first_bit state x) (second_bit state x ∷ coded_from (next state x) u) first
+    (All-cons (λ bit. bit ≤ 1) (second_bit state x) (coded_from (next state x) u) second rest)
+
+-- the values of sixteen states before at most 456 octets
+pub AreModest-best : (lanes : List ℤ) (lists : ℕ → List ℕ) (soft : List ℤ) → length lanes ≡ 16 → AreOctets soft → length soft ≤ 456 →
+    ((s : ℕ) → s < 16 → IsBest s (lists s) soft (lane lanes s)) → AreModest lanes
+unfolding gain
+AreModest-best lanes lists soft count octets few best = record { count = count; low = low; high = high } where
+  low : (s : ℕ) → s < 16 → negsuc 65535 ≤ℤ lane lanes s
+  low s lt =
+      let bound = (likelihood_bound soft (coded_from s (lists s)) octets (AllBits-coded_from s (lists s))).0 in
+      let is = (best s lt).gained in
+      omega (arith, ints)
+
+  high : (s : ℕ) → s < 16 → lane lanes s ≤ℤ pos 65536
+  high s lt =
+      let bound = (likelihood_bound soft (coded_from s (lists s)) octets (AllBits-coded_from s (lists s))).1 in
+      let is = (best s lt).gained in
+      omega (arith, ints)
+
+-- ---- the soft values of a place, and those after it
+
+pub pair_and_rest : (soft : List ℤ) (k n : ℕ) → n ≡ 2 → 2 * k + 2 ≤ length soft →
+    take n (drop (2 * k) soft) ++ drop (2 * (k + 1)) soft ≡ drop (2 * k) soft
+pair_and_rest soft k n two within =
+    let at : 2 * (k + 1) ≡ 2 * k + n = omega arith in
+    ap (λ rest. take n (drop (2 * k) soft) ++ rest) (ap (λ j. drop j soft) at ∙ sym (drop-drop n (2 * k) soft))
+    ∙ take-append-drop n (drop (2 * k) soft)
+
+pub length-pair : (soft : List ℤ) (k n : ℕ) → n ≡ 2 → 2 * k + 2 ≤ length soft → length (take n (drop (2 * k) soft)) ≡ 2
+length-pair soft k n two within = omega (arith, length-take n (drop (2 * k) soft), length-drop (2 * k) soft)
+
+-- one place more
+pub AreOctets-more : (soft : List ℤ) (k n : ℕ) → n ≡ 2 → 2 * k + 2 ≤ length soft → AreOctets (take n (drop (2 * k) soft)) →
+    AreOctets (drop (2 * (k + 1)) soft) → AreOctets (drop (2 * k) soft)
+AreOctets-more soft k n two within pair rest =
+    subst AreOctets (pair_and_rest soft k n two within) (All-append IsOctet (take n (drop (2 * k) soft)) (drop (2 * (k + 1)) soft) pair rest)
+
+pub IsBest-same : (s : ℕ) {u u' : List ℕ} {soft soft' : List ℤ} {value value' : ℤ} → u ≡ u' → soft ≡ soft' → value ≡ value' →
+    IsBest s u soft value → IsBest s u' soft' value'
+IsBest-same s {u} {u'} {soft} {soft'} {value} {value'} eu es ev best =
+    subst (λ u. IsBest s u soft' value') eu (subst (λ soft. IsBest s u soft value') es (subst (λ value. IsBest s u soft value) ev best))
+
+-- one place more whose bit is 0 in any case, from the values of sixteen states
+pub IsBest-closing_more : (after : List ℤ) (soft : List ℤ) (k j n s : ℕ) (value : ℤ) → k ≡ j + 1 → k ≤ 4 → 2 * j + 2 ≤ length soft → n ≡ 2 →
+    ((s : ℕ) → s < 16 → IsBest s (replicate (4 - k) 0) (drop (2 * k) soft) (lane after s)) →
+    value ≡ way after (take n (drop (2 * j) soft)) s 0 →
+    IsBest s (replicate (4 - j) 0) (drop (2 * j) soft) value
+IsBest-closing_more after soft k j n s value at closing within two best is =
+    let pair = take n (drop (2 * j) soft) in
+    let longer : 4 - j ≡ suc (4 - k) = omega arith in
+    let short : length (replicate {A = ℕ} (4 - k) 0) < 4 = rw length-replicate (omega arith) in
+    let reached : next s 0 < 16 = omega arith in
+    let doubled : drop (2 * k) soft ≡ drop (2 * (j + 1)) soft = ap (λ k. drop (2 * k) soft) at in
+    IsBest-same s (ap (λ m. replicate m 0) (sym longer)) (ap (λ rest. pair ++ rest) doubled ∙ pair_and_rest soft j n two within) (sym is)
+    (IsBest-closing after pair (drop (2 * k) soft) s (replicate (4 - k) 0) (length-pair soft j n two within) short (best (next s 0) reached))
+
+-- one place more with its row of choices
+pub IsBest-row : (after : List ℤ) (soft : List ℤ) (rows : List ℕ) (k j n s row : ℕ) (value : ℤ) → k ≡ j + 1 → k + 4 ≤ length rows →
+    2 * j + 2 ≤ length soft → n ≡ 2 →
+    ((s : ℕ) → s < 16 → IsBest s (read_out (drop k rows) s) (drop (2 * k) soft) (lane after s)) →
+    Chooses after (take n (drop (2 * j) soft)) s value (row / 2 ^ s % 2) →
+    IsBest s (read_out (drop j (set rows j row)) s) (drop (2 * j) soft) value
+IsBest-row after soft rows k j n s row value at free within two best choice =
+    let pair = take n (drop (2 * j) soft) in
+    let inside : j < length rows = omega arith in
+    let more : 4 ≤ length (drop k rows) = rw length-drop (omega arith) in
+    let reached0 : next s 0 < 16 = omega arith in
+    let reached1 : next s 1 < 16 = omega arith in
+    let doubled : drop (2 * k) soft ≡ drop (2 * (j + 1)) soft = ap (λ k. drop (2 * k) soft) at in
+    let grown : row ∷ drop k rows ≡ drop j (set rows j row) = ap (λ k. row ∷ drop k rows) at ∙ sym (drop-set rows j row inside) in
+    IsBest-same s (ap (λ rows. read_out rows s) grown) (ap (λ rest. pair ++ rest) doubled ∙ pair_and_rest soft j n two within) refl
+    (IsBest-more after pair (drop (2 * k) soft) s row (drop k rows) value (length-pair soft j n two within) more
+    (best (next s 0) reached0) (best (next s 1) reached1) choice)
+
+-- rows of zeros choose zeros
+pub read_out-zeros : (rows : List ℕ) (state : ℕ) → All (λ row. row ≡ 0) rows → read_out rows state ≡ replicate (length rows) 0
+read_out-zeros [] state zeros = refl
+read_out-zeros (row ∷ rows) state zeros =
+    let bit : row / 2 ^ state % 2 ≡ 0 = ap (λ row. row / 2 ^ state % 2) (All-head (λ row. row ≡ 0) row rows zeros) ∙ ap (λ x. x % 2) (zero-div (2 ^ state)) in
+    ap (λ bit. bit ∷ read_out rows (next state bit)) bit
+    ∙ ap (λ rest. 0 ∷ rest) (read_out-zeros rows (next state 0) (All-tail (λ row. row ≡ 0) row rows zeros))

@@ -1,0 +1,49 @@
+use Rattle.std.proofs.Common.{arith, ◌≡◌, ℕ, ◌*◌, ◌+◌, ◌-◌, ◌≤◌, length, drop, replicate, take, refl, ap, sym, ◌∙◌, subst}
+use Rattle.std.proofs.lemmas.List.{length-drop, take_all}
+use Rattle.std.proofs.lemmas.List.Elements.{All-drop}
+use Rattle.trellis_decode.specs.Lanes.{lane, AreOctets}
+use Rattle.trellis_decode.specs.Trellis.{read_out}
+use Rattle.trellis_decode.proofs.Paths.{AreModest-best, IsBest-same, IsBest-row, read_out-zeros, AreOctets-more}
+use Rattle.trellis_decode.proofs.Vectors.{numbers, AreLanes-passed, passed-lanes}
+use Rattle.trellis_decode.proofs.trellis.choose.Goals as goal
+
+pub loop-k-init : goal.loop-k-init
+loop-k-init c =
+    let soft = c.args.soft.now in
+    let rows = c.args.rows.now in
+    let free = length rows - 4 in
+    let last_four : length (drop free rows) ≡ 4 = rw length-drop (omega arith) in
+    let whole : take (length soft - 2 * free) (drop (2 * free) soft) ≡ drop (2 * free) soft = take_all _ _ (omega (arith, length-drop (2 * free) soft)) in
+    let zeros : (s : ℕ) → replicate 4 0 ≡ read_out (drop free rows) s =
+    λ s. ap (λ n. replicate n 0) (sym last_four) ∙ sym (read_out-zeros (drop free rows) s (All-drop (λ row. row ≡ 0) free rows c.requires.blank)) in
+    record {
+      lanes = AreLanes-passed c.closing_values-values.result c.closing_values-values.ensures.lanes;
+      octets = subst AreOctets whole c.closing_values-values.ensures.octets;
+      best = λ s lt. IsBest-same s (zeros s) whole
+          (ap (λ lanes. lane lanes s) (sym (passed-lanes c.closing_values-values.result c.closing_values-values.ensures.lanes)))
+          (c.closing_values-values.ensures.each s lt);
+    }
+
+pub new-step-requires-clause-modest : goal.new-step-requires-clause-modest
+new-step-requires-clause-modest c =
+    let few : length (drop (2 * c.loop-k.k) c.args.soft.now) ≤ 456 = omega (arith, length-drop (2 * c.loop-k.k) c.args.soft.now) in
+    AreModest-best (numbers c.loop-k.values) (λ s. read_out (drop c.loop-k.k c.loop-k.rows) s) (drop (2 * c.loop-k.k) c.args.soft.now)
+    c.loop-k.invariant.lanes.count c.loop-k.invariant.octets few c.loop-k.invariant.best
+
+pub loop-k-preserved : goal.loop-k-preserved
+loop-k-preserved c =
+    let soft = c.args.soft.now in
+    let k = c.loop-k.k in
+    let at : k ≡ k - 1 + 1 = omega arith in
+    let n = 2 * (k - 1) + 2 - 2 * (k - 1) in
+    let two : n ≡ 2 = omega arith in
+    let within : 2 * (k - 1) + 2 ≤ length soft = omega arith in
+    let free : k + 4 ≤ length c.loop-k.rows = omega arith in
+    record {
+      lanes = AreLanes-passed c.new-step.result.values c.new-step.ensures.lanes;
+      octets = AreOctets-more soft (k - 1) n two within c.new-step.ensures.octets
+          (subst (λ k. AreOctets (drop (2 * k) soft)) at c.loop-k.invariant.octets);
+      best = λ s lt. IsBest-same s refl refl (ap (λ lanes. lane lanes s) (sym (passed-lanes c.new-step.result.values c.new-step.ensures.lanes)))
+          (IsBest-row (numbers c.loop-k.values) soft c.loop-k.rows k (k - 1) n s c.new-step.result.row _ at free within two c.loop-k.invariant.best
+          (c.new-step.ensures.each s lt));
+    }

@@ -1,0 +1,10 @@
+use Rattle.std.proofs.Common.{◌≡◌, ◌<◌, ◌++◌, take, drop}
+use Rattle.trellis_decode.specs.Trellis.{read_out}
+use Rattle.trellis_decode.proofs.trellis.read_list.Given as goal
+
+-- the bits so far, and then what the rest of the rows gives, are what all rows give
+abbrev pub invariant-loop-k : goal.invariant-loop-k
+invariant-loop-k l = record {
+  state : l.state < 16;
+  list : take l.k l.u ++ read_out (drop l.k l.rows) l.state ≡ read_out l.rows 0;
+}

@@ -1,0 +1,64 @@
+-- Paths through the sixteen states of the code, for the decoder's own proof. A state holds the last four bits, the newest as its bit of value 1.
+use Rattle.std.specs.Prelude.{ℕ, ◌≡◌, ◌+◌, ◌*◌, ◌/◌, ◌%◌, ◌^◌, ◌<◌, ◌≤◌, ◌⊎◌, ℤ, pos, ◌+ℤ◌, ◌<ℤ◌, ◌≤ℤ◌, List, [], ◌∷◌, length, slice_index_or}
+use Rattle.conv_code.specs.Likelihood.{likelihood}
+
+-- the state after one more bit
+abbrev pub next : ℕ → ℕ → ℕ
+next state bit = (2 * state + bit) % 16
+
+-- the two coded bits of a bit that comes in a state
+abbrev pub first_bit : ℕ → ℕ → ℕ
+first_bit state bit = (bit + state / 4 % 2 + state / 8 % 2) % 2
+
+abbrev pub second_bit : ℕ → ℕ → ℕ
+second_bit state bit = (bit + state % 2 + state / 4 % 2 + state / 8 % 2) % 2
+
+-- the coded bits of a list that begins in a state
+abbrev pub coded_from : ℕ → List ℕ → List ℕ
+coded_from state [] = []
+coded_from state (x ∷ u) = first_bit state x ∷ second_bit state x ∷ coded_from (next state x) u
+
+-- how likely a list is that begins in a state
+unfoldable pub gain : ℕ → List ℕ → List ℤ → ℤ
+gain state u soft = likelihood soft (coded_from state u)
+
+-- how likely one bit is in a state, by its two soft values
+unfoldable pub edge : ℕ → ℕ → List ℤ → ℤ
+edge state bit pair = likelihood pair (first_bit state bit ∷ second_bit state bit ∷ [])
+
+-- bits, of which the last four are 0
+abbrev pub Ends : List ℕ → Type 0
+Ends [] = Unit {0}
+Ends (x ∷ u) = (x ≤ 1) × (length u < 4 → x ≡ 0) × Ends u
+
+-- u stands before v in the order of words, or is v
+abbrev pub IsNotAfter : List ℕ → List ℕ → Type 0
+IsNotAfter [] v = Unit {0}
+IsNotAfter (x ∷ u) [] = ⊥
+IsNotAfter (x ∷ u) (y ∷ v) = (x < y) ⊎ ((x ≡ y) × IsNotAfter u v)
+
+-- v is less likely than u, or as likely and not before it
+pub data Loses (state : ℕ) (soft : List ℤ) (v u : List ℕ) : Type 0 where
+  Less : gain state v soft <ℤ gain state u soft → Loses state soft v u
+  Later : gain state v soft ≡ gain state u soft → IsNotAfter u v → Loses state soft v u
+
+-- the bits that rows of choices give from a state on
+abbrev pub read_out : List ℕ → ℕ → List ℕ
+read_out [] state = []
+read_out (row ∷ rows) state = (row / 2 ^ state % 2) ∷ read_out rows (next state (row / 2 ^ state % 2))
+
+-- u is the best list from a state on, and value its gain
+pub record IsBest (state : ℕ) (u : List ℕ) (soft : List ℤ) (value : ℤ) : Type 0 where
+  pub gained : value ≡ gain state u soft
+  pub ends : Ends u
+  pub wins : (v : List ℕ) → Ends v → length v ≡ length u → Loses state soft v u
+
+-- what a bit gives in a state, where `after` is what each state gives from the next place on
+unfoldable pub way : List ℤ → List ℤ → ℕ → ℕ → ℤ
+way after pair state bit = edge state bit pair +ℤ slice_index_or after (next state bit) (pos 0)
+
+-- the better bit in a state and what it gives; 0 where both give the same
+abbrev pub Chooses : List ℤ → List ℤ → ℕ → ℤ → ℕ → Type 0
+Chooses after pair state value bit =
+    ((bit ≡ 0) × (value ≡ way after pair state 0) × (way after pair state 1 ≤ℤ way after pair state 0)) ⊎
+    ((bit ≡ 1) × (value ≡ way after pair state 1) × (way after pair state 0 <ℤ way after pair state 1))

@@ -1,0 +1,29 @@
+//! The most likely information list of the convolutional code, by a trellis in lanes.
+#![tactic(auto)]
+
+mod lanes;
+mod step;
+mod trellis;
+
+ghost use Rattle.std.specs.Prelude.{◌≡◌, ◌*◌, ◌≤◌, length};
+ghost use Rattle.conv_code.specs.Code.{coded};
+ghost use Rattle.conv_code.specs.Likelihood.{AllSoft, IsMostLikely, likelihood};
+
+use crate::trellis::{choose, read_list};
+
+/// Writes the most likely information list for soft values, of equally likely ones the first in the order of words, and
+/// answers its likelihood.
+pub fn decode(soft: &[i8], u: &mut [u8]) -> i32
+    requires count { length soft.now ≡ 2 * length u.old }
+    requires at_least { 5 ≤ length u.old }
+    requires at_most { length u.old ≤ 228 }
+    requires soft { AllSoft soft.now }
+    ensures best { IsMostLikely soft.now u.new }
+    ensures value { result ≡ likelihood soft.now (coded u.new) }
+{
+    let mut choices = [0; 228];
+    let rows = &mut choices[..u.len()];
+    let value = choose(soft, rows);
+    read_list(rows, u);
+    value
+}

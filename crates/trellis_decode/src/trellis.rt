@@ -1,0 +1,52 @@
+ghost use Rattle.std.specs.Prelude.{◌≡◌, ℕ, ◌*◌, ◌<◌, ◌≤◌, length, replicate};
+ghost use Rattle.std.specs.List.{All};
+ghost use Rattle.trellis_decode.specs.Lanes.{AreLanes, AreOctets, lane};
+ghost use Rattle.trellis_decode.specs.Trellis.{IsBest, read_out};
+
+use crate::step::{Step, closing_step};
+use std::simd::prelude::*;
+
+/// Fills the rows of choices from the last place to the first, and answers what the best list from state 0 is worth.
+pub(crate) fn choose(soft: &[i8], rows: &mut [u16]) -> i32
+    requires count { length soft.now ≡ 2 * length rows.old }
+    requires at_least { 4 ≤ length rows.old }
+    requires at_most { length rows.old ≤ 228 }
+    requires blank { All (λ row. row ≡ 0) rows.old }
+    ensures { IsBest 0 (read_out rows.new 0) soft.now result }
+{
+    let free = rows.len() - 4;
+    let mut values = closing_values(&soft[2 * free..]);
+    for k in (0..free).rev() {
+        let step = Step::new(values, &soft[2 * k..2 * k + 2]);
+        values = step.values;
+        rows[k] = step.row;
+    }
+    values.to_array()[0]
+}
+
+/// What each state is worth before the last four places, whose bits are 0.
+fn closing_values(soft: &[i8]) -> i32x16
+    requires { length soft.now ≡ 8 }
+    ensures each { (s : ℕ) → s < 16 → IsBest s (replicate 4 0) soft.now (lane result s) }
+    ensures lanes { AreLanes result }
+    ensures octets { AreOctets soft.now }
+{
+    let mut values = i32x16::splat(0);
+    for k in (0..4).rev() {
+        values = closing_step(values, &soft[2 * k..2 * k + 2]);
+    }
+    values
+}
+
+/// Follows the choices from state 0 on.
+pub(crate) fn read_list(rows: &[u16], u: &mut [u8])
+    requires { length u.old ≡ length rows.now }
+    ensures { u.new ≡ read_out rows.now 0 }
+{
+    let mut state = 0;
+    for (k, row) in rows.iter().enumerate() {
+        let bit = (*row >> state) & 1;
+        u[k] = bit as u8;
+        state = (2 * state + bit) % 16;
+    }
+}
