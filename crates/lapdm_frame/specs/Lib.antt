@@ -1,1 +1,5 @@
 pub mod Layout
+pub mod Content
+pub mod Frames
+pub mod Refusals
+pub mod Readings

@@ -26,3 +26,75 @@ impl Channel {
         }
     }
 }
+
+/// A frame, whose information is borrowed.
+#[derive(Clone, Copy, PartialEq, Eq, Debug)]
+pub struct FrameView<'a> {
+    /// The service access point identifier, 0 to 7.
+    pub sapi: u8,
+    /// The command/response bit, which is set in a network's commands and a mobile's responses.
+    pub cr: bool,
+    pub body: Body<'a>,
+}
+
+/// What a frame says by its kind: N(S) and N(R), each 0 to 7, the poll or final bit, whether the
+/// message goes on in the next I frame, and the information.
+#[derive(Clone, Copy, PartialEq, Eq, Debug)]
+pub enum Body<'a> {
+    I {
+        ns: u8,
+        nr: u8,
+        p: bool,
+        more: bool,
+        info: &'a [u8],
+    },
+    Rr {
+        nr: u8,
+        pf: bool,
+    },
+    Rnr {
+        nr: u8,
+        pf: bool,
+    },
+    Rej {
+        nr: u8,
+        pf: bool,
+    },
+    Sabm {
+        p: bool,
+        info: &'a [u8],
+    },
+    Dm {
+        f: bool,
+    },
+    Ui {
+        p: bool,
+        info: &'a [u8],
+    },
+    Disc {
+        p: bool,
+    },
+    Ua {
+        f: bool,
+        info: &'a [u8],
+    },
+}
+
+/// Why octets are no frame. The first reason that applies, in this order, is the one given.
+#[derive(Clone, Copy, PartialEq, Eq, Debug)]
+pub enum Refusal {
+    /// One of the three highest bits of the address is set, so the link protocol is another.
+    Lpd,
+    /// The address field does not end with its first octet.
+    Ea,
+    /// The control octet is that of no kind.
+    Control,
+    /// The length field does not end with its first octet.
+    El,
+    /// The length is above N201, or above 0 in a kind without information.
+    Length,
+    /// An I frame has no information.
+    Empty,
+    /// The message goes on, and the kind is not I.
+    More,
+}

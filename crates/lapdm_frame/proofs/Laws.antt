@@ -1,0 +1,96 @@
+-- Octets are one frame, or refused for one reason, and never both; a frame has one canonical list.
+use Rattle.std.proofs.Common.{◌≡◌, ◌≢◌, ℕ, ◌+◌, ◌-◌, ◌*◌, ◌/◌, ◌%◌, ◌<◌, ◌≤◌, Bool, true, false, List, [], ◌∷◌, ◌++◌, length, get_or, replicate, refl, sym, ap, ◌∙◌, subst, ◌⊎◌, inl, inr, ⊎_elim, arith}
+use Rattle.std.specs.Prelude.{slice_index, slice_range}
+use Rattle.std.proofs.lemmas.Bool.{cases_lt}
+use Rattle.lapdm_frame.specs.declared.Channel.{Channel}
+use Rattle.lapdm_frame.specs.declared.Channel.TheVariants.{Sdcch, Sacch}
+use Rattle.lapdm_frame.specs.declared.Refusal.{Refusal}
+use Rattle.lapdm_frame.specs.declared.Refusal.TheVariants.{Lpd, Ea, Control, El, Length, Empty, More}
+use Rattle.lapdm_frame.specs.Layout.{header, n201}
+use Rattle.lapdm_frame.specs.Content.{Content, I, Rr, Rnr, Rej, Sabm, Dm, Ui, Disc, Ua, Frame, information, goes_on}
+use Rattle.lapdm_frame.specs.Frames.{bit, address, control, length_octet, NumbersFit, InformationFits, Fits, IsFrame, IsCanonical, octets_of}
+use Rattle.lapdm_frame.specs.Refusals.{IsControl, IsInformationFrame, HasNoInformation, IsControlOf, Applies, AppliesTo, place, IsRefused}
+use Rattle.lapdm_frame.specs.Readings.{IsOnlyFrame, IsOnlyRefusal, IsOnlyCanonical}
+use Rattle.lapdm_frame.proofs.Controls.{bit_bound, bit_injective, same_content, no_information, information_frame}
+
+same_parts : (s s' : ℕ) (c c' : Bool) (a b : Content) → s ≡ s' → c ≡ c' → a ≡ b → ◌≡◌ {A = Frame} (record { sapi = s; cr = c; content = a }) (record { sapi = s'; cr = c'; content = b })
+same_parts s s' c c' a b e e' e'' = cc
+
+-- octets are one frame at most
+pub same_frame : (channel : Channel) (octets : List ℕ) (f g : Frame) → IsFrame channel f octets → IsFrame channel g octets → f ≡ g
+same_frame channel octets f g is_f is_g =
+    let cr : bit f.cr ≡ bit g.cr = omega (arith, is_f.at_address, is_g.at_address, bit_bound f.cr, bit_bound g.cr) in
+    let sapi : f.sapi ≡ g.sapi = omega (arith, is_f.at_address, is_g.at_address, bit_bound f.cr, bit_bound g.cr) in
+    let more : bit (goes_on f.content) ≡ bit (goes_on g.content) = omega (arith, is_f.at_length, is_g.at_length, bit_bound (goes_on f.content), bit_bound (goes_on g.content)) in
+    let size : length (information f.content) ≡ length (information g.content) = omega (arith, is_f.at_length, is_g.at_length, bit_bound (goes_on f.content), bit_bound (goes_on g.content)) in
+    let info : information f.content ≡ information g.content = sym is_f.at_information ∙ ap (λ n. slice_range octets (header channel + 3) (header channel + 3 + n)) size ∙ is_g.at_information in
+    let content = same_content (control f.content) f.content g.content (is_f.fits.numbers, refl) (is_g.fits.numbers, sym is_f.at_control ∙ is_g.at_control) (bit_injective _ _ more) info in
+    same_parts f.sapi g.sapi f.cr g.cr f.content g.content sapi (bit_injective _ _ cr) content
+
+some_information : (channel : Channel) (content : Content) → InformationFits channel content → IsInformationFrame content → 1 ≤ length (information content)
+some_information channel (I ns nr p more info) fits is_i = fits.0
+some_information channel other fits is_i = absurd is_i
+
+pub information_bound : (channel : Channel) (content : Content) → InformationFits channel content → length (information content) ≤ n201 channel
+information_bound channel (I ns nr p more info) fits = fits.1
+information_bound channel other fits = fits
+
+not_on : (content : Content) → ¬ IsInformationFrame content → bit (goes_on content) ≡ 0
+not_on (I ns nr p more info) differs = absurd (differs tt)
+not_on other differs = refl
+
+-- no reason applies to a frame
+pub never_refused : (channel : Channel) (octets : List ℕ) (f : Frame) → IsFrame channel f octets → (reason : Refusal) → ¬ AppliesTo channel octets reason
+never_refused channel octets f is_f Lpd applies = omega (arith, is_f.at_address, is_f.fits.sapi, bit_bound f.cr)
+never_refused channel octets f is_f Ea applies = omega (arith, is_f.at_address, bit_bound f.cr)
+never_refused channel octets f is_f Control applies = applies f.content (is_f.fits.numbers, is_f.at_control)
+never_refused channel octets f is_f El applies = omega (arith, is_f.at_length)
+never_refused channel octets f is_f Length applies =
+    let fits = information_bound channel f.content is_f.fits.information in
+    elim applies [
+      inl above ↦ omega (arith, is_f.at_length, bit_bound (goes_on f.content))
+    | inr (some, (other, is_other, silent)) ↦
+        let none = ap length (no_information _ other f.content is_other (is_f.fits.numbers, is_f.at_control) silent) in
+        omega (arith, is_f.at_length, bit_bound (goes_on f.content))
+    ]
+never_refused channel octets f is_f Empty applies =
+    let is_i = information_frame _ applies.1.0 f.content applies.1.1 (is_f.fits.numbers, is_f.at_control) applies.1.2 in
+    let some = some_information channel f.content is_f.fits.information is_i in
+    omega (arith, is_f.at_length, applies.0, bit_bound (goes_on f.content))
+never_refused channel octets f is_f More applies =
+    let single = not_on f.content (λ is_i. applies.1 (f.content, (is_f.fits.numbers, is_f.at_control), is_i)) in
+    omega (arith, is_f.at_length, applies.0)
+
+same_place : (a b : Refusal) → place a ≡ place b → a ≡ b
+same_place Lpd Lpd e = refl
+same_place Ea Ea e = refl
+same_place Control Control e = refl
+same_place El El e = refl
+same_place Length Length e = refl
+same_place Empty Empty e = refl
+same_place More More e = refl
+same_place a b e = absurd (omega arith)
+
+-- one reason at most is the first
+pub same_reason : (channel : Channel) (octets : List ℕ) (a b : Refusal) → IsRefused channel octets a → IsRefused channel octets b → a ≡ b
+same_reason channel octets a b is_a is_b = elim (cases_lt (place a) (place b)) [
+    inl before ↦ absurd (is_b.first a before is_a.applies)
+  | inr later ↦ elim (cases_lt (place b) (place a)) [
+      inl after ↦ absurd (is_a.first b after is_b.applies)
+    | inr earlier ↦ same_place a b (omega arith)
+    ]
+  ]
+
+pub only_frame : (channel : Channel) (f : Frame) (octets : List ℕ) → IsFrame channel f octets → IsOnlyFrame channel f octets
+only_frame channel f octets is_f = record {
+  frame = is_f;
+  only = λ other is_other. same_frame channel octets other f is_other is_f;
+  unrefused = λ reason refused. never_refused channel octets f is_f reason refused.applies
+  }
+
+pub only_refusal : (channel : Channel) (octets : List ℕ) (reason : Refusal) → IsRefused channel octets reason → IsOnlyRefusal channel octets reason
+only_refusal channel octets reason refused = record {
+  refused = refused;
+  only = λ other is_other. same_reason channel octets other reason is_other refused;
+  no_frame = λ f is_f. never_refused channel octets f is_f reason refused.applies
+  }

@@ -1,0 +1,4 @@
+mod Worked
+pub mod Controls
+pub mod Laws
+pub mod Canonical

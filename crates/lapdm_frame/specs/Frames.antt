@@ -1,0 +1,72 @@
+-- The octets of a frame (GSM 04.06, section 3), by sums.
+use Rattle.std.specs.Prelude.{◌≡◌, ℕ, ◌+◌, ◌-◌, ◌*◌, ◌<◌, ◌≤◌, Bool, true, false, List, [], ◌∷◌, ◌++◌, length, replicate, slice_index, slice_range}
+use Rattle.lapdm_frame.specs.declared.Channel.{Channel}
+use Rattle.lapdm_frame.specs.Layout.{header, n201}
+use Rattle.lapdm_frame.specs.Content.{Content, I, Rr, Rnr, Rej, Sabm, Dm, Ui, Disc, Ua, Frame, information, goes_on}
+
+abbrev pub bit : Bool → ℕ
+bit false = 0
+bit true = 1
+
+-- the address octet (section 3.2): LPD 00 in bits 7 and 6, SAPI in bits 5 to 3, C/R in bit 2, EA = 1
+abbrev pub address : Frame → ℕ
+address f = 4 * f.sapi + 2 * bit f.cr + 1
+
+-- the control octet (section 3.4): N(R) in bits 8 to 6, the poll or final bit in bit 5, N(S) in bits 4 to 2
+-- of an I frame
+abbrev pub control : Content → ℕ
+control (I ns nr p more info) = 32 * nr + 16 * bit p + 2 * ns
+control (Rr nr pf) = 32 * nr + 16 * bit pf + 1
+control (Rnr nr pf) = 32 * nr + 16 * bit pf + 5
+control (Rej nr pf) = 32 * nr + 16 * bit pf + 9
+control (Sabm p info) = 16 * bit p + 47
+control (Dm f) = 16 * bit f + 15
+control (Ui p info) = 16 * bit p + 3
+control (Disc p) = 16 * bit p + 67
+control (Ua f info) = 16 * bit f + 99
+
+-- the length octet (section 3.6): L in bits 8 to 3, M in bit 2, EL = 1
+abbrev pub length_octet : Content → ℕ
+length_octet content = 4 * length (information content) + 2 * bit (goes_on content) + 1
+
+-- N(S) and N(R) have three bits
+abbrev pub NumbersFit : Content → Type 0
+NumbersFit (I ns nr p more info) = (ns ≤ 7) × (nr ≤ 7)
+NumbersFit (Rr nr pf) = nr ≤ 7
+NumbersFit (Rnr nr pf) = nr ≤ 7
+NumbersFit (Rej nr pf) = nr ≤ 7
+NumbersFit other = Unit {0}
+
+-- an I frame has some information, and no frame has more than there is room for
+abbrev pub InformationFits : Channel → Content → Type 0
+InformationFits channel (I ns nr p more info) = (1 ≤ length info) × (length info ≤ n201 channel)
+InformationFits channel other = length (information other) ≤ n201 channel
+
+-- the frame can be written
+pub record Fits (channel : Channel) (f : Frame) : Type 0 where
+  pub sapi : f.sapi ≤ 7
+  pub numbers : NumbersFit f.content
+  pub information : InformationFits channel f.content
+
+-- the octets are this frame; those before the address and after the information are free
+pub record IsFrame (channel : Channel) (f : Frame) (octets : List ℕ) : Type 0 where
+  pub count : length octets ≡ 23
+  pub fits : Fits channel f
+  pub at_address : slice_index octets (header channel) ≡ address f
+  pub at_control : slice_index octets (header channel + 1) ≡ control f.content
+  pub at_length : slice_index octets (header channel + 2) ≡ length_octet f.content
+  pub at_information : slice_range octets (header channel + 3) (header channel + 3 + length (information f.content)) ≡ information f.content
+
+-- the octets before the address are 00 (this project's own rule), and those after the information are
+-- fill, 2b (section 2.2)
+pub record IsCanonical (channel : Channel) (f : Frame) (octets : List ℕ) : Type 0 where
+  pub frame : IsFrame channel f octets
+  pub before : (k : ℕ) → k < header channel → slice_index octets k ≡ 0
+  pub after : (k : ℕ) → header channel + 3 + length (information f.content) ≤ k → k < 23 → slice_index octets k ≡ 0x2b
+
+-- the canonical octets of a frame that fits, as one list
+abbrev pub octets_of : Channel → Frame → List ℕ
+octets_of channel f =
+    let info = information f.content in
+    replicate (header channel) 0 ++ address f ∷ control f.content ∷ length_octet f.content ∷ [] ++ info
+        ++ replicate (n201 channel - length info) 0x2b

@@ -1,0 +1,25 @@
+-- That octets are one thing and nothing else: one frame, or refused for one reason.
+use Rattle.std.specs.Prelude.{◌≡◌, ℕ, List}
+use Rattle.lapdm_frame.specs.declared.Channel.{Channel}
+use Rattle.lapdm_frame.specs.declared.Refusal.{Refusal}
+use Rattle.lapdm_frame.specs.Content.{Frame}
+use Rattle.lapdm_frame.specs.Frames.{IsFrame, IsCanonical}
+use Rattle.lapdm_frame.specs.Refusals.{IsRefused}
+
+-- the octets are this frame and no other, and no reason refuses them
+pub record IsOnlyFrame (channel : Channel) (f : Frame) (octets : List ℕ) : Type 0 where
+  pub frame : IsFrame channel f octets
+  pub only : (other : Frame) → IsFrame channel other octets → other ≡ f
+  pub unrefused : (reason : Refusal) → ¬ IsRefused channel octets reason
+
+-- the octets are refused for this reason and no other, and are no frame
+pub record IsOnlyRefusal (channel : Channel) (octets : List ℕ) (reason : Refusal) : Type 0 where
+  pub refused : IsRefused channel octets reason
+  pub only : (other : Refusal) → IsRefused channel octets other → other ≡ reason
+  pub no_frame : (f : Frame) → ¬ IsFrame channel f octets
+
+-- the octets are the canonical ones of this frame, no others are, and they are no other frame
+pub record IsOnlyCanonical (channel : Channel) (f : Frame) (octets : List ℕ) : Type 0 where
+  pub canonical : IsCanonical channel f octets
+  pub only : (others : List ℕ) → IsCanonical channel f others → others ≡ octets
+  pub reads_back : IsOnlyFrame channel f octets
