@@ -1,8 +1,9 @@
 -- The canonical octets of a frame.
-use Rattle.std.proofs.Common.{◌≡◌, ◌≢◌, ℕ, zero, suc, ◌+◌, ◌-◌, ◌<◌, ◌≤◌, List, [], ◌∷◌, ◌++◌, length, get_or, take, drop, replicate, refl, sym, ap, ◌∙◌, ◌⊎◌, inl, inr, arith}
+use Rattle.std.proofs.Common.{◌≡◌, ◌≢◌, ℕ, zero, suc, ◌+◌, ◌-◌, ◌<◌, ◌≤◌, List, [], ◌∷◌, ◌++◌, length, get_or, set, take, drop, replicate, refl, sym, ap, ◌∙◌, ◌⊎◌, inl, inr, arith}
 use Rattle.std.specs.Prelude.{slice_index, slice_range}
 use Rattle.std.proofs.lemmas.Bool.{cases_lt, cases_eq}
-use Rattle.std.proofs.lemmas.List.{length-append, length-replicate, get_or-replicate, get_or-take, get_or-drop, get_or-append_right, take_at, ext_get_or}
+use Rattle.std.proofs.lemmas.List.{length-append, length-replicate, get_or-replicate, get_or-take, get_or-drop, get_or-append_right, take_at, drop-replicate, ext_get_or}
+use borrow.Rule.Slice.PartMut.{put_mid}
 use Rattle.lapdm_frame.specs.declared.Channel.{Channel}
 use Rattle.lapdm_frame.specs.declared.Channel.TheVariants.{Sdcch, Sacch}
 use Rattle.lapdm_frame.specs.Layout.{header, n201}
@@ -134,3 +135,14 @@ only_canonical channel f fits =
       only = λ others is_other. same_canonical channel f others (octets_of channel f) is_other canonical;
       reads_back = only_frame channel f (octets_of channel f) canonical.frame
     }
+
+-- a block of fill into which the parts of a frame are written one after another
+abbrev pub overwritten : (start a k l : ℕ) → (zeros info : List ℕ) → List ℕ
+overwritten start a k l zeros info = put_mid (start + 3) (start + 3 + length info - (start + 3)) (set (set (set (zeros ++ drop start (replicate {A = ℕ} 23 0x2b)) start a) (start + 1) k) (start + 2) l) info
+
+fill_left : (size before : ℕ) (info : List ℕ) → drop (before + length info - before) (replicate {A = ℕ} size 0x2b) ≡ replicate (size - length info) 0x2b
+fill_left size before info = let e : before + length info - before ≡ length info = omega arith in rw (e, drop-replicate)
+
+pub written : (channel : Channel) (a k l : ℕ) (info : List ℕ) → overwritten (header channel) a k l (replicate (header channel) 0) info ≡ replicate (header channel) 0 ++ a ∷ k ∷ l ∷ [] ++ info ++ replicate (n201 channel - length info) 0x2b
+written Sdcch a k l info = ap (λ xs. a ∷ k ∷ l ∷ (info ++ xs)) (fill_left 20 3 info)
+written Sacch a k l info = ap (λ xs. 0 ∷ 0 ∷ a ∷ k ∷ l ∷ (info ++ xs)) (fill_left 18 5 info)

@@ -1,7 +1,9 @@
 //! Frames of LAPDm (GSM 04.06) of the formats A and B: read, checked and written.
 #![tactic(auto)]
 
-ghost use Rattle.std.specs.Prelude.{◌≡◌};
+ghost use Rattle.std.specs.Prelude.{◌≡◌, ◌+◌};
+
+mod writer;
 
 /// The control channel that frames go over, which says where their octets stand in a block.
 #[derive(Clone, Copy, PartialEq, Eq, Debug)]
@@ -14,7 +16,7 @@ pub enum Channel {
 }
 
 impl Channel {
-    ghost use Rattle.lapdm_frame.specs.Layout.{n201};
+    ghost use Rattle.lapdm_frame.specs.Layout.{header, n201};
 
     /// The most octets of information that one frame has room for: N201 of GSM 04.06.
     pub fn n201(self) -> usize
@@ -23,6 +25,17 @@ impl Channel {
         match self {
             Channel::Sdcch => 20,
             Channel::Sacch => 18,
+        }
+    }
+
+    // The place of the address in a block.
+    fn header(self) -> usize
+        ensures value { result ≡ header self }
+        ensures room { result + 3 + n201 self ≡ 23 }
+    {
+        match self {
+            Channel::Sdcch => 0,
+            Channel::Sacch => 2,
         }
     }
 }

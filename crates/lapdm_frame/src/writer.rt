@@ -1,0 +1,127 @@
+//! Frames to octets.
+
+ghost use Rattle.std.specs.Prelude.{◌≡◌, ◌≤◌, ◌↔◌, IsTrue, length};
+ghost use Rattle.lapdm_frame.specs.Layout.{n201};
+ghost use Rattle.lapdm_frame.specs.Content.{content_of, frame_of, information, goes_on, fill};
+ghost use Rattle.lapdm_frame.specs.Frames.{address, control, length_octet, NumbersFit, InformationFits, Fits, octets_of};
+ghost use Rattle.lapdm_frame.specs.Readings.{IsOnlyCanonical};
+
+use crate::{Body, Channel, FrameView};
+
+/// The octet that fills what the information leaves.
+const FILL: u8 = 0x2b;
+
+fn information_of<'a>(body: &Body<'a>) -> &'a [u8]
+    ensures { result.now ≡ information (content_of body.now) }
+{
+    match *body {
+        Body::I { info, .. }
+        | Body::Sabm { info, .. }
+        | Body::Ui { info, .. }
+        | Body::Ua { info, .. } => info,
+        Body::Rr { .. } | Body::Rnr { .. } | Body::Rej { .. } | Body::Dm { .. } | Body::Disc { .. } => &[],
+    }
+}
+
+fn address_of(f: &FrameView<'_>) -> u8
+    requires { f.now.sapi ≤ 7 }
+    ensures { result ≡ address (frame_of f.now) }
+{
+    4 * f.sapi + 2 * u8::from(f.cr) + 1
+}
+
+fn numbers_fit(body: &Body<'_>) -> bool
+    ensures { IsTrue result ↔ NumbersFit (content_of body.now) }
+{
+    match *body {
+        Body::I { ns, nr, .. } => ns <= 7 && nr <= 7,
+        Body::Rr { nr, .. } | Body::Rnr { nr, .. } | Body::Rej { nr, .. } => nr <= 7,
+        _ => true,
+    }
+}
+
+fn control_of(body: &Body<'_>) -> u8
+    requires { NumbersFit (content_of body.now) }
+    ensures { result ≡ control (content_of body.now) }
+{
+    match *body {
+        Body::I { ns, nr, p, .. } => 32 * nr + 16 * u8::from(p) + 2 * ns,
+        Body::Rr { nr, pf } => 32 * nr + 16 * u8::from(pf) + 1,
+        Body::Rnr { nr, pf } => 32 * nr + 16 * u8::from(pf) + 5,
+        Body::Rej { nr, pf } => 32 * nr + 16 * u8::from(pf) + 9,
+        Body::Sabm { p, .. } => 16 * u8::from(p) + 47,
+        Body::Dm { f } => 16 * u8::from(f) + 15,
+        Body::Ui { p, .. } => 16 * u8::from(p) + 3,
+        Body::Disc { p } => 16 * u8::from(p) + 67,
+        Body::Ua { f, .. } => 16 * u8::from(f) + 99,
+    }
+}
+
+// The length octet.
+fn length_of(body: &Body<'_>) -> u8
+    requires { length (information (content_of body.now)) ≤ 20 }
+    ensures { result ≡ length_octet (content_of body.now) }
+{
+    let more = matches!(*body, Body::I { more: true, .. });
+    4 * information_of(body).len() as u8 + 2 * u8::from(more) + 1
+}
+
+/// Whether the frame can be written on the channel: SAPI, N(S) and N(R) are at most 7, an I frame
+/// has information, and none has more than N201 octets of it.
+pub fn fits_on(f: &FrameView<'_>, channel: Channel) -> bool
+    ensures { IsTrue result ↔ Fits channel (frame_of f.now) }
+{
+    let size = information_of(&f.body).len();
+    let least = if matches!(f.body, Body::I { .. }) { 1 } else { 0 };
+    f.sapi <= 7 && numbers_fit(&f.body) && least <= size && size <= channel.n201()
+}
+
+/// The frame's one canonical block: layer 1 octets 00 in front on SACCH, and fill 2b behind.
+pub fn write_on(f: &FrameView<'_>, channel: Channel) -> [u8; 23]
+    requires { Fits channel (frame_of f.now) }
+    ensures octets { result ≡ octets_of channel (frame_of f.now) }
+    ensures canonical { IsOnlyCanonical channel (frame_of f.now) result }
+{
+    let mut octets = [FILL; 23];
+    let start = channel.header();
+    octets[..start].fill(0);
+    octets[start] = address_of(f);
+    octets[start + 1] = control_of(&f.body);
+    octets[start + 2] = length_of(&f.body);
+    let info = information_of(&f.body);
+    octets[start + 3..start + 3 + info.len()].copy_from_slice(info);
+    octets
+}
+
+/// The fill frame of GSM 04.06 (section 5.1.5?): a UI command without information.
+pub fn fill_on(cr: bool, channel: Channel) -> [u8; 23]
+    ensures octets { result ≡ octets_of channel (fill cr) }
+    ensures canonical { IsOnlyCanonical channel (fill cr) result }
+{
+    let body = Body::Ui { p: false, info: &[] };
+    write_on(&FrameView { sapi: 0, cr, body }, channel)
+}
+
+/// As `fits_on`, on SDCCH.
+pub fn fits(f: &FrameView<'_>) -> bool
+    ensures { IsTrue result ↔ Fits Channel.Sdcch (frame_of f.now) }
+{
+    fits_on(f, Channel::Sdcch)
+}
+
+/// As `write_on`, on SDCCH.
+pub fn write(f: &FrameView<'_>) -> [u8; 23]
+    requires { Fits Channel.Sdcch (frame_of f.now) }
+    ensures octets { result ≡ octets_of Channel.Sdcch (frame_of f.now) }
+    ensures canonical { IsOnlyCanonical Channel.Sdcch (frame_of f.now) result }
+{
+    write_on(f, Channel::Sdcch)
+}
+
+/// As `fill_on`, on SDCCH.
+pub fn fill(cr: bool) -> [u8; 23]
+    ensures octets { result ≡ octets_of Channel.Sdcch (fill cr) }
+    ensures canonical { IsOnlyCanonical Channel.Sdcch (fill cr) result }
+{
+    fill_on(cr, Channel::Sdcch)
+}
