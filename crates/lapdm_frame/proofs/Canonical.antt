@@ -32,22 +32,22 @@ same_octet : (channel : Channel) (f : Frame) (o p : List ℕ) → IsCanonical ch
 same_octet channel f o p is_o is_p k within =
     let start = header channel in
     elim (cases_lt k start) [
-      inl before ↦ is_o.before k before ∙ sym (is_p.before k before)
-    | inr from ↦ elim (cases_lt k (start + 3)) [
-        inl head ↦ elim (cases_eq k start) [
-          inl e ↦ rw e (is_o.frame.at_address ∙ sym is_p.frame.at_address)
-        | inr not_address ↦ elim (cases_eq k (start + 1)) [
-            inl e ↦ rw e (is_o.frame.at_control ∙ sym is_p.frame.at_control)
-          | inr not_control ↦
-              let e : k ≡ start + 2 = omega arith in
-              rw e (is_o.frame.at_length ∙ sym is_p.frame.at_length)
+      | inl before ↦ is_o.before k before ∙ sym (is_p.before k before)
+      | inr from ↦ elim (cases_lt k (start + 3)) [
+        | inl head ↦ elim (cases_eq k start) [
+          | inl e ↦ rw e (is_o.frame.at_address ∙ sym is_p.frame.at_address)
+          | inr not_address ↦ elim (cases_eq k (start + 1)) [
+            | inl e ↦ rw e (is_o.frame.at_control ∙ sym is_p.frame.at_control)
+            | inr not_control ↦
+                let e : k ≡ start + 2 = omega arith in
+                rw e (is_o.frame.at_length ∙ sym is_p.frame.at_length)
           ]
         ]
-      | inr rest ↦ elim (cases_lt k (start + 3 + length (information f.content))) [
-          inl inside ↦ same_information channel f o p is_o.frame is_p.frame k rest inside
-        | inr past ↦
-            let below : k < 23 = omega (arith, is_o.frame.count) in
-            is_o.after k past below ∙ sym (is_p.after k past below)
+        | inr rest ↦ elim (cases_lt k (start + 3 + length (information f.content))) [
+          | inl inside ↦ same_information channel f o p is_o.frame is_p.frame k rest inside
+          | inr past ↦
+              let below : k < 23 = omega (arith, is_o.frame.count) in
+              is_o.after k past below ∙ sym (is_p.after k past below)
         ]
       ]
     ]
@@ -71,7 +71,7 @@ module _ (size : ℕ) (info : List ℕ) (fits : length info ≤ size) where
   filled_after k low high =
       let within : k - length info < size - length info = omega arith in
       get_or-append_right info (replicate (size - length info) 0x2b) (length info) k 0 refl low
-        ∙ get_or-replicate (size - length info) (k - length info) 0x2b 0 within
+      ∙ get_or-replicate (size - length info) (k - length info) 0x2b 0 within
 
 -- an octet past the first ones
 past_sdcch : (a b c : ℕ) (xs : List ℕ) (k : ℕ) → 3 ≤ k → get_or (a ∷ b ∷ c ∷ xs) k 0 ≡ get_or xs (k - 3) 0
@@ -92,14 +92,14 @@ octets_canonical Sdcch f fits =
         at_address = refl;
         at_control = refl;
         at_length = refl;
-        at_information = filled_front 20 info bound 3
+        at_information = filled_front 20 info bound 3;
       };
       before = λ k below. absurd (omega arith);
       after = λ k low high.
-        let there : length info ≤ k - 3 = omega arith in
-        let within : k - 3 < 20 = omega arith in
-        let past : 3 ≤ k = omega arith in
-        past_sdcch (address f) (control f.content) (length_octet f.content) (filled 20 info) k past ∙ filled_after 20 info bound (k - 3) there within
+          let there : length info ≤ k - 3 = omega arith in
+          let within : k - 3 < 20 = omega arith in
+          let past : 3 ≤ k = omega arith in
+          past_sdcch (address f) (control f.content) (length_octet f.content) (filled 20 info) k past ∙ filled_after 20 info bound (k - 3) there within;
     }
 octets_canonical Sacch f fits =
     let info = information f.content in
@@ -111,14 +111,14 @@ octets_canonical Sacch f fits =
         at_address = refl;
         at_control = refl;
         at_length = refl;
-        at_information = filled_front 18 info bound 5
+        at_information = filled_front 18 info bound 5;
       };
       before = below_two;
       after = λ k low high.
-        let there : length info ≤ k - 5 = omega arith in
-        let within : k - 5 < 18 = omega arith in
-        let past : 5 ≤ k = omega arith in
-        past_sacch 0 0 (address f) (control f.content) (length_octet f.content) (filled 18 info) k past ∙ filled_after 18 info bound (k - 5) there within
+          let there : length info ≤ k - 5 = omega arith in
+          let within : k - 5 < 18 = omega arith in
+          let past : 5 ≤ k = omega arith in
+          past_sacch 0 0 (address f) (control f.content) (length_octet f.content) (filled 18 info) k past ∙ filled_after 18 info bound (k - 5) there within;
     }
   where
     below_two : (k : ℕ) → k < 2 → get_or (octets_of Sacch f) k 0 ≡ 0
@@ -133,7 +133,7 @@ only_canonical channel f fits =
     record {
       canonical = canonical;
       only = λ others is_other. same_canonical channel f others (octets_of channel f) is_other canonical;
-      reads_back = only_frame channel f (octets_of channel f) canonical.frame
+      reads_back = only_frame channel f (octets_of channel f) canonical.frame;
     }
 
 -- a block of fill into which the parts of a frame are written one after another

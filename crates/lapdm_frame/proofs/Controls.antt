@@ -68,12 +68,12 @@ same_content octet a b h h' going informing =
     cc
 
 -- a control octet of a kind without information is of no other kind
-pub no_information : (octet : ℕ) (a b : Content) → IsControl octet a → IsControl octet b → HasNoInformation a → information b ≡ []
-no_information octet a (Rr nr pf) h h' none = refl
-no_information octet a (Rnr nr pf) h h' none = refl
-no_information octet a (Rej nr pf) h h' none = refl
-no_information octet a (Dm f) h h' none = refl
-no_information octet a (Disc p) h h' none = refl
+pub no_information : (octet : ℕ) (a b : Content) → IsControl octet a → IsControl octet b → HasNoInformation a → HasNoInformation b
+no_information octet a (Rr nr pf) h h' none = tt
+no_information octet a (Rnr nr pf) h h' none = tt
+no_information octet a (Rej nr pf) h h' none = tt
+no_information octet a (Dm f) h h' none = tt
+no_information octet a (Disc p) h h' none = tt
 no_information octet (I ns nr p more info) b h h' none = absurd none
 no_information octet (Sabm p info) b h h' none = absurd none
 no_information octet (Ui p info) b h h' none = absurd none
@@ -85,3 +85,10 @@ pub information_frame : (octet : ℕ) (a b : Content) → IsControl octet a → 
 information_frame octet a (I ns nr p more info) h h' is_i = tt
 information_frame octet (I ns nr p more info) b h h' is_i = absurd (omega (arith, bit_bound))
 information_frame octet a b h h' is_i = absurd is_i
+
+pub nothing_informed : (a : Content) → HasNoInformation a → information a ≡ []
+nothing_informed (I ns nr p more info) none = absurd none
+nothing_informed (Sabm p info) none = absurd none
+nothing_informed (Ui p info) none = absurd none
+nothing_informed (Ua f info) none = absurd none
+nothing_informed other none = refl

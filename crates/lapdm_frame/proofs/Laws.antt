@@ -11,7 +11,7 @@ use Rattle.lapdm_frame.specs.Content.{Content, I, Rr, Rnr, Rej, Sabm, Dm, Ui, Di
 use Rattle.lapdm_frame.specs.Frames.{bit, address, control, length_octet, NumbersFit, InformationFits, Fits, IsFrame, IsCanonical, octets_of}
 use Rattle.lapdm_frame.specs.Refusals.{IsControl, IsInformationFrame, HasNoInformation, IsControlOf, Applies, AppliesTo, place, IsRefused}
 use Rattle.lapdm_frame.specs.Readings.{IsOnlyFrame, IsOnlyRefusal, IsOnlyCanonical}
-use Rattle.lapdm_frame.proofs.Controls.{bit_bound, bit_injective, same_content, no_information, information_frame}
+use Rattle.lapdm_frame.proofs.Controls.{bit_bound, bit_injective, same_content, no_information, nothing_informed, information_frame}
 
 same_parts : (s s' : ℕ) (c c' : Bool) (a b : Content) → s ≡ s' → c ≡ c' → a ≡ b → ◌≡◌ {A = Frame} (record { sapi = s; cr = c; content = a }) (record { sapi = s'; cr = c'; content = b })
 same_parts s s' c c' a b e e' e'' = cc
@@ -35,7 +35,7 @@ pub information_bound : (channel : Channel) (content : Content) → InformationF
 information_bound channel (I ns nr p more info) fits = fits.1
 information_bound channel other fits = fits
 
-not_on : (content : Content) → ¬ IsInformationFrame content → bit (goes_on content) ≡ 0
+pub not_on : (content : Content) → ¬ IsInformationFrame content → bit (goes_on content) ≡ 0
 not_on (I ns nr p more info) differs = absurd (differs tt)
 not_on other differs = refl
 
@@ -48,10 +48,10 @@ never_refused channel octets f is_f El applies = omega (arith, is_f.at_length)
 never_refused channel octets f is_f Length applies =
     let fits = information_bound channel f.content is_f.fits.information in
     elim applies [
-      inl above ↦ omega (arith, is_f.at_length, bit_bound (goes_on f.content))
-    | inr (some, (other, is_other, silent)) ↦
-        let none = ap length (no_information _ other f.content is_other (is_f.fits.numbers, is_f.at_control) silent) in
-        omega (arith, is_f.at_length, bit_bound (goes_on f.content))
+      | inl above ↦ omega (arith, is_f.at_length, bit_bound (goes_on f.content))
+      | inr (some, (other, is_other, silent)) ↦
+          let none = ap length (nothing_informed f.content (no_information _ other f.content is_other (is_f.fits.numbers, is_f.at_control) silent)) in
+          omega (arith, is_f.at_length, bit_bound (goes_on f.content))
     ]
 never_refused channel octets f is_f Empty applies =
     let is_i = information_frame _ applies.1.0 f.content applies.1.1 (is_f.fits.numbers, is_f.at_control) applies.1.2 in
@@ -61,7 +61,7 @@ never_refused channel octets f is_f More applies =
     let single = not_on f.content (λ is_i. applies.1 (f.content, (is_f.fits.numbers, is_f.at_control), is_i)) in
     omega (arith, is_f.at_length, applies.0)
 
-same_place : (a b : Refusal) → place a ≡ place b → a ≡ b
+pub same_place : (a b : Refusal) → place a ≡ place b → a ≡ b
 same_place Lpd Lpd e = refl
 same_place Ea Ea e = refl
 same_place Control Control e = refl
@@ -74,23 +74,23 @@ same_place a b e = absurd (omega arith)
 -- one reason at most is the first
 pub same_reason : (channel : Channel) (octets : List ℕ) (a b : Refusal) → IsRefused channel octets a → IsRefused channel octets b → a ≡ b
 same_reason channel octets a b is_a is_b = elim (cases_lt (place a) (place b)) [
-    inl before ↦ absurd (is_b.first a before is_a.applies)
+  | inl before ↦ absurd (is_b.first a before is_a.applies)
   | inr later ↦ elim (cases_lt (place b) (place a)) [
-      inl after ↦ absurd (is_a.first b after is_b.applies)
+    | inl after ↦ absurd (is_a.first b after is_b.applies)
     | inr earlier ↦ same_place a b (omega arith)
-    ]
   ]
+]
 
 pub only_frame : (channel : Channel) (f : Frame) (octets : List ℕ) → IsFrame channel f octets → IsOnlyFrame channel f octets
 only_frame channel f octets is_f = record {
   frame = is_f;
   only = λ other is_other. same_frame channel octets other f is_other is_f;
-  unrefused = λ reason refused. never_refused channel octets f is_f reason refused.applies
-  }
+  unrefused = λ reason refused. never_refused channel octets f is_f reason refused.applies;
+}
 
 pub only_refusal : (channel : Channel) (octets : List ℕ) (reason : Refusal) → IsRefused channel octets reason → IsOnlyRefusal channel octets reason
 only_refusal channel octets reason refused = record {
   refused = refused;
   only = λ other is_other. same_reason channel octets other reason is_other refused;
-  no_frame = λ f is_f. never_refused channel octets f is_f reason refused.applies
-  }
+  no_frame = λ f is_f. never_refused channel octets f is_f reason refused.applies;
+}

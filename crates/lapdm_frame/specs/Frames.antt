@@ -69,4 +69,4 @@ abbrev pub octets_of : Channel → Frame → List ℕ
 octets_of channel f =
     let info = information f.content in
     replicate (header channel) 0 ++ address f ∷ control f.content ∷ length_octet f.content ∷ [] ++ info
-        ++ replicate (n201 channel - length info) 0x2b
+    ++ replicate (n201 channel - length info) 0x2b

@@ -3,7 +3,11 @@
 
 ghost use Rattle.std.specs.Prelude.{◌≡◌, ◌+◌};
 
+mod reader;
 mod writer;
+
+pub use reader::{read, read_on};
+pub use writer::{fill, fill_on, fits, fits_on, write, write_on};
 
 /// The control channel that frames go over, which says where their octets stand in a block.
 #[derive(Clone, Copy, PartialEq, Eq, Debug)]

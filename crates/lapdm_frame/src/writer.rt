@@ -19,7 +19,11 @@ fn information_of<'a>(body: &Body<'a>) -> &'a [u8]
         | Body::Sabm { info, .. }
         | Body::Ui { info, .. }
         | Body::Ua { info, .. } => info,
-        Body::Rr { .. } | Body::Rnr { .. } | Body::Rej { .. } | Body::Dm { .. } | Body::Disc { .. } => &[],
+        Body::Rr { .. }
+        | Body::Rnr { .. }
+        | Body::Rej { .. }
+        | Body::Dm { .. }
+        | Body::Disc { .. } => &[],
     }
 }
 
@@ -72,7 +76,11 @@ pub fn fits_on(f: &FrameView<'_>, channel: Channel) -> bool
     ensures { IsTrue result ↔ Fits channel (frame_of f.now) }
 {
     let size = information_of(&f.body).len();
-    let least = if matches!(f.body, Body::I { .. }) { 1 } else { 0 };
+    let least = if matches!(f.body, Body::I { .. }) {
+        1
+    } else {
+        0
+    };
     f.sapi <= 7 && numbers_fit(&f.body) && least <= size && size <= channel.n201()
 }
 
@@ -98,7 +106,10 @@ pub fn fill_on(cr: bool, channel: Channel) -> [u8; 23]
     ensures octets { result ≡ octets_of channel (fill cr) }
     ensures canonical { IsOnlyCanonical channel (fill cr) result }
 {
-    let body = Body::Ui { p: false, info: &[] };
+    let body = Body::Ui {
+        p: false,
+        info: &[],
+    };
     write_on(&FrameView { sapi: 0, cr, body }, channel)
 }
 

@@ -1,0 +1,112 @@
+//! Octets to frames.
+
+ghost use Rattle.std.specs.Prelude.{◌≡◌, ◌⊎◌, ◌↔◌, IsTrue, IfSome, IfNone, IfOk, IfErr};
+ghost use Rattle.lapdm_frame.specs.Content.{Content, content_of, frame_of, information, goes_on};
+ghost use Rattle.lapdm_frame.specs.Refusals.{IsControl, IsInformationFrame, HasNoInformation};
+ghost use Rattle.lapdm_frame.specs.Readings.{IsOnlyFrame, IsOnlyRefusal};
+
+use crate::{Body, Channel, FrameView, Refusal};
+
+// The body whose control octet this is, with as much of `more` and `info` as its kind has.
+fn body_of<'a>(control: u8, more: bool, info: &'a [u8]) -> Option<Body<'a>>
+    ensures known { IfSome result (λ body. IsControl control (content_of body)) }
+    ensures unknown { IfNone result ((content : Content) → ¬ IsControl control content) }
+    ensures carried { IfSome result (λ body. HasNoInformation (content_of body) ⊎ (information (content_of body) ≡ info.now)) }
+    ensures goes_on { IfSome result (λ body. IsInformationFrame (content_of body) → goes_on (content_of body) ≡ more) }
+{
+    let nr = control / 32;
+    let pf = control / 16 % 2 == 1;
+    if control % 2 == 0 {
+        let ns = control / 2 % 8;
+        return Some(Body::I {
+            ns,
+            nr,
+            p: pf,
+            more,
+            info,
+        });
+    }
+    match control % 16 {
+        1 => return Some(Body::Rr { nr, pf }),
+        5 => return Some(Body::Rnr { nr, pf }),
+        9 => return Some(Body::Rej { nr, pf }),
+        _ => {}
+    }
+    match control {
+        0x2f | 0x3f => Some(Body::Sabm { p: pf, info }),
+        0x0f | 0x1f => Some(Body::Dm { f: pf }),
+        0x03 | 0x13 => Some(Body::Ui { p: pf, info }),
+        0x43 | 0x53 => Some(Body::Disc { p: pf }),
+        0x63 | 0x73 => Some(Body::Ua { f: pf, info }),
+        _ => None,
+    }
+}
+
+fn is_information_frame(body: &Body<'_>) -> bool
+    ensures { IsTrue result ↔ IsInformationFrame (content_of body.now) }
+{
+    matches!(*body, Body::I { .. })
+}
+
+fn has_no_information(body: &Body<'_>) -> bool
+    ensures { IsTrue result ↔ HasNoInformation (content_of body.now) }
+{
+    match *body {
+        Body::I { .. } | Body::Sabm { .. } | Body::Ui { .. } | Body::Ua { .. } => false,
+        Body::Rr { .. }
+        | Body::Rnr { .. }
+        | Body::Rej { .. }
+        | Body::Dm { .. }
+        | Body::Disc { .. } => true,
+    }
+}
+
+/// The frame in a block, or the first reason why it is none. The octets of layer 1 and the fill may
+/// be anything; `info` is a part of `octets`.
+pub fn read_on<'a>(octets: &'a [u8; 23], channel: Channel) -> Result<FrameView<'a>, Refusal>
+    ensures frame { IfOk result (λ f. IsOnlyFrame channel (frame_of f) octets.now) }
+    ensures refusal { IfErr result (λ reason. IsOnlyRefusal channel octets.now reason) }
+{
+    let start = channel.header();
+    let address = octets[start];
+    let length = octets[start + 2];
+    let more = length / 2 % 2 == 1;
+    let size = usize::from(length / 4);
+    let info = &octets[start + 3..start + 3 + size.min(channel.n201())];
+
+    if address >= 32 {
+        return Err(Refusal::Lpd);
+    }
+    if address % 2 == 0 {
+        return Err(Refusal::Ea);
+    }
+    let Some(body) = body_of(octets[start + 1], more, info) else {
+        return Err(Refusal::Control);
+    };
+    if length % 2 == 0 {
+        return Err(Refusal::El);
+    }
+    if size > channel.n201() {
+        return Err(Refusal::Length);
+    }
+    if size > 0 && has_no_information(&body) {
+        return Err(Refusal::Length);
+    }
+    if size == 0 && is_information_frame(&body) {
+        return Err(Refusal::Empty);
+    }
+    if more && !is_information_frame(&body) {
+        return Err(Refusal::More);
+    }
+    let sapi = address / 4;
+    let cr = address / 2 % 2 == 1;
+    Ok(FrameView { sapi, cr, body })
+}
+
+/// As `read_on`, on SDCCH.
+pub fn read<'a>(octets: &'a [u8; 23]) -> Result<FrameView<'a>, Refusal>
+    ensures frame { IfOk result (λ f. IsOnlyFrame Channel.Sdcch (frame_of f) octets.now) }
+    ensures refusal { IfErr result (λ reason. IsOnlyRefusal Channel.Sdcch octets.now reason) }
+{
+    read_on(octets, Channel::Sdcch)
+}
