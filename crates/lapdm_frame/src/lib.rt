@@ -115,3 +115,6 @@ pub enum Refusal {
     /// The message goes on, and the kind is not I.
     More,
 }
+
+#[cfg(test)]
+mod tests;

@@ -101,7 +101,8 @@ pub fn write_on(f: &FrameView<'_>, channel: Channel) -> [u8; 23]
     octets
 }
 
-/// The fill frame of GSM 04.06 (section 5.1.5?): a UI command without information.
+/// The fill frame of GSM 04.06, a UI frame without information: with `cr` the network's, without it
+/// the mobile's.
 pub fn fill_on(cr: bool, channel: Channel) -> [u8; 23]
     ensures octets { result ≡ octets_of channel (fill cr) }
     ensures canonical { IsOnlyCanonical channel (fill cr) result }

@@ -1,0 +1,178 @@
+use super::*;
+use std::process::Abort;
+
+// A block that begins with these octets and ends with this fill.
+fn block(first: &[u8], fill: u8) -> [u8; 23] {
+    let mut octets = [fill; 23];
+    for (place, octet) in octets.iter_mut().zip(first) {
+        *place = *octet;
+    }
+    octets
+}
+
+fn view<'a>(sapi: u8, cr: bool, body: Body<'a>) -> FrameView<'a> {
+    FrameView { sapi, cr, body }
+}
+
+const NOTHING: Body<'static> = Body::Ui {
+    p: false,
+    info: &[],
+};
+
+#[test]
+fn reads_worked_blocks(rt: HostRuntime) {
+    let cases: [([u8; 3], u8, Result<FrameView<'static>, Refusal>); 15] = [
+        ([0x01, 0x03, 0x01], 0x2b, Ok(view(0, false, NOTHING))),
+        ([0x03, 0x03, 0x01], 0xff, Ok(view(0, true, NOTHING))),
+        (
+            [0x03, 0x75, 0x01],
+            0x2b,
+            Ok(view(0, true, Body::Rnr { nr: 3, pf: true })),
+        ),
+        ([0x49, 0x06, 0x1b], 0x00, Err(Refusal::Lpd)),
+        ([0x00, 0x00, 0x00], 0x00, Err(Refusal::Ea)),
+        ([0x01, 0x0d, 0x01], 0x2b, Err(Refusal::Control)),
+        ([0x01, 0x03, 0x00], 0x2b, Err(Refusal::El)),
+        ([0x01, 0x00, 0x55], 0x2b, Err(Refusal::Length)),
+        ([0x01, 0x01, 0x05], 0x2b, Err(Refusal::Length)),
+        ([0x01, 0x00, 0x01], 0x2b, Err(Refusal::Empty)),
+        ([0x01, 0x03, 0x03], 0x2b, Err(Refusal::More)),
+        // Where two reasons apply, the first is given.
+        ([0x01, 0x0d, 0x00], 0x2b, Err(Refusal::Control)),
+        ([0x01, 0x03, 0x57], 0x2b, Err(Refusal::Length)),
+        ([0x01, 0x00, 0x03], 0x2b, Err(Refusal::Empty)),
+        ([0x01, 0x01, 0x03], 0x2b, Err(Refusal::More)),
+    ];
+    for (first, fill, want) in cases {
+        assert_eq!(rt; read(&block(&first, fill)), want, "{first:?}");
+    }
+}
+
+#[test]
+fn reads_a_short_piece_that_goes_on(rt: HostRuntime) {
+    let octets = block(&[0x01, 0x00, 0x07, 0xaa], 0x2b);
+    let body = Body::I {
+        ns: 0,
+        nr: 0,
+        p: false,
+        more: true,
+        info: &[0xaa],
+    };
+    assert_eq!(rt; read(&octets), Ok(view(0, false, body)));
+}
+
+#[test]
+fn reads_sacch_behind_layer_1(rt: HostRuntime) {
+    let long = block(&[0x00, 0x00, 0x03, 0x03, 0x55], 0x2b);
+    assert_eq!(rt; read_on(&long, Channel::Sacch), Err(Refusal::Length));
+    let other_layer_1 = block(&[0xff, 0xff, 0x01, 0x03, 0x01], 0x00);
+    assert_eq!(rt;
+        read_on(&other_layer_1, Channel::Sacch),
+        Ok(view(0, false, NOTHING))
+    );
+}
+
+fn writes(rt: &impl Abort, f: &FrameView<'_>, want: &[u8; 23]) {
+    assert!(rt; fits(f));
+    assert_eq!(rt; write(f), *want);
+}
+
+#[test]
+fn writes_worked_frames(rt: HostRuntime) {
+    let numbered = Body::I {
+        ns: 5,
+        nr: 2,
+        p: true,
+        more: false,
+        info: &[0x06, 0x01],
+    };
+    writes(
+        &rt,
+        &view(0, false, numbered),
+        &block(&[0x01, 0x5a, 0x09, 0x06, 0x01], 0x2b),
+    );
+    let ready = Body::Rr { nr: 7, pf: false };
+    writes(
+        &rt,
+        &view(0, true, ready),
+        &block(&[0x03, 0xe1, 0x01], 0x2b),
+    );
+    let empty = Body::I {
+        ns: 0,
+        nr: 0,
+        p: false,
+        more: false,
+        info: &[],
+    };
+    assert!(rt; !fits(&view(0, false, empty)));
+}
+
+#[test]
+fn fills_both_ways_on_both_channels(rt: HostRuntime) {
+    assert_eq!(rt; fill(true), block(&[0x03, 0x03, 0x01], 0x2b));
+    assert_eq!(rt; fill(false), block(&[0x01, 0x03, 0x01], 0x2b));
+    assert_eq!(rt;
+        fill_on(true, Channel::Sacch),
+        block(&[0, 0, 0x03, 0x03, 0x01], 0x2b)
+    );
+    assert_eq!(rt;
+        fill_on(false, Channel::Sacch),
+        block(&[0, 0, 0x01, 0x03, 0x01], 0x2b)
+    );
+}
+
+fn reads_back(rt: &impl Abort, f: &FrameView<'_>, channel: Channel) {
+    assert!(rt; fits_on(f, channel));
+    assert_eq!(rt; read_on(&write_on(f, channel), channel), Ok(*f));
+}
+
+#[test]
+fn reads_back_every_kind(rt: HostRuntime) {
+    let message = [0x5au8; 20];
+    for channel in [Channel::Sdcch, Channel::Sacch] {
+        let whole = &message[..channel.n201()];
+        let bodies = [
+            Body::I {
+                ns: 7,
+                nr: 0,
+                p: false,
+                more: true,
+                info: &message[..1],
+            },
+            Body::I {
+                ns: 0,
+                nr: 7,
+                p: true,
+                more: false,
+                info: whole,
+            },
+            Body::Rr { nr: 1, pf: true },
+            Body::Rnr { nr: 2, pf: false },
+            Body::Rej { nr: 4, pf: true },
+            Body::Sabm { p: true, info: &[] },
+            Body::Sabm {
+                p: true,
+                info: whole,
+            },
+            Body::Dm { f: true },
+            Body::Ui { p: true, info: &[] },
+            Body::Ui {
+                p: false,
+                info: whole,
+            },
+            Body::Disc { p: true },
+            Body::Ua {
+                f: false,
+                info: &[],
+            },
+            Body::Ua {
+                f: true,
+                info: whole,
+            },
+        ];
+        for body in bodies {
+            reads_back(&rt, &view(0, true, body), channel);
+            reads_back(&rt, &view(7, false, body), channel);
+        }
+    }
+}
