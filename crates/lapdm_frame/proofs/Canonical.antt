@@ -10,7 +10,7 @@ use Rattle.lapdm_frame.specs.Layout.{header, n201}
 use Rattle.lapdm_frame.specs.Content.{Content, Frame, information, goes_on}
 use Rattle.lapdm_frame.specs.Frames.{address, control, length_octet, InformationFits, Fits, IsFrame, IsCanonical, octets_of}
 use Rattle.lapdm_frame.specs.Readings.{IsOnlyCanonical}
-use Rattle.lapdm_frame.proofs.Laws.{information_bound, only_frame}
+use Rattle.lapdm_frame.proofs.Uniqueness.{information_bound, only_frame}
 
 -- an octet of the information
 information_at : (o : List ℕ) (start n k : ℕ) → k < n → get_or (slice_range o start (start + n)) k 0 ≡ get_or o (start + k) 0

@@ -1,5 +1,6 @@
 mod Worked
 pub mod Controls
-pub mod Laws
+pub mod Uniqueness
 pub mod Canonical
 pub mod Order
+pub mod Existence

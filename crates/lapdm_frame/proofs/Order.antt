@@ -13,14 +13,14 @@ use Rattle.lapdm_frame.specs.Frames.{bit, InformationFits, IsFrame}
 use Rattle.lapdm_frame.specs.Refusals.{IsControl, IsInformationFrame, HasNoInformation, AppliesTo, place, IsRefused}
 use Rattle.lapdm_frame.specs.Readings.{IsOnlyFrame, IsOnlyRefusal}
 use Rattle.lapdm_frame.proofs.Controls.{bit_injective, no_information, nothing_informed, information_frame}
-use Rattle.lapdm_frame.proofs.Laws.{same_place, not_on, only_frame, only_refusal}
+use Rattle.lapdm_frame.proofs.Uniqueness.{same_place, not_on, only_frame, only_refusal}
 
 -- none of the first n reasons applies
 pub record NoneBefore (channel : Channel) (octets : List ℕ) (n : ℕ) : Type 0 where
   pub none : (reason : Refusal) → place reason < n → ¬ AppliesTo channel octets reason
 
 module _ (channel : Channel) (octets : List ℕ) where
-  none_yet : NoneBefore channel octets 0
+  pub none_yet : NoneBefore channel octets 0
   none_yet = record { none = λ reason before. absurd (omega arith) }
 
   one_more : (n : ℕ) (reason : Refusal) → place reason ≡ n → NoneBefore channel octets n → ¬ AppliesTo channel octets reason → NoneBefore channel octets (n + 1)
@@ -58,7 +58,7 @@ module _ (channel : Channel) (octets : List ℕ) where
     pub past_empty : NoneBefore channel octets 5 → (slice_index octets (header channel + 2) / 4 ≡ 0 → ¬ IsInformationFrame content) → NoneBefore channel octets 6
     past_empty passed informs = one_more 5 Empty refl passed (λ applies. informs applies.0 (information_frame _ applies.1.0 content applies.1.1 known applies.1.2))
 
-bit_of : (n : ℕ) → n < 2 → bit (nat_eq n 1) ≡ n
+pub bit_of : (n : ℕ) → n < 2 → bit (nat_eq n 1) ≡ n
 bit_of zero below = refl
 bit_of (suc zero) below = refl
 bit_of (suc (suc n)) below = absurd (omega arith)
@@ -67,7 +67,7 @@ information_fits : (channel : Channel) (content : Content) → length (informati
 information_fits channel (I ns nr p more info) bound informs = (elim (cases_lt 0 (length info)) [ inl some ↦ some | inr none ↦ absurd (informs (omega arith) tt) ], bound)
 information_fits channel other bound informs = bound
 
-kind_known : (content : Content) → IsInformationFrame content ⊎ ¬ IsInformationFrame content
+pub kind_known : (content : Content) → IsInformationFrame content ⊎ ¬ IsInformationFrame content
 kind_known (I ns nr p more info) = inl tt
 kind_known other = inr (λ h. h)
 

@@ -1,5 +1,5 @@
 -- That octets are one thing and nothing else: one frame, or refused for one reason.
-use Rattle.std.specs.Prelude.{◌≡◌, ℕ, List}
+use Rattle.std.specs.Prelude.{◌≡◌, ℕ, List, ◌⊎◌}
 use Rattle.lapdm_frame.specs.declared.Channel.{Channel}
 use Rattle.lapdm_frame.specs.declared.Refusal.{Refusal}
 use Rattle.lapdm_frame.specs.Content.{Frame}
@@ -23,3 +23,7 @@ pub record IsOnlyCanonical (channel : Channel) (f : Frame) (octets : List ℕ) :
   pub canonical : IsCanonical channel f octets
   pub only : (others : List ℕ) → IsCanonical channel f others → others ≡ octets
   pub reads_back : IsOnlyFrame channel f octets
+
+-- the octets are exactly one frame, or are refused for exactly one reason, and never both
+abbrev pub HasOneReading : Channel → List ℕ → Type 0
+HasOneReading channel octets = ((f : Frame) × IsOnlyFrame channel f octets) ⊎ ((reason : Refusal) × IsOnlyRefusal channel octets reason)

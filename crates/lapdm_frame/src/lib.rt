@@ -3,9 +3,11 @@
 
 ghost use Rattle.std.specs.Prelude.{◌≡◌, ◌+◌};
 
+mod laws;
 mod reader;
 mod writer;
 
+pub use laws::{law_one_reading, law_one_writing};
 pub use reader::{read, read_on};
 pub use writer::{fill, fill_on, fits, fits_on, write, write_on};
 

@@ -5,7 +5,7 @@ use Rattle.lapdm_frame.specs.Content.{Content, content_of, frame_of, information
 use Rattle.lapdm_frame.specs.Refusals.{IsControl, IsInformationFrame, HasNoInformation}
 use Rattle.lapdm_frame.specs.Readings.{IsOnlyFrame, IsOnlyRefusal}
 use Rattle.lapdm_frame.proofs.Controls.{information_frame}
-use Rattle.lapdm_frame.proofs.Laws.{only_frame}
+use Rattle.lapdm_frame.proofs.Uniqueness.{only_frame}
 use Rattle.lapdm_frame.proofs.Order.{NoneBefore, Passes, refused, past_lpd, past_address, past_control, past_el, past_length, past_empty, frame_found}
 use Rattle.lapdm_frame.proofs.reader.read_on.Goals as goal
 use Rattle.lapdm_frame.proofs.reader.read_on.Goals.{else-size-gt0-via-then-size-gt0+else-has_no_information, else-size-gt0-via-else-size-gt0, else-size-eq0-via-then-size-eq0+else-is_information_frame, else-size-eq0-via-else-size-eq0, else-more-via-then-more+else-not-is_information_frame, else-more-via-else-more}
