@@ -1,17 +1,18 @@
 -- Every list of 23 octets is a frame or is refused.
 use Rattle.std.proofs.Common.{◌≡◌, ◌≢◌, ℕ, ◌+◌, ◌*◌, ◌/◌, ◌%◌, ◌<◌, ◌≤◌, Bool, true, false, nat_eq, List, [], length, refl, ◌⊎◌, inl, inr, arith}
-use Rattle.std.specs.Prelude.{slice_index, slice_range}
 use Rattle.std.proofs.lemmas.Bool.{cases_lt, cases_eq}
 use Rattle.lapdm_frame.specs.declared.Channel.{Channel}
+use Rattle.lapdm_frame.specs.declared.Refusal.{Refusal}
 use Rattle.lapdm_frame.specs.declared.Refusal.TheVariants.{Lpd, Ea, Control, El, Length, Empty, More}
-use Rattle.lapdm_frame.specs.Layout.{header, n201}
-use Rattle.lapdm_frame.specs.Content.{Content, I, Rr, Rnr, Rej, Sabm, Dm, Ui, Disc, Ua, Frame, information, goes_on}
+use Rattle.lapdm_frame.specs.Layout.{n201, address_in, control_in, length_in, information_in}
+use Rattle.lapdm_frame.specs.Content.{Content, I, Rr, Rnr, Rej, Sabm, Dm, Ui, Disc, Ua, information, goes_on}
 use Rattle.lapdm_frame.specs.Frames.{bit, control}
-use Rattle.lapdm_frame.specs.Refusals.{IsControl, IsInformationFrame, HasNoInformation}
+use Rattle.lapdm_frame.specs.Refusals.{IsControl, IsInformationFrame, HasNoInformation, l_of, m_of, el_of}
+use Rattle.lapdm_frame.specs.Lengths.{HasRoom, IsLengthFault, HasNoLengthFault}
 use Rattle.lapdm_frame.specs.Readings.{HasOneReading}
-use Rattle.lapdm_frame.proofs.Controls.{with_information, bit_bound, information_frame}
+use Rattle.lapdm_frame.proofs.Controls.{with_information, bit_bound}
 use Rattle.lapdm_frame.proofs.Uniqueness.{only_frame}
-use Rattle.lapdm_frame.proofs.Order.{Passes, bit_of, kind_known, refused, none_yet, past_lpd, past_address, past_control, past_el, past_length, past_empty, frame_found}
+use Rattle.lapdm_frame.proofs.Order.{bit_of, kind_known, refused, none_yet, past_lpd, past_address, fault_refuses, frame_found}
 
 -- the contents of each kind that could have this control octet
 module _ (k : ℕ) where
@@ -37,16 +38,42 @@ module _ (k : ℕ) where
   known_or_not small =
       let nr : k / 32 ≤ 7 = omega arith in
       let ns : k / 2 % 8 ≤ 7 = omega arith in
-      elim (cases_eq k (control (I (k / 2 % 8) (k / 32) final false []))) [ inl e ↦ inl (I (k / 2 % 8) (k / 32) final false [], ((ns, nr), e)) | inr i ↦
-      elim (cases_eq k (control (Rr (k / 32) final))) [ inl e ↦ inl (Rr (k / 32) final, (nr, e)) | inr rr ↦
-      elim (cases_eq k (control (Rnr (k / 32) final))) [ inl e ↦ inl (Rnr (k / 32) final, (nr, e)) | inr rnr ↦
-      elim (cases_eq k (control (Rej (k / 32) final))) [ inl e ↦ inl (Rej (k / 32) final, (nr, e)) | inr rej ↦
-      elim (cases_eq k (control (Sabm final []))) [ inl e ↦ inl (Sabm final [], (tt, e)) | inr sabm ↦
-      elim (cases_eq k (control (Dm final))) [ inl e ↦ inl (Dm final, (tt, e)) | inr dm ↦
-      elim (cases_eq k (control (Ui final []))) [ inl e ↦ inl (Ui final [], (tt, e)) | inr ui ↦
-      elim (cases_eq k (control (Disc final))) [ inl e ↦ inl (Disc final, (tt, e)) | inr disc ↦
-      elim (cases_eq k (control (Ua final []))) [ inl e ↦ inl (Ua final [], (tt, e)) | inr ua ↦ inr (unknown i rr rnr rej sabm dm ui disc ua)
-      ] ] ] ] ] ] ] ] ]
+      elim (cases_eq k (control (I (k / 2 % 8) (k / 32) final false []))) [
+        | inl e ↦ inl (I (k / 2 % 8) (k / 32) final false [], ((ns, nr), e))
+        | inr i ↦
+            elim (cases_eq k (control (Rr (k / 32) final))) [
+              | inl e ↦ inl (Rr (k / 32) final, (nr, e))
+              | inr rr ↦
+                  elim (cases_eq k (control (Rnr (k / 32) final))) [
+                    | inl e ↦ inl (Rnr (k / 32) final, (nr, e))
+                    | inr rnr ↦
+                        elim (cases_eq k (control (Rej (k / 32) final))) [
+                          | inl e ↦ inl (Rej (k / 32) final, (nr, e))
+                          | inr rej ↦
+                              elim (cases_eq k (control (Sabm final []))) [
+                                | inl e ↦ inl (Sabm final [], (tt, e))
+                                | inr sabm ↦
+                                    elim (cases_eq k (control (Dm final))) [
+                                      | inl e ↦ inl (Dm final, (tt, e))
+                                      | inr dm ↦
+                                          elim (cases_eq k (control (Ui final []))) [
+                                            | inl e ↦ inl (Ui final [], (tt, e))
+                                            | inr ui ↦
+                                                elim (cases_eq k (control (Disc final))) [
+                                                  | inl e ↦ inl (Disc final, (tt, e))
+                                                  | inr disc ↦
+                                                      elim (cases_eq k (control (Ua final []))) [
+                                                        | inl e ↦ inl (Ua final [], (tt, e))
+                                                        | inr ua ↦ inr (unknown i rr rnr rej sabm dm ui disc ua)
+                                                      ]
+                                                ]
+                                          ]
+                                    ]
+                              ]
+                        ]
+                  ]
+            ]
+      ]
 
 no_such_octet : (k : ℕ) → 256 ≤ k → (content : Content) → ¬ IsControl k content
 no_such_octet k large (I ns nr p more info) is_k = omega (arith, bit_bound)
@@ -82,90 +109,69 @@ silence_known (Ua f info) = inr (λ h. h)
 silence_known other = inl tt
 
 -- of two facts that are known to hold or not, both hold or the one rules out the other
-both_or_not : {A B : Type 0} → (A ⊎ ¬ A) → (B ⊎ ¬ B) → (A × B) ⊎ (A → ¬ B)
+both_or_not : {A B : Type 0} → A ⊎ ¬ A → B ⊎ ¬ B → (A × B) ⊎ (A → ¬ B)
 both_or_not (inl a) (inl b) = inl (a, b)
 both_or_not (inl a) (inr not_b) = inr (λ _. not_b)
 both_or_not (inr not_a) b = inr (λ a. absurd (not_a a))
 
-positive_or_not : (n : ℕ) → (0 < n) ⊎ ¬ (0 < n)
-positive_or_not n = elim (cases_lt 0 n) [ inl some ↦ inl some | inr none ↦ inr (λ some. omega arith) ]
+positive_known : (n : ℕ) → (0 < n) ⊎ ¬ (0 < n)
+positive_known n = elim (cases_lt 0 n) [ inl some ↦ inl some | inr none ↦ inr (λ some. omega arith) ]
 
-other_or_not : (content : Content) → (¬ IsInformationFrame content) ⊎ ¬ (¬ IsInformationFrame content)
-other_or_not content = elim (kind_known content) [ inl is_i ↦ inr (λ other. other is_i) | inr other ↦ inl other ]
+module _ (most : ℕ) (content : Content) (octet : ℕ) where
+  room_known : HasRoom most content octet ⊎ ((reason : Refusal) × IsLengthFault most content octet reason)
+  room_known = elim (cases_eq (el_of octet) 0) [
+    | inl goes_on ↦ inr (El, goes_on)
+    | inr ends ↦ elim (cases_lt most (l_of octet)) [
+      | inl above ↦ inr (Length, (ends, inl above))
+      | inr bound ↦ elim (both_or_not (positive_known (l_of octet)) (silence_known content)) [
+        | inl informed ↦ inr (Length, (ends, inr informed))
+        | inr silent ↦ inl (record { ends = ends; bound = bound; silent = silent })
+      ]
+    ]
+  ]
 
-surely : (content : Content) → ¬ (¬ IsInformationFrame content) → IsInformationFrame content
-surely content h = elim (kind_known content) [ inl is_i ↦ is_i | inr other ↦ absurd (h other) ]
+  more_known : HasRoom most content octet → (l_of octet ≡ 0 → ¬ IsInformationFrame content) → HasNoLengthFault most content octet ⊎ ((reason : Refusal) × IsLengthFault most content octet reason)
+  more_known room informs = elim (kind_known content) [
+    | inl is_i ↦ inl (record { room = room; informs = informs; more = λ _. is_i })
+    | inr other ↦ elim (cases_eq (m_of octet) 1) [
+      | inl notice ↦ inr (More, (room, informs, notice, other))
+      | inr single ↦ inl (record { room = room; informs = informs; more = λ notice. absurd (single notice) })
+    ]
+  ]
+
+  fault_known : HasNoLengthFault most content octet ⊎ ((reason : Refusal) × IsLengthFault most content octet reason)
+  fault_known = elim room_known [
+    | inl room ↦ elim (both_or_not (cases_eq (l_of octet) 0) (kind_known content)) [
+      | inl (none, is_i) ↦ inr (Empty, (room, none, is_i))
+      | inr informs ↦ more_known room informs
+    ]
+    | inr fault ↦ inr fault
+  ]
 
 module _ (channel : Channel) (octets : List ℕ) (count : length octets ≡ 23) where
-  abbrev address_octet : ℕ
-  address_octet = slice_index octets (header channel)
-
-  abbrev control_octet : ℕ
-  control_octet = slice_index octets (header channel + 1)
-
-  abbrev length_octet : ℕ
-  length_octet = slice_index octets (header channel + 2)
-
-  module _ (low : address_octet < 32) (odd : address_octet % 2 ≢ 0) (content : Content) (is_content : IsControl control_octet content)
-    (carries : HasNoInformation content ⊎ (information content ≡ slice_range octets (header channel + 3) (header channel + 3 + length_octet / 4)))
-    (goes : IsInformationFrame content → goes_on content ≡ nat_eq (length_octet / 2 % 2) 1) where
-    abbrev the_frame : Frame
-    the_frame = record { sapi = address_octet / 4; cr = nat_eq (address_octet / 2 % 2) 1; content = content }
-
-    of_length : length_octet % 2 ≢ 0 → length_octet / 4 ≤ n201 channel → HasOneReading channel octets
-    of_length odd_length bound =
-        let passed = past_el channel octets content is_content (past_address channel octets low odd) odd_length in
-        elim (both_or_not (positive_or_not (length_octet / 4)) (silence_known content)) [
-          inl (some, silent) ↦ inr (Length, refused channel octets Length passed (inr (some, (content, is_content, silent))))
-        | inr silent ↦
-          let passed' = past_length channel octets content is_content passed bound silent in
-          elim (both_or_not (cases_eq (length_octet / 4) 0) (kind_known content)) [
-            inl (none, is_i) ↦ inr (Empty, refused channel octets Empty passed' (none, (content, is_content, is_i)))
-          | inr informs ↦
-            let passed = past_empty channel octets content is_content passed' informs in
-            elim (both_or_not (cases_eq (length_octet / 2 % 2) 1) (other_or_not content)) [
-              inl (notice, other) ↦ inr (More, refused channel octets More passed (notice, λ (found, is_found, is_i). other (information_frame _ found content is_found is_content is_i)))
-            | inr more ↦ inl (the_frame, only_frame channel the_frame octets (frame_found channel octets content (record {
-                count = count;
-                low = low;
-                odd_address = odd;
-                known = is_content;
-                odd_length = odd_length;
-                bound = bound;
-                silent = silent;
-                informs = informs;
-                more = λ e. surely content (more e);
-                carried = carries;
-                goes_on = goes
-              })))
-            ]
-          ]
-        ]
-
-    of_content : HasOneReading channel octets
-    of_content = elim (cases_eq (length_octet % 2) 0) [
-          inl even ↦ inr (El, refused channel octets El (past_control channel octets content is_content (past_address channel octets low odd)) even)
-        | inr odd_length ↦ elim (cases_lt (n201 channel) (length_octet / 4)) [
-            inl above ↦ inr (Length, refused channel octets Length (past_el channel octets content is_content (past_address channel octets low odd) odd_length) (inl above))
-          | inr bound ↦ of_length odd_length bound
-          ]
-        ]
-
-  of_address : address_octet < 32 → address_octet % 2 ≢ 0 → HasOneReading channel octets
-  of_address low odd = elim (control_known control_octet) [
-      inl (found, is_found) ↦
-        let goes = nat_eq (length_octet / 2 % 2) 1 in
-        let info = slice_range octets (header channel + 3) (header channel + 3 + length_octet / 4) in
-        of_content low odd (with_information found goes info) (still_control control_octet found goes info is_found) (carried found goes info) (goes_on_with found goes info)
-    | inr unknown ↦ inr (Control, refused channel octets Control (past_address channel octets low odd) unknown)
-    ]
+  of_content : address_in channel octets < 32 → address_in channel octets % 2 ≢ 0 → (found : Content) → IsControl (control_in channel octets) found → HasOneReading channel octets
+  of_content low odd found is_found =
+      let octet = length_in channel octets in
+      let goes = nat_eq (m_of octet) 1 in
+      let info = information_in channel octets (l_of octet) in
+      let content = with_information found goes info in
+      let known = still_control (control_in channel octets) found goes info is_found in
+      elim (fault_known (n201 channel) content octet) [
+        | inl fault ↦
+            let is_frame = frame_found channel octets content (record { count = count; low = low; odd = odd; known = known; fault = fault; carried = carried found goes info; goes_on = goes_on_with found goes info }) in
+            inl (_, only_frame channel _ octets is_frame)
+        | inr (reason, fault) ↦ inr (reason, fault_refuses channel octets content known (past_address channel octets low odd) reason fault)
+      ]
 
   -- every list of 23 octets is exactly one frame, or is refused for exactly one reason
   pub one_reading : HasOneReading channel octets
-  one_reading = elim (cases_lt address_octet 32) [
-      inl low ↦ elim (cases_eq (address_octet % 2) 0) [
-        inl even ↦ inr (Ea, refused channel octets Ea (past_lpd channel octets low) even)
-      | inr odd ↦ of_address low odd
+  one_reading = elim (cases_lt (address_in channel octets) 32) [
+    | inl low ↦ elim (cases_eq (address_in channel octets % 2) 0) [
+      | inl even ↦ inr (Ea, refused channel octets Ea (past_lpd channel octets low) even)
+      | inr odd ↦ elim (control_known (control_in channel octets)) [
+        | inl (found, is_found) ↦ of_content low odd found is_found
+        | inr unknown ↦ inr (Control, refused channel octets Control (past_address channel octets low odd) unknown)
       ]
-    | inr high ↦ inr (Lpd, refused channel octets Lpd (none_yet channel octets) high)
     ]
+    | inr high ↦ inr (Lpd, refused channel octets Lpd (none_yet channel octets) high)
+  ]

@@ -1,19 +1,19 @@
 -- The reasons one after another, and what is left when none applies.
 use Rattle.std.proofs.Common.{◌≡◌, ◌≢◌, ℕ, zero, suc, ◌+◌, ◌-◌, ◌*◌, ◌/◌, ◌%◌, ◌<◌, ◌≤◌, Bool, true, false, nat_eq, List, [], length, refl, sym, ap, ◌∙◌, subst, ◌⊎◌, inl, inr, arith}
-use Rattle.std.specs.Prelude.{slice_index, slice_range}
 use Rattle.std.proofs.lemmas.Bool.{cases_lt}
 use Rattle.std.proofs.lemmas.List.{length-take, length-drop}
 use Rattle.lapdm_frame.specs.declared.Channel.{Channel}
 use Rattle.lapdm_frame.specs.declared.Channel.TheVariants.{Sdcch, Sacch}
 use Rattle.lapdm_frame.specs.declared.Refusal.{Refusal}
 use Rattle.lapdm_frame.specs.declared.Refusal.TheVariants.{Lpd, Ea, Control, El, Length, Empty, More}
-use Rattle.lapdm_frame.specs.Layout.{header, n201}
+use Rattle.lapdm_frame.specs.Layout.{header, n201, address_in, control_in, length_in, information_in}
 use Rattle.lapdm_frame.specs.Content.{Content, I, Rr, Rnr, Rej, Sabm, Dm, Ui, Disc, Ua, Frame, information, goes_on}
 use Rattle.lapdm_frame.specs.Frames.{bit, InformationFits, IsFrame}
-use Rattle.lapdm_frame.specs.Refusals.{IsControl, IsInformationFrame, HasNoInformation, AppliesTo, place, IsRefused}
-use Rattle.lapdm_frame.specs.Readings.{IsOnlyFrame, IsOnlyRefusal}
-use Rattle.lapdm_frame.proofs.Controls.{bit_injective, no_information, nothing_informed, information_frame}
-use Rattle.lapdm_frame.proofs.Uniqueness.{same_place, not_on, only_frame, only_refusal}
+use Rattle.lapdm_frame.specs.Refusals.{IsControl, IsInformationFrame, HasNoInformation, l_of, m_of, el_of, AppliesTo, place, IsRefused}
+use Rattle.lapdm_frame.specs.Lengths.{HasRoom, IsLengthFault, HasNoLengthFault}
+use Rattle.lapdm_frame.specs.Readings.{IsOnlyRefusal}
+use Rattle.lapdm_frame.proofs.Controls.{no_information, nothing_informed, information_frame}
+use Rattle.lapdm_frame.proofs.Uniqueness.{same_place, not_on, only_refusal}
 
 -- none of the first n reasons applies
 pub record NoneBefore (channel : Channel) (octets : List ℕ) (n : ℕ) : Type 0 where
@@ -36,27 +36,34 @@ module _ (channel : Channel) (octets : List ℕ) where
   pub refused : (reason : Refusal) → NoneBefore channel octets (place reason) → AppliesTo channel octets reason → IsOnlyRefusal channel octets reason
   refused reason passed applies = only_refusal channel octets reason (record { applies = applies; first = passed.none })
 
-  pub past_lpd : slice_index octets (header channel) < 32 → NoneBefore channel octets 1
+  pub past_lpd : address_in channel octets < 32 → NoneBefore channel octets 1
   past_lpd low = one_more 0 Lpd refl none_yet (λ high. omega arith)
 
-  pub past_address : slice_index octets (header channel) < 32 → slice_index octets (header channel) % 2 ≢ 0 → NoneBefore channel octets 2
+  pub past_address : address_in channel octets < 32 → address_in channel octets % 2 ≢ 0 → NoneBefore channel octets 2
   past_address low odd = one_more 1 Ea refl (past_lpd low) odd
 
-  module _ (content : Content) (known : IsControl (slice_index octets (header channel + 1)) content) where
-    pub past_control : NoneBefore channel octets 2 → NoneBefore channel octets 3
-    past_control passed = one_more 2 Control refl passed (λ unknown. unknown content known)
+  module _ (content : Content) (known : IsControl (control_in channel octets) content) (passed : NoneBefore channel octets 2) where
+    past_control : NoneBefore channel octets 3
+    past_control = one_more 2 Control refl passed (λ unknown. unknown content known)
 
-    pub past_el : NoneBefore channel octets 2 → slice_index octets (header channel + 2) % 2 ≢ 0 → NoneBefore channel octets 4
-    past_el passed odd = one_more 3 El refl (past_control passed) odd
-
-    pub past_length : NoneBefore channel octets 4 → slice_index octets (header channel + 2) / 4 ≤ n201 channel → (0 < slice_index octets (header channel + 2) / 4 → ¬ HasNoInformation content) → NoneBefore channel octets 5
-    past_length passed bound informs = one_more 4 Length refl passed (λ applies. elim applies [
-      | inl above ↦ omega arith
-      | inr (some, (other, is_other, silent)) ↦ informs some (no_information _ other content is_other known silent)
+    past_length : HasRoom (n201 channel) content (length_in channel octets) → NoneBefore channel octets 5
+    past_length room = one_more 4 Length refl (one_more 3 El refl past_control room.ends) (λ applies. elim applies [
+      | inl above ↦ omega (arith, room.bound)
+      | inr (some, (other, is_other, silent)) ↦ room.silent some (no_information _ other content is_other known silent)
     ])
 
-    pub past_empty : NoneBefore channel octets 5 → (slice_index octets (header channel + 2) / 4 ≡ 0 → ¬ IsInformationFrame content) → NoneBefore channel octets 6
-    past_empty passed informs = one_more 5 Empty refl passed (λ applies. informs applies.0 (information_frame _ applies.1.0 content applies.1.1 known applies.1.2))
+    -- what is wrong with the length is why the octets are refused
+    pub fault_refuses : (reason : Refusal) → IsLengthFault (n201 channel) content (length_in channel octets) reason → IsOnlyRefusal channel octets reason
+    fault_refuses El ends = refused El past_control ends
+    fault_refuses Length fault = refused Length (one_more 3 El refl past_control fault.0) (elim fault.1 [
+      | inl above ↦ inl above
+      | inr (some, silent) ↦ inr (some, (content, known, silent))
+    ])
+    fault_refuses Empty fault = refused Empty (past_length fault.0) (fault.1, (content, known, fault.2))
+    fault_refuses More fault =
+        let past_empty = one_more 5 Empty refl (past_length fault.0) (λ applies. fault.1 applies.0 (information_frame _ applies.1.0 content applies.1.1 known applies.1.2)) in
+        refused More past_empty (fault.2, λ (other, is_other, is_i). fault.3 (information_frame _ other content is_other known is_i))
+    fault_refuses other fault = absurd fault
 
 pub bit_of : (n : ℕ) → n < 2 → bit (nat_eq n 1) ≡ n
 bit_of zero below = refl
@@ -71,68 +78,65 @@ pub kind_known : (content : Content) → IsInformationFrame content ⊎ ¬ IsInf
 kind_known (I ns nr p more info) = inl tt
 kind_known other = inr (λ h. h)
 
-room : (channel : Channel) → header channel + 3 + n201 channel ≡ 23
-room Sdcch = refl
-room Sacch = refl
+room_is_whole : (channel : Channel) → header channel + 3 + n201 channel ≡ 23
+room_is_whole Sdcch = refl
+room_is_whole Sacch = refl
 
--- three octets to which no reason applies, and the content of the control octet
+-- octets to which no reason applies, and the content of their control octet with their information
 pub record Passes (channel : Channel) (octets : List ℕ) (content : Content) : Type 0 where
   pub count : length octets ≡ 23
-  pub low : slice_index octets (header channel) < 32
-  pub odd_address : slice_index octets (header channel) % 2 ≢ 0
-  pub known : IsControl (slice_index octets (header channel + 1)) content
-  pub odd_length : slice_index octets (header channel + 2) % 2 ≢ 0
-  pub bound : slice_index octets (header channel + 2) / 4 ≤ n201 channel
-  pub silent : 0 < slice_index octets (header channel + 2) / 4 → ¬ HasNoInformation content
-  pub informs : slice_index octets (header channel + 2) / 4 ≡ 0 → ¬ IsInformationFrame content
-  pub more : slice_index octets (header channel + 2) / 2 % 2 ≡ 1 → IsInformationFrame content
-  pub carried : HasNoInformation content ⊎ (information content ≡ slice_range octets (header channel + 3) (header channel + 3 + slice_index octets (header channel + 2) / 4))
-  pub goes_on : IsInformationFrame content → goes_on content ≡ nat_eq (slice_index octets (header channel + 2) / 2 % 2) 1
+  pub low : address_in channel octets < 32
+  pub odd : address_in channel octets % 2 ≢ 0
+  pub known : IsControl (control_in channel octets) content
+  pub fault : HasNoLengthFault (n201 channel) content (length_in channel octets)
+  pub carried : HasNoInformation content ⊎ (information content ≡ information_in channel octets (l_of (length_in channel octets)))
+  pub goes_on : IsInformationFrame content → goes_on content ≡ nat_eq (m_of (length_in channel octets)) 1
 
 module _ (channel : Channel) (octets : List ℕ) (content : Content) (passes : Passes channel octets content) where
-  size_found : length (information content) ≡ slice_index octets (header channel + 2) / 4
+  size_found : length (information content) ≡ l_of (length_in channel octets)
   size_found = elim passes.carried [
     | inl silent ↦
         let nothing = ap length (nothing_informed content silent) in
-        elim (cases_lt 0 (slice_index octets (header channel + 2) / 4)) [
-          | inl some ↦ absurd (passes.silent some silent)
+        elim (cases_lt 0 (l_of (length_in channel octets))) [
+          | inl some ↦ absurd (passes.fault.room.silent some silent)
           | inr none ↦ omega arith
         ]
-    | inr e ↦ ap length e ∙ simp (length-take, length-drop) (omega (arith, passes.count, passes.bound, room channel))
+    | inr e ↦ ap length e ∙ simp (length-take, length-drop) (omega (arith, passes.count, passes.fault.room.bound, room_is_whole channel))
   ]
 
-  more_found : bit (goes_on content) ≡ slice_index octets (header channel + 2) / 2 % 2
+  more_found : bit (goes_on content) ≡ m_of (length_in channel octets)
   more_found =
-      let small : slice_index octets (header channel + 2) / 2 % 2 < 2 = omega arith in
+      let small : m_of (length_in channel octets) < 2 = omega arith in
       elim (kind_known content) [
         | inl is_i ↦ ap bit (passes.goes_on is_i) ∙ bit_of _ small
         | inr other ↦
             let single = not_on content other in
-            elim (cases_lt 0 (slice_index octets (header channel + 2) / 2 % 2)) [
-              | inl some ↦ absurd (other (passes.more (omega arith)))
+            elim (cases_lt 0 (m_of (length_in channel octets))) [
+              | inl some ↦ absurd (other (passes.fault.more (omega arith)))
               | inr none ↦ omega arith
             ]
       ]
 
-  information_found : slice_range octets (header channel + 3) (header channel + 3 + length (information content)) ≡ information content
+  information_found : information_in channel octets (length (information content)) ≡ information content
   information_found = elim passes.carried [
     | inl silent ↦
         let nothing = nothing_informed content silent in
         let empty : header channel + 3 + length (information content) - (header channel + 3) ≡ 0 = omega (arith, ap length nothing) in
         rw empty (sym nothing)
-    | inr e ↦ ap (λ n. slice_range octets (header channel + 3) (header channel + 3 + n)) size_found ∙ sym e
+    | inr e ↦ ap (information_in channel octets) size_found ∙ sym e
   ]
 
-  pub frame_found : IsFrame channel (record { sapi = slice_index octets (header channel) / 4; cr = nat_eq (slice_index octets (header channel) / 2 % 2) 1; content = content }) octets
+  -- the octets are this frame
+  pub frame_found : IsFrame channel (record { sapi = address_in channel octets / 4; cr = nat_eq (address_in channel octets / 2 % 2) 1; content = content }) octets
   frame_found = record {
     count = passes.count;
     fits = record {
       sapi = omega (arith, passes.low);
       numbers = passes.known.0;
-      information = information_fits channel content (omega (arith, size_found, passes.bound)) (λ e. passes.informs (sym size_found ∙ e));
+      information = information_fits channel content (omega (arith, size_found, passes.fault.room.bound)) (λ e. passes.fault.informs (sym size_found ∙ e));
     };
-    at_address = omega (arith, passes.odd_address, bit_of (slice_index octets (header channel) / 2 % 2) (omega arith));
+    at_address = omega (arith, passes.odd, bit_of (address_in channel octets / 2 % 2) (omega arith));
     at_control = passes.known.1;
-    at_length = omega (arith, passes.odd_length, size_found, more_found);
+    at_length = omega (arith, passes.fault.room.ends, size_found, more_found);
     at_information = information_found;
   }

@@ -1,7 +1,7 @@
 -- The octets of a frame (GSM 04.06, section 3), by sums.
-use Rattle.std.specs.Prelude.{◌≡◌, ℕ, ◌+◌, ◌-◌, ◌*◌, ◌<◌, ◌≤◌, Bool, true, false, List, [], ◌∷◌, ◌++◌, length, replicate, slice_index, slice_range}
+use Rattle.std.specs.Prelude.{◌≡◌, ℕ, ◌+◌, ◌-◌, ◌*◌, ◌<◌, ◌≤◌, Bool, true, false, List, [], ◌∷◌, ◌++◌, length, replicate, slice_index}
 use Rattle.lapdm_frame.specs.declared.Channel.{Channel}
-use Rattle.lapdm_frame.specs.Layout.{header, n201}
+use Rattle.lapdm_frame.specs.Layout.{header, n201, address_in, control_in, length_in, information_in}
 use Rattle.lapdm_frame.specs.Content.{Content, I, Rr, Rnr, Rej, Sabm, Dm, Ui, Disc, Ua, Frame, information, goes_on}
 
 abbrev pub bit : Bool → ℕ
@@ -52,10 +52,10 @@ pub record Fits (channel : Channel) (f : Frame) : Type 0 where
 pub record IsFrame (channel : Channel) (f : Frame) (octets : List ℕ) : Type 0 where
   pub count : length octets ≡ 23
   pub fits : Fits channel f
-  pub at_address : slice_index octets (header channel) ≡ address f
-  pub at_control : slice_index octets (header channel + 1) ≡ control f.content
-  pub at_length : slice_index octets (header channel + 2) ≡ length_octet f.content
-  pub at_information : slice_range octets (header channel + 3) (header channel + 3 + length (information f.content)) ≡ information f.content
+  pub at_address : address_in channel octets ≡ address f
+  pub at_control : control_in channel octets ≡ control f.content
+  pub at_length : length_in channel octets ≡ length_octet f.content
+  pub at_information : information_in channel octets (length (information f.content)) ≡ information f.content
 
 -- the octets before the address are 00 (this project's own rule), and those after the information are
 -- fill, 2b (section 2.2)

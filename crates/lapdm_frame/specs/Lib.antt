@@ -3,3 +3,4 @@ pub mod Content
 pub mod Frames
 pub mod Refusals
 pub mod Readings
+pub mod Lengths

@@ -1,9 +1,9 @@
 -- Why octets are no frame (this project's own rule).
-use Rattle.std.specs.Prelude.{◌≡◌, ℕ, ◌+◌, ◌/◌, ◌%◌, ◌<◌, ◌≤◌, List, ◌⊎◌, slice_index}
+use Rattle.std.specs.Prelude.{◌≡◌, ℕ, ◌/◌, ◌%◌, ◌<◌, ◌≤◌, List, ◌⊎◌}
 use Rattle.lapdm_frame.specs.declared.Channel.{Channel}
 use Rattle.lapdm_frame.specs.declared.Refusal.{Refusal}
 use Rattle.lapdm_frame.specs.declared.Refusal.TheVariants.{Lpd, Ea, Control, El, Length, Empty, More}
-use Rattle.lapdm_frame.specs.Layout.{header, n201}
+use Rattle.lapdm_frame.specs.Layout.{n201, address_in, control_in, length_in}
 use Rattle.lapdm_frame.specs.Content.{Content, I, Rr, Rnr, Rej, Sabm, Dm, Ui, Disc, Ua}
 use Rattle.lapdm_frame.specs.Frames.{control, NumbersFit}
 
@@ -50,7 +50,7 @@ Applies channel address control length More = (m_of length ≡ 1) × ¬ IsContro
 
 -- the reason applies to the octets from the address on
 abbrev pub AppliesTo : Channel → List ℕ → Refusal → Type 0
-AppliesTo channel octets = Applies channel (slice_index octets (header channel)) (slice_index octets (header channel + 1)) (slice_index octets (header channel + 2))
+AppliesTo channel octets = Applies channel (address_in channel octets) (control_in channel octets) (length_in channel octets)
 
 -- the order in which the reasons are looked for
 abbrev pub place : Refusal → ℕ

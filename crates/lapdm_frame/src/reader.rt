@@ -3,6 +3,7 @@
 ghost use Rattle.std.specs.Prelude.{◌≡◌, ◌⊎◌, ◌↔◌, IsTrue, IfSome, IfNone, IfOk, IfErr};
 ghost use Rattle.lapdm_frame.specs.Content.{Content, content_of, frame_of, information, goes_on};
 ghost use Rattle.lapdm_frame.specs.Refusals.{IsControl, IsInformationFrame, HasNoInformation};
+ghost use Rattle.lapdm_frame.specs.Lengths.{IsLengthFault, HasNoLengthFault};
 ghost use Rattle.lapdm_frame.specs.Readings.{IsOnlyFrame, IsOnlyRefusal};
 
 use crate::{Body, Channel, FrameView, Refusal};
@@ -61,6 +62,31 @@ fn has_no_information(body: &Body<'_>) -> bool
     }
 }
 
+// The first reason why a body of this kind cannot have this length octet.
+fn length_fault(body: &Body<'_>, length: u8, most: usize) -> Option<Refusal>
+    ensures fault { IfSome result (IsLengthFault most (content_of body.now) length) }
+    ensures none { IfNone result (HasNoLengthFault most (content_of body.now) length) }
+{
+    let size = usize::from(length / 4);
+    let more = length / 2 % 2 == 1;
+    if length % 2 == 0 {
+        return Some(Refusal::El);
+    }
+    if size > most {
+        return Some(Refusal::Length);
+    }
+    if size > 0 && has_no_information(body) {
+        return Some(Refusal::Length);
+    }
+    if size == 0 && is_information_frame(body) {
+        return Some(Refusal::Empty);
+    }
+    if more && !is_information_frame(body) {
+        return Some(Refusal::More);
+    }
+    None
+}
+
 /// The frame in a block, or the first reason why it is none. The octets of layer 1 and the fill may
 /// be anything; `info` is a part of `octets`.
 pub fn read_on<'a>(octets: &'a [u8; 23], channel: Channel) -> Result<FrameView<'a>, Refusal>
@@ -68,11 +94,12 @@ pub fn read_on<'a>(octets: &'a [u8; 23], channel: Channel) -> Result<FrameView<'
     ensures refusal { IfErr result (λ reason. IsOnlyRefusal channel octets.now reason) }
 {
     let start = channel.header();
+    let most = channel.n201();
     let address = octets[start];
     let length = octets[start + 2];
     let more = length / 2 % 2 == 1;
     let size = usize::from(length / 4);
-    let info = &octets[start + 3..start + 3 + size.min(channel.n201())];
+    let info = &octets[start + 3..start + 3 + size.min(most)];
 
     if address >= 32 {
         return Err(Refusal::Lpd);
@@ -83,20 +110,8 @@ pub fn read_on<'a>(octets: &'a [u8; 23], channel: Channel) -> Result<FrameView<'
     let Some(body) = body_of(octets[start + 1], more, info) else {
         return Err(Refusal::Control);
     };
-    if length % 2 == 0 {
-        return Err(Refusal::El);
-    }
-    if size > channel.n201() {
-        return Err(Refusal::Length);
-    }
-    if size > 0 && has_no_information(&body) {
-        return Err(Refusal::Length);
-    }
-    if size == 0 && is_information_frame(&body) {
-        return Err(Refusal::Empty);
-    }
-    if more && !is_information_frame(&body) {
-        return Err(Refusal::More);
+    if let Some(reason) = length_fault(&body, length, most) {
+        return Err(reason);
     }
     let sapi = address / 4;
     let cr = address / 2 % 2 == 1;
