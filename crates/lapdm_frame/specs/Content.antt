@@ -1,5 +1,6 @@
 -- What a frame says, apart from its octets (GSM 04.06, section 3.8).
-use Rattle.std.specs.Prelude.{ℕ, Bool, false, List, []}
+use Rattle.std.specs.Prelude.{ℕ, Bool, false, List, [], Option, Some, None}
+use Rattle.std.specs.Borrow.{Bor}
 use Rattle.lapdm_frame.specs.declared.Body.{Body}
 use Rattle.lapdm_frame.specs.declared.Body.TheVariants as B
 use Rattle.lapdm_frame.specs.declared.FrameView.{FrameView}
@@ -37,6 +38,14 @@ content_of (B.Ua f info) = Ua f info.now
 -- the frame that a value of the program stands for
 abbrev pub frame_of : FrameView → Frame
 frame_of view = record { sapi = view.sapi; cr = view.cr; content = content_of view.body }
+
+-- the octets that a value of the program borrows for its information
+abbrev pub borrowed : Body → Option (Bor (List ℕ))
+borrowed (B.I ns nr p more info) = Some info
+borrowed (B.Sabm p info) = Some info
+borrowed (B.Ui p info) = Some info
+borrowed (B.Ua f info) = Some info
+borrowed other = None
 
 -- the information, which five kinds never have
 abbrev pub information : Content → List ℕ

@@ -1,8 +1,11 @@
 -- That octets are one thing and nothing else: one frame, or refused for one reason.
-use Rattle.std.specs.Prelude.{◌≡◌, ℕ, List, ◌⊎◌}
+use Rattle.std.specs.Prelude.{◌≡◌, ℕ, ◌+◌, List, ◌⊎◌, IfSome}
+use Rattle.std.specs.Borrow.{Bor}
 use Rattle.lapdm_frame.specs.declared.Channel.{Channel}
 use Rattle.lapdm_frame.specs.declared.Refusal.{Refusal}
-use Rattle.lapdm_frame.specs.Content.{Frame}
+use Rattle.lapdm_frame.specs.declared.Body.{Body}
+use Rattle.lapdm_frame.specs.Layout.{header}
+use Rattle.lapdm_frame.specs.Content.{Frame, borrowed}
 use Rattle.lapdm_frame.specs.Frames.{IsFrame, IsCanonical}
 use Rattle.lapdm_frame.specs.Refusals.{IsRefused}
 
@@ -11,6 +14,10 @@ pub record IsOnlyFrame (channel : Channel) (f : Frame) (octets : List ℕ) : Typ
   pub frame : IsFrame channel f octets
   pub only : (other : Frame) → IsFrame channel other octets → other ≡ f
   pub unrefused : (reason : Refusal) → ¬ IsRefused channel octets reason
+
+-- the information is lent from the block itself, behind the length octet
+abbrev pub LiesIn : Channel → Bor (List ℕ) → Body → Type 0
+LiesIn channel block body = IfSome (borrowed body) (λ info. (info.ref_ptr.0 ≡ block.ref_ptr.0) × (info.ref_ptr.1 ≡ block.ref_ptr.1 + header channel + 3))
 
 -- the octets are refused for this reason and no other, and are no frame
 pub record IsOnlyRefusal (channel : Channel) (octets : List ℕ) (reason : Refusal) : Type 0 where
