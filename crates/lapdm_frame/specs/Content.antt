@@ -18,12 +18,13 @@ pub data Content : Type 0 where
   Disc : (p : Bool) → Content
   Ua : (f : Bool) → (info : List ℕ) → Content
 
--- the address too: the service access point and the command/response bit
+-- the content with what the address says: the service access point and the command/response bit
 pub record Frame : Type 0 where
   pub sapi : ℕ
   pub cr : Bool
   pub content : Content
 
+-- the content that a body of the program stands for
 abbrev pub content_of : Body → Content
 content_of (B.I ns nr p more info) = I ns nr p more info.now
 content_of (B.Rr nr pf) = Rr nr pf
@@ -35,11 +36,11 @@ content_of (B.Ui p info) = Ui p info.now
 content_of (B.Disc p) = Disc p
 content_of (B.Ua f info) = Ua f info.now
 
--- the frame that a value of the program stands for
+-- the frame that a view of the program stands for
 abbrev pub frame_of : FrameView → Frame
 frame_of view = record { sapi = view.sapi; cr = view.cr; content = content_of view.body }
 
--- the octets that a value of the program borrows for its information
+-- the octets that a body of the program borrows for its information
 abbrev pub borrowed : Body → Option (Bor (List ℕ))
 borrowed (B.I ns nr p more info) = Some info
 borrowed (B.Sabm p info) = Some info

@@ -15,10 +15,6 @@ pub record IsOnlyFrame (channel : Channel) (f : Frame) (octets : List ℕ) : Typ
   pub only : (other : Frame) → IsFrame channel other octets → other ≡ f
   pub unrefused : (reason : Refusal) → ¬ IsRefused channel octets reason
 
--- the information is lent from the block itself, behind the length octet
-abbrev pub LiesIn : Channel → Bor (List ℕ) → Body → Type 0
-LiesIn channel block body = IfSome (borrowed body) (λ info. (info.ref_ptr.0 ≡ block.ref_ptr.0) × (info.ref_ptr.1 ≡ block.ref_ptr.1 + header channel + 3))
-
 -- the octets are refused for this reason and no other, and are no frame
 pub record IsOnlyRefusal (channel : Channel) (octets : List ℕ) (reason : Refusal) : Type 0 where
   pub refused : IsRefused channel octets reason
@@ -34,3 +30,7 @@ pub record IsOnlyCanonical (channel : Channel) (f : Frame) (octets : List ℕ) :
 -- the octets are exactly one frame, or are refused for exactly one reason, and never both
 abbrev pub HasOneReading : Channel → List ℕ → Type 0
 HasOneReading channel octets = ((f : Frame) × IsOnlyFrame channel f octets) ⊎ ((reason : Refusal) × IsOnlyRefusal channel octets reason)
+
+-- the information is lent from the block itself, behind the length octet
+abbrev pub LiesIn : Channel → Bor (List ℕ) → Body → Type 0
+LiesIn channel block body = IfSome (borrowed body) (λ info. (info.ref_ptr.0 ≡ block.ref_ptr.0) × (info.ref_ptr.1 ≡ block.ref_ptr.1 + header channel + 3))

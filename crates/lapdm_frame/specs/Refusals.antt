@@ -11,6 +11,7 @@ use Rattle.lapdm_frame.specs.Frames.{control, NumbersFit}
 abbrev pub IsControl : ℕ → Content → Type 0
 IsControl octet content = NumbersFit content × (octet ≡ control content)
 
+-- the one kind that numbers its information, and always has some
 abbrev pub IsInformationFrame : Content → Type 0
 IsInformationFrame (I ns nr p more info) = Unit {0}
 IsInformationFrame other = ⊥
