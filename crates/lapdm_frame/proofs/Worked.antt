@@ -1,5 +1,5 @@
 -- The octets of frames worked by hand.
-use Rattle.std.proofs.Common.{◌≡◌, Bool, true, false, List, [], ◌∷◌, ◌++◌, replicate, refl}
+use Rattle.std.proofs.Common.{◌≡◌, true, false, [], ◌∷◌, replicate, refl}
 use Rattle.lapdm_frame.specs.declared.Channel.TheVariants.{Sdcch, Sacch}
 use Rattle.lapdm_frame.specs.Content.{I, Rr, fill}
 use Rattle.lapdm_frame.specs.Frames.{octets_of}

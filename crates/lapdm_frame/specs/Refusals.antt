@@ -4,7 +4,7 @@ use Rattle.lapdm_frame.specs.declared.Channel.{Channel}
 use Rattle.lapdm_frame.specs.declared.Refusal.{Refusal}
 use Rattle.lapdm_frame.specs.declared.Refusal.TheVariants.{Lpd, Ea, Control, El, Length, Empty, More}
 use Rattle.lapdm_frame.specs.Layout.{n201, address_in, control_in, length_in}
-use Rattle.lapdm_frame.specs.Content.{Content, I, Rr, Rnr, Rej, Sabm, Dm, Ui, Disc, Ua}
+use Rattle.lapdm_frame.specs.Content.{Content, I, Sabm, Ui, Ua}
 use Rattle.lapdm_frame.specs.Frames.{control, NumbersFit}
 
 -- the octet is the control octet of this content

@@ -1,4 +1,4 @@
-use Rattle.std.proofs.Common.{◌≡◌, ◌⊎◌, arith}
+use Rattle.std.proofs.Common.{◌≡◌, arith}
 use Rattle.lapdm_frame.specs.declared.Refusal.TheVariants.{Ea, Control}
 use Rattle.lapdm_frame.specs.Content.{content_of}
 use Rattle.lapdm_frame.proofs.Uniqueness.{only_frame}
