@@ -9,7 +9,7 @@ header Sdcch = 0
 header Sacch = 2
 
 -- the most octets of information in a frame (N201, section 5.8.3): what the octets before the address,
--- address, control and length leave of 23
+-- address, control and length leave of 23; the 18 of SACCH is this project's own choice
 abbrev pub n201 : Channel → ℕ
 n201 Sdcch = 20
 n201 Sacch = 18

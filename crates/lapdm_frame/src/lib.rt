@@ -1,4 +1,5 @@
-//! Frames of LAPDm (GSM 04.06) of the formats A and B: read, checked and written.
+//! Frames of LAPDm (GSM 04.06) of the formats A and B, read from blocks of 23 octets and written to
+//! them. No call takes memory, and what is read borrows its information from the block.
 #![tactic(auto)]
 
 ghost use Rattle.std.specs.Prelude.{◌≡◌, ◌+◌};
