@@ -1,0 +1,6 @@
+pub mod KnownOctets
+pub mod LineLists
+pub mod RunLemmas
+pub mod Giving
+pub mod Judging
+pub mod OutputLemmas
