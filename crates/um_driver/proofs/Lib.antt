@@ -4,3 +4,4 @@ pub mod RunLemmas
 pub mod Giving
 pub mod Judging
 pub mod OutputLemmas
+pub mod OutputExists
