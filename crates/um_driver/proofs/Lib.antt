@@ -5,3 +5,4 @@ pub mod Giving
 pub mod Judging
 pub mod OutputLemmas
 pub mod OutputExists
+pub mod TableLemmas
