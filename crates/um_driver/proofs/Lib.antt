@@ -6,3 +6,5 @@ pub mod Judging
 pub mod OutputLemmas
 pub mod OutputExists
 pub mod TableLemmas
+pub mod Turns
+pub mod Comings

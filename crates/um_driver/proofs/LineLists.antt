@@ -1,5 +1,5 @@
 -- How octets are divided into lines, and that they are divided in one way.
-use Rattle.std.proofs.Common.{◌≡◌, ℕ, ◌<◌, ◌≤◌, ◌+◌, List, [], ◌∷◌, ◌++◌, length, ◌⊎◌, inl, inr, sym, refl, ap, ◌∙◌, append_assoc, append-nil, arith}
+use Rattle.std.proofs.Common.{◌≡◌, ℕ, ◌<◌, ◌≤◌, ◌+◌, List, [], ◌∷◌, ◌++◌, length, ◌⊎◌, inl, inr, sym, refl, ap, ◌∙◌, append_assoc, append-nil, length-append, arith}
 use Rattle.std.specs.List.{All}
 use Rattle.std.proofs.lemmas.List.Elements.{All-nil, All-cons, All-head, All-tail, All-append}
 use Rattle.um_io.specs.Lines.{IsPlain, IsLine, IsDivided, IsCutOff, text_of}
@@ -89,3 +89,14 @@ one_division ls ls' u v h h' hu hv e = elim (compared ls ls' u v h h' e) [
     | inr g ↦ absurd (no_feed v g.line (text_of g.more ++ u) hv g.rest_is)
     ]
   ]
+
+-- one line more
+pub text-push : (ls : List (List ℕ)) (l u : List ℕ) → text_of (ls ++ l ∷ []) ++ u ≡ text_of ls ++ (l ++ 10 ∷ u)
+text-push [] l u = text-cons l [] u
+text-push (k ∷ ls) l u =
+  text-cons k (ls ++ l ∷ []) u ∙ ap (λ w. k ++ 10 ∷ w) (text-push ls l u) ∙ sym (text-cons k ls (l ++ 10 ∷ u))
+
+pub length-text-push : (ls : List (List ℕ)) (l : List ℕ) → length (text_of (ls ++ l ∷ [])) ≡ length (text_of ls ++ l) + 1
+length-text-push ls l =
+  let e = ap length (text-push ls l []) in
+  omega (arith, e, length-append (text_of (ls ++ l ∷ [])) [], length-append (text_of ls) (l ++ 10 ∷ []), length-append l (10 ∷ []), length-append (text_of ls) l)
