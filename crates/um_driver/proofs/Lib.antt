@@ -8,3 +8,4 @@ pub mod OutputExists
 pub mod TableLemmas
 pub mod Turns
 pub mod Comings
+pub mod Settling

@@ -3,6 +3,7 @@ use Rattle.std.specs.Prelude.{ℕ, ◌≡◌, ◌≤◌, ◌+◌, Bool, true, fa
 use Rattle.std.specs.Io.KnownBytes.{Appends, Consumes, Keeps, IsAtEnd}
 use Rattle.um_io.specs.Lines.{IsLine, IsCutOff, text_of}
 use Rattle.um_io.specs.Reading.{Reading, IsReading}
+use Rattle.um_io.specs.Outside.{Rose}
 use Rattle.um_text.specs.declared.fault.LineFault.{LineFault}
 use Rattle.um_text.specs.Refusals.{refused_text}
 use Rattle.um_driver.specs.Rules.{Rules, Runs}
@@ -80,3 +81,25 @@ Comes r a Stands reading left left' taken taken' text turn.ReadFault = IsRun r a
 -- a piece was taken whole, or a front of it
 abbrev pub TakesAll : {T E : Type 0} → Option (List ℕ) → Option (List ℕ) → Result T E → List ℕ → Type 0
 TakesAll taken taken' result piece = MatchResult result (λ _. Appends taken taken' piece) (λ _. TakesFront taken taken' piece)
+
+-- what was written for a turn, whose answer is text, and how the run ends with it, if it does
+abbrev pub Settles : Turn → List ℕ → Option (List ℕ) → Option (List ℕ) → Option Status → Type 0
+Settles turn.Answered text taken taken' None = Appends taken taken' text
+Settles turn.Answered text taken taken' (Some WriteFault) = TakesFront taken taken' text
+Settles (turn.Refused number fault) text taken taken' (Some BadInput) = Appends taken taken' (refused_text number fault)
+Settles (turn.Refused number fault) text taken taken' (Some WriteFault) = TakesFront taken taken' (refused_text number fault)
+Settles turn.Done text taken taken' (Some Done) = taken' ≡ taken
+Settles turn.TooLong text taken taken' (Some TooLong) = taken' ≡ taken
+Settles turn.ReadFault text taken taken' (Some ReadFault) = taken' ≡ taken
+Settles _ text taken taken' _ = ⊥
+
+-- a refusal was written whole, or a front of it
+abbrev pub Refuses : ℕ → LineFault → Option (List ℕ) → Option (List ℕ) → Status → Type 0
+Refuses number fault taken taken' BadInput = Appends taken taken' (refused_text number fault)
+Refuses number fault taken taken' WriteFault = TakesFront taken taken' (refused_text number fault)
+Refuses number fault taken taken' _ = ⊥
+
+-- the sink failed only where its count rose
+abbrev pub WriteCause : Option Status → ℕ → ℕ → Type 0
+WriteCause (Some WriteFault) before now = Rose before now
+WriteCause _ before now = Unit {0}
