@@ -2,9 +2,12 @@
 #![tactic(auto)]
 
 mod adapters;
+mod buffer;
+mod lines;
 mod memory;
 mod outside;
 
 pub use adapters::{ReadSource, WriteSink};
+pub use lines::{Lines, Next};
 pub use memory::{MemorySink, MemorySource, PlainSource};
 pub use outside::{Failed, NoMemory, Sink, Source};

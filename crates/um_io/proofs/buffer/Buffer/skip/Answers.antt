@@ -1,0 +1,17 @@
+use Rattle.std.proofs.Common.{◌≡◌, ◌≤◌, ◌+◌, max, length, arith, sym, subst, slice_range}
+use Rattle.std.proofs.lemmas.List.Edits.{length-between}
+use Rattle.um_io.specs.Lines.{IsLine}
+use Rattle.um_io.proofs.FeedLemmas.{IsLine-skipped, slice_range-rest}
+use Rattle.um_io.proofs.buffer.Buffer.skip.Goals as goal
+
+pub invariant_of-self-clause-plain : goal.invariant_of-self-clause-plain
+invariant_of-self-clause-plain c =
+    let b = c.args.self.now in
+    subst (λ m. IsLine (slice_range b.octets.items (b.start + c.args.count) m)) (sym c.max-self.ensures) (IsLine-skipped b.octets.items b.start b.scanned c.args.count b.plain)
+
+pub returns-clause-rest : goal.returns-clause-rest
+returns-clause-rest c =
+    let b = c.args.self.now in
+    let size = length-between b.octets.items b.start b.end (omega (arith, b.octets.ok.0)) in
+    let fits : b.start + c.args.count ≤ b.end = omega (arith, c.requires, b.begun, b.seen) in
+    sym (slice_range-rest b.octets.items b.start b.end c.args.count fits)

@@ -1,0 +1,11 @@
+use Rattle.std.proofs.Common.{◌≤◌, ℕ, List}
+use Rattle.um_io.proofs.ReadingLemmas.{IsFinding, turns_left}
+use Rattle.um_io.proofs.lines.Lines.find.Given as goal
+
+abbrev pub invariant-loop-found : goal.invariant-loop-found
+invariant-loop-found g l =
+    ((came : List ℕ) × IsFinding l.initial.self l.self (g.S.Source.left l.initial.source) (g.S.Source.left l.source) came)
+    × (g.S.Source.faults l.initial.source ≤ g.S.Source.faults l.source)
+
+abbrev pub decreases-loop-found : goal.decreases-loop-found
+decreases-loop-found g l = turns_left l.self

@@ -1,0 +1,15 @@
+use Rattle.std.proofs.Common.{◌≡◌, ◌<◌, ◌-◌, ℕ, [], length, take, drop, ap, arith}
+use Rattle.um_io.specs.Buffer.{octets_of}
+use Rattle.um_io.specs.Reading.{Reading, NeedsMore, input_limit}
+use Rattle.um_io.proofs.ReadingLemmas.{length-cut}
+use Rattle.um_io.proofs.lines.Lines.read.Goals as goal
+
+pub read-requires : goal.read-requires
+read-requires g c =
+    let octets = octets_of c.self.inside.buffer in
+    let limit = input_limit - c.self.inside.answered in
+    let whole = length-cut octets limit in
+    let held : length (take limit octets) ≡ length c.args.self.now.held = ap (λ (r : Reading). length r.held) c.self.view_is in
+    let past : length (drop limit octets) ≡ length c.args.self.now.past = ap (λ (r : Reading). length r.past) c.self.view_is in
+    let none : length c.args.self.now.past ≡ 0 = ap length c.requires.past in
+    record { room = omega (arith, c.requires.short) }

@@ -1,0 +1,137 @@
+//! The octets that a reader of lines holds.
+ghost use Rattle.std.specs.Prelude.{◌≡◌, ◌≤◌, ◌<◌, ◌+◌, ◌-◌, ℕ, List, [], ◌++◌, length, take, drop, slice_range, vec_len, MatchOption, IfOk, OnErr};
+ghost use Rattle.std.specs.Io.KnownBytes.{Consumes, Keeps, IsAtEnd};
+ghost use Rattle.um_io.specs.Lines.{IsLine, IsFirstFeed};
+ghost use Rattle.um_io.specs.Outside.{Rose};
+
+use crate::outside::{Failed, NoMemory, Source};
+use memchr::memchr;
+use std::alloc::Global;
+
+/// How many octets are held at most: a longest line and its line feed.
+const ROOM: usize = 4097;
+
+/// What stands from `start` up to `end` is held, and up to `scanned` it has no line feed.
+#[derive(Debug, Drop)]
+pub(crate) struct Buffer {
+    octets: Vec<u8>,
+    start: usize,
+    scanned: usize,
+    end: usize,
+    ghost size: { vec_len octets ≡ 4097 },
+    ghost begun: { start ≤ scanned },
+    ghost seen: { scanned ≤ end },
+    ghost within: { end ≤ 4097 },
+    ghost plain: { IsLine (slice_range octets.items start scanned) },
+}
+
+impl Buffer {
+    ghost use Rattle.um_io.specs.Buffer.{octets_of};
+
+    pub(crate) fn new(alloc: Global) -> Result<Self, NoMemory>
+        ensures { IfOk result (λ b. octets_of b ≡ []) }
+    {
+        let octets = vec![in alloc; 0; ROOM].map_err(|_| NoMemory)?;
+        Ok(Buffer {
+            octets,
+            start: 0,
+            scanned: 0,
+            end: 0,
+        })
+    }
+
+    /// How many octets are held.
+    pub(crate) fn len(&self) -> usize
+        ensures held { result ≡ length (octets_of self.now) }
+        ensures room { result ≤ 4097 }
+    {
+        self.end - self.start
+    }
+
+    /// Where the first line feed stands. Each octet is looked at once.
+    pub(crate) fn first_feed(&mut self) -> Option<usize>
+        ensures kept { octets_of self.new ≡ octets_of self.old }
+        ensures found { MatchOption result (IsLine (octets_of self.old)) (IsFirstFeed (octets_of self.old)) }
+    {
+        match feed_in(&self.octets[self.scanned..self.end]) {
+            Some(at) => {
+                self.scanned += at;
+                Some(self.scanned - self.start)
+            }
+            None => {
+                self.scanned = self.end;
+                None
+            }
+        }
+    }
+
+    /// Asks the source once, for all that there is room for, and answers how many octets came.
+    pub(crate) fn read<S: Source>(&mut self, source: &mut S) -> Result<usize, Failed>
+        requires room { length (octets_of self.old) < 4097 }
+        ensures came { IfOk result (λ n. (came : List ℕ) × (octets_of self.new ≡ octets_of self.old ++ came) × (length came ≡ n) × Consumes (S.left source.old) (S.left source.new) came) }
+        ensures end { IfOk result (λ n. n ≡ 0 → IsAtEnd (S.left source.new)) }
+        ensures failed { OnErr result ((octets_of self.new ≡ octets_of self.old) × Keeps (S.left source.old) (S.left source.new)) }
+        ensures later { S.faults source.old ≤ S.faults source.new }
+        ensures cause { OnErr result (Rose (S.faults source.old) (S.faults source.new)) }
+    {
+        self.move_to_front();
+        let count = fill_from(source, &mut self.octets, self.end)?;
+        self.end += count;
+        Ok(count)
+    }
+
+    fn move_to_front(&mut self)
+        ensures kept { octets_of self.new ≡ octets_of self.old }
+        ensures front { self.new.start ≡ 0 }
+    {
+        if self.start > 0 {
+            self.octets.copy_within(self.start..self.end, 0);
+            self.end -= self.start;
+            self.scanned -= self.start;
+            self.start = 0;
+        }
+    }
+
+    /// Gives up the first octets, and answers where they stood.
+    pub(crate) fn skip(&mut self, count: usize) -> usize
+        requires { count ≤ length (octets_of self.old) }
+        ensures rest { octets_of self.new ≡ drop count (octets_of self.old) }
+        ensures skipped { slice_range self.new.octets.items result (result + count) ≡ take count (octets_of self.old) }
+        ensures within { result + count ≤ 4097 }
+    {
+        let from = self.start;
+        self.start += count;
+        self.scanned = self.scanned.max(self.start);
+        from
+    }
+
+    pub(crate) fn part(&self, from: usize, to: usize) -> &[u8]
+        requires ordered { from ≤ to }
+        requires within { to ≤ 4097 }
+        ensures { result.now ≡ slice_range self.now.octets.items from to }
+    {
+        &self.octets[from..to]
+    }
+}
+
+/// Asks the source once for what stands from `end` on, and answers how many octets came.
+fn fill_from<S: Source>(source: &mut S, octets: &mut Vec<u8>, end: usize) -> Result<usize, Failed>
+    requires { end < vec_len octets.old }
+    ensures len { vec_len octets.new ≡ vec_len octets.old }
+    ensures front { take end octets.new.items ≡ take end octets.old.items }
+    ensures bound { IfOk result (λ n. n + end ≤ vec_len octets.old) }
+    ensures came { IfOk result (λ n. Consumes (S.left source.old) (S.left source.new) (slice_range octets.new.items end (end + n))) }
+    ensures at_end { IfOk result (λ n. n ≡ 0 → IsAtEnd (S.left source.new)) }
+    ensures failed { OnErr result (Keeps (S.left source.old) (S.left source.new)) }
+    ensures later { S.faults source.old ≤ S.faults source.new }
+    ensures cause { OnErr result (Rose (S.faults source.old) (S.faults source.new)) }
+{
+    source.take(&mut octets[end..])
+}
+
+/// Where the first line feed stands.
+fn feed_in(octets: &[u8]) -> Option<usize>
+    ensures { MatchOption result (IsLine octets.now) (IsFirstFeed octets.now) }
+{
+    memchr(b'\n', octets)
+}
