@@ -1,0 +1,6 @@
+pub mod CodeFaults
+pub mod CodeLaws
+pub mod DigitWords
+pub mod HexLists
+pub mod WordLists
+pub mod WorkedLines

@@ -1,0 +1,9 @@
+pub mod BurstTexts
+pub mod CodeLines
+pub mod CodeReading
+pub mod Digits
+pub mod Forms
+pub mod HexDigits
+pub mod Meanings
+pub mod Refusals
+pub mod Words

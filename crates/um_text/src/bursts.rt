@@ -1,0 +1,63 @@
+//! The lines that bursts are written as.
+ghost use Rattle.std.specs.Prelude.{◌≡◌, ◌+◌, ◌≤◌, [], ◌++◌, length};
+ghost use Rattle.std.specs.List.{All};
+ghost use Rattle.bit_blocks.specs.Bits.{AllBits};
+ghost use Rattle.um_text.specs.BurstTexts.{normal_text, access_text, sync_text, block_text};
+
+use crate::text::Text;
+use bit_blocks::Bits;
+
+/// Writes the line of a normal burst.
+pub fn normal_line(out: &mut Text, burst: &[u8; 148])
+    requires empty { out.old ≡ [] }
+    requires bits { AllBits burst.now }
+    ensures { out.new ≡ normal_text burst.now }
+{
+    push_normal(out, burst);
+}
+
+/// Writes the lines of the four normal bursts of a block.
+pub fn block_lines(out: &mut Text, bursts: &[[u8; 148]; 4])
+    requires empty { out.old ≡ [] }
+    requires bits { All AllBits bursts.now }
+    ensures { out.new ≡ block_text bursts.now }
+{
+    for burst in bursts {
+        push_normal(out, burst);
+    }
+}
+
+/// Writes the line of an access burst for the cell of this base station identity code.
+pub fn access_line(out: &mut Text, bsic: &Bits<6>, burst: &[u8; 88])
+    requires empty { out.old ≡ [] }
+    requires bits { AllBits burst.now }
+    ensures { out.new ≡ access_text bsic.now burst.now }
+{
+    out.push(b"a ");
+    out.push_digits(bsic.as_slice());
+    out.push(b" ");
+    out.push_digits(burst);
+    out.push(b"\n");
+}
+
+/// Writes the line of a synchronisation burst.
+pub fn sync_line(out: &mut Text, burst: &[u8; 148])
+    requires empty { out.old ≡ [] }
+    requires bits { AllBits burst.now }
+    ensures { out.new ≡ sync_text burst.now }
+{
+    out.push(b"s ");
+    out.push_digits(burst);
+    out.push(b"\n");
+}
+
+fn push_normal(out: &mut Text, burst: &[u8; 148])
+    requires room { length out.old + 151 ≤ 4096 }
+    requires bits { AllBits burst.now }
+    ensures text { out.new ≡ out.old ++ normal_text burst.now }
+    ensures length { length out.new ≡ length out.old + 151 }
+{
+    out.push(b"n ");
+    out.push_digits(burst);
+    out.push(b"\n");
+}

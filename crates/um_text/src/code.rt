@@ -1,0 +1,108 @@
+//! The lines of the command `code`.
+ghost use Rattle.std.specs.Prelude.{◌≡◌, ℕ, List, ◌∷◌, IfOk, codes};
+ghost use Rattle.std.specs.Result.{result_err};
+ghost use Rattle.um_text.specs.Words.{words};
+ghost use Rattle.um_text.specs.Meanings.{HasOneMeaningUnless};
+ghost use Rattle.um_text.specs.CodeLines.{code_fault, CodeMeans};
+ghost use Rattle.um_text.specs.CodeReading.{IsReadAs};
+
+use crate::digits::{are_bit_digits, bits_of, digit_to};
+use crate::fault::LineFault;
+use crate::hex_digits::{are_hex_digits, octets_of};
+use crate::words::{LINE_LIMIT, first_word, is_skipped, one_word, two_words};
+use bit_blocks::Bits;
+
+/// What a line of the command `code` asks for.
+#[derive(Clone, Copy, PartialEq, Eq, Debug)]
+pub enum CodeLine {
+    /// Nothing: an empty line, or one that begins with `#`.
+    Skip,
+    /// A block of these octets in four normal bursts, with training sequence `tsc`, 0 to 7.
+    Block { tsc: u8, octets: [u8; 23] },
+    /// An access burst of this information for the cell of this base station identity code.
+    Rach { info: Bits<8>, bsic: Bits<6> },
+    /// A synchronisation burst of this information.
+    Sch { info: Bits<25> },
+}
+
+/// Reads a line of `code`, given without its line feed: `block T HEX46`, `rach DIGITS8 BSIC6`, `sch DIGITS25`.
+pub fn parse_code(line: &[u8]) -> Result<CodeLine, LineFault>
+    ensures means { IfOk result (CodeMeans line.now) }
+    ensures refused { result_err result ≡ code_fault line.now }
+{
+    if line.len() > LINE_LIMIT {
+        return Err(LineFault::Long);
+    }
+    if is_skipped(line) {
+        return Ok(CodeLine::Skip);
+    }
+    parse_words(line)
+}
+
+fn parse_words(line: &[u8]) -> Result<CodeLine, LineFault>
+    ensures { IsReadAs (words line.now) result }
+{
+    let Some((command, rest)) = first_word(line) else {
+        return Err(LineFault::Word);
+    };
+    match command {
+        b"block" => parse_block(rest),
+        b"rach" => parse_rach(rest),
+        b"sch" => parse_sch(rest),
+        _ => Err(LineFault::Word),
+    }
+}
+
+#[tactic(auto, using(crate::proofs::CodeFaults::block_of_other_count))]
+fn parse_block(rest: &[u8]) -> Result<CodeLine, LineFault>
+    ensures { IsReadAs (codes "block" ∷ words rest.now) result }
+{
+    let (number, digits) = two_words(rest)?;
+    let tsc = digit_to(7, number)?;
+    if !are_hex_digits(digits) {
+        return Err(LineFault::Digits);
+    }
+    if digits.len() != 46 {
+        return Err(LineFault::Length);
+    }
+    let octets = octets_of(digits);
+    Ok(CodeLine::Block { tsc, octets })
+}
+
+#[tactic(auto, using(crate::proofs::CodeFaults::rach_of_other_count))]
+fn parse_rach(rest: &[u8]) -> Result<CodeLine, LineFault>
+    ensures { IsReadAs (codes "rach" ∷ words rest.now) result }
+{
+    let (info, bsic) = two_words(rest)?;
+    if !are_bit_digits(info) || !are_bit_digits(bsic) {
+        return Err(LineFault::Digits);
+    }
+    if info.len() != 8 || bsic.len() != 6 {
+        return Err(LineFault::Length);
+    }
+    Ok(CodeLine::Rach {
+        info: bits_of(info),
+        bsic: bits_of(bsic),
+    })
+}
+
+#[tactic(auto, using(crate::proofs::CodeFaults::sch_of_other_count))]
+fn parse_sch(rest: &[u8]) -> Result<CodeLine, LineFault>
+    ensures { IsReadAs (codes "sch" ∷ words rest.now) result }
+{
+    let info = one_word(rest)?;
+    if !are_bit_digits(info) {
+        return Err(LineFault::Digits);
+    }
+    if info.len() != 25 {
+        return Err(LineFault::Length);
+    }
+    Ok(CodeLine::Sch {
+        info: bits_of(info),
+    })
+}
+
+/// Each line has one meaning and no other where it has no reason, and none where it has one.
+pub fn law_code()
+    ensures { (line : List ℕ) → HasOneMeaningUnless (code_fault line) (CodeMeans line) }
+{}

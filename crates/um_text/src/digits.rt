@@ -1,0 +1,40 @@
+//! Words of decimal digits.
+ghost use Rattle.std.specs.Prelude.{◌≡◌, ◌≤◌, false, length, IsTrue, MatchResult};
+ghost use Rattle.std.specs.List.{list_all};
+ghost use Rattle.um_text.specs.Digits.{is_bit_digit, is_digit_to, SpellsBits, SpellsDigit};
+
+use crate::fault::LineFault;
+use bit_blocks::Bits;
+
+/// Whether a word has no other octets than the digits `0` and `1`.
+pub(crate) fn are_bit_digits(word: &[u8]) -> bool
+    ensures { result ≡ list_all is_bit_digit word.now }
+{
+    word.iter().all(|octet| matches!(*octet, b'0' | b'1'))
+}
+
+/// The bits of `N` digits.
+pub(crate) fn bits_of<const N: usize>(digits: &[u8]) -> Bits<N>
+    requires each { IsTrue (list_all is_bit_digit digits.now) }
+    requires many { length digits.now ≡ N }
+    ensures { SpellsBits N digits.now result }
+{
+    let mut bits = Bits::zero();
+    for (i, digit) in digits.iter().enumerate() {
+        bits.set(i, *digit - b'0');
+    }
+    bits
+}
+
+/// The number of a word of one digit that is no greater than `most`, or the fault `Digits`.
+pub(crate) fn digit_to(most: u8, word: &[u8]) -> Result<u8, LineFault>
+    requires { most ≤ 9 }
+    ensures { MatchResult result
+        (SpellsDigit most word.now)
+        (λ fault. (fault ≡ LineFault.Digits) × (is_digit_to most word.now ≡ false)) }
+{
+    match word {
+        [digit] if b'0' <= *digit && *digit <= b'0' + most => Ok(*digit - b'0'),
+        _ => Err(LineFault::Digits),
+    }
+}

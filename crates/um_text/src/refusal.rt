@@ -1,0 +1,35 @@
+//! The line that ends the output of an input that is refused.
+ghost use Rattle.std.specs.Prelude.{◌≡◌, ◌≤◌, [], length};
+ghost use Rattle.um_text.specs.Refusals.{reason_word, refused_text};
+
+use crate::fault::LineFault;
+use crate::text::Text;
+
+/// Writes the line that says which line of the input was refused, and why.
+pub fn refused_line(out: &mut Text, number: u64, fault: LineFault)
+    requires { out.old ≡ [] }
+    ensures { out.new ≡ refused_text number fault }
+{
+    let mut decimal = itoa::Buffer::new();
+    out.push(b"refused ");
+    out.push(decimal.format(number).as_bytes());
+    out.push(b" ");
+    out.push(reason(fault));
+    out.push(b"\n");
+}
+
+fn reason(fault: LineFault) -> &'static [u8]
+    ensures word { result.now ≡ reason_word fault }
+    ensures short { length result.now ≤ 6 }
+{
+    match fault {
+        LineFault::Long => b"long",
+        LineFault::Word => b"word",
+        LineFault::Order => b"order",
+        LineFault::Digits => b"digits",
+        LineFault::Length => b"length",
+        LineFault::Soft => b"soft",
+        LineFault::Place => b"place",
+        LineFault::Twice => b"twice",
+    }
+}

@@ -1,0 +1,81 @@
+ghost use Rattle.std.specs.Prelude.{◌≡◌, ◌+◌, ◌≤◌, [], ◌++◌, length};
+ghost use Rattle.bit_blocks.specs.Bits.{AllBits};
+ghost use Rattle.um_text.specs.Digits.{bit_digits};
+
+use std::marker::Model;
+
+/// Lines of output, in at most 4,096 octets, which lie in the value itself.
+#[derive(Drop)]
+pub struct Text {
+    room: [u8; 4096],
+    length: usize,
+}
+
+// Clauses see the list of octets.
+impl Model for Text {
+    ghost use Rattle.std.specs.Prelude.{ℕ, ◌≤◌, List, take};
+
+    ghost Value = { List ℕ };
+
+    ghost view = { λ text. take text.length text.room };
+
+    ghost invariant = { λ text. text.length ≤ 4096 };
+}
+
+impl Text {
+    /// No octet.
+    pub fn new() -> Text
+        ensures { result ≡ [] }
+    {
+        Text {
+            room: [0; 4096],
+            length: 0,
+        }
+    }
+
+    /// What was written.
+    pub fn octets(&self) -> &[u8]
+        ensures value { result.now ≡ self.now }
+        ensures room { length result.now ≤ 4096 }
+    {
+        &self.room[..self.length]
+    }
+
+    /// Forgets what was written.
+    pub fn clear(&mut self)
+        ensures { self.new ≡ [] }
+    {
+        self.length = 0;
+    }
+
+    /// Appends octets.
+    pub(crate) fn push(&mut self, octets: &[u8])
+        requires { length self.old + length octets.now ≤ 4096 }
+        ensures { self.new ≡ self.old ++ octets.now }
+    {
+        let end = self.length + octets.len();
+        self.room[self.length..end].copy_from_slice(octets);
+        self.length = end;
+    }
+
+    /// Appends the digits of bits.
+    pub(crate) fn push_digits(&mut self, bits: &[u8])
+        requires room { length self.old + length bits.now ≤ 4096 }
+        requires bits { AllBits bits.now }
+        ensures { self.new ≡ self.old ++ bit_digits bits.now }
+    {
+        let end = self.length + bits.len();
+        write_digits(&mut self.room[self.length..end], bits);
+        self.length = end;
+    }
+}
+
+fn write_digits(digits: &mut [u8], bits: &[u8])
+    requires count { length digits.old ≡ length bits.now }
+    requires bits { AllBits bits.now }
+    ensures { digits.new ≡ bit_digits bits.now }
+{
+    for (i, bit) in bits.iter().enumerate() {
+        digits[i] = b'0' + *bit;
+    }
+}
