@@ -1,5 +1,7 @@
 -- The definitions that the contracts of this crate cite.
+pub mod Course
 pub mod Divided
+pub mod Laws
 pub mod Outputs
 pub mod Rules
 pub mod Statuses

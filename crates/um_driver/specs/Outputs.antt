@@ -1,9 +1,9 @@
 -- What a command's rules say of a whole input.
-use Rattle.std.specs.Prelude.{ℕ, ◌≡◌, ◌≤◌, ◌<◌, ◌+◌, List, [], ◌∷◌, ◌++◌, length, take, Option, Some, None, ◌⊎◌}
-use Rattle.um_io.specs.Lines.{IsLine, text_of}
+use Rattle.std.specs.Prelude.{ℕ, ◌≡◌, ◌≤◌, ◌<◌, ◌+◌, List, [], ◌∷◌, ◌++◌, length, Option, Some, None, ◌⊎◌}
+use Rattle.um_io.specs.Lines.{IsLine, IsDivided, text_of}
 use Rattle.um_text.specs.declared.fault.LineFault.{LineFault}
-use Rattle.um_text.specs.Refused.{refused_text}
-use Rattle.um_driver.specs.Divided.{Begins, AreLines}
+use Rattle.um_text.specs.Refusals.{refused_text}
+use Rattle.um_driver.specs.Divided.{Begins}
 use Rattle.um_driver.specs.Rules.{Rules, Runs, IsBad}
 use Rattle.um_driver.specs.declared.status.Status.{Status}
 use Rattle.um_driver.specs.declared.status.Status.TheVariants.{Done, BadInput, TooLong}
@@ -12,7 +12,7 @@ use Rattle.um_driver.specs.declared.status.Status.TheVariants.{Done, BadInput, T
 pub record IsGoodInput {State : Type 0} (r : Rules State) (a : State) (x y : List ℕ) : Type 0 where
   pub lines : List (List ℕ)
   pub state : State
-  pub all : AreLines x lines
+  pub all : IsDivided x lines
   pub limit : length x ≤ 67108864
   pub runs : Runs r a lines y state
   pub end_good : r.end_fault state ≡ None
@@ -31,7 +31,7 @@ pub record IsJudged (q rest : List ℕ) (lines : List (List ℕ)) (line : List �
 -- q is the whole input, within the limit, has these lines, and its end has this reason
 pub record IsBadEnd {State : Type 0} (r : Rules State) (q rest : List ℕ) (lines : List (List ℕ)) (b : State) (fault : LineFault) : Type 0 where
   pub none_left : rest ≡ []
-  pub all : AreLines q lines
+  pub all : IsDivided q lines
   pub limit : length q ≤ 67108864
   pub reason : r.end_fault b ≡ Some fault
 
@@ -56,9 +56,19 @@ pub record IsPartialOutput {State : Type 0} (r : Rules State) (a : State) (q y :
   pub short : length last ≤ 4096
   pub runs : Runs r a lines y state
 
+-- these octets go on past the limit: the first of them count, and the others do not
+pub record IsOver (q counted past : List ℕ) : Type 0 where
+  pub whole : q ≡ counted ++ past
+  pub count : length counted ≡ 67108864
+  pub some : 0 < length past
+
+-- these octets go on past the limit, and those that count are answered so
+abbrev pub IsTooLong : {State : Type 0} → Rules State → State → List ℕ → List ℕ → Type 0
+IsTooLong r a q y = (counted past : List ℕ) × IsOver q counted past × IsPartialOutput r a counted y
+
 -- a run over the input x is to end so, with the output z
 abbrev pub IsOutput : {State : Type 0} → Rules State → State → List ℕ → Status → List ℕ → Type 0
 IsOutput r a x Done z = IsGoodInput r a x z
 IsOutput r a x BadInput z = IsRefused r a x [] z
-IsOutput r a x TooLong z = (67108864 < length x) × IsPartialOutput r a (take 67108864 x) z
+IsOutput r a x TooLong z = IsTooLong r a x z
 IsOutput r a x _ z = ⊥

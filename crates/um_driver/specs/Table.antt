@@ -1,13 +1,13 @@
 -- What each status of a run says of what was read and what was written.
-use Rattle.std.specs.Prelude.{ℕ, ◌≡◌, ◌≤◌, ◌<◌, ◌+◌, List, [], ◌∷◌, ◌++◌, length, take, Option, Some, None, IfSome, ◌⊎◌}
+use Rattle.std.specs.Prelude.{ℕ, ◌≡◌, ◌≤◌, ◌<◌, ◌+◌, List, [], ◌∷◌, ◌++◌, length, Option, Some, None, IfSome, ◌⊎◌}
 use Rattle.std.specs.Io.KnownBytes.{Appends, Keeps}
-use Rattle.um_io.specs.Lines.{text_of}
+use Rattle.um_io.specs.Lines.{IsDivided, text_of}
 use Rattle.um_io.specs.Outside.{Rose}
 use Rattle.um_text.specs.declared.fault.LineFault.{LineFault}
-use Rattle.um_text.specs.Refused.{refused_text}
-use Rattle.um_driver.specs.Divided.{Begins, AreLines}
+use Rattle.um_text.specs.Refusals.{refused_text}
+use Rattle.um_driver.specs.Divided.{Begins}
 use Rattle.um_driver.specs.Rules.{Rules, Runs, IsDetermined}
-use Rattle.um_driver.specs.Outputs.{IsGoodInput, IsRefused, IsPartialOutput, IsOutput}
+use Rattle.um_driver.specs.Outputs.{IsGoodInput, IsRefused, IsPartialOutput, IsTooLong, IsOutput}
 use Rattle.um_driver.specs.declared.status.Status.{Status}
 use Rattle.um_driver.specs.declared.status.Status.TheVariants.{Done, BadWords, BadInput, ReadFault, WriteFault, NoMemory, TooLong}
 
@@ -24,7 +24,7 @@ IsFront y z = (more : List ℕ) × (z ≡ y ++ more)
 -- within the limit
 abbrev pub AreFirst : List ℕ → List ℕ → List (List ℕ) → Type 0
 AreFirst q rest lines = ((more : List ℕ) × Begins q lines more × (length (text_of lines) ≤ 67108864))
-    ⊎ ((rest ≡ []) × AreLines q lines × (length q ≤ 67108864))
+    ⊎ ((rest ≡ []) × IsDivided q lines × (length q ≤ 67108864))
 
 -- the first lines of the input are good, and are answered so
 pub record AreAnswered {State : Type 0} (r : Rules State) (a : State) (q rest : List ℕ) (lines : List (List ℕ)) (y : List ℕ) (b : State) : Type 0 where
@@ -54,7 +54,7 @@ Row r a Done q rest y = (rest ≡ []) × IsGoodInput r a q y
 Row r a BadInput q rest y = IsRefused r a q rest y × IsNear r a q y
 Row r a ReadFault q rest y = (length q ≤ 67108864) × IsPartialOutput r a q y
 Row r a WriteFault q rest y = IsDue r a q rest y × IsNear r a q y
-Row r a TooLong q rest y = (67108864 < length q) × IsPartialOutput r a (take 67108864 q) y
+Row r a TooLong q rest y = IsTooLong r a q y
 Row r a NoMemory q rest y = (q ≡ []) × (y ≡ [])
 Row r a BadWords q rest y = ⊥
 

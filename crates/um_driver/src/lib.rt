@@ -3,8 +3,11 @@
 
 mod command;
 mod driver;
+mod laws;
 mod status;
+mod writing;
 
 pub use command::Command;
 pub use driver::drive;
+pub use laws::{output_exists, output_is_unique};
 pub use status::Status;
