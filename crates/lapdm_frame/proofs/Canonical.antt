@@ -1,24 +1,14 @@
 -- The canonical octets of a frame.
-<<<<<<< HEAD
-use Rattle.std.proofs.Common.{◌≡◌, ◌≢◌, ℕ, zero, suc, ◌+◌, ◌-◌, ◌<◌, ◌≤◌, List, [], ◌∷◌, ◌++◌, length, get_or, set, take, drop, replicate, refl, sym, ap, ◌∙◌, ◌⊎◌, inl, inr, arith}
-use Rattle.std.specs.Prelude.{slice_index, slice_range}
-=======
 use Rattle.std.proofs.Common.{◌≡◌, ℕ, zero, suc, ◌+◌, ◌-◌, ◌<◌, ◌≤◌, List, [], ◌∷◌, ◌++◌, length, get_or, set, take, drop, replicate, refl, sym, ap, ◌∙◌, inl, inr, arith}
 use Rattle.std.specs.Prelude.{slice_range}
->>>>>>> d4a81b50685555a5d3cb1c0546c55558016fd4a1
 use Rattle.std.proofs.lemmas.Bool.{cases_lt, cases_eq}
 use Rattle.std.proofs.lemmas.List.{length-append, length-replicate, get_or-replicate, get_or-take, get_or-drop, get_or-append_right, take_at, drop-replicate, ext_get_or}
 use borrow.Rule.Slice.PartMut.{put_mid}
 use Rattle.lapdm_frame.specs.declared.Channel.{Channel}
 use Rattle.lapdm_frame.specs.declared.Channel.TheVariants.{Sdcch, Sacch}
 use Rattle.lapdm_frame.specs.Layout.{header, n201}
-<<<<<<< HEAD
-use Rattle.lapdm_frame.specs.Content.{Content, Frame, information, goes_on}
-use Rattle.lapdm_frame.specs.Frames.{address, control, length_octet, InformationFits, Fits, IsFrame, IsCanonical, octets_of}
-=======
 use Rattle.lapdm_frame.specs.Content.{Frame, information}
 use Rattle.lapdm_frame.specs.Frames.{address, control, length_octet, Fits, IsFrame, IsCanonical, octets_of}
->>>>>>> d4a81b50685555a5d3cb1c0546c55558016fd4a1
 use Rattle.lapdm_frame.specs.Readings.{IsOnlyCanonical}
 use Rattle.lapdm_frame.proofs.Uniqueness.{information_bound, only_frame}
 

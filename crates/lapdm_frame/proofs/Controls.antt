@@ -1,13 +1,8 @@
 -- A control octet has one content, apart from the information.
 use Rattle.std.proofs.Common.{◌≡◌, ℕ, ◌≤◌, Bool, true, false, List, [], refl, ap, arith}
 use Rattle.lapdm_frame.specs.Content.{Content, I, Rr, Rnr, Rej, Sabm, Dm, Ui, Disc, Ua, information, goes_on}
-<<<<<<< HEAD
-use Rattle.lapdm_frame.specs.Frames.{bit, control}
-use Rattle.lapdm_frame.specs.Refusals.{IsControl, IsInformationFrame, HasNoInformation, IsControlOf}
-=======
 use Rattle.lapdm_frame.specs.Frames.{bit}
 use Rattle.lapdm_frame.specs.Refusals.{IsControl, IsInformationFrame, HasNoInformation}
->>>>>>> d4a81b50685555a5d3cb1c0546c55558016fd4a1
 
 -- the content with other information
 abbrev pub with_information : Content → Bool → List ℕ → Content

@@ -1,9 +1,5 @@
 -- The reasons one after another, and what is left when none applies.
-<<<<<<< HEAD
-use Rattle.std.proofs.Common.{◌≡◌, ◌≢◌, ℕ, zero, suc, ◌+◌, ◌-◌, ◌*◌, ◌/◌, ◌%◌, ◌<◌, ◌≤◌, Bool, true, false, nat_eq, List, [], length, refl, sym, ap, ◌∙◌, subst, ◌⊎◌, inl, inr, arith}
-=======
 use Rattle.std.proofs.Common.{◌≡◌, ◌≢◌, ℕ, zero, suc, ◌+◌, ◌-◌, ◌/◌, ◌%◌, ◌<◌, ◌≤◌, nat_eq, List, length, refl, sym, ap, ◌∙◌, subst, ◌⊎◌, inl, inr, arith}
->>>>>>> d4a81b50685555a5d3cb1c0546c55558016fd4a1
 use Rattle.std.proofs.lemmas.Bool.{cases_lt}
 use Rattle.std.proofs.lemmas.List.{length-take, length-drop}
 use Rattle.lapdm_frame.specs.declared.Channel.{Channel}
@@ -11,15 +7,9 @@ use Rattle.lapdm_frame.specs.declared.Channel.TheVariants.{Sdcch, Sacch}
 use Rattle.lapdm_frame.specs.declared.Refusal.{Refusal}
 use Rattle.lapdm_frame.specs.declared.Refusal.TheVariants.{Lpd, Ea, Control, El, Length, Empty, More}
 use Rattle.lapdm_frame.specs.Layout.{header, n201, address_in, control_in, length_in, information_in}
-<<<<<<< HEAD
-use Rattle.lapdm_frame.specs.Content.{Content, I, Rr, Rnr, Rej, Sabm, Dm, Ui, Disc, Ua, Frame, information, goes_on}
-use Rattle.lapdm_frame.specs.Frames.{bit, InformationFits, IsFrame}
-use Rattle.lapdm_frame.specs.Refusals.{IsControl, IsInformationFrame, HasNoInformation, l_of, m_of, el_of, AppliesTo, place, IsRefused}
-=======
 use Rattle.lapdm_frame.specs.Content.{Content, I, information, goes_on}
 use Rattle.lapdm_frame.specs.Frames.{bit, InformationFits, IsFrame}
 use Rattle.lapdm_frame.specs.Refusals.{IsControl, IsInformationFrame, HasNoInformation, l_of, m_of, AppliesTo, place}
->>>>>>> d4a81b50685555a5d3cb1c0546c55558016fd4a1
 use Rattle.lapdm_frame.specs.Lengths.{HasRoom, IsLengthFault, HasNoLengthFault}
 use Rattle.lapdm_frame.specs.Readings.{IsOnlyRefusal}
 use Rattle.lapdm_frame.proofs.Controls.{no_information, nothing_informed, information_frame}

@@ -1,18 +1,4 @@
 -- Octets are one frame, or refused for one reason, and never both; a frame has one canonical list.
-<<<<<<< HEAD
-use Rattle.std.proofs.Common.{◌≡◌, ◌≢◌, ℕ, ◌+◌, ◌-◌, ◌*◌, ◌/◌, ◌%◌, ◌<◌, ◌≤◌, Bool, true, false, List, [], ◌∷◌, ◌++◌, length, get_or, replicate, refl, sym, ap, ◌∙◌, subst, ◌⊎◌, inl, inr, ⊎_elim, arith}
-use Rattle.std.specs.Prelude.{slice_index, slice_range}
-use Rattle.std.proofs.lemmas.Bool.{cases_lt}
-use Rattle.lapdm_frame.specs.declared.Channel.{Channel}
-use Rattle.lapdm_frame.specs.declared.Channel.TheVariants.{Sdcch, Sacch}
-use Rattle.lapdm_frame.specs.declared.Refusal.{Refusal}
-use Rattle.lapdm_frame.specs.declared.Refusal.TheVariants.{Lpd, Ea, Control, El, Length, Empty, More}
-use Rattle.lapdm_frame.specs.Layout.{header, n201}
-use Rattle.lapdm_frame.specs.Content.{Content, I, Rr, Rnr, Rej, Sabm, Dm, Ui, Disc, Ua, Frame, information, goes_on}
-use Rattle.lapdm_frame.specs.Frames.{bit, address, control, length_octet, NumbersFit, InformationFits, Fits, IsFrame, IsCanonical, octets_of}
-use Rattle.lapdm_frame.specs.Refusals.{IsControl, IsInformationFrame, HasNoInformation, IsControlOf, Applies, AppliesTo, place, IsRefused}
-use Rattle.lapdm_frame.specs.Readings.{IsOnlyFrame, IsOnlyRefusal, IsOnlyCanonical}
-=======
 use Rattle.std.proofs.Common.{◌≡◌, ℕ, ◌+◌, ◌≤◌, Bool, List, length, refl, sym, ap, ◌∙◌, inl, inr, arith}
 use Rattle.std.specs.Prelude.{slice_range}
 use Rattle.std.proofs.lemmas.Bool.{cases_lt}
@@ -24,7 +10,6 @@ use Rattle.lapdm_frame.specs.Content.{Content, I, Frame, information, goes_on}
 use Rattle.lapdm_frame.specs.Frames.{bit, control, InformationFits, IsFrame}
 use Rattle.lapdm_frame.specs.Refusals.{IsInformationFrame, AppliesTo, place, IsRefused}
 use Rattle.lapdm_frame.specs.Readings.{IsOnlyFrame, IsOnlyRefusal}
->>>>>>> d4a81b50685555a5d3cb1c0546c55558016fd4a1
 use Rattle.lapdm_frame.proofs.Controls.{bit_bound, bit_injective, same_content, no_information, nothing_informed, information_frame}
 
 same_parts : (s s' : ℕ) (c c' : Bool) (a b : Content) → s ≡ s' → c ≡ c' → a ≡ b → ◌≡◌ {A = Frame} (record { sapi = s; cr = c; content = a }) (record { sapi = s'; cr = c'; content = b })

@@ -1,9 +1,5 @@
 -- The octets of frames worked by hand.
-<<<<<<< HEAD
-use Rattle.std.proofs.Common.{◌≡◌, Bool, true, false, List, [], ◌∷◌, ◌++◌, replicate, refl}
-=======
 use Rattle.std.proofs.Common.{◌≡◌, true, false, [], ◌∷◌, replicate, refl}
->>>>>>> d4a81b50685555a5d3cb1c0546c55558016fd4a1
 use Rattle.lapdm_frame.specs.declared.Channel.TheVariants.{Sdcch, Sacch}
 use Rattle.lapdm_frame.specs.Content.{I, Rr, fill}
 use Rattle.lapdm_frame.specs.Frames.{octets_of}

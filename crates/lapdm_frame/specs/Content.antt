@@ -1,10 +1,6 @@
 -- What a frame says, apart from its octets (GSM 04.06, section 3.8).
-<<<<<<< HEAD
-use Rattle.std.specs.Prelude.{ℕ, Bool, false, List, []}
-=======
 use Rattle.std.specs.Prelude.{ℕ, Bool, false, List, [], Option, Some, None}
 use Rattle.std.specs.Borrow.{Bor}
->>>>>>> d4a81b50685555a5d3cb1c0546c55558016fd4a1
 use Rattle.lapdm_frame.specs.declared.Body.{Body}
 use Rattle.lapdm_frame.specs.declared.Body.TheVariants as B
 use Rattle.lapdm_frame.specs.declared.FrameView.{FrameView}
@@ -22,20 +18,13 @@ pub data Content : Type 0 where
   Disc : (p : Bool) → Content
   Ua : (f : Bool) → (info : List ℕ) → Content
 
-<<<<<<< HEAD
--- the address too: the service access point and the command/response bit
-=======
 -- the content with what the address says: the service access point and the command/response bit
->>>>>>> d4a81b50685555a5d3cb1c0546c55558016fd4a1
 pub record Frame : Type 0 where
   pub sapi : ℕ
   pub cr : Bool
   pub content : Content
 
-<<<<<<< HEAD
-=======
 -- the content that a body of the program stands for
->>>>>>> d4a81b50685555a5d3cb1c0546c55558016fd4a1
 abbrev pub content_of : Body → Content
 content_of (B.I ns nr p more info) = I ns nr p more info.now
 content_of (B.Rr nr pf) = Rr nr pf
@@ -47,12 +36,6 @@ content_of (B.Ui p info) = Ui p info.now
 content_of (B.Disc p) = Disc p
 content_of (B.Ua f info) = Ua f info.now
 
-<<<<<<< HEAD
--- the frame that a value of the program stands for
-abbrev pub frame_of : FrameView → Frame
-frame_of view = record { sapi = view.sapi; cr = view.cr; content = content_of view.body }
-
-=======
 -- the frame that a view of the program stands for
 abbrev pub frame_of : FrameView → Frame
 frame_of view = record { sapi = view.sapi; cr = view.cr; content = content_of view.body }
@@ -65,7 +48,6 @@ borrowed (B.Ui p info) = Some info
 borrowed (B.Ua f info) = Some info
 borrowed other = None
 
->>>>>>> d4a81b50685555a5d3cb1c0546c55558016fd4a1
 -- the information, which five kinds never have
 abbrev pub information : Content → List ℕ
 information (I ns nr p more info) = info

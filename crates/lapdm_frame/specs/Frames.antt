@@ -4,10 +4,7 @@ use Rattle.lapdm_frame.specs.declared.Channel.{Channel}
 use Rattle.lapdm_frame.specs.Layout.{header, n201, address_in, control_in, length_in, information_in}
 use Rattle.lapdm_frame.specs.Content.{Content, I, Rr, Rnr, Rej, Sabm, Dm, Ui, Disc, Ua, Frame, information, goes_on}
 
-<<<<<<< HEAD
-=======
 -- a bit as a number
->>>>>>> d4a81b50685555a5d3cb1c0546c55558016fd4a1
 abbrev pub bit : Bool → ℕ
 bit false = 0
 bit true = 1
@@ -33,11 +30,7 @@ control (Ua f info) = 16 * bit f + 99
 abbrev pub length_octet : Content → ℕ
 length_octet content = 4 * length (information content) + 2 * bit (goes_on content) + 1
 
-<<<<<<< HEAD
--- N(S) and N(R) have three bits
-=======
 -- N(S) and N(R) have three bits, as numbers modulo 8 do
->>>>>>> d4a81b50685555a5d3cb1c0546c55558016fd4a1
 abbrev pub NumbersFit : Content → Type 0
 NumbersFit (I ns nr p more info) = (ns ≤ 7) × (nr ≤ 7)
 NumbersFit (Rr nr pf) = nr ≤ 7
@@ -50,11 +43,7 @@ abbrev pub InformationFits : Channel → Content → Type 0
 InformationFits channel (I ns nr p more info) = (1 ≤ length info) × (length info ≤ n201 channel)
 InformationFits channel other = length (information other) ≤ n201 channel
 
-<<<<<<< HEAD
--- the frame can be written
-=======
 -- the frame can be written: the SAPI too has three bits
->>>>>>> d4a81b50685555a5d3cb1c0546c55558016fd4a1
 pub record Fits (channel : Channel) (f : Frame) : Type 0 where
   pub sapi : f.sapi ≤ 7
   pub numbers : NumbersFit f.content

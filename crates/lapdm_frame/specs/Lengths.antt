@@ -1,11 +1,7 @@
 -- For the reader's body alone: what a length octet says against a content of its kind.
 use Rattle.std.specs.Prelude.{◌≡◌, ◌≢◌, ℕ, ◌<◌, ◌≤◌, ◌⊎◌}
 use Rattle.lapdm_frame.specs.declared.Refusal.{Refusal}
-<<<<<<< HEAD
-use Rattle.lapdm_frame.specs.declared.Refusal.TheVariants.{Lpd, Ea, Control, El, Length, Empty, More}
-=======
 use Rattle.lapdm_frame.specs.declared.Refusal.TheVariants.{El, Length, Empty, More}
->>>>>>> d4a81b50685555a5d3cb1c0546c55558016fd4a1
 use Rattle.lapdm_frame.specs.Content.{Content}
 use Rattle.lapdm_frame.specs.Refusals.{IsInformationFrame, HasNoInformation, l_of, m_of, el_of}
 

@@ -1,10 +1,4 @@
 -- That octets are one thing and nothing else: one frame, or refused for one reason.
-<<<<<<< HEAD
-use Rattle.std.specs.Prelude.{◌≡◌, ℕ, List, ◌⊎◌}
-use Rattle.lapdm_frame.specs.declared.Channel.{Channel}
-use Rattle.lapdm_frame.specs.declared.Refusal.{Refusal}
-use Rattle.lapdm_frame.specs.Content.{Frame}
-=======
 use Rattle.std.specs.Prelude.{◌≡◌, ℕ, ◌+◌, List, ◌⊎◌, IfSome}
 use Rattle.std.specs.Borrow.{Bor}
 use Rattle.lapdm_frame.specs.declared.Channel.{Channel}
@@ -12,7 +6,6 @@ use Rattle.lapdm_frame.specs.declared.Refusal.{Refusal}
 use Rattle.lapdm_frame.specs.declared.Body.{Body}
 use Rattle.lapdm_frame.specs.Layout.{header}
 use Rattle.lapdm_frame.specs.Content.{Frame, borrowed}
->>>>>>> d4a81b50685555a5d3cb1c0546c55558016fd4a1
 use Rattle.lapdm_frame.specs.Frames.{IsFrame, IsCanonical}
 use Rattle.lapdm_frame.specs.Refusals.{IsRefused}
 
@@ -37,10 +30,7 @@ pub record IsOnlyCanonical (channel : Channel) (f : Frame) (octets : List ℕ) :
 -- the octets are exactly one frame, or are refused for exactly one reason, and never both
 abbrev pub HasOneReading : Channel → List ℕ → Type 0
 HasOneReading channel octets = ((f : Frame) × IsOnlyFrame channel f octets) ⊎ ((reason : Refusal) × IsOnlyRefusal channel octets reason)
-<<<<<<< HEAD
-=======
 
 -- the information is lent from the block itself, behind the length octet
 abbrev pub LiesIn : Channel → Bor (List ℕ) → Body → Type 0
 LiesIn channel block body = IfSome (borrowed body) (λ info. (info.ref_ptr.0 ≡ block.ref_ptr.0) × (info.ref_ptr.1 ≡ block.ref_ptr.1 + header channel + 3))
->>>>>>> d4a81b50685555a5d3cb1c0546c55558016fd4a1

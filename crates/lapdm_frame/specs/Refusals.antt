@@ -4,21 +4,14 @@ use Rattle.lapdm_frame.specs.declared.Channel.{Channel}
 use Rattle.lapdm_frame.specs.declared.Refusal.{Refusal}
 use Rattle.lapdm_frame.specs.declared.Refusal.TheVariants.{Lpd, Ea, Control, El, Length, Empty, More}
 use Rattle.lapdm_frame.specs.Layout.{n201, address_in, control_in, length_in}
-<<<<<<< HEAD
-use Rattle.lapdm_frame.specs.Content.{Content, I, Rr, Rnr, Rej, Sabm, Dm, Ui, Disc, Ua}
-=======
 use Rattle.lapdm_frame.specs.Content.{Content, I, Sabm, Ui, Ua}
->>>>>>> d4a81b50685555a5d3cb1c0546c55558016fd4a1
 use Rattle.lapdm_frame.specs.Frames.{control, NumbersFit}
 
 -- the octet is the control octet of this content
 abbrev pub IsControl : ℕ → Content → Type 0
 IsControl octet content = NumbersFit content × (octet ≡ control content)
 
-<<<<<<< HEAD
-=======
 -- the one kind that numbers its information, and always has some
->>>>>>> d4a81b50685555a5d3cb1c0546c55558016fd4a1
 abbrev pub IsInformationFrame : Content → Type 0
 IsInformationFrame (I ns nr p more info) = Unit {0}
 IsInformationFrame other = ⊥

@@ -1,17 +1,10 @@
 //! Octets to frames.
 
 ghost use Rattle.std.specs.Prelude.{◌≡◌, ◌⊎◌, ◌↔◌, IsTrue, IfSome, IfNone, IfOk, IfErr};
-<<<<<<< HEAD
-ghost use Rattle.lapdm_frame.specs.Content.{Content, content_of, frame_of, information, goes_on};
-ghost use Rattle.lapdm_frame.specs.Refusals.{IsControl, IsInformationFrame, HasNoInformation};
-ghost use Rattle.lapdm_frame.specs.Lengths.{IsLengthFault, HasNoLengthFault};
-ghost use Rattle.lapdm_frame.specs.Readings.{IsOnlyFrame, IsOnlyRefusal};
-=======
 ghost use Rattle.lapdm_frame.specs.Content.{Content, content_of, frame_of, information, goes_on, borrowed};
 ghost use Rattle.lapdm_frame.specs.Refusals.{IsControl, IsInformationFrame, HasNoInformation};
 ghost use Rattle.lapdm_frame.specs.Lengths.{IsLengthFault, HasNoLengthFault};
 ghost use Rattle.lapdm_frame.specs.Readings.{IsOnlyFrame, IsOnlyRefusal, LiesIn};
->>>>>>> d4a81b50685555a5d3cb1c0546c55558016fd4a1
 
 use crate::{Body, Channel, FrameView, Refusal};
 
@@ -20,10 +13,7 @@ fn body_of<'a>(control: u8, more: bool, info: &'a [u8]) -> Option<Body<'a>>
     ensures known { IfSome result (λ body. IsControl control (content_of body)) }
     ensures unknown { IfNone result ((content : Content) → ¬ IsControl control content) }
     ensures carried { IfSome result (λ body. HasNoInformation (content_of body) ⊎ (information (content_of body) ≡ info.now)) }
-<<<<<<< HEAD
-=======
     ensures lent { IfSome result (λ body. IfSome (borrowed body) (λ part. part.ref_ptr ≡ info.entry.ref_ptr)) }
->>>>>>> d4a81b50685555a5d3cb1c0546c55558016fd4a1
     ensures goes_on { IfSome result (λ body. IsInformationFrame (content_of body) → goes_on (content_of body) ≡ more) }
 {
     let nr = control / 32;
@@ -102,10 +92,7 @@ fn length_fault(body: &Body<'_>, length: u8, most: usize) -> Option<Refusal>
 /// be anything; `info` is a part of `octets`.
 pub fn read_on<'a>(octets: &'a [u8; 23], channel: Channel) -> Result<FrameView<'a>, Refusal>
     ensures frame { IfOk result (λ f. IsOnlyFrame channel (frame_of f) octets.now) }
-<<<<<<< HEAD
-=======
     ensures lent { IfOk result (λ f. LiesIn channel octets.entry f.body) }
->>>>>>> d4a81b50685555a5d3cb1c0546c55558016fd4a1
     ensures refusal { IfErr result (λ reason. IsOnlyRefusal channel octets.now reason) }
 {
     let start = channel.header();
@@ -136,10 +123,7 @@ pub fn read_on<'a>(octets: &'a [u8; 23], channel: Channel) -> Result<FrameView<'
 /// As `read_on`, on SDCCH.
 pub fn read<'a>(octets: &'a [u8; 23]) -> Result<FrameView<'a>, Refusal>
     ensures frame { IfOk result (λ f. IsOnlyFrame Channel.Sdcch (frame_of f) octets.now) }
-<<<<<<< HEAD
-=======
     ensures lent { IfOk result (λ f. LiesIn Channel.Sdcch octets.entry f.body) }
->>>>>>> d4a81b50685555a5d3cb1c0546c55558016fd4a1
     ensures refusal { IfErr result (λ reason. IsOnlyRefusal Channel.Sdcch octets.now reason) }
 {
     read_on(octets, Channel::Sdcch)

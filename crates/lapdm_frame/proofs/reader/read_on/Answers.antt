@@ -1,8 +1,4 @@
-<<<<<<< HEAD
-use Rattle.std.proofs.Common.{◌≡◌, ◌⊎◌, arith}
-=======
 use Rattle.std.proofs.Common.{◌≡◌, arith}
->>>>>>> d4a81b50685555a5d3cb1c0546c55558016fd4a1
 use Rattle.lapdm_frame.specs.declared.Refusal.TheVariants.{Ea, Control}
 use Rattle.lapdm_frame.specs.Content.{content_of}
 use Rattle.lapdm_frame.proofs.Uniqueness.{only_frame}

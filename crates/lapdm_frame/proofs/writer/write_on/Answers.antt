@@ -1,14 +1,7 @@
-<<<<<<< HEAD
-use Rattle.std.proofs.Common.{◌≡◌, ◌∙◌, sym, ap, subst, ℕ, List, arith, replicate, take, length}
-use Rattle.std.proofs.lemmas.List.{length-take}
-use Rattle.lapdm_frame.specs.Content.{frame_of, information}
-use Rattle.lapdm_frame.specs.Frames.{octets_of, address, control, length_octet}
-=======
 use Rattle.std.proofs.Common.{◌≡◌, ◌∙◌, sym, ap, subst, ℕ, List, arith, replicate}
 use Rattle.std.proofs.lemmas.List.{length-take}
 use Rattle.lapdm_frame.specs.Content.{frame_of, information}
 use Rattle.lapdm_frame.specs.Frames.{address, control, length_octet}
->>>>>>> d4a81b50685555a5d3cb1c0546c55558016fd4a1
 use Rattle.lapdm_frame.specs.Readings.{IsOnlyCanonical}
 use Rattle.lapdm_frame.proofs.Canonical.{written, only_canonical}
 use Rattle.lapdm_frame.proofs.writer.write_on.Goals as goal
