@@ -1,3 +1,4 @@
 pub mod Information
 pub mod SentOnce
 pub mod SpreadParts
+pub mod SentExists

@@ -1,1 +1,2 @@
+pub mod CodeRules
 pub mod WordListsLemmas

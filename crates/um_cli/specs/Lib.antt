@@ -1,3 +1,10 @@
 -- The definitions that the contracts of this crate cite.
-pub mod WordLists
+pub mod Code
+pub mod Runs
 pub mod Shapes
+pub mod WordLists
+
+-- what the definitions of this crate stand on
+pub use Rattle.um_driver.specs.Table
+pub use Rattle.um_driver.specs.Outputs
+pub use Rattle.um_driver.specs.Rules

@@ -1,8 +1,10 @@
 //! The top call.
 #![tactic(auto)]
 
+mod code;
 mod top;
 mod words;
 
-pub use top::{Status, run};
-pub use words::Words;
+pub use top::{law_code_has_one_output, run};
+pub use um_driver::Status;
+pub use words::{Shape, Words};
