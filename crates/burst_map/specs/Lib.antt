@@ -1,2 +1,4 @@
--- The definitions that the contracts of this crate cite.
-pub mod Layouts
+pub mod AccessBurst
+pub mod NormalBurst
+pub mod SyncBurst
+pub mod Tails

@@ -3,12 +3,15 @@ use Rattle.std.proofs.Common.{◌≡◌, ℕ, zero, suc, ◌+◌, ◌-◌, ◌*�
 use Rattle.std.specs.List.{All, flat_map, range_with_len}
 use Rattle.std.proofs.Math.ListN.{length-append}
 use Rattle.std.proofs.Math.Seq.{drop-append_seam}
-use Rattle.std.proofs.lemmas.List.Elements.{All-cons, All-nil}
+use Rattle.std.proofs.lemmas.List.Elements.{All-append, All-cons, All-nil}
 use Rattle.bit_blocks.specs.Bits.{AllBits}
 use Rattle.bit_blocks.specs.Octets.{octet_bits, bits_of}
-use Rattle.burst_map.proofs.Parts.{AllBits-append, AllBits-computed}
+use Rattle.burst_map.proofs.Filling.{AllBits-table}
 use Rattle.conv_code.specs.Code.{coded, coded_pair, first_sum, second_sum, IsInformation}
 use Rattle.um_block.specs.Sent.{with_tail}
+
+pub AllBits-append : (xs ys : List ℕ) → AllBits xs → AllBits ys → AllBits (xs ++ ys)
+AllBits-append xs ys = All-append (λ bit. bit ≤ 1) xs ys
 
 abbrev IsZero : ℕ → Type 0
 IsZero bit = bit ≡ 0
@@ -24,7 +27,7 @@ IsInformation-with_tail word some bits =
     let front : length (word ++ four) - 4 ≡ length word = omega arith in
     record {
       count = omega arith;
-      bits = AllBits-append word four bits (AllBits-computed four refl);
+      bits = AllBits-append word four bits (AllBits-table four refl);
       tail = subst (All IsZero) (sym (ap (λ n. drop n (word ++ four)) front ∙ drop-append_seam word four)) (zeros 4);
     }
 

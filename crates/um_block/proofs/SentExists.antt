@@ -9,7 +9,7 @@ use Rattle.bit_blocks.specs.Octets.{bits_of}
 use Rattle.bit_blocks.specs.Polynomials.{IsMultiple}
 use Rattle.bit_blocks.proofs.Sums.{AllBits-add_bits, add_bits_twice}
 use Rattle.bit_blocks.proofs.Multiples.{IsMultiple-zeros}
-use Rattle.burst_map.proofs.Parts.{AllBits-computed}
+use Rattle.burst_map.proofs.Filling.{AllBits-table}
 use Rattle.conv_code.specs.Code.{coded}
 use Rattle.fire_code.specs.Registers.{register_bits}
 use Rattle.fire_code.specs.Words.{g40, IsXcchWord, IsRachWord, IsSchWord}
@@ -75,7 +75,7 @@ parity_of n taps d positive small all ones_bits ones_count =
 
 pub some_access_burst : (d b : List ℕ) → length d ≡ 8 → AllBits d → length b ≡ 6 → AllBits b → (x : List ℕ) × IsSentAccess d b x
 some_access_burst d b ed bd eb bb =
-    let p = parity_of 6 61 d (lit< tt) (lit< tt) bd (AllBits-computed (replicate 6 1) refl) refl in
+    let p = parity_of 6 61 d (lit< tt) (lit< tt) bd (AllBits-table (replicate 6 1) refl) refl in
     (_, record {
       parity = add_bits p.parity b;
       count = ed;
@@ -85,7 +85,7 @@ some_access_burst d b ed bd eb bb =
 
 pub some_sync_burst : (d : List ℕ) → length d ≡ 25 → AllBits d → (x : List ℕ) × IsSentSync d x
 some_sync_burst d ed bd =
-    let p = parity_of 10 698 d (lit< tt) (lit< tt) bd (AllBits-computed (replicate 10 1) refl) refl in
+    let p = parity_of 10 698 d (lit< tt) (lit< tt) bd (AllBits-table (replicate 10 1) refl) refl in
     (_, record {
       parity = p.parity;
       count = ed;
@@ -158,7 +158,7 @@ pub some_sent_block : (octets : List ℕ) (tsc : ℕ) → length octets ≡ 23 �
 some_sent_block octets tsc count known =
     let d = bits_of octets in
     let long : length d ≡ 184 = length-bits_of octets ∙ ap (λ n. 8 * n) count in
-    let p = parity_of 40 618479558656 d (lit< tt) (lit< tt) (AllBits-bits_of octets) (AllBits-computed (replicate 40 1) refl) refl in
+    let p = parity_of 40 618479558656 d (lit< tt) (lit< tt) (AllBits-bits_of octets) (AllBits-table (replicate 40 1) refl) refl in
     let word : IsXcchWord (d ++ p.parity) =
         xcch_word d p.parity long (AllBits-bits_of octets) p.count p.bits
             (subst (λ g. IsMultiple (d ++ add_bits p.parity (replicate 40 1)) g) taps_of_g40 p.multiple) in

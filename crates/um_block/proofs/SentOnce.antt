@@ -10,7 +10,9 @@ use Rattle.interleave.specs.Interleaved.{part, IsSpread}
 use Rattle.fire_code.specs.Words.{g6, g10, g40, IsXcchWord, IsRachWord, IsSchWord}
 use Rattle.fire_code.proofs.ParityParts.{first_bits, second_bits, multiple_of_parts, same_parity, count_of_sum}
 use Rattle.fire_code.proofs.RachWords.{code_added}
-use Rattle.burst_map.specs.Layouts.{normal_burst, access_burst, sync_burst}
+use Rattle.burst_map.specs.NormalBurst.{normal_burst}
+use Rattle.burst_map.specs.AccessBurst.{access_burst}
+use Rattle.burst_map.specs.SyncBurst.{sync_burst}
 use Rattle.um_block.specs.Sent.{with_tail, IsCodedBlock, IsSentBlock, IsSentAccess, IsSentSync}
 use Rattle.um_block.proofs.Information.{length-bits_of}
 use Rattle.um_block.proofs.SpreadParts.{get_or-part, length-part, four, same_four}

@@ -4,7 +4,9 @@ use Rattle.bit_blocks.specs.Octets.{bits_of}
 use Rattle.fire_code.specs.Words.{IsXcchWord, IsRachWord, IsSchWord}
 use Rattle.conv_code.specs.Code.{coded}
 use Rattle.interleave.specs.Interleaved.{IsSpread}
-use Rattle.burst_map.specs.Layouts.{normal_burst, access_burst, sync_burst}
+use Rattle.burst_map.specs.NormalBurst.{normal_burst}
+use Rattle.burst_map.specs.AccessBurst.{access_burst}
+use Rattle.burst_map.specs.SyncBurst.{sync_burst}
 
 -- the word and the four zeros that bring the coder back to rest (GSM 05.03 section 4.1.3)
 abbrev pub with_tail : List ℕ → List ℕ

@@ -1,6 +1,6 @@
 ghost use Rattle.std.specs.Prelude.{◌≡◌, ◌+◌, ◌<◌, ◌≤◌, ◌++◌, length, take, drop, All};
 ghost use Rattle.bit_blocks.specs.Bits.{AllBits};
-ghost use Rattle.burst_map.specs.Layouts.{normal_burst};
+ghost use Rattle.burst_map.specs.NormalBurst.{normal_burst};
 ghost use Rattle.um_block.specs.Sent.{with_tail, IsCodedBlock, IsSentBlock, IsSentAccess, IsSentSync};
 
 use bit_blocks::{Bits, from_octets};

@@ -3,8 +3,7 @@ use Rattle.std.proofs.Math.ListN.{length-append}
 use Rattle.bit_blocks.specs.Bits.{AllBits}
 use Rattle.conv_code.specs.Code.{coded, IsInformation}
 use Rattle.fire_code.specs.Words.{IsRachWord}
-use Rattle.burst_map.specs.Layouts.{access_burst}
-use Rattle.burst_map.proofs.Parts.{AllBits-append}
+use Rattle.burst_map.specs.AccessBurst.{access_burst}
 use Rattle.um_block.specs.Sent.{with_tail}
 use Rattle.um_block.proofs.Information.{IsInformation-joined, AllBits-coded}
 use Rattle.um_block.proofs.sending.send_access.Goals as goal

@@ -1,6 +1,6 @@
 use Rattle.std.proofs.Common.{◌≡◌, ℕ, ◌<◌, List, [], ◌∷◌, map, take, drop, sym, ◌∙◌, ap, ap₂, subst, lit<}
 use Rattle.bit_blocks.specs.Bits.{AllBits}
-use Rattle.burst_map.specs.Layouts.{normal_burst}
+use Rattle.burst_map.specs.NormalBurst.{normal_burst}
 use Rattle.interleave.specs.Interleaved.{part}
 use Rattle.um_block.specs.Sent.{with_tail}
 use Rattle.um_block.proofs.Information.{AllBits-coded}

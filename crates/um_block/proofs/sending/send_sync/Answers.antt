@@ -2,7 +2,7 @@ use Rattle.std.proofs.Common.{◌≡◌, ℕ, ◌+◌, ◌<◌, ◌≤◌, List,
 use Rattle.std.proofs.lemmas.List.Elements.{All-take, All-drop}
 use Rattle.bit_blocks.specs.Bits.{AllBits}
 use Rattle.conv_code.specs.Code.{coded, IsInformation}
-use Rattle.burst_map.specs.Layouts.{sync_burst}
+use Rattle.burst_map.specs.SyncBurst.{sync_burst}
 use Rattle.um_block.specs.Sent.{with_tail}
 use Rattle.um_block.proofs.Information.{IsInformation-joined, AllBits-coded}
 use Rattle.um_block.proofs.sending.send_sync.Goals as goal
@@ -16,9 +16,9 @@ pub sync-requires : goal.sync-requires
 sync-requires c =
     let bits : AllBits c.encode.new.out = subst AllBits (sym c.encode.ensures) (AllBits-coded c.add_tail.new.word) in
     record {
-      first_count = omega (arith, c.split_at.ensures.front_len);
+      first = omega (arith, c.split_at.ensures.front_len);
       first_bits = subst AllBits (sym c.split_at.ensures.front) (All-take (λ bit. bit ≤ 1) 39 c.encode.new.out bits);
-      second_count = omega (arith, c.split_at.ensures.back_len);
+      second = omega (arith, c.split_at.ensures.back_len);
       second_bits = subst AllBits (sym c.split_at.ensures.back) (All-drop (λ bit. bit ≤ 1) 39 c.encode.new.out bits);
     }
 

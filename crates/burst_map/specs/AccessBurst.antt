@@ -1,0 +1,29 @@
+-- The access burst (GSM 05.02 section 5.2.7).
+use Rattle.std.specs.Prelude.{ℕ, ℤ, List, ◌++◌, slice_range, codes}
+use Rattle.training_seq.specs.Sequences.{bits_of_text}
+use Rattle.burst_map.specs.Tails.{tail_bits}
+
+-- the eight extended tail bits that it begins with
+abbrev pub extended_tail_bits : List ℕ
+extended_tail_bits = bits_of_text (codes "00111010")
+
+-- its 41 training bits
+abbrev pub access_sequence : List ℕ
+access_sequence = bits_of_text (codes "01001011011111111001100110101010001111000")
+
+-- the burst of 36 coded bits
+abbrev pub access_burst : List ℕ → List ℕ
+access_burst body = extended_tail_bits ++ access_sequence ++ body ++ tail_bits
+
+-- the four parts of a burst of 88 places, in order
+abbrev pub head : List ℤ → List ℤ
+head burst = slice_range burst 0 8
+
+abbrev pub training : List ℤ → List ℤ
+training burst = slice_range burst 8 49
+
+abbrev pub body : List ℤ → List ℤ
+body burst = slice_range burst 49 85
+
+abbrev pub tail : List ℤ → List ℤ
+tail burst = slice_range burst 85 88

@@ -1,0 +1,31 @@
+-- The normal burst (GSM 05.02 section 5.2.3).
+use Rattle.std.specs.Prelude.{ℕ, ℤ, List, [], ◌∷◌, ◌++◌, slice_range}
+use Rattle.training_seq.specs.Sequences.{training_sequence}
+use Rattle.burst_map.specs.Tails.{tail_bits}
+
+-- the burst of two halves, with both stealing flags 1 as on the control channels
+abbrev pub normal_burst : (first second : List ℕ) → ℕ → List ℕ
+normal_burst first second tsc =
+    tail_bits ++ first ++ 1 ∷ [] ++ training_sequence tsc ++ 1 ∷ [] ++ second ++ tail_bits
+
+-- the seven parts of a burst of 148 places, in order
+abbrev pub head : List ℤ → List ℤ
+head burst = slice_range burst 0 3
+
+abbrev pub first_half : List ℤ → List ℤ
+first_half burst = slice_range burst 3 60
+
+abbrev pub lower_flag : List ℤ → List ℤ
+lower_flag burst = slice_range burst 60 61
+
+abbrev pub training : List ℤ → List ℤ
+training burst = slice_range burst 61 87
+
+abbrev pub upper_flag : List ℤ → List ℤ
+upper_flag burst = slice_range burst 87 88
+
+abbrev pub second_half : List ℤ → List ℤ
+second_half burst = slice_range burst 88 145
+
+abbrev pub tail : List ℤ → List ℤ
+tail burst = slice_range burst 145 148

@@ -1,0 +1,91 @@
+ghost use Rattle.std.specs.Prelude.{◌≡◌, ◌++◌, length};
+ghost use Rattle.bit_blocks.specs.Bits.{AllBits};
+ghost use Rattle.burst_map.specs.AccessBurst.{access_burst};
+ghost use Rattle.burst_map.specs.AccessBurst as parts;
+
+use crate::place::place;
+use std::marker::Model;
+
+// The extended tail bits and the training bits of the access burst.
+const ACCESS_HEAD: [u8; 8] = [0, 0, 1, 1, 1, 0, 1, 0];
+
+const ACCESS_TRAINING: [u8; 41] = [
+    0, 1, 0, 0, 1, 0, 1, 1, 0, 1, 1, 1, 1, 1, 1, 1, 1, 0, 0, 1, 1, 0, 0, 1, 1, 0, 1, 0, 1, 0, 1, 0,
+    0, 0, 1, 1, 1, 1, 0, 0, 0,
+];
+
+/// The access burst of 36 coded bits.
+pub fn access(body: &[u8]) -> [u8; 88]
+    requires count { length body.now ≡ 36 }
+    requires bits { AllBits body.now }
+    ensures value { result ≡ access_burst body.now }
+    ensures bits { AllBits result }
+{
+    let mut burst = [0; 88];
+    place(&mut burst, 0, &ACCESS_HEAD);
+    place(&mut burst, 8, &ACCESS_TRAINING);
+    place(&mut burst, 49, body);
+    burst
+}
+
+/// The parts of a received access burst.
+#[derive(Debug, Drop)]
+pub struct AccessView<'a> {
+    burst: &'a [i8; 88],
+}
+
+// Clauses see the burst.
+impl<'a> Model for AccessView<'a> {
+    ghost use Rattle.std.specs.Prelude.{◌≡◌, List, ℤ, length};
+
+    ghost Value = { List ℤ };
+
+    ghost view = { λ parts. parts.burst.now };
+
+    ghost invariant = { λ parts. length parts.burst.now ≡ 88 };
+}
+
+impl<'a> AccessView<'a> {
+    pub fn new(burst: &'a [i8; 88]) -> AccessView<'a>
+        ensures value { result ≡ burst.now }
+        ensures whole { burst.now ≡ parts.head burst.now ++ parts.training burst.now ++ parts.body burst.now ++ parts.tail burst.now }
+    {
+        AccessView { burst }
+    }
+
+    /// The extended tail bits before.
+    pub fn head(&self) -> &'a [i8]
+        ensures value { result.now ≡ parts.head self.now }
+        ensures count { length result.now ≡ 8 }
+    {
+        let burst = self.burst;
+        &burst[..8]
+    }
+
+    /// The training bits.
+    pub fn training(&self) -> &'a [i8]
+        ensures value { result.now ≡ parts.training self.now }
+        ensures count { length result.now ≡ 41 }
+    {
+        let burst = self.burst;
+        &burst[8..49]
+    }
+
+    /// The 36 coded bits.
+    pub fn body(&self) -> &'a [i8]
+        ensures value { result.now ≡ parts.body self.now }
+        ensures count { length result.now ≡ 36 }
+    {
+        let burst = self.burst;
+        &burst[49..85]
+    }
+
+    /// The tail bits after.
+    pub fn tail(&self) -> &'a [i8]
+        ensures value { result.now ≡ parts.tail self.now }
+        ensures count { length result.now ≡ 3 }
+    {
+        let burst = self.burst;
+        &burst[85..88]
+    }
+}

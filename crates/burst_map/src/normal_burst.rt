@@ -1,0 +1,118 @@
+ghost use Rattle.std.specs.Prelude.{◌≡◌, ◌≤◌, ◌++◌, length};
+ghost use Rattle.bit_blocks.specs.Bits.{AllBits};
+ghost use Rattle.burst_map.specs.NormalBurst.{normal_burst};
+ghost use Rattle.burst_map.specs.NormalBurst as parts;
+
+use crate::place::place;
+use std::marker::Model;
+use training_seq::sequence;
+
+/// The burst of two halves of 57 bits, with both stealing flags 1.
+pub fn normal(first: &[u8], second: &[u8], tsc: u8) -> [u8; 148]
+    requires first { length first.now ≡ 57 }
+    requires first_bits { AllBits first.now }
+    requires second { length second.now ≡ 57 }
+    requires second_bits { AllBits second.now }
+    requires known { tsc ≤ 7 }
+    ensures value { result ≡ normal_burst first.now second.now tsc }
+    ensures bits { AllBits result }
+{
+    let mut burst = [0; 148];
+    place(&mut burst, 3, first);
+    place(&mut burst, 60, &[1]);
+    place(&mut burst, 61, &sequence(tsc));
+    place(&mut burst, 87, &[1]);
+    place(&mut burst, 88, second);
+    burst
+}
+
+/// The parts of a received normal burst.
+#[derive(Debug, Drop)]
+pub struct NormalView<'a> {
+    burst: &'a [i8; 148],
+}
+
+// Clauses see the burst.
+impl<'a> Model for NormalView<'a> {
+    ghost use Rattle.std.specs.Prelude.{◌≡◌, List, ℤ, length};
+
+    ghost Value = { List ℤ };
+
+    ghost view = { λ parts. parts.burst.now };
+
+    ghost invariant = { λ parts. length parts.burst.now ≡ 148 };
+}
+
+impl<'a> NormalView<'a> {
+    pub fn new(burst: &'a [i8; 148]) -> NormalView<'a>
+        ensures value { result ≡ burst.now }
+        ensures whole { burst.now ≡
+            parts.head burst.now ++ parts.first_half burst.now ++ parts.lower_flag burst.now ++ parts.training burst.now
+            ++ parts.upper_flag burst.now ++ parts.second_half burst.now ++ parts.tail burst.now }
+    {
+        NormalView { burst }
+    }
+
+    /// The tail bits before.
+    pub fn head(&self) -> &'a [i8]
+        ensures value { result.now ≡ parts.head self.now }
+        ensures count { length result.now ≡ 3 }
+    {
+        let burst = self.burst;
+        &burst[..3]
+    }
+
+    /// The first 57 coded bits.
+    pub fn first(&self) -> &'a [i8]
+        ensures value { result.now ≡ parts.first_half self.now }
+        ensures count { length result.now ≡ 57 }
+    {
+        let burst = self.burst;
+        &burst[3..60]
+    }
+
+    /// The stealing flag below the training sequence.
+    pub fn lower(&self) -> &'a [i8]
+        ensures value { result.now ≡ parts.lower_flag self.now }
+        ensures count { length result.now ≡ 1 }
+    {
+        let burst = self.burst;
+        &burst[60..61]
+    }
+
+    /// The training sequence.
+    pub fn training(&self) -> &'a [i8]
+        ensures value { result.now ≡ parts.training self.now }
+        ensures count { length result.now ≡ 26 }
+    {
+        let burst = self.burst;
+        &burst[61..87]
+    }
+
+    /// The stealing flag above the training sequence.
+    pub fn upper(&self) -> &'a [i8]
+        ensures value { result.now ≡ parts.upper_flag self.now }
+        ensures count { length result.now ≡ 1 }
+    {
+        let burst = self.burst;
+        &burst[87..88]
+    }
+
+    /// The other 57 coded bits.
+    pub fn second(&self) -> &'a [i8]
+        ensures value { result.now ≡ parts.second_half self.now }
+        ensures count { length result.now ≡ 57 }
+    {
+        let burst = self.burst;
+        &burst[88..145]
+    }
+
+    /// The tail bits after.
+    pub fn tail(&self) -> &'a [i8]
+        ensures value { result.now ≡ parts.tail self.now }
+        ensures count { length result.now ≡ 3 }
+    {
+        let burst = self.burst;
+        &burst[145..148]
+    }
+}

@@ -1,0 +1,101 @@
+ghost use Rattle.std.specs.Prelude.{◌≡◌, ◌++◌, length};
+ghost use Rattle.bit_blocks.specs.Bits.{AllBits};
+ghost use Rattle.burst_map.specs.SyncBurst.{sync_burst};
+ghost use Rattle.burst_map.specs.SyncBurst as parts;
+
+use crate::place::place;
+use std::marker::Model;
+
+const SYNC_TRAINING: [u8; 64] = [
+    1, 0, 1, 1, 1, 0, 0, 1, 0, 1, 1, 0, 0, 0, 1, 0, 0, 0, 0, 0, 0, 1, 0, 0, 0, 0, 0, 0, 1, 1, 1, 1,
+    0, 0, 1, 0, 1, 1, 0, 1, 0, 1, 0, 0, 0, 1, 0, 1, 0, 1, 1, 1, 0, 1, 1, 0, 0, 0, 0, 1, 1, 0, 1, 1,
+];
+
+/// The synchronisation burst of two halves of 39 coded bits.
+pub fn sync(first: &[u8], second: &[u8]) -> [u8; 148]
+    requires first { length first.now ≡ 39 }
+    requires first_bits { AllBits first.now }
+    requires second { length second.now ≡ 39 }
+    requires second_bits { AllBits second.now }
+    ensures value { result ≡ sync_burst first.now second.now }
+    ensures bits { AllBits result }
+{
+    let mut burst = [0; 148];
+    place(&mut burst, 3, first);
+    place(&mut burst, 42, &SYNC_TRAINING);
+    place(&mut burst, 106, second);
+    burst
+}
+
+/// The parts of a received synchronisation burst.
+#[derive(Debug, Drop)]
+pub struct SyncView<'a> {
+    burst: &'a [i8; 148],
+}
+
+// Clauses see the burst.
+impl<'a> Model for SyncView<'a> {
+    ghost use Rattle.std.specs.Prelude.{◌≡◌, List, ℤ, length};
+
+    ghost Value = { List ℤ };
+
+    ghost view = { λ parts. parts.burst.now };
+
+    ghost invariant = { λ parts. length parts.burst.now ≡ 148 };
+}
+
+impl<'a> SyncView<'a> {
+    pub fn new(burst: &'a [i8; 148]) -> SyncView<'a>
+        ensures value { result ≡ burst.now }
+        ensures whole { burst.now ≡
+            parts.head burst.now ++ parts.first_half burst.now ++ parts.training burst.now
+            ++ parts.second_half burst.now ++ parts.tail burst.now }
+    {
+        SyncView { burst }
+    }
+
+    /// The tail bits before.
+    pub fn head(&self) -> &'a [i8]
+        ensures value { result.now ≡ parts.head self.now }
+        ensures count { length result.now ≡ 3 }
+    {
+        let burst = self.burst;
+        &burst[..3]
+    }
+
+    /// The first 39 coded bits.
+    pub fn first(&self) -> &'a [i8]
+        ensures value { result.now ≡ parts.first_half self.now }
+        ensures count { length result.now ≡ 39 }
+    {
+        let burst = self.burst;
+        &burst[3..42]
+    }
+
+    /// The training bits.
+    pub fn training(&self) -> &'a [i8]
+        ensures value { result.now ≡ parts.training self.now }
+        ensures count { length result.now ≡ 64 }
+    {
+        let burst = self.burst;
+        &burst[42..106]
+    }
+
+    /// The other 39 coded bits.
+    pub fn second(&self) -> &'a [i8]
+        ensures value { result.now ≡ parts.second_half self.now }
+        ensures count { length result.now ≡ 39 }
+    {
+        let burst = self.burst;
+        &burst[106..145]
+    }
+
+    /// The tail bits after.
+    pub fn tail(&self) -> &'a [i8]
+        ensures value { result.now ≡ parts.tail self.now }
+        ensures count { length result.now ≡ 3 }
+    {
+        let burst = self.burst;
+        &burst[145..148]
+    }
+}

@@ -1,0 +1,83 @@
+ghost use Rattle.std.specs.Prelude.{◌≡◌, length};
+ghost use Rattle.bit_blocks.specs.Bits.{AllBits};
+
+use super::{access, normal, sync};
+use std::alloc::{AllocError, Global};
+use std::process::Abort;
+
+// The bits of digits 0 and 1, with blanks between them.
+fn bits(alloc: Global, digits: &str) -> Result<Vec<u8>, AllocError> {
+    digits
+        .bytes()
+        .filter(|digit| *digit != b' ')
+        .map(|digit| digit & 1)
+        .collect(alloc)
+}
+
+fn assert_bits(rt: &impl Abort, bits: &[u8], count: usize)
+    ensures count { length bits.now ≡ count }
+    ensures bits { AllBits bits.now }
+{
+    assert_eq!(rt; bits.len(), count);
+    let are_bits = bits.iter().all(|bit| *bit <= 1);
+    assert!(rt; are_bits);
+}
+
+// The first burst of a block of 23 octets 00.
+#[test]
+fn a_normal_burst_has_both_flags_and_its_sequence(rt: HostRuntime) -> Result<(), AllocError> {
+    let first = bits(
+        rt.alloc(),
+        "0000000100 0010000000 0100001010 0000010000 1010000001 0000001",
+    )?;
+    let second = bits(
+        rt.alloc(),
+        "0000001000 0001000000 1010000100 0000101000 0100000000 1000010",
+    )?;
+    let expected = bits(
+        rt.alloc(),
+        "000 0000000100 0010000000 0100001010 0000010000 1010000001 0000001 1 00100101110000100010010111 1 \
+         0000001000 0001000000 1010000100 0000101000 0100000000 1000010 000",
+    )?;
+    let first = first.as_slice();
+    let second = second.as_slice();
+    assert_bits(&rt, first, 57);
+    assert_bits(&rt, second, 57);
+    assert_eq!(rt; normal(first, second, 0).as_slice(), expected.as_slice());
+    Ok(())
+}
+
+// The burst of eight information bits 0 for the base station identity code 000000.
+#[test]
+fn an_access_burst_ends_with_its_coded_bits(rt: HostRuntime) -> Result<(), AllocError> {
+    let body = bits(rt.alloc(), "000000000000000011101001101001000011")?;
+    let expected = bits(
+        rt.alloc(),
+        "00111010 01001011011111111001100110101010001111000 000000000000000011101001101001000011 000",
+    )?;
+    let body = body.as_slice();
+    assert_bits(&rt, body, 36);
+    assert_eq!(rt; access(body).as_slice(), expected.as_slice());
+    Ok(())
+}
+
+// The burst of 25 information bits 0.
+#[test]
+fn a_synchronisation_burst_has_its_sequence_in_the_middle(
+    rt: HostRuntime,
+) -> Result<(), AllocError> {
+    let first = bits(rt.alloc(), "000000000000000000000000000000000000000")?;
+    let second = bits(rt.alloc(), "00000000000 1110100110101010101001000011")?;
+    let expected = bits(
+        rt.alloc(),
+        "000 000000000000000000000000000000000000000 \
+         1011100101100010000001000000111100101101010001010111011000011011 \
+         00000000000 1110100110101010101001000011 000",
+    )?;
+    let first = first.as_slice();
+    let second = second.as_slice();
+    assert_bits(&rt, first, 39);
+    assert_bits(&rt, second, 39);
+    assert_eq!(rt; sync(first, second).as_slice(), expected.as_slice());
+    Ok(())
+}
