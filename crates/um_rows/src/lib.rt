@@ -1,0 +1,9 @@
+//! Tests that cross crates: whole runs over sources and sinks in memory.
+#![tactic(auto)]
+
+#[cfg(test)]
+mod code;
+#[cfg(test)]
+mod failing;
+#[cfg(test)]
+mod outside;

@@ -1,0 +1,90 @@
+//! A run over octets in memory, and what it has to come to.
+ghost use Rattle.std.specs.Prelude.{◌≤◌};
+
+use std::process::Abort;
+use um_cli::{Status, Words, run};
+use um_io::{MemorySink, MemorySource};
+
+/// How much a call gives or takes, and which calls fail.
+#[derive(Clone, Copy)]
+pub struct Outside<'a> {
+    pub take_most: usize,
+    pub failing_takes: &'a [u64],
+    pub put_most: usize,
+    pub failing_puts: &'a [u64],
+    pub room: usize,
+    ghost takes_some: { 1 ≤ take_most },
+    ghost puts_some: { 1 ≤ put_most },
+}
+
+impl<'a> Outside<'a> {
+    /// An outside that never fails and moves at most `most` octets a call.
+    pub fn of_most(most: usize) -> Outside<'a>
+        requires { 1 ≤ most }
+    {
+        Outside::failing(most, &[], &[])
+    }
+
+    /// An outside that moves at most `most` octets a call and fails at the calls with these numbers.
+    pub fn failing(most: usize, failing_takes: &'a [u64], failing_puts: &'a [u64]) -> Outside<'a>
+        requires { 1 ≤ most }
+    {
+        Outside {
+            take_most: most,
+            failing_takes,
+            put_most: most,
+            failing_puts,
+            room: 100_000,
+        }
+    }
+
+    /// An outside whose sink has room for so many octets.
+    pub fn of_room(room: usize) -> Outside<'a> {
+        Outside {
+            take_most: 100_000,
+            failing_takes: &[],
+            put_most: 100_000,
+            failing_puts: &[],
+            room,
+        }
+    }
+}
+
+/// Runs the words over the input, and compares how it ends and what was written.
+pub fn compare(
+    rt: &(impl Abort + AllocGlobal),
+    words: &[&str],
+    input: &[u8],
+    outside: Outside<'_>,
+    status: Status,
+    output: &[u8],
+) {
+    let mut held = Words::new();
+    for word in words {
+        held.add(word);
+    }
+    let mut source = MemorySource::new(input, outside.take_most, outside.failing_takes);
+    let mut sink = MemorySink::new(
+        rt.alloc(),
+        outside.room,
+        outside.put_most,
+        outside.failing_puts,
+    )
+    .expect(rt, "the sink finds its memory");
+    assert_eq!(rt; run(rt.alloc(), &held, &mut source, &mut sink), status);
+    assert_eq!(rt; sink.octets(), output);
+}
+
+/// The same over outsides that move one octet a call, two, seven and amply many.
+pub fn compare_in_pieces(
+    rt: &(impl Abort + AllocGlobal),
+    words: &[&str],
+    input: &[u8],
+    status: Status,
+    output: &[u8],
+) {
+    compare(rt, words, input, Outside::of_most(1), status, output);
+    compare(rt, words, input, Outside::of_most(2), status, output);
+    compare(rt, words, input, Outside::of_most(7), status, output);
+    compare(rt, words, input, Outside::of_most(100_000), status, output);
+}
