@@ -27,7 +27,7 @@ pub record IsXcchWord (w : List ℕ) : Type 0 where
   pub bits : AllBits w
   pub multiple : IsMultiple (add_bits w (replicate 184 0 ++ replicate 40 1)) g40
 
--- a word of an access burst under the base station's code (BSIC), whose six bits are added to the parity (GSM 05.03 section 4.6)
+-- a word of an access burst under a base station identity code (BSIC), whose six bits are added to the parity (GSM 05.03 section 4.6)
 pub record IsRachWord (w bsic : List ℕ) : Type 0 where
   pub count : length w ≡ 14
   pub bits : AllBits w

@@ -20,7 +20,7 @@ pub(crate) fn parity<const N: usize>(info: &[u8], taps: u64) -> Bits<N>
     places(!remainder::<N>(info, taps))
 }
 
-// What completes bits to a multiple of a generator, by a shift register whose bit `i` stands for place `i`.
+/// What completes bits to a multiple of a generator, by a shift register whose bit `i` stands for place `i`.
 fn remainder<const N: usize>(bits: &[u8], taps: u64) -> u64
     requires bits { AllBits bits.now }
     requires degree { 0 < N }

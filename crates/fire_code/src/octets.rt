@@ -8,8 +8,7 @@ ghost use Rattle.fire_code.specs.Words.{g40};
 use crate::registers::{bits_of, gathered};
 use bit_blocks::Bits;
 
-// For each octet, bit i of whose number stands for place i, the register that completes it to a multiple of the
-// Fire code's generator.
+// For each octet what completes its bits to a multiple of the Fire code's generator: bit i of a number is place i.
 static REMAINDERS: [u64; 256] = [
     0x00_0000_0000,
     0x01_2000_8240,
@@ -295,6 +294,7 @@ pub(crate) fn remainder(bits: &[u8]) -> u64
     register
 }
 
+/// What completes an octet.
 #[inline]
 fn entry(octet: u8) -> u64
     ensures multiple { IsMultiple (register_bits 8 octet ++ register_bits 40 result) g40 }

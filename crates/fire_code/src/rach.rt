@@ -8,7 +8,7 @@ use bit_blocks::Bits;
 // D^5 + D^3 + D^2 + D + 1, the bit of value 1 standing for D^5
 const TAPS: u64 = 0b11_1101;
 
-/// The parity of the eight bits of an access burst, before the base station's colour code (BSIC) is added.
+/// The parity of the eight bits of an access burst, before the base station identity code (BSIC) is added.
 ///
 /// The burst carries the sum of this parity and the code (GSM 05.03 section 4.6).
 pub fn rach_parity(d: &Bits<8>) -> Bits<6>
