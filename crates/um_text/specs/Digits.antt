@@ -10,7 +10,7 @@ bit_digits bits = map (λ bit. 48 + bit) bits
 abbrev pub is_bit_digit : ℕ → Bool
 is_bit_digit octet = octet == 48 || octet == 49
 
--- the word is so many digits `0` and `1`, those of these bits
+-- the word is so many digits `0` and `1`, and these are their bits
 pub record SpellsBits (count : ℕ) (word bits : List ℕ) : Type 0 where
   pub spelled : word ≡ bit_digits bits
   pub many : length bits ≡ count
@@ -22,7 +22,7 @@ is_digit_to most [] = false
 is_digit_to most (octet ∷ []) = nat_le 48 octet && nat_le octet (48 + most)
 is_digit_to most (octet ∷ other ∷ rest) = false
 
--- the word is the one digit of this number, which is no greater than the first
+-- the word is the one digit of this number, which is no greater than the most
 pub record SpellsDigit (most : ℕ) (word : List ℕ) (number : ℕ) : Type 0 where
   pub spelled : word ≡ (48 + number) ∷ []
   pub within : number ≤ most

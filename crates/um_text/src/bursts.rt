@@ -27,7 +27,7 @@ pub fn block_lines(out: &mut Text, bursts: &[[u8; 148]; 4])
     }
 }
 
-/// Writes the line of an access burst for the cell of this base station identity code.
+/// Writes the line of an access burst, for the cell of this base station identity code.
 pub fn access_line(out: &mut Text, bsic: &Bits<6>, burst: &[u8; 88])
     requires empty { out.old ≡ [] }
     requires bits { AllBits burst.now }

@@ -19,13 +19,15 @@ pub enum CodeLine {
     Skip,
     /// A block of these octets in four normal bursts, with training sequence `tsc`, 0 to 7.
     Block { tsc: u8, octets: [u8; 23] },
-    /// An access burst of this information for the cell of this base station identity code.
+    /// An access burst of this information, for the cell of this base station identity code.
     Rach { info: Bits<8>, bsic: Bits<6> },
     /// A synchronisation burst of this information.
     Sch { info: Bits<25> },
 }
 
-/// Reads a line of `code`, given without its line feed: `block T HEX46`, `rach DIGITS8 BSIC6`, `sch DIGITS25`.
+/// Reads a line of `code`, given without its line feed: `block T HEX46`, `rach DIGITS8 BSIC6` or `sch DIGITS25`.
+///
+/// Its reasons are `Long`, `Word`, `Digits` and `Length`. Each is looked for in the whole line before the next.
 pub fn parse_code(line: &[u8]) -> Result<CodeLine, LineFault>
     ensures means { IfOk result (CodeMeans line.now) }
     ensures refused { result_err result ≡ code_fault line.now }

@@ -1,3 +1,4 @@
+//! What is written before it goes out.
 ghost use Rattle.std.specs.Prelude.{◌≡◌, ◌+◌, ◌≤◌, [], ◌++◌, length};
 ghost use Rattle.bit_blocks.specs.Bits.{AllBits};
 ghost use Rattle.um_text.specs.Digits.{bit_digits};
@@ -23,7 +24,7 @@ impl Model for Text {
 }
 
 impl Text {
-    /// No octet.
+    /// A text of no octet.
     pub fn new() -> Text
         ensures { result ≡ [] }
     {
@@ -48,7 +49,7 @@ impl Text {
         self.length = 0;
     }
 
-    /// Appends octets.
+    /// Appends octets as they are.
     pub(crate) fn push(&mut self, octets: &[u8])
         requires { length self.old + length octets.now ≤ 4096 }
         ensures { self.new ≡ self.old ++ octets.now }
@@ -58,7 +59,7 @@ impl Text {
         self.length = end;
     }
 
-    /// Appends the digits of bits.
+    /// Appends a digit `0` or `1` for each bit.
     pub(crate) fn push_digits(&mut self, bits: &[u8])
         requires room { length self.old + length bits.now ≤ 4096 }
         requires bits { AllBits bits.now }

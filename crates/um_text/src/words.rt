@@ -15,7 +15,7 @@ pub(crate) fn is_skipped(line: &[u8]) -> bool
     matches!(line, [] | [b'#', ..])
 }
 
-/// The word before the first space, and what stands after that space.
+/// The word before the first space, and what stands after that space. A text without a space is one word.
 #[tactic(auto, using(crate::proofs::WordLists::words_unfound))]
 pub(crate) fn first_word(text: &[u8]) -> Option<(&[u8], &[u8])>
     ensures { MatchOption result (words text.now ≡ text.now ∷ []) (λ parts. words text.now ≡ parts.0.now ∷ words parts.1.now) }
