@@ -3,7 +3,7 @@ ghost use Rattle.std.specs.Prelude.{◌≡◌, ◌≤◌, ◌<◌, ◌+◌, ◌-
 ghost use Rattle.std.specs.Borrow.{sem};
 ghost use Rattle.um_io.specs.Outside.{Rose};
 ghost use Rattle.um_io.specs.Lines.{IsDivided, lines_of};
-ghost use Rattle.um_io.specs.Found.{Shows, NeedsBeyond};
+ghost use Rattle.um_io.specs.Found.{Shows, LacksAnswer};
 
 use crate::buffer::Buffer;
 use crate::outside::{Failed, NoMemory, Source};
@@ -202,7 +202,7 @@ impl Lines {
 
 /// What so many octets within the limit show that have no line feed, and so many past it.
 fn without_feed(within: usize, past: usize, ended: bool) -> Option<Found>
-    ensures { MatchOption result (NeedsBeyond within past ended) (Shows within past ended) }
+    ensures { MatchOption result (LacksAnswer within past ended) (Shows within past ended) }
 {
     if within > LINE_LIMIT {
         Some(Found::Above)
