@@ -15,7 +15,7 @@ Shows within past ended Above = line_limit < within
 Shows within past ended Past = (within ≤ line_limit) × (0 < past)
 
 -- so many octets without a line feed, and so many past the limit, give no answer yet
-pub record NeedsBeyond (within past : ℕ) (ended : Bool) : Type 0 where
+pub record LacksAnswer (within past : ℕ) (ended : Bool) : Type 0 where
   pub short : within ≤ line_limit
   pub none_past : past ≡ 0
   pub goes_on : ended ≡ false

@@ -1,5 +1,5 @@
 -- The forms of the outside that stand in memory: this project's own rules.
-use Rattle.std.specs.Prelude.{ℕ, ◌<◌, ◌+◌, min, List, ◌++◌, length, take, drop, Contains, ◌⊎◌}
+use Rattle.std.specs.Prelude.{ℕ, ◌<◌, ◌+◌, min, List, [], ◌++◌, length, take, drop, Contains, ◌⊎◌}
 use Rattle.um_io.specs.Outside.{raised}
 
 -- a source that never fails: what it has left, and the most that a call gives
@@ -26,6 +26,14 @@ pub record Store : Type 0 where
   pub calls : ℕ
   pub faults : ℕ
 
+-- a source that all of these octets are left of, and whose calls of these numbers fail
+abbrev pub new_feed : List ℕ → ℕ → List ℕ → Feed
+new_feed octets most failing = record { left = octets; most = most; failing = failing; calls = 0; faults = 0 }
+
+-- a sink that took nothing, and whose calls of these numbers fail
+abbrev pub new_store : ℕ → ℕ → List ℕ → Store
+new_store room most failing = record { taken = []; room = room; most = most; failing = failing; calls = 0; faults = 0 }
+
 -- how many octets a call gives that does not fail
 abbrev pub given_count : ℕ → List ℕ → List ℕ → ℕ
 given_count most left into = min most (min (length into) (length left))
@@ -45,3 +53,19 @@ FailsNext failing calls = Contains failing (raised calls)
 -- the call that comes next fails by its number or for want of room
 abbrev pub Refuses : Store → List ℕ → Type 0
 Refuses s piece = FailsNext s.failing s.calls ⊎ (s.room < length s.taken + taken_count s.most piece)
+
+-- a source after a call that gave n octets
+abbrev pub after_giving : Feed → ℕ → Feed
+after_giving s n = record s { left = drop n s.left; calls = raised s.calls }
+
+-- a source after a call that failed
+abbrev pub after_failing : Feed → Feed
+after_failing s = record s { calls = raised s.calls; faults = raised s.faults }
+
+-- a sink after a call that took the first n octets of a piece
+abbrev pub after_taking : Store → List ℕ → ℕ → Store
+after_taking s piece n = record s { taken = s.taken ++ take n piece; calls = raised s.calls }
+
+-- a sink after a call that failed
+abbrev pub after_refusing : Store → Store
+after_refusing s = record s { calls = raised s.calls; faults = raised s.faults }

@@ -32,13 +32,17 @@ impl<R: Read> Source for ReadSource<R> {
 
     fn take(&mut self, into: &mut [u8]) -> Result<usize, Failed>
         ensures bound { ReadsAtMost result into.new }
-        ensures octets { ReadConsumes (⟦<ReadSource<R> as Source>⟧.left self.old) (⟦<ReadSource<R> as Source>⟧.left self.new) result into.new }
-        ensures later { ⟦<ReadSource<R> as Source>⟧.faults self.old ≤ ⟦<ReadSource<R> as Source>⟧.faults self.new }
-        ensures cause { OnErr result (Rose (⟦<ReadSource<R> as Source>⟧.faults self.old) (⟦<ReadSource<R> as Source>⟧.faults self.new)) }
+        ensures octets { let left = ⟦<ReadSource<R> as Source>⟧.left in
+            ReadConsumes (left self.old) (left self.new) result into.new }
+        ensures later { let count = ⟦<ReadSource<R> as Source>⟧.faults in count self.old ≤ count self.new }
+        ensures cause { let count = ⟦<ReadSource<R> as Source>⟧.faults in
+            OnErr result (Rose (count self.old) (count self.new)) }
 
         // The count changes only where the call fails.
-        ensures kept { OnOk result (⟦<ReadSource<R> as Source>⟧.faults self.new ≡ ⟦<ReadSource<R> as Source>⟧.faults self.old) }
-        ensures counted { OnErr result (⟦<ReadSource<R> as Source>⟧.faults self.new ≡ raised (⟦<ReadSource<R> as Source>⟧.faults self.old)) }
+        ensures kept { let count = ⟦<ReadSource<R> as Source>⟧.faults in
+            OnOk result (count self.new ≡ count self.old) }
+        ensures counted { let count = ⟦<ReadSource<R> as Source>⟧.faults in
+            OnErr result (count self.new ≡ raised (count self.old)) }
     {
         match self.reader.read(into) {
             Ok(count) => Ok(count),
@@ -74,13 +78,17 @@ impl<W: Write> Sink for WriteSink<W> {
     fn put(&mut self, piece: &[u8]) -> Result<usize, Failed>
         ensures bound { WritesAtMost result piece.now }
         ensures some { TakesSome result piece.now }
-        ensures octets { WriteAppends (⟦<WriteSink<W> as Sink>⟧.taken self.old) (⟦<WriteSink<W> as Sink>⟧.taken self.new) result piece.now }
-        ensures later { ⟦<WriteSink<W> as Sink>⟧.faults self.old ≤ ⟦<WriteSink<W> as Sink>⟧.faults self.new }
-        ensures cause { OnErr result (Rose (⟦<WriteSink<W> as Sink>⟧.faults self.old) (⟦<WriteSink<W> as Sink>⟧.faults self.new)) }
+        ensures octets { let taken = ⟦<WriteSink<W> as Sink>⟧.taken in
+            WriteAppends (taken self.old) (taken self.new) result piece.now }
+        ensures later { let count = ⟦<WriteSink<W> as Sink>⟧.faults in count self.old ≤ count self.new }
+        ensures cause { let count = ⟦<WriteSink<W> as Sink>⟧.faults in
+            OnErr result (Rose (count self.old) (count self.new)) }
 
         // The count changes only where the call fails.
-        ensures kept { OnOk result (⟦<WriteSink<W> as Sink>⟧.faults self.new ≡ ⟦<WriteSink<W> as Sink>⟧.faults self.old) }
-        ensures counted { OnErr result (⟦<WriteSink<W> as Sink>⟧.faults self.new ≡ raised (⟦<WriteSink<W> as Sink>⟧.faults self.old)) }
+        ensures kept { let count = ⟦<WriteSink<W> as Sink>⟧.faults in
+            OnOk result (count self.new ≡ count self.old) }
+        ensures counted { let count = ⟦<WriteSink<W> as Sink>⟧.faults in
+            OnErr result (count self.new ≡ raised (count self.old)) }
     {
         match self.writer.write(piece) {
             Ok(count) if count > 0 || piece.is_empty() => Ok(count),

@@ -3,7 +3,7 @@ ghost use Rattle.std.specs.Prelude.{◌≡◌, ◌≤◌, ◌+◌, ◌↔◌, �
 ghost use Rattle.std.specs.Io.{ReadsAtMost, WritesAtMost};
 ghost use Rattle.std.specs.Io.KnownBytes.{ReadConsumes, WriteAppends};
 ghost use Rattle.um_io.specs.Outside.{raised, Rose, TakesSome};
-ghost use Rattle.um_io.specs.Memory.{Plain, Feed, Store, given_count, taken_count, filled, FailsNext, Refuses};
+ghost use Rattle.um_io.specs.Memory.{Plain, Feed, Store, new_feed, new_store, given_count, taken_count, filled, FailsNext, Refuses, after_giving, after_failing, after_taking, after_refusing};
 
 use crate::outside::{Failed, NoMemory, Sink, Source, fault};
 use std::alloc::Global;
@@ -58,8 +58,10 @@ impl<'a> Source for PlainSource<'a> {
     fn take(&mut self, into: &mut [u8]) -> Result<usize, Failed>
         ensures bound { ReadsAtMost result into.new }
         ensures octets { ReadConsumes (Some self.old.left) (Some self.new.left) result into.new }
-        ensures later { let count = ⟦<PlainSource<'a> as Source>⟧.faults in count self.old ≤ count self.new }
-        ensures cause { let count = ⟦<PlainSource<'a> as Source>⟧.faults in OnErr result (Rose (count self.old) (count self.new)) }
+        ensures later { let count = ⟦<PlainSource<'a> as Source>⟧.faults in
+            count self.old ≤ count self.new }
+        ensures cause { let count = ⟦<PlainSource<'a> as Source>⟧.faults in
+            OnErr result (Rose (count self.old) (count self.new)) }
 
         ensures exact { result ≡ Ok (given_count self.old.most self.old.left into.old) }
         ensures copied { IfOk result (λ n. into.new ≡ filled self.old.left n into.old) }
@@ -87,7 +89,13 @@ impl<'a> Model for MemorySource<'a> {
 
     ghost Value = { Feed };
 
-    ghost view = { λ s. record { left = s.octets.now; most = s.most; failing = s.failing.now; calls = s.calls; faults = s.faults } };
+    ghost view = { λ s. record {
+      left = s.octets.now;
+      most = s.most;
+      failing = s.failing.now;
+      calls = s.calls;
+      faults = s.faults;
+    } };
 
     ghost invariant = { λ s. 1 ≤ s.most };
 }
@@ -97,7 +105,7 @@ impl<'a> MemorySource<'a> {
     /// numbers stand in `fails`.
     pub fn new(octets: &'a [u8], most: usize, fails: &'a [u64]) -> Self
         requires { 1 ≤ most }
-        ensures { result ≡ record { left = octets.now; most = most; failing = fails.now; calls = 0; faults = 0 } }
+        ensures { result ≡ new_feed octets.now most fails.now }
     {
         MemorySource {
             octets,
@@ -123,8 +131,8 @@ impl<'a> Source for MemorySource<'a> {
         ensures fails { IsErr result ↔ FailsNext self.old.failing self.old.calls }
         ensures exact { IfOk result (λ n. n ≡ given_count self.old.most self.old.left into.old) }
         ensures copied { IfOk result (λ n. into.new ≡ filled self.old.left n into.old) }
-        ensures rest { IfOk result (λ n. self.new ≡ record self.old { left = drop n self.old.left; calls = raised self.old.calls }) }
-        ensures failed { OnErr result (self.new ≡ record self.old { calls = raised self.old.calls; faults = raised self.old.faults }) }
+        ensures given { IfOk result (λ n. self.new ≡ after_giving self.old n) }
+        ensures failed { OnErr result (self.new ≡ after_failing self.old) }
         ensures kept { OnErr result (into.new ≡ into.old) }
     {
         self.calls = self.calls.saturating_add(1);
@@ -154,7 +162,14 @@ impl<'a> Model for MemorySink<'a> {
 
     ghost Value = { Store };
 
-    ghost view = { λ s. record { taken = s.octets.items; room = s.room; most = s.most; failing = s.failing.now; calls = s.calls; faults = s.faults } };
+    ghost view = { λ s. record {
+      taken = s.octets.items;
+      room = s.room;
+      most = s.most;
+      failing = s.failing.now;
+      calls = s.calls;
+      faults = s.faults;
+    } };
 
     // All the memory is there from the beginning.
     ghost invariant = { λ s. (1 ≤ s.most) × (vec_len s.octets ≤ s.room) × (s.room ≤ vec_capacity s.octets) };
@@ -165,7 +180,7 @@ impl<'a> MemorySink<'a> {
     /// at the calls whose numbers stand in `fails`. All its memory is taken here.
     pub fn new(alloc: Global, room: usize, most: usize, fails: &'a [u64]) -> Result<Self, NoMemory>
         requires { 1 ≤ most }
-        ensures { IfOk result (λ s. s ≡ record { taken = []; room = room; most = most; failing = fails.now; calls = 0; faults = 0 }) }
+        ensures { IfOk result (λ sink. sink ≡ new_store room most fails.now) }
     {
         let octets = Vec::with_capacity(alloc, room).map_err(|_| NoMemory)?;
         Ok(MemorySink {
@@ -200,8 +215,8 @@ impl<'a> Sink for MemorySink<'a> {
 
         ensures fails { IsErr result ↔ Refuses self.old piece.now }
         ensures exact { IfOk result (λ n. n ≡ taken_count self.old.most piece.now) }
-        ensures rest { IfOk result (λ n. self.new ≡ record self.old { taken = self.old.taken ++ take n piece.now; calls = raised self.old.calls }) }
-        ensures failed { OnErr result (self.new ≡ record self.old { calls = raised self.old.calls; faults = raised self.old.faults }) }
+        ensures taken { IfOk result (λ n. self.new ≡ after_taking self.old piece.now n) }
+        ensures failed { OnErr result (self.new ≡ after_refusing self.old) }
     {
         self.calls = self.calls.saturating_add(1);
         let count = self.most.min(piece.len());
