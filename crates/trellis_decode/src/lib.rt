@@ -1,8 +1,11 @@
 //! The most likely information list of the convolutional code, by a trellis in lanes.
 #![tactic(auto)]
 
+mod exhaustive;
 mod lanes;
 mod step;
+#[cfg(test)]
+mod tests;
 mod trellis;
 
 ghost use Rattle.std.specs.Prelude.{◌≡◌, ◌*◌, ◌≤◌, length};
@@ -10,6 +13,7 @@ ghost use Rattle.conv_code.specs.Code.{coded};
 ghost use Rattle.conv_code.specs.Likelihood.{AllSoft, IsMostLikely, likelihood};
 
 use crate::trellis::{choose, read_list};
+pub use exhaustive::search;
 
 /// Writes the most likely information list for soft values, of equally likely ones the first in the order of words, and
 /// answers its likelihood.
