@@ -1,5 +1,5 @@
 -- Likelihoods, one place more at a time, and the bits of coded lists.
-use Rattle.std.proofs.Common.{◌≡◌, ℕ, zero, suc, ◌+◌, ◌<◌, ◌≤◌, ℤ, pos, ◌+ℤ◌, List, [], ◌∷◌, length, get_or, take, refl, ap, sym, ◌∙◌, subst, arith}
+use Rattle.std.proofs.Common.{◌≡◌, ℕ, zero, suc, ◌<◌, ℤ, pos, ◌+ℤ◌, List, [], ◌∷◌, length, get_or, take, sym, subst, arith}
 use Rattle.std.proofs.lemmas.Int.{ints}
 use Rattle.bit_blocks.specs.Bits.{AllBits}
 use Rattle.conv_code.specs.Code.{coded}

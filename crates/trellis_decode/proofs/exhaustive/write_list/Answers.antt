@@ -1,4 +1,4 @@
-use Rattle.std.proofs.Common.{arith, ◌≡◌, ℕ, ◌+◌, ◌-◌, ◌*◌, ◌<◌, length, sym, subst, ◌∙◌}
+use Rattle.std.proofs.Common.{arith, ◌-◌, ◌*◌, ◌<◌, length, sym, subst, ◌∙◌}
 use Rattle.std.proofs.lemmas.Grind.{same_number_lists}
 use Rattle.conv_code.specs.Code.{IsInformation}
 use Rattle.trellis_decode.specs.Words.{word}
