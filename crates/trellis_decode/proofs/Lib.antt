@@ -1,6 +1,7 @@
 pub mod EdgeLanes
 pub mod Likelihoods
 pub mod Lists
+pub mod MostLikely
 pub mod Paths
 pub mod Searching
 pub mod Steps
