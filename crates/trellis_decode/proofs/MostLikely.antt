@@ -1,9 +1,8 @@
 -- There is one most likely information list at most.
-use Rattle.std.proofs.Common.{◌≡◌, ◌≢◌, ℕ, zero, suc, ◌+◌, ◌*◌, ◌<◌, ◌≤◌, ◌⊎◌, inl, inr, ℤ, ◌<ℤ◌, List, [], ◌∷◌, length, get_or, refl, ap, ap₂, sym, ◌∙◌, subst, arith}
+use Rattle.std.proofs.Common.{◌≡◌, ◌≢◌, ℕ, ◌⊎◌, inl, inr, ℤ, List, [], ◌∷◌, length, get_or, refl, ap, ap₂, sym, ◌∙◌, arith}
 use Rattle.std.proofs.lemmas.Bool.{cases_lt}
 use Rattle.std.proofs.lemmas.Int.{ints}
-use Rattle.conv_code.specs.Code.{coded, IsInformation}
-use Rattle.conv_code.specs.Likelihood.{likelihood, IsBefore, FallsBehind, IsMostLikely}
+use Rattle.conv_code.specs.Likelihood.{IsBefore, FallsBehind, IsMostLikely}
 
 same_number : (x y : ℕ) → (x ≡ y) ⊎ (x ≢ y)
 same_number x y = elim (cases_lt x y) [
