@@ -57,7 +57,7 @@ coded_from_place u k (suc n) bits e =
     (rest ∙ ap₂ coded_from (sym (next_state u k bits)) (ap (λ j. drop j u) more))
     ∙ ap (coded_from (state_at u k)) (sym (drop-cons u k 0 within))
 
-coded_from_start : (u : List ℕ) → AllBits u → coded u ≡ coded_from 0 u
+pub coded_from_start : (u : List ℕ) → AllBits u → coded u ≡ coded_from 0 u
 unfolding state_at
 coded_from_start u bits = coded_from_place u 0 (length u) bits (omega arith)
 

@@ -163,7 +163,7 @@ likelihood_bound (p ∷ s) (suc (suc x) ∷ c) octets bits =
     let head = All-head (λ bit. bit ≤ 1) (suc (suc x)) c bits in
     absurd (omega arith)
 
-AllBits-coded_from : (state : ℕ) (u : List ℕ) → AllBits (coded_from state u)
+pub AllBits-coded_from : (state : ℕ) (u : List ℕ) → AllBits (coded_from state u)
 AllBits-coded_from state [] = All-nil (λ bit. bit ≤ 1)
 AllBits-coded_from state (x ∷ u) =
     let first : first_bit state x ≤ 1 = omega arith in
@@ -245,9 +245,12 @@ IsBest-row after soft rows k j n s row value at free within two best choice =
     (best (next s 0) reached0) (best (next s 1) reached1) choice)
 
 -- rows of zeros choose zeros
-pub read_out-zeros : (rows : List ℕ) (state : ℕ) → All (λ row. row ≡ 0) rows → read_out rows state ≡ replicate (length rows) 0
+read_out-zeros : (rows : List ℕ) (state : ℕ) → All (λ row. row ≡ 0) rows → read_out rows state ≡ replicate (length rows) 0
 read_out-zeros [] state zeros = refl
 read_out-zeros (row ∷ rows) state zeros =
     let bit : row / 2 ^ state % 2 ≡ 0 = ap (λ row. row / 2 ^ state % 2) (All-head (λ row. row ≡ 0) row rows zeros) ∙ ap (λ x. x % 2) (zero-div (2 ^ state)) in
     ap (λ bit. bit ∷ read_out rows (next state bit)) bit
     ∙ ap (λ rest. 0 ∷ rest) (read_out-zeros rows (next state 0) (All-tail (λ row. row ≡ 0) row rows zeros))
+
+pub closing_rows : (rows : List ℕ) (state : ℕ) → length rows ≡ 4 → All (λ row. row ≡ 0) rows → replicate 4 0 ≡ read_out rows state
+closing_rows rows state four zeros = ap (λ n. replicate n 0) (sym four) ∙ sym (read_out-zeros rows state zeros)

@@ -1,2 +1,3 @@
 pub mod Lanes
 pub mod Trellis
+pub mod Words

@@ -1,18 +1,24 @@
 //! The most likely information list of the convolutional code, by a trellis in lanes.
 #![tactic(auto)]
 
+mod exhaustive;
 mod lanes;
 mod step;
+#[cfg(test)]
+mod tests;
 mod trellis;
 
-ghost use Rattle.std.specs.Prelude.{◌≡◌, ◌*◌, ◌≤◌, length};
+ghost use Rattle.std.specs.Prelude.{◌≡◌, ℕ, ◌*◌, ◌≤◌, List, length};
 ghost use Rattle.conv_code.specs.Code.{coded};
 ghost use Rattle.conv_code.specs.Likelihood.{AllSoft, IsMostLikely, likelihood};
 
 use crate::trellis::{choose, read_list};
+pub use exhaustive::search;
 
 /// Writes the most likely information list for soft values, of equally likely ones the first in the order of words, and
 /// answers its likelihood.
+///
+/// A pair of soft values belongs to each bit of `u`. What `u` held before plays no part.
 pub fn decode(soft: &[i8], u: &mut [u8]) -> i32
     requires count { length soft.now ≡ 2 * length u.old }
     requires at_least { 5 ≤ length u.old }
@@ -20,6 +26,7 @@ pub fn decode(soft: &[i8], u: &mut [u8]) -> i32
     requires soft { AllSoft soft.now }
     ensures best { IsMostLikely soft.now u.new }
     ensures value { result ≡ likelihood soft.now (coded u.new) }
+    ensures only { (v : List ℕ) → IsMostLikely soft.now v → v ≡ u.new }
 {
     let mut choices = [0; 228];
     let rows = &mut choices[..u.len()];

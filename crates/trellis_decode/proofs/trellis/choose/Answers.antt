@@ -1,9 +1,9 @@
-use Rattle.std.proofs.Common.{arith, ◌≡◌, ℕ, ◌*◌, ◌+◌, ◌-◌, ◌≤◌, length, drop, replicate, take, refl, ap, sym, ◌∙◌, subst}
+use Rattle.std.proofs.Common.{arith, ◌≡◌, ◌*◌, ◌+◌, ◌-◌, ◌≤◌, length, drop, take, refl, ap, sym, subst}
 use Rattle.std.proofs.lemmas.List.{length-drop, take_all}
 use Rattle.std.proofs.lemmas.List.Elements.{All-drop}
 use Rattle.trellis_decode.specs.Lanes.{lane, AreOctets}
 use Rattle.trellis_decode.specs.Trellis.{read_out}
-use Rattle.trellis_decode.proofs.Paths.{AreModest-best, IsBest-same, IsBest-row, read_out-zeros, AreOctets-more}
+use Rattle.trellis_decode.proofs.Paths.{AreModest-best, IsBest-same, IsBest-row, closing_rows, AreOctets-more}
 use Rattle.trellis_decode.proofs.Vectors.{numbers, AreLanes-passed, passed-lanes}
 use Rattle.trellis_decode.proofs.trellis.choose.Goals as goal
 
@@ -14,12 +14,11 @@ loop-k-init c =
     let free = length rows - 4 in
     let last_four : length (drop free rows) ≡ 4 = rw length-drop (omega arith) in
     let whole : take (length soft - 2 * free) (drop (2 * free) soft) ≡ drop (2 * free) soft = take_all _ _ (omega (arith, length-drop (2 * free) soft)) in
-    let zeros : (s : ℕ) → replicate 4 0 ≡ read_out (drop free rows) s =
-    λ s. ap (λ n. replicate n 0) (sym last_four) ∙ sym (read_out-zeros (drop free rows) s (All-drop (λ row. row ≡ 0) free rows c.requires.blank)) in
+    let zeros = All-drop (λ row. row ≡ 0) free rows c.requires.blank in
     record {
       lanes = AreLanes-passed c.closing_values-values.result c.closing_values-values.ensures.lanes;
       octets = subst AreOctets whole c.closing_values-values.ensures.octets;
-      best = λ s lt. IsBest-same s (zeros s) whole
+      best = λ s lt. IsBest-same s (closing_rows (drop free rows) s last_four zeros) whole
           (ap (λ lanes. lane lanes s) (sym (passed-lanes c.closing_values-values.result c.closing_values-values.ensures.lanes)))
           (c.closing_values-values.ensures.each s lt);
     }

@@ -1,0 +1,30 @@
+#!/usr/bin/env bash
+# Nanoseconds a list of 228 bits: `decode` of trellis_decode beside osmo_conv_decode of libosmocoding, in turns.
+# Needs `rt`, gcc, pkg-config and libosmocore-dev. The least of all rounds counts: other work on the machine only adds.
+set -eu
+here=$(cd "$(dirname "$0")" && pwd)
+top=$(cd "$here/../.." && pwd)
+work=$(mktemp -d)
+trap 'rm -rf "$work"' EXIT
+
+gcc -O2 -o "$work/peer" "$here/peer.c" $(pkg-config --cflags --libs libosmocoding libosmogsm libosmocore)
+
+# A copy of the crates with a program beside them, which is proved and built like any other.
+mkdir -p "$work/copy/crates/bench_decode/src"
+for crate in bit_blocks conv_code trellis_decode; do
+	cp -r "$top/crates/$crate" "$work/copy/crates/"
+done
+cp "$top/HANDLES" "$work/copy/"
+grep -E '^(bit_blocks|conv_code|trellis_decode):' "$top/crates.txt" > "$work/copy/crates.txt"
+echo 'bench_decode: bit_blocks conv_code trellis_decode anyhow' >> "$work/copy/crates.txt"
+cp "$here/program.txt" "$work/copy/crates/bench_decode/src/main.rt"
+(cd "$work/copy/crates/bench_decode" && rt run > "$work/build" 2>&1) || { tail -20 "$work/build"; exit 1; }
+
+turns=${1:-5}
+for ((turn = 0; turn < turns; turn++)); do
+	"$work/peer" 2>> "$work/sums" >> "$work/theirs"
+	"$work/copy/crates/bench_decode/out/bench_decode" 2>> "$work/sums" >> "$work/ours"
+done
+theirs=$(sort -n "$work/theirs" | head -1)
+ours=$(sort -n "$work/ours" | head -1)
+echo "osmo_conv_decode $theirs ns, decode $ours ns, ratio $(awk "BEGIN { printf \"%.2f\", $ours / $theirs }")"

@@ -1,0 +1,131 @@
+-- All information lists in their order.
+use Rattle.std.proofs.Common.{◌≡◌, ℕ, zero, suc, ◌+◌, ◌-◌, ◌*◌, ◌/◌, ◌%◌, ◌^◌, ◌<◌, ◌≤◌, inl, inr, List, [], ◌∷◌, length, get_or, drop, refl, ap, ap₂, sym, ◌∙◌, subst, arith}
+use Rattle.std.proofs.Math.Nat.{add-mul-div_left, div-eq_of_lt, pow-suc, pow-succ', div-one, div-div-eq-div-mul, div-mul-le_self, div-lt_iff_lt-mul, eq-or-lt_of_le}
+use Rattle.std.proofs.lemmas.Bool.{cases_lt}
+use Rattle.std.proofs.lemmas.Nat.{pow_pos}
+use Rattle.std.proofs.lemmas.List.Elements.{All-nil, All-cons, All-head, All-tail}
+use Rattle.std.specs.List.{All}
+use Rattle.bit_blocks.specs.Bits.{AllBits}
+use Rattle.conv_code.specs.Code.{IsInformation}
+use Rattle.conv_code.specs.Likelihood.{IsBefore}
+use Rattle.trellis_decode.specs.Words.{word}
+
+pub length-word : (n number : ℕ) → length (word n number) ≡ n
+length-word zero number = refl
+length-word (suc n) number = ap suc (length-word n number)
+
+pub get_or-word : (n number k j : ℕ) → k + j + 1 ≡ n → get_or (word n number) k 0 ≡ number / 2 ^ j % 2
+get_or-word zero number k j e = absurd (omega arith)
+get_or-word (suc n) number zero j e = let at : n ≡ j = omega arith in ap (λ j. number / 2 ^ j % 2) at
+get_or-word (suc n) number (suc k) j e = let e' : k + j + 1 ≡ n = omega arith in get_or-word n number k j e'
+
+drop-word : (n number k m : ℕ) → k + m ≡ n → drop k (word n number) ≡ word m number
+drop-word n number zero m e = let at : n ≡ m = omega arith in ap (λ n. word n number) at
+drop-word zero number (suc k) m e = absurd (omega arith)
+drop-word (suc n) number (suc k) m e = let e' : k + m ≡ n = omega arith in drop-word n number k m e'
+
+AllBits-word : (n number : ℕ) → AllBits (word n number)
+AllBits-word zero number = All-nil (λ bit. bit ≤ 1)
+AllBits-word (suc n) number =
+    let bit : number / 2 ^ n % 2 ≤ 1 = omega arith in
+    All-cons (λ bit. bit ≤ 1) (number / 2 ^ n % 2) (word n number) bit (AllBits-word n number)
+
+pub IsInformation-word : (n number : ℕ) → 5 ≤ n → IsInformation (word n (16 * number))
+IsInformation-word n number long = record {
+  count = rw (length-word n (16 * number)) long;
+  bits = AllBits-word n (16 * number);
+  tail = rw (length-word n (16 * number)) (subst (All (λ bit. bit ≡ 0)) (sym (drop-word n (16 * number) (n - 4) 4 (omega arith))) last_four);
+} where
+  b8 : 16 * number / 8 % 2 ≡ 0
+  b8 = omega arith
+
+  b4 : 16 * number / 4 % 2 ≡ 0
+  b4 = omega arith
+
+  b2 : 16 * number / 2 % 2 ≡ 0
+  b2 = omega arith
+
+  b1 : 16 * number / 1 % 2 ≡ 0
+  b1 = rw (div-one (16 * number)) (omega arith)
+
+  last_four : All (λ bit. bit ≡ 0) (word 4 (16 * number))
+  last_four =
+      All-cons (λ bit. bit ≡ 0) _ (word 3 (16 * number)) b8
+      (All-cons (λ bit. bit ≡ 0) _ (word 2 (16 * number)) b4
+      (All-cons (λ bit. bit ≡ 0) _ (word 1 (16 * number)) b2
+      (All-cons (λ bit. bit ≡ 0) _ [] b1 (All-nil (λ bit. bit ≡ 0)))))
+
+-- the bits above the n-th count for nothing
+word-high : (n r x : ℕ) → word n (r + 2 ^ n * x) ≡ word n r
+word-high zero r x = refl
+word-high (suc n) r x =
+    let doubled : r + 2 ^ suc n * x ≡ r + 2 ^ n * (2 * x) = rw (pow-succ' 2 n) (omega arith) in
+    let half = add-mul-div_left r (2 * x) (pow_pos n) in
+    let bit : (r + 2 ^ n * (2 * x)) / 2 ^ n % 2 ≡ r / 2 ^ n % 2 = rw half (omega arith) in
+    ap (word (suc n)) doubled ∙ ap₂ (λ bit rest. bit ∷ rest) bit (word-high n r (2 * x))
+
+-- each list of bits is a word
+spelled : (v : List ℕ) → AllBits v → (number : ℕ) × (number < 2 ^ length v) × (word (length v) number ≡ v)
+spelled [] bits = (0, omega arith, refl)
+spelled (x ∷ v) bits =
+    let rest = spelled v (All-tail (λ bit. bit ≤ 1) x v bits) in
+    let r = rest.0 in
+    let power = 2 ^ length v in
+    let small : r < power = rest.1 in
+    let x_bit : x ≤ 1 = All-head (λ bit. bit ≤ 1) x v bits in
+    let head : (r + power * x) / power % 2 ≡ x = rw (add-mul-div_left r x (pow_pos (length v)), div-eq_of_lt small) (omega arith) in
+    (r + power * x, rw (pow-succ' 2 (length v)) (below_twice r power x small x_bit), ap₂ (λ bit rest. bit ∷ rest) head (word-high (length v) r x ∙ rest.2))
+  where
+    below_twice : (r power x : ℕ) → r < power → x ≤ 1 → r + power * x < 2 * power
+    below_twice r power zero small bit = omega arith
+    below_twice r power (suc zero) small bit = omega arith
+    below_twice r power (suc (suc x)) small bit = absurd (omega arith)
+
+div-le : (a b power : ℕ) → 0 < power → a ≤ b → a / power ≤ b / power
+div-le a b power above le = elim (cases_lt (b / power) (a / power)) [
+  | inl less ↦
+      let reached = (div-lt_iff_lt-mul above).0 less in
+      let kept = div-mul-le_self a power in
+      absurd (omega arith)
+  | inr fine ↦ fine
+]
+
+-- the order of numbers is that of their words
+pub IsBefore-word : (n a b : ℕ) → a < b → a / 2 ^ n ≡ b / 2 ^ n → IsBefore (word n a) (word n b)
+IsBefore-word zero a b less same = absurd (let same' : a ≡ b = sym (div-one a) ∙ same ∙ div-one b in omega arith)
+IsBefore-word (suc n) a b less same =
+    let halves : a / 2 ^ n / 2 ≡ b / 2 ^ n / 2 =
+    div-div-eq-div-mul a (2 ^ n) 2 ∙ ap (λ p. a / p) (sym (pow-suc 2 n)) ∙ same ∙ ap (λ p. b / p) (pow-suc 2 n) ∙ sym (div-div-eq-div-mul b (2 ^ n) 2) in
+    let ordered : a / 2 ^ n ≤ b / 2 ^ n = div-le a b (2 ^ n) (pow_pos n) (omega arith) in
+    elim (eq-or-lt_of_le ordered) [
+      | inl equal ↦ later (ap (λ q. q % 2) equal) (IsBefore-word n a b less equal)
+      | inr above ↦
+          let zero_bit : a / 2 ^ n % 2 ≡ 0 = omega arith in
+          let one_bit : b / 2 ^ n % 2 ≡ 1 = omega arith in
+          record { place = 0; within = omega arith; same = (λ j lt. absurd (omega arith)); zero = zero_bit; differs = (λ e. omega arith) }
+    ]
+  where
+    same_places : a / 2 ^ n % 2 ≡ b / 2 ^ n % 2 → (rest : IsBefore (word n a) (word n b)) → (j : ℕ) → j < suc rest.place →
+        get_or (word (suc n) a) j 0 ≡ get_or (word (suc n) b) j 0
+    same_places head rest zero lt = head
+    same_places head rest (suc j) lt = rest.same j (omega arith)
+
+    later : a / 2 ^ n % 2 ≡ b / 2 ^ n % 2 → IsBefore (word n a) (word n b) → IsBefore (word (suc n) a) (word (suc n) b)
+    later head rest = record { place = suc rest.place; within = omega arith; same = same_places head rest; zero = rest.zero; differs = rest.differs }
+
+-- each information list is one of the words that end in four zeros
+pub word-information : (v : List ℕ) → IsInformation v → (number : ℕ) × (16 * number < 2 ^ length v) × (word (length v) (16 * number) ≡ v)
+word-information v h =
+    let spelt = spelled v h.bits in
+    let number = spelt.0 in
+    let long = h.count in
+    let last_four : drop (length v - 4) v ≡ word 4 number =
+    ap (drop (length v - 4)) (sym spelt.2) ∙ drop-word (length v) number (length v - 4) 4 (omega arith) in
+    let zeros : All (λ bit. bit ≡ 0) (word 4 number) = subst (All (λ bit. bit ≡ 0)) last_four h.tail in
+    let b8 : number / 8 % 2 ≡ 0 = zeros 0 0 (omega arith) in
+    let b4 : number / 4 % 2 ≡ 0 = zeros 1 0 (omega arith) in
+    let b2 : number / 2 % 2 ≡ 0 = zeros 2 0 (omega arith) in
+    let b1 : number / 1 % 2 ≡ 0 = zeros 3 0 (omega arith) in
+    let b1' : number % 2 ≡ 0 = ap (λ q. q % 2) (sym (div-one number)) ∙ b1 in
+    let sixteen : 16 * (number / 16) ≡ number = omega arith in
+    (number / 16, rw sixteen spelt.1, ap (word (length v)) sixteen ∙ spelt.2)

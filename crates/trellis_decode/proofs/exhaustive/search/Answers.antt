@@ -1,0 +1,58 @@
+use Rattle.std.proofs.Common.{arith, rules, ◌≡◌, ◌≢◌, ◌*◌, ◌+◌, ◌^◌, ◌<◌, length, ap, sym, subst, ◌∙◌, ℕ, ◌<ℤ◌, ◌≤ℤ◌, FitsSigned, to_z, w32}
+use Rattle.std.proofs.lemmas.Int.{to_z-of_z}
+use Rattle.conv_code.specs.Code.{coded}
+use Rattle.conv_code.specs.Likelihood.{likelihood, FallsBehind, IsMostLikely}
+use Rattle.trellis_decode.specs.Words.{word}
+use Rattle.trellis_decode.proofs.Searching.{less_by_test, most_by_test, new_leads, old_leads, IsMostLikely-chosen}
+use Rattle.trellis_decode.proofs.exhaustive.search.Goals as goal
+use Rattle.trellis_decode.proofs.exhaustive.search.Goals.{then-value-best, else-value-best}
+
+pub loop-number-preserved : goal.loop-number-preserved
+loop-number-preserved c =
+    let soft = c.args.soft.now in
+    let n = length c.loop-number.u in
+    let chosen = c.loop-number.chosen in
+    let number = c.loop-number.number in
+    let kept = c.loop-number.invariant in
+    let same_length : n ≡ length c.write_list-in-loop-number.new.u = omega arith in
+    let within : 16 * number < 2 ^ n = omega (arith, ap (λ n. 2 ^ n) c.loop-number.auto.u, ap (λ n. 2 ^ n) c.write_list.auto.u) in
+    let fits : FitsSigned w32 c.worth-value.result = search rules in
+    let value : c.worth-value.result ≡ likelihood soft (coded (word n (16 * number))) =
+    c.worth-value.ensures ∙ ap (λ u. likelihood soft (coded u)) c.write_list-in-loop-number.ensures.list in
+    let Best : ℕ → ℕ → Type 0 = λ n m. to_z w32 c.if-value-best.best-bits ≡ likelihood soft (coded (word n (16 * m))) in
+    let Leads : ℕ → ℕ → Type 0 = λ n leader. (m : ℕ) → m < number + 1 → m ≢ leader → FallsBehind soft (word n (16 * m)) (word n (16 * leader)) in
+    elim c.if-value-best.branch [
+      | then-value-best w ↦
+          let is = w.chosen-is in
+          let best_is : to_z w32 c.if-value-best.best-bits ≡ likelihood soft (coded (word n (16 * number))) = w.best-is ∙ to_z-of_z w32 c.worth-value.result fits ∙ value in
+          let more : likelihood soft (coded (word n (16 * chosen))) <ℤ likelihood soft (coded (word n (16 * number))) =
+          less_by_test _ _ _ _ kept.value (to_z-of_z w32 c.worth-value.result fits ∙ value) w.if-value-best.true in
+          record {
+            before = omega arith;
+            value = subst (λ n. Best n c.if-value-best.chosen) same_length (subst (Best n) (sym is) best_is);
+            others = subst (λ n. Leads n c.if-value-best.chosen) same_length (subst (Leads n) (sym is)
+                (new_leads soft n chosen number kept.before within kept.others more));
+          }
+      | else-value-best w ↦
+          let is = w.chosen-is in
+          let best_is : to_z w32 c.if-value-best.best-bits ≡ likelihood soft (coded (word n (16 * chosen))) = w.best-is ∙ kept.value in
+          let most : likelihood soft (coded (word n (16 * number))) ≤ℤ likelihood soft (coded (word n (16 * chosen))) =
+          most_by_test _ _ _ _ kept.value (to_z-of_z w32 c.worth-value.result fits ∙ value) w.if-value-best.false in
+          record {
+            before = omega arith;
+            value = subst (λ n. Best n c.if-value-best.chosen) same_length (subst (Best n) (sym is) best_is);
+            others = subst (λ n. Leads n c.if-value-best.chosen) same_length (subst (Leads n) (sym is)
+                (old_leads soft n chosen number kept.before within kept.others most));
+          }
+    ]
+
+pub returns-clause-best : goal.returns-clause-best
+returns-clause-best c =
+    let soft = c.args.soft.now in
+    let n = length c.loop-number.u in
+    let same_length : length c.args.u.now ≡ n = omega arith in
+    let all : 16 * c.list_count-lists.result ≡ 2 ^ n = c.list_count-lists.ensures ∙ ap (λ n. 2 ^ n) same_length in
+    let ended = c.loop-number-test.false in
+    subst (IsMostLikely soft) (sym c.write_list-2.ensures.list)
+    (IsMostLikely-chosen soft n c.loop-number.chosen c.list_count-lists.result (omega arith) (omega arith) all
+    (λ m lt ne. let earlier : m < c.loop-number.number = omega arith in c.loop-number.invariant.others m earlier ne))
