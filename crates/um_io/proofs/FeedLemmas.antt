@@ -1,5 +1,5 @@
 -- Line feeds in parts of a list.
-use Rattle.std.proofs.Common.{◌≡◌, ℕ, ◌+◌, ◌-◌, ◌<◌, ◌≤◌, List, ◌++◌, length, take, drop, slice_index, slice_range, Option, None, Some, refl, sym, ap, subst, ◌∙◌, arith, eq-eqb, MatchOption, max, le_refl, ⊎_elim}
+use Rattle.std.proofs.Common.{◌≡◌, ℕ, ◌+◌, ◌-◌, ◌<◌, ◌≤◌, List, ◌++◌, length, take, drop, slice_index, slice_range, Option, None, Some, sym, ap, subst, ◌∙◌, arith, eq-eqb, MatchOption, max, le_refl, ⊎_elim}
 use Rattle.std.proofs.lemmas.Bool.{eqb-true, cases_lt}
 use Rattle.std.proofs.lemmas.List.Edits.{length-between}
 use Rattle.std.proofs.lemmas.Slice.{between_is}
@@ -89,11 +89,16 @@ IsLine-skipped octets i j n plain =
     subst (λ m. IsLine (slice_range octets (i + n) m)) same (subst IsLine (slice_range-rest octets i j n more) (All-drop IsPlain n (slice_range octets i j) plain)))
     (cases_lt j (i + n))
 
+-- a part of the front that stayed
+pub slice_range-kept : (old new : List ℕ) (i j n : ℕ) → j ≤ n → take n new ≡ take n old → slice_range new i j ≡ slice_range old i j
+slice_range-kept old new i j n within same =
+    let front : take j new ≡ take j old = sym (take-take j n new within) ∙ ap (take j) same ∙ take-take j n old within in
+    between_is new i j ∙ ap (drop i) front ∙ sym (between_is old i j)
+
 -- octets came behind those held, which stayed
 pub slice_range-came : (old new : List ℕ) (i j n : ℕ) → i ≤ j → take j new ≡ take j old → slice_range new i (j + n) ≡ slice_range old i j ++ slice_range new j (j + n)
 slice_range-came old new i j n ordered same =
-    let held : slice_range new i j ≡ slice_range old i j = between_is new i j ∙ ap (drop i) same ∙ sym (between_is old i j) in
-    sym (slice_range-joined new i j (j + n) ordered (omega arith)) ∙ ap (λ l. l ++ slice_range new j (j + n)) held
+    sym (slice_range-joined new i j (j + n) ordered (omega arith)) ∙ ap (λ l. l ++ slice_range new j (j + n)) (slice_range-kept old new i j j (le_refl j) same)
 
 -- the first line feed stands behind a front of the octets
 pub IsLine-before_feed : (octets : List ℕ) (m n : ℕ) → IsFirstFeed octets n → length (take m octets) ≤ n → IsLine (take m octets)

@@ -1,4 +1,5 @@
 -- Lemmas that several proofs of this crate share.
+pub mod DivisionLemmas
 pub mod FeedLemmas
 pub mod NextLemmas
 pub mod ReadingLemmas

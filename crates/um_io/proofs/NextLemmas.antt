@@ -1,17 +1,18 @@
 -- What the answers of a reader of lines follow from.
-use Rattle.std.proofs.Common.{◌≡◌, ◌≤◌, ◌<◌, ◌+◌, ◌-◌, ℕ, Bool, true, false, List, [], ◌∷◌, ◌++◌, length, take, drop, slice_index, Option, Bor, refl, sym, ap, subst, ◌∙◌, arith, inl, inr, ◌⊎◌, ⊎_elim, slice_range, add-one}
+use Rattle.std.proofs.Common.{◌≡◌, ◌≤◌, ◌<◌, ◌+◌, ◌-◌, ℕ, Bool, true, false, List, [], ◌∷◌, ◌++◌, length, take, drop, slice_index, Option, Result, Ok, Err, Bor, refl, sym, ap, subst, ◌∙◌, arith, inl, inr, ◌⊎◌, ⊎_elim, slice_range}
 use Rattle.std.proofs.lemmas.List.{take-append-drop, length-append, length-take, append_assoc, append-nil, take-take, take_all, drop_all, drop_more, get_or-take}
-use Rattle.std.proofs.lemmas.List.Elements.{All-take}
 use Rattle.std.proofs.lemmas.Bool.{false≢true}
 use Rattle.um_io.specs.declared.buffer.Buffer.{Buffer}
 use Rattle.um_io.specs.declared.lines.Next.{Next}
-use Rattle.um_io.specs.declared.lines.Next.TheVariants.{Line, Long, TooMany, Failed}
+use Rattle.um_io.specs.declared.lines.Next.TheVariants.{Line, End, Long, TooMany, Failed}
 use Rattle.um_io.specs.Lines.{IsLine, IsFirstFeed}
 use Rattle.um_io.specs.Buffer.{octets_of}
-use Rattle.um_io.specs.Reading.{Reading, IsReading, NeedsMore, reading_of, input_limit, line_limit}
-use Rattle.um_io.specs.Found.{HasCome, Shows, Looks}
-use Rattle.um_io.specs.declared.lines.Found.TheVariants.{Line as WholeLine}
-use Rattle.um_io.specs.Next.{IsAnswered, IsHeld, Gives, IsStep, IsNext}
+use Rattle.um_io.specs.Reading.{Reading, IsReading, NeedsMore, IsReady, reading_of, input_limit, line_limit}
+use Rattle.um_io.specs.Found.{HasCome, Shows, Looks, Finds}
+use Rattle.um_io.specs.declared.lines.Found.TheVariants.{Line as WholeLine, Above, Past}
+use Rattle.um_io.specs.declared.outside.Failed.{Failed as Error}
+use Rattle.um_io.specs.declared.lines.Found.{Found}
+use Rattle.um_io.specs.Next.{IsAnswered, IsHeld, Gives, IsNext}
 use Rattle.um_io.proofs.FeedLemmas.{slice_range-front}
 use Rattle.um_io.proofs.ReadingLemmas.{length-cut, length-octets_of, IsReading-from}
 
@@ -38,19 +39,77 @@ IsNext-from r s t left left' next came going has needed held same valid gives =
 abbrev pub stopped : Reading → Reading
 stopped s = record s { over = true }
 
-pub IsReading-stopped : (s : Reading) → IsReading s → IsReading (stopped s)
-IsReading-stopped s valid = record { limit = valid.limit; past = valid.past; room = valid.room; number = valid.number }
-
 -- no line is answered, and all that came is held
-pub IsHeld-stopped : (r s : Reading) (left left' : Option (List ℕ)) (came : List ℕ) → HasCome r s left left' came → IsLine s.held → IsHeld r (stopped s) (r.held ++ r.past ++ came) true
+IsHeld-stopped : (r s : Reading) (left left' : Option (List ℕ)) (came : List ℕ) → HasCome r s left left' came → IsLine s.held → IsHeld r (stopped s) (r.held ++ r.past ++ came) true
 IsHeld-stopped r s left left' came has plain =
     record { octets = sym has.octets; plain = plain; answered = has.answered; number = has.number; stops = refl }
+
+-- what a reader answers that stops: what it holds gives this
+abbrev pub Stops : Reading → Next → Type 0
+Stops s (Line line) = ⊥
+Stops s End = ⊥
+Stops s Long = line_limit < length s.held
+Stops s TooMany = (length s.held ≤ line_limit) × (0 < length s.past)
+Stops s Failed = NeedsMore s
+
+IsNext-stopped : (r s : Reading) (left left' : Option (List ℕ)) (next : Next) (came : List ℕ) → r.over ≡ false → HasCome r s left left' came → NeedsMore r ⊎ (came ≡ []) → IsReading s → IsLine s.held → Stops s next
+    → IsNext r left left' next (stopped s)
+IsNext-stopped r s left left' next came going has needed valid plain stops =
+    let same : IsReading (stopped s) = record { limit = valid.limit; past = valid.past; room = valid.room; number = valid.number } in
+    let held = IsHeld-stopped r s left left' came has plain in
+    IsNext-from r s (stopped s) left left' next came going has needed valid refl same (gives next stops held)
+  where
+    gives : (next : Next) → Stops s next → IsHeld r (stopped s) (r.held ++ r.past ++ came) true → Gives r (stopped s) (r.held ++ r.past ++ came) next
+    gives (Line line) stops held = absurd stops
+    gives End stops held = absurd stops
+    gives Long stops held = (held, stops)
+    gives TooMany stops held = (held, stops.0, stops.1)
+    gives Failed stops held = (held, record { plain = stops.plain; short = stops.short; past = stops.past; ended = stops.ended })
+
+-- a source that was asked only where it was needed was not asked where the answer was there
+pub unasked : {X : Type 0} (r : Reading) (old new : X) → r.over ≡ false → NeedsMore r ⊎ (new ≡ old) → IsReady r → new ≡ old
+unasked {X} r old new going needed ready =
+    ⊎_elim (λ (more : NeedsMore r). ⊎_elim (λ (over : r.over ≡ true). absurd (false≢true (sym going ∙ over))) (λ (none : NeedsMore r → ⊥). absurd (none more)) ready) (λ (same : new ≡ old). same) needed
+
+-- what was found in a reader was found in the same reader
+pub Finds-same : (r s t : Reading) (left left' : Option (List ℕ)) (result : Result Found Error) → t ≡ s → Finds r s left left' result → Finds r t left left' result
+Finds-same r s t left left' result same found = subst (λ u. Finds r u left left' result) (sym same) found
+
+-- a line that was found has an octet at least, and no more than are held
+pub whole_counts : (s : Reading) (n whole : ℕ) → Looks s (WholeLine n whole) → (0 < whole) × (whole ≤ length s.held)
+whole_counts s n whole looks =
+    ⊎_elim
+    (λ (first : IsFirstFeed s.held n × (whole ≡ n + 1)). let within = first.0.within in (omega (arith, first.1), omega (arith, first.1)))
+    (λ (last : IsLine s.held × Shows (length s.held) (length s.past) s.ended (WholeLine n whole)). (omega (arith, last.1.1, last.1.2), omega (arith, last.1.1)))
+    looks
+
+-- the numbers stay within their limits
+pub counts-after : (octets : List ℕ) (answered number n whole : ℕ) (ended over : Bool) → answered ≤ input_limit → number ≤ answered → Looks (reading_of octets answered number ended over) (WholeLine n whole)
+    → (answered + whole ≤ input_limit) × (number + 1 ≤ answered + whole)
+counts-after octets answered number n whole ended over limit numbered looks =
+    let counts = whole_counts (reading_of octets answered number ended over) n whole looks in
+    let front = length-take (input_limit - answered) octets in
+    (omega (arith, counts.1), omega (arith, counts.0))
+
+pub IsNext-above : (r s : Reading) (left left' : Option (List ℕ)) → r.over ≡ false → IsReading s → Finds r s left left' (Ok Above) → IsNext r left left' Long (stopped s)
+IsNext-above r s left left' going valid found = IsNext-stopped r s left left' Long found.came going found.has found.needed valid found.shows.0 found.shows.1
+
+pub IsNext-past : (r s : Reading) (left left' : Option (List ℕ)) → r.over ≡ false → IsReading s → Finds r s left left' (Ok Past) → IsNext r left left' TooMany (stopped s)
+IsNext-past r s left left' going valid found = IsNext-stopped r s left left' TooMany found.came going found.has found.needed valid found.shows.0 found.shows.1
+
+pub IsNext-failed : (r s : Reading) (left left' : Option (List ℕ)) (e : Error) → r.over ≡ false → IsReading s → Finds r s left left' (Err e) → IsNext r left left' Failed (stopped s)
+IsNext-failed r s left left' e going valid found = IsNext-stopped r s left left' Failed found.came going found.has found.needed valid found.shows.plain found.shows
 
 -- a line of n octets and its line feed, behind which the rest begins
 pub line_and_rest : (octets : List ℕ) (n : ℕ) → n < length octets → slice_index octets n ≡ 10 → octets ≡ take n octets ++ (10 ∷ []) ++ drop (n + 1) octets
 line_and_rest octets n within feed =
     let rest : drop n octets ≡ 10 ∷ drop (n + 1) octets = drop_more octets n 0 within ∙ ap (λ x. x ∷ drop (n + 1) octets) feed in
     sym (take-append-drop n octets) ∙ ap (λ l. take n octets ++ l) rest ∙ sym (append_assoc (take n octets) (10 ∷ []) (drop (n + 1) octets))
+
+-- the front of what was given up is lent
+lent_line : (octets held : List ℕ) (from n whole : ℕ) → n ≤ whole → slice_range octets from (from + whole) ≡ take whole held → slice_range octets from (from + n) ≡ take n held
+lent_line octets held from n whole fits skipped =
+    sym (slice_range-front octets from (from + whole) n (omega arith)) ∙ ap (take n) skipped ∙ take-take n whole held fits
 
 -- a reader that held the octets of `b` answered the first `whole` of them as a line, and holds those of `after`
 module _ (r : Reading) (b after : Buffer) (answered number whole : ℕ) (ended over : Bool) (left left' : Option (List ℕ)) (came : List ℕ) where
@@ -125,20 +184,16 @@ module _ (r : Reading) (b after : Buffer) (answered number whole : ℕ) (ended o
       (IsReading-after limit numbered (omega (arith, shows.1, shows.2)) (omega (arith, shows.1)))
       (inr (subst (λ l. IsAnswered r held_after (r.held ++ r.past ++ came) l []) (sym shown) answers, nothing, shows.5))
 
-  -- what was found is a line
-  pub IsNext-found : (n : ℕ) (line : Bor (List ℕ)) → r.over ≡ false → HasCome r held_before left left' came → NeedsMore r ⊎ (came ≡ []) → answered ≤ input_limit → number ≤ answered
-      → octets_of after ≡ drop whole (octets_of b) → line.now ≡ take n (octets_of b) → Looks held_before (WholeLine n whole) → IsNext r left left' (Line line) held_after
-  IsNext-found n line going has needed limit numbered rest shown looks =
-      ⊎_elim (λ first. IsNext-line n line going has needed limit numbered rest shown first.0 first.1)
-      (λ last. IsNext-last n line going has needed limit numbered rest shown last.0 last.1) looks
-
--- a line has no more octets than it has with its line feed
-pub whole-line : (s : Reading) (n whole : ℕ) → Looks s (WholeLine n whole) → n ≤ whole
-whole-line s n whole looks =
-    ⊎_elim (λ (first : IsFirstFeed s.held n × (whole ≡ n + 1)). omega (arith, first.1))
-    (λ (last : IsLine s.held × Shows (length s.held) (length s.past) s.ended (WholeLine n whole)). omega (arith, last.1.0, last.1.1)) looks
-
--- the line that is lent
-pub lent_line : (octets held : List ℕ) (from n whole : ℕ) → n ≤ whole → slice_range octets from (from + whole) ≡ take whole held → slice_range octets from (from + n) ≡ take n held
-lent_line octets held from n whole fits skipped =
-    sym (slice_range-front octets from (from + whole) n (omega arith)) ∙ ap (take n) skipped ∙ take-take n whole held fits
+  -- what was found is a line, and it is lent out of what was given up
+  pub IsNext-found : (from n : ℕ) (line : Bor (List ℕ)) → r.over ≡ false → HasCome r held_before left left' came → NeedsMore r ⊎ (came ≡ []) → answered ≤ input_limit → number ≤ answered
+      → octets_of after ≡ drop whole (octets_of b) → slice_range after.octets.items from (from + whole) ≡ take whole (octets_of b) → line.now ≡ slice_range after.octets.items from (from + n)
+      → Looks held_before (WholeLine n whole) → IsNext r left left' (Line line) held_after
+  IsNext-found from n line going has needed limit numbered rest skipped lent looks =
+      ⊎_elim
+      (λ (first : IsFirstFeed held_before.held n × (whole ≡ n + 1)).
+      let shown = lent ∙ lent_line after.octets.items (octets_of b) from n whole (omega (arith, first.1)) skipped in
+      IsNext-line n line going has needed limit numbered rest shown first.0 first.1)
+      (λ (last : IsLine held_before.held × Shows (length held_before.held) (length held_before.past) ended (WholeLine n whole)).
+      let shown = lent ∙ lent_line after.octets.items (octets_of b) from n whole (omega (arith, last.1.0, last.1.1)) skipped in
+      IsNext-last n line going has needed limit numbered rest shown last.0 last.1)
+      looks

@@ -1,6 +1,6 @@
 -- What a reader of lines has read and answered: this project's own rule. An input has at most 67,108,864 octets
 -- that count, and a line at most 4,096 before its line feed.
-use Rattle.std.specs.Prelude.{ℕ, ◌≡◌, ◌≤◌, ◌<◌, ◌+◌, ◌-◌, Bool, false, List, [], length, take, drop}
+use Rattle.std.specs.Prelude.{ℕ, ◌≡◌, ◌≤◌, ◌<◌, ◌+◌, ◌-◌, Bool, true, false, List, [], length, take, drop, ◌⊎◌}
 use Rattle.um_io.specs.Lines.{IsLine}
 
 -- how many octets of the input count
@@ -38,6 +38,14 @@ pub record NeedsMore (r : Reading) : Type 0 where
   pub short : length r.held ≤ line_limit
   pub past : r.past ≡ []
   pub ended : r.ended ≡ false
+
+-- the next answer is there without a reading
+abbrev pub IsReady : Reading → Type 0
+IsReady r = (r.over ≡ true) ⊎ (¬ NeedsMore r)
+
+-- the next answer takes a reading
+abbrev pub NeedsReading : Reading → Type 0
+NeedsReading r = (r.over ≡ false) × NeedsMore r
 
 -- a reader that holds these octets, of which those within the limit count
 abbrev pub reading_of : List ℕ → ℕ → ℕ → Bool → Bool → Reading

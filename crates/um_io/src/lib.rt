@@ -8,6 +8,6 @@ mod memory;
 mod outside;
 
 pub use adapters::{ReadSource, WriteSink};
-pub use lines::{Lines, Next};
+pub use lines::{Lines, Next, law_lines};
 pub use memory::{MemorySink, MemorySource, PlainSource};
 pub use outside::{Failed, NoMemory, Sink, Source};

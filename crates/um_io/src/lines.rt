@@ -1,7 +1,8 @@
 //! The lines of an input, one after another, over one buffer.
-ghost use Rattle.std.specs.Prelude.{◌≡◌, ◌≤◌, ◌<◌, ◌+◌, ◌-◌, ◌↔◌, ℕ, List, Bool, true, false, [], ◌++◌, length, MatchOption, IfOk, IfSome, OnErr, IsTrue};
+ghost use Rattle.std.specs.Prelude.{◌≡◌, ◌≤◌, ◌<◌, ◌+◌, ◌-◌, ◌↔◌, ℕ, List, Bool, true, false, None, [], ◌++◌, length, MatchBool, MatchOption, IfOk, IfSome, OnErr, IsTrue, ◌⊎◌};
 ghost use Rattle.std.specs.Borrow.{sem};
 ghost use Rattle.um_io.specs.Outside.{Rose};
+ghost use Rattle.um_io.specs.Lines.{IsDivided, lines_of};
 ghost use Rattle.um_io.specs.Found.{Shows, NeedsBeyond};
 
 use crate::buffer::Buffer;
@@ -67,7 +68,7 @@ impl Model for Lines {
 
 impl Lines {
     ghost use Rattle.um_io.specs.Lines.{IsLine, IsFirstFeed};
-    ghost use Rattle.um_io.specs.Reading.{at_start, IsReading, NeedsMore};
+    ghost use Rattle.um_io.specs.Reading.{at_start, IsReading, NeedsMore, IsReady, NeedsReading};
     ghost use Rattle.um_io.specs.Found.{Looks, HasRead, Finds};
     ghost use Rattle.um_io.specs.Next.{EndsNext, FailedOnly};
 
@@ -89,6 +90,14 @@ impl Lines {
         ensures { result ≡ self.now.number }
     {
         self.number
+    }
+
+    /// Whether the next answer stands in what is held, so that `next` reads nothing.
+    pub fn is_ready(&mut self) -> bool
+        ensures kept { self.new ≡ self.old }
+        ensures ready { MatchBool result (IsReady self.old) (NeedsReading self.old) }
+    {
+        self.over || self.look().is_some()
     }
 
     /// How many of the octets held are within the limit.
@@ -144,6 +153,7 @@ impl Lines {
     /// Asks the source until what is held gives an answer.
     fn find<S: Source>(&mut self, source: &mut S) -> Result<Found, Failed>
         ensures found { Finds self.old self.new (S.left source.old) (S.left source.new) result }
+        ensures unasked { NeedsMore self.old ⊎ (source.new ≡ source.old) }
         ensures later { S.faults source.old ≤ S.faults source.new }
         ensures cause { OnErr result (Rose (S.faults source.old) (S.faults source.new)) }
     {
@@ -160,6 +170,7 @@ impl Lines {
     /// After `Long`, `TooMany` or `Failed` every further answer is `End`.
     pub fn next<S: Source>(&mut self, source: &mut S) -> Next<'_>
         ensures* ends { sem 𝓛 (EndsNext self.entry (S.left source.old) (S.left source.new) result) }
+        ensures unasked { IsReady self.old → source.new ≡ source.old }
         ensures failed { FailedOnly (S.faults source.old) (S.faults source.new) result }
     {
         if self.over {
@@ -206,5 +217,126 @@ fn without_feed(within: usize, past: usize, ended: bool) -> Option<Found>
         })
     } else {
         Some(Found::Nothing)
+    }
+}
+
+/// Each list of octets is divided into lines in exactly one way.
+pub fn law_lines()
+    ensures divided { (octets : List ℕ) → IsDivided octets (lines_of octets) }
+    ensures only { (octets : List ℕ) (lines : List (List ℕ)) → IsDivided octets lines → lines ≡ lines_of octets }
+{}
+
+#[cfg(test)]
+mod tests {
+    use super::*;
+    use crate::memory::{MemorySource, PlainSource};
+    use std::test::Fail;
+
+    #[test]
+    fn the_last_line_needs_no_line_feed(rt: HostRuntime) -> Result<(), Fail> {
+        let mut source = PlainSource::new(b"a\nb", 1);
+        let mut lines = Lines::new(rt.alloc())?;
+        assert_eq!(rt; lines.number(), 0);
+        assert_eq!(rt; lines.next(&mut source), Next::Line(b"a"));
+        assert_eq!(rt; lines.number(), 1);
+        assert_eq!(rt; lines.next(&mut source), Next::Line(b"b"));
+        assert_eq!(rt; lines.number(), 2);
+        assert_eq!(rt; lines.next(&mut source), Next::End);
+        assert_eq!(rt; lines.next(&mut source), Next::End);
+        Ok(())
+    }
+
+    #[test]
+    fn a_line_of_4096_octets_is_answered_and_one_more_is_long(rt: HostRuntime) -> Result<(), Fail> {
+        let octets = [b'#'; 4097];
+        let mut good = Lines::new(rt.alloc())?;
+        let mut source = PlainSource::new(&octets[..4096], 5000);
+        assert_eq!(rt; good.next(&mut source), Next::Line(&octets[..4096]));
+        assert_eq!(rt; good.next(&mut source), Next::End);
+
+        let mut long = Lines::new(rt.alloc())?;
+        let mut source = PlainSource::new(&octets, 5000);
+        assert_eq!(rt; long.next(&mut source), Next::Long);
+        assert_eq!(rt; long.next(&mut source), Next::End);
+        assert_eq!(rt; long.number(), 0);
+        Ok(())
+    }
+
+    #[test]
+    fn a_failure_ends_the_lines_and_the_end_is_not_asked_for_again(
+        rt: HostRuntime,
+    ) -> Result<(), Fail> {
+        let mut source = MemorySource::new(b"a\n", 9, &[1]);
+        let mut failed = Lines::new(rt.alloc())?;
+        assert_eq!(rt; failed.next(&mut source), Next::Failed);
+        assert_eq!(rt; failed.next(&mut source), Next::End);
+
+        let mut source = MemorySource::new(b"a", 9, &[3]);
+        let mut lines = Lines::new(rt.alloc())?;
+        assert_eq!(rt; lines.next(&mut source), Next::Line(b"a"));
+        assert_eq!(rt; lines.next(&mut source), Next::End);
+        assert_eq!(rt;
+            source.take(&mut [0; 1]),
+            Err(Failed),
+            "this is the third call"
+        );
+        Ok(())
+    }
+
+    #[test]
+    fn only_the_line_feed_is_no_ordinary_octet(rt: HostRuntime) -> Result<(), Fail> {
+        let mut source = PlainSource::new(b"\0\r\n\xff\x80\n\n \t", 9);
+        let mut lines = Lines::new(rt.alloc())?;
+        assert_eq!(rt; lines.next(&mut source), Next::Line(b"\0\r"));
+        assert_eq!(rt; lines.next(&mut source), Next::Line(b"\xff\x80"));
+        assert_eq!(rt; lines.next(&mut source), Next::Line(b""));
+        assert_eq!(rt; lines.next(&mut source), Next::Line(b" \t"));
+        assert_eq!(rt; lines.next(&mut source), Next::End);
+        Ok(())
+    }
+
+    #[test]
+    fn a_reading_asks_for_all_that_there_is_room_for(rt: HostRuntime) -> Result<(), Fail> {
+        let octets = [b'\n'; 5000];
+        let mut source = PlainSource::new(&octets, 5000);
+        let mut lines = Lines::new(rt.alloc())?;
+        assert!(rt; !lines.is_ready());
+        assert_eq!(rt; lines.next(&mut source), Next::Line(b""));
+        assert!(rt; lines.is_ready());
+        assert_eq!(rt; source.take(&mut [0; 5000]), Ok(903));
+        Ok(())
+    }
+
+    /// A source of so many line feeds.
+    #[derive(Drop)]
+    struct Feeds(usize);
+
+    impl Source for Feeds {
+        ghost left = { λ _. None };
+
+        ghost faults = { λ _. 0 };
+
+        fn take(&mut self, into: &mut [u8]) -> Result<usize, Failed> {
+            let count = self.0.min(into.len());
+            into[..count].fill(b'\n');
+            self.0 -= count;
+            Ok(count)
+        }
+    }
+
+    #[test]
+    fn an_octet_past_the_limit_ends_the_lines(rt: HostRuntime) -> Result<(), Fail> {
+        for past in 0..2 {
+            let mut source = Feeds(67_108_864 + past);
+            let mut lines = Lines::new(rt.alloc())?;
+            for _ in 0..67_108_864 {
+                assert!(rt; lines.next(&mut source) == Next::Line(b""));
+            }
+            let end = if past == 0 { Next::End } else { Next::TooMany };
+            assert_eq!(rt; lines.next(&mut source), end);
+            assert_eq!(rt; lines.next(&mut source), Next::End);
+            assert_eq!(rt; lines.number(), 67_108_864);
+        }
+        Ok(())
     }
 }

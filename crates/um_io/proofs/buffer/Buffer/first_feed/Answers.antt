@@ -1,4 +1,4 @@
-use Rattle.std.proofs.Common.{◌≡◌, ◌≤◌, length, arith}
+use Rattle.std.proofs.Common.{arith}
 use Rattle.um_io.proofs.FeedLemmas.{IsLine-upto, IsLine-upto_feed, IsFirstFeed-upto}
 use Rattle.um_io.proofs.buffer.Buffer.first_feed.Goals as goal
 

@@ -1,6 +1,8 @@
-use Rattle.std.proofs.Common.{◌≤◌, ◌≡◌, ◌++◌, ◌+◌, length, ap, ◌∙◌, arith, slice_range}
+use Rattle.std.proofs.Common.{◌≤◌, ◌≡◌, ◌++◌, ◌+◌, ℕ, List, take, length, sym, ap, subst, ◌∙◌, arith, slice_range}
 use Rattle.std.proofs.lemmas.List.Edits.{length-between}
-use Rattle.um_io.proofs.FeedLemmas.{slice_range-came}
+use Rattle.um_io.specs.Lines.{IsLine}
+use Rattle.um_io.specs.declared.buffer.Buffer.{Buffer}
+use Rattle.um_io.proofs.FeedLemmas.{slice_range-came, slice_range-kept}
 use Rattle.um_io.proofs.buffer.Buffer.read.Goals as goal
 
 pub returns-clause-came : goal.returns-clause-came
@@ -15,3 +17,28 @@ returns-clause-came g c =
     let bound : b.end + n ≤ length new.items = omega (arith, told.bound, told.len, new.ok.0) in
     let size : length came ≡ n = omega (arith, length-between new.items b.end (b.end + n) bound) in
     (came, grown ∙ ap (λ l. l ++ came) c.move_to_front.ensures.kept, size, told.came)
+
+-- what was scanned stayed
+scanned_stays : (b : Buffer) (octets : List ℕ) → take b.end octets ≡ take b.end b.octets.items → IsLine (slice_range octets b.start b.scanned)
+scanned_stays b octets same = subst IsLine (sym (slice_range-kept b.octets.items octets b.start b.scanned b.end b.seen same)) b.plain
+
+pub invariant_of-self : goal.invariant_of-self
+invariant_of-self g c =
+    let b = c.move_to_front.new.self in record {
+      size = c.fill_from.ensures.len ∙ b.size;
+      begun = b.begun;
+      seen = b.seen;
+      within = b.within;
+      plain = scanned_stays b c.fill_from.new.octets.items c.fill_from.ensures.front;
+    }
+
+pub invariant_of-self-2 : goal.invariant_of-self-2
+invariant_of-self-2 g c =
+    let b = c.move_to_front.new.self in
+    let told = c.in_ok-count.ensures in record {
+      size = told.len ∙ b.size;
+      begun = b.begun;
+      seen = omega (arith, b.seen);
+      within = omega (arith, told.bound, b.size);
+      plain = scanned_stays b c.fill_from.new.octets.items told.front;
+    }

@@ -1,4 +1,4 @@
-use Rattle.std.proofs.Common.{◌≡◌, ◌≤◌, ◌+◌, max, length, arith, sym, subst, slice_range}
+use Rattle.std.proofs.Common.{◌≤◌, ◌+◌, arith, sym, subst, slice_range}
 use Rattle.std.proofs.lemmas.List.Edits.{length-between}
 use Rattle.um_io.specs.Lines.{IsLine}
 use Rattle.um_io.proofs.FeedLemmas.{IsLine-skipped, slice_range-rest}

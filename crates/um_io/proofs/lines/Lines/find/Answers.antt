@@ -1,6 +1,6 @@
-use Rattle.std.proofs.Common.{◌<◌, ◌≡◌, ◌++◌, sym, ap, subst, arith}
+use Rattle.std.proofs.Common.{◌<◌, ◌≡◌, sym, ap, subst, arith}
 use Rattle.um_io.specs.Reading.{NeedsMore}
-use Rattle.um_io.proofs.ReadingLemmas.{HasCome-then, turns_left, turns_left-read}
+use Rattle.um_io.proofs.ReadingLemmas.{turns_left, turns_left-read}
 use Rattle.um_io.proofs.lines.Lines.find.Goals as goal
 
 pub loop-found-smaller : goal.loop-found-smaller

@@ -1,4 +1,4 @@
-use Rattle.std.proofs.Common.{◌≡◌, ◌≤◌, ◌<◌, ◌-◌, ℕ, List, length, take, ap, arith}
+use Rattle.std.proofs.Common.{◌≡◌, ◌-◌, length, take, ap, arith}
 use Rattle.std.proofs.lemmas.List.Elements.{All-take}
 use Rattle.um_io.specs.Lines.{IsPlain}
 use Rattle.um_io.specs.Buffer.{octets_of}

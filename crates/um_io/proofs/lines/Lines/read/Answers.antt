@@ -1,6 +1,6 @@
-use Rattle.std.proofs.Common.{◌≡◌, ◌<◌, ◌-◌, ℕ, [], length, take, drop, ap, arith}
+use Rattle.std.proofs.Common.{◌≡◌, ◌-◌, length, take, drop, ap, arith}
 use Rattle.um_io.specs.Buffer.{octets_of}
-use Rattle.um_io.specs.Reading.{Reading, NeedsMore, input_limit}
+use Rattle.um_io.specs.Reading.{Reading, input_limit}
 use Rattle.um_io.proofs.ReadingLemmas.{length-cut}
 use Rattle.um_io.proofs.lines.Lines.read.Goals as goal
 
