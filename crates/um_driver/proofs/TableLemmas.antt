@@ -5,7 +5,7 @@ use Rattle.um_io.specs.Lines.{text_of}
 use Rattle.um_driver.specs.Divided.{Begins}
 use Rattle.um_driver.specs.Rules.{Rules, Runs, IsDetermined}
 use Rattle.um_driver.specs.Outputs.{IsGoodInput, IsJudged, IsRefused, IsPartialOutput, IsOver, IsTooLong, IsOutput}
-use Rattle.um_driver.specs.Table.{IsFront, AreFirst, AreAnswered, IsDue, Row, IsRun, TakesFront, Agrees, Completes}
+use Rattle.um_driver.specs.Table.{IsFront, AreFirst, AreAnswered, IsDue, IsNear, Row, IsRun, TakesFront, Agrees, Completes}
 use Rattle.um_driver.specs.declared.status.Status.{Status}
 use Rattle.um_driver.specs.declared.status.Status.TheVariants.{Done, BadWords, BadInput, ReadFault, WriteFault, NoMemory, TooLong}
 use Rattle.um_driver.proofs.Giving.{Gives, Gives-from, Gives-at, good_or_bad}
@@ -134,3 +134,9 @@ pub Completes-from_run : {State : Type 0} (r : Rules State) (a : State) (Stands 
 Completes-from_run r a Stands status None left' taken taken' run det = tt
 Completes-from_run r a Stands status (Some x) left' taken taken' run det =
   λ due z o. agrees r det a status run.q run.rest run.y taken taken' run.row run.written due z (rw (← run.read.0) o)
+
+-- more may be written
+pub IsNear-more : {State : Type 0} (r : Rules State) (a : State) (q y w : List ℕ) → IsNear r a q y → IsNear r a q (y ++ w)
+IsNear-more r a q y w n = record {
+  lines = n.lines; rest = n.rest; answers = n.answers; more = n.more ++ w; state = n.state; begins = n.begins; runs = n.runs;
+  taken = ap (λ o. o ++ w) n.taken ∙ append_assoc n.answers n.more w; near = n.near }

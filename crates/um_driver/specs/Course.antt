@@ -8,7 +8,8 @@ use Rattle.um_text.specs.declared.fault.LineFault.{LineFault}
 use Rattle.um_text.specs.Refusals.{refused_text}
 use Rattle.um_driver.specs.Rules.{Rules, Runs}
 use Rattle.um_driver.specs.Outputs.{IsRefused}
-use Rattle.um_driver.specs.Table.{Reads, AreAnswered, IsNear, IsRun, TakesFront}
+use Rattle.um_driver.specs.Table.{Reads, AreAnswered, IsNear, Row, TakesFront}
+use Rattle.um_driver.specs.Taking.{Gathers}
 use Rattle.um_driver.specs.declared.status.Status.{Status}
 use Rattle.um_driver.specs.declared.status.Status.TheVariants.{Done, BadInput, ReadFault, WriteFault, TooLong}
 use Rattle.um_driver.specs.declared.driver.Turn.{Turn}
@@ -25,10 +26,10 @@ Holds q lines reading =
     ((q ≡ text_of lines ++ (reading.held ++ reading.past)) × (reading.answered ≡ length (text_of lines)))
     ⊎ (IsCutOff q lines × (reading.held ++ reading.past ≡ []) × (reading.ended ≡ true) × (reading.answered ≡ length q))
 
--- these lines were read and are good, this is their answers, of which text is still to be written, and the command
--- stands for the state after them
+-- these lines were read and are good, these are their answers, of which what is gathered is still to be written, and
+-- the command stands for the state after them
 pub record IsAt {State : Type 0} (r : Rules State) (a : State) (Stands : State → Type 0) (reading : Reading)
-    (left left' taken taken' : Option (List ℕ)) (text : List ℕ) : Type 0 where
+    (left left' taken taken' : Option (List ℕ)) (gathered : List ℕ) : Type 0 where
   pub q : List ℕ
   pub y : List ℕ
   pub lines : List (List ℕ)
@@ -44,60 +45,62 @@ pub record IsAt {State : Type 0} (r : Rules State) (a : State) (Stands : State �
   pub stands : Stands state
   pub goes_on : reading.over ≡ false
   pub at_end : reading.ended ≡ true → EndsAt left left'
-  pub output : answers ≡ y ++ text
+  pub output : answers ≡ y ++ gathered
 
--- the last line was answered: the answers to those before it are written
-pub record IsAnswering {State : Type 0} (r : Rules State) (a : State) (Stands : State → Type 0) (reading : Reading)
-    (left left' taken taken' : Option (List ℕ)) (text : List ℕ) : Type 0 where
-  pub at : IsAt r a Stands reading left left' taken taken' text
+-- so far has a run come that reads only where all answers are written
+pub record IsUnderway {State : Type 0} (r : Rules State) (a : State) (Stands : State → Type 0) (reading : Reading)
+    (left left' taken taken' : Option (List ℕ)) (gathered : List ℕ) : Type 0 where
+  pub at : IsAt r a Stands reading left left' taken taken' gathered
   pub near : IsNear r a at.q at.y
 
--- the line after those that were answered has this number and this reason, or the end has
-pub record IsRefusing {State : Type 0} (r : Rules State) (a : State) (Stands : State → Type 0)
-    (left left' taken taken' : Option (List ℕ)) (number : ℕ) (fault : LineFault) : Type 0 where
+-- the text that is still to be written ends the answers, or refuses the line after them
+abbrev pub Closes : {State : Type 0} → Rules State → State → List ℕ → List ℕ → List (List ℕ) → List ℕ → List ℕ → Type 0
+Closes r a q rest lines answers z =
+    (z ≡ answers)
+    ⊎ ((fault : LineFault) × (z ≡ answers ++ refused_text (length lines + 1) fault) × IsRefused r a q rest z)
+
+-- a run ends so, once this text is written
+pub record IsEnding {State : Type 0} (r : Rules State) (a : State) (Stands : State → Type 0) (status : Status)
+    (left left' taken taken' : Option (List ℕ)) (text : List ℕ) : Type 0 where
   pub q : List ℕ
   pub rest : List ℕ
   pub y : List ℕ
   pub lines : List (List ℕ)
+  pub answers : List ℕ
   pub state : State
   pub read : Reads left left' q rest
   pub written : Appends taken taken' y
   pub bound : length q ≤ 67108864 + 4097
-  pub answered : AreAnswered r a q rest lines y state
+  pub answered : AreAnswered r a q rest lines answers state
   pub stands : Stands state
-  pub number_is : number ≡ length lines + 1
-  pub refused : IsRefused r a q rest (y ++ refused_text number fault)
   pub near : IsNear r a q y
+  pub row : Row r a status q rest (y ++ text)
+  pub closes : Closes r a q rest lines answers (y ++ text)
 
--- what one turn comes to, before it writes
+-- what one turn comes to, before it writes: this was gathered, and this text is the answer
 abbrev pub Comes : {State : Type 0} → Rules State → State → (State → Type 0) → Reading →
-  Option (List ℕ) → Option (List ℕ) → Option (List ℕ) → Option (List ℕ) → List ℕ → Turn → Type 0
-Comes r a Stands reading left left' taken taken' text turn.Answered = IsAnswering r a Stands reading left left' taken taken' text
-Comes r a Stands reading left left' taken taken' text (turn.Refused number fault) = IsRefusing r a Stands left left' taken taken' number fault
-Comes r a Stands reading left left' taken taken' text turn.Done = IsRun r a Stands Done left left' taken taken'
-Comes r a Stands reading left left' taken taken' text turn.TooLong = IsRun r a Stands TooLong left left' taken taken'
-Comes r a Stands reading left left' taken taken' text turn.ReadFault = IsRun r a Stands ReadFault left left' taken taken'
+  Option (List ℕ) → Option (List ℕ) → Option (List ℕ) → Option (List ℕ) → List ℕ → List ℕ → Turn → Type 0
+Comes r a Stands reading left left' taken taken' gathered text turn.Answered = IsUnderway r a Stands reading left left' taken taken' (gathered ++ text)
+Comes r a Stands reading left left' taken taken' gathered text (turn.Refused number fault) =
+  IsEnding r a Stands BadInput left left' taken taken' (gathered ++ refused_text number fault)
+Comes r a Stands reading left left' taken taken' gathered text turn.Done = IsEnding r a Stands Done left left' taken taken' gathered
+Comes r a Stands reading left left' taken taken' gathered text turn.TooLong = IsEnding r a Stands TooLong left left' taken taken' gathered
+Comes r a Stands reading left left' taken taken' gathered text turn.ReadFault = IsEnding r a Stands ReadFault left left' taken taken' gathered
 
--- a piece was taken whole, or a front of it
-abbrev pub TakesAll : {T E : Type 0} → Option (List ℕ) → Option (List ℕ) → Result T E → List ℕ → Type 0
-TakesAll taken taken' result piece = MatchResult result (λ _. Appends taken taken' piece) (λ _. TakesFront taken taken' piece)
+-- the text was taken whole and the status is this, or a front of the text was taken
+abbrev pub Concludes : Status → List ℕ → Option (List ℕ) → Option (List ℕ) → Status → Type 0
+Concludes status text taken taken' result =
+  ((result ≡ status) × Appends taken taken' text) ⊎ ((result ≡ WriteFault) × TakesFront taken taken' text)
 
--- what was written for a turn, whose answer is text, and how the run ends with it, if it does
-abbrev pub Settles : Turn → List ℕ → Option (List ℕ) → Option (List ℕ) → Option Status → Type 0
-Settles turn.Answered text taken taken' None = Appends taken taken' text
-Settles turn.Answered text taken taken' (Some WriteFault) = TakesFront taken taken' text
-Settles (turn.Refused number fault) text taken taken' (Some BadInput) = Appends taken taken' (refused_text number fault)
-Settles (turn.Refused number fault) text taken taken' (Some WriteFault) = TakesFront taken taken' (refused_text number fault)
-Settles turn.Done text taken taken' (Some Done) = taken' ≡ taken
-Settles turn.TooLong text taken taken' (Some TooLong) = taken' ≡ taken
-Settles turn.ReadFault text taken taken' (Some ReadFault) = taken' ≡ taken
-Settles _ text taken taken' _ = ⊥
-
--- a refusal was written whole, or a front of it
-abbrev pub Refuses : ℕ → LineFault → Option (List ℕ) → Option (List ℕ) → Status → Type 0
-Refuses number fault taken taken' BadInput = Appends taken taken' (refused_text number fault)
-Refuses number fault taken taken' WriteFault = TakesFront taken taken' (refused_text number fault)
-Refuses number fault taken taken' _ = ⊥
+-- what was written for a turn, what is gathered then, and how the run ends with it, if it does
+abbrev pub Settles : Turn → List ℕ → List ℕ → List ℕ → Option (List ℕ) → Option (List ℕ) → Option Status → Type 0
+Settles turn.Answered gathered text gathered' taken taken' None = Gathers (gathered ++ text) gathered' taken taken'
+Settles turn.Answered gathered text gathered' taken taken' (Some result) = (result ≡ WriteFault) × TakesFront taken taken' (gathered ++ text)
+Settles (turn.Refused number fault) gathered text gathered' taken taken' (Some result) = Concludes BadInput (gathered ++ refused_text number fault) taken taken' result
+Settles turn.Done gathered text gathered' taken taken' (Some result) = Concludes Done gathered taken taken' result
+Settles turn.TooLong gathered text gathered' taken taken' (Some result) = Concludes TooLong gathered taken taken' result
+Settles turn.ReadFault gathered text gathered' taken taken' (Some result) = Concludes ReadFault gathered taken taken' result
+Settles _ gathered text gathered' taken taken' None = ⊥
 
 -- the sink failed only where its count rose
 abbrev pub WriteCause : Option Status → ℕ → ℕ → Type 0

@@ -1,15 +1,17 @@
 //! The one driver.
-ghost use Rattle.std.specs.Prelude.{◌≡◌, ◌≢◌, ℕ, ◌≤◌, ◌<◌, List, Option, Some, None, []};
+ghost use Rattle.std.specs.Prelude.{◌≡◌, ◌≢◌, ℕ, ◌≤◌, ◌<◌, List, Option, Some, None, [], ◌++◌, ◌⊎◌, OnOk, OnErr};
 ghost use Rattle.um_io.specs.Outside.{Rose};
-ghost use Rattle.um_io.specs.Reading.{at_start};
+ghost use Rattle.um_io.specs.Reading.{at_start, IsReady};
+ghost use Rattle.um_text.specs.Refusals.{refused_text};
 ghost use Rattle.um_driver.specs.Table.{IsRun, HasCause, Completes};
-ghost use Rattle.um_driver.specs.Course.{IsAt, Comes, Settles, Refuses, WriteCause};
+ghost use Rattle.um_driver.specs.Taking.{GathersAll};
+ghost use Rattle.um_driver.specs.Course.{IsUnderway, Comes, Concludes, Settles, WriteCause};
 
 use crate::command::Command;
+use crate::gathered::Gathered;
 use crate::status::Status;
-use crate::writing::put_all;
 use std::alloc::Global;
-use um_io::{Lines, Next, Sink, Source};
+use um_io::{Failed, Lines, Next, Sink, Source};
 use um_text::{LineFault, Text, refused_line};
 
 /// What the next line of the input comes to.
@@ -34,9 +36,10 @@ fn ask<C: Command, S: Source>(
     out: &mut Text,
 ) -> Turn
     requires { out.old ≡ [] }
-    ensures comes { (a : C.State) (left taken taken' : Option (List ℕ)) →
-        IsAt C.rules a (C.stands command.old) lines.old left (S.left input.old) taken taken' [] →
-        Comes C.rules a (C.stands command.new) lines.new left (S.left input.new) taken taken' out.new result }
+    ensures comes { (a : C.State) (left taken taken' : Option (List ℕ)) (gathered : List ℕ) →
+        IsUnderway C.rules a (C.stands command.old) lines.old left (S.left input.old) taken taken' gathered →
+        IsReady lines.old ⊎ (gathered ≡ []) →
+        Comes C.rules a (C.stands command.new) lines.new left (S.left input.new) taken taken' gathered out.new result }
     ensures goes_on { result ≡ Turn.Answered → lines.old.answered < lines.new.answered }
     ensures later { S.faults input.old ≤ S.faults input.new }
     ensures cause { result ≡ Turn.ReadFault → Rose (S.faults input.old) (S.faults input.new) }
@@ -57,52 +60,96 @@ fn ask<C: Command, S: Source>(
     }
 }
 
-/// Writes the line that refuses the input.
-fn refuse<K: Sink>(output: &mut K, out: &mut Text, number: u64, fault: LineFault) -> Status
-    ensures refused { Refuses number fault (K.taken output.old) (K.taken output.new) result }
+/// Writes what is gathered, and says how the run ends.
+fn conclude<K: Sink>(status: Status, gathered: &mut Gathered, output: &mut K) -> Status
+    requires { status ≢ Status.WriteFault }
+    ensures concludes { Concludes status gathered.old (K.taken output.old) (K.taken output.new) result }
+    ensures later { K.faults output.old ≤ K.faults output.new }
+    ensures cause { WriteCause (Some result) (K.faults output.old) (K.faults output.new) }
+{
+    match gathered.flush(output) {
+        Ok(()) => status,
+        Err(_) => Status::WriteFault,
+    }
+}
+
+/// Writes what is gathered, and the line that refuses the input.
+fn refuse<K: Sink>(
+    number: u64,
+    fault: LineFault,
+    out: &mut Text,
+    gathered: &mut Gathered,
+    output: &mut K,
+) -> Status
+    ensures concludes { Concludes Status.BadInput (gathered.old ++ refused_text number fault) (K.taken output.old) (K.taken output.new) result }
     ensures later { K.faults output.old ≤ K.faults output.new }
     ensures cause { WriteCause (Some result) (K.faults output.old) (K.faults output.new) }
 {
     out.clear();
     refused_line(out, number, fault);
-    match put_all(output, out.octets()) {
-        Ok(()) => Status::BadInput,
+    match gathered.add(out.octets(), output) {
+        Ok(()) => conclude(Status::BadInput, gathered, output),
         Err(_) => Status::WriteFault,
     }
 }
 
-/// Writes the answer to a line.
-fn tell<K: Sink>(output: &mut K, out: &mut Text) -> Option<Status>
-    ensures told { Settles Turn.Answered out.old (K.taken output.old) (K.taken output.new) result }
-    ensures empty { out.new ≡ [] }
+/// Gathers the answer to a line.
+fn tell<K: Sink>(out: &mut Text, gathered: &mut Gathered, output: &mut K) -> Option<Status>
+    ensures settles { Settles Turn.Answered gathered.old out.old gathered.new (K.taken output.old) (K.taken output.new) result }
+    ensures empty { result ≡ None → out.new ≡ [] }
     ensures later { K.faults output.old ≤ K.faults output.new }
     ensures cause { WriteCause result (K.faults output.old) (K.faults output.new) }
 {
-    let status = match put_all(output, out.octets()) {
-        Ok(()) => None,
+    match gathered.add(out.octets(), output) {
+        Ok(()) => {
+            out.clear();
+            None
+        }
         Err(_) => Some(Status::WriteFault),
-    };
-    out.clear();
-    status
+    }
 }
 
-/// Writes what a turn came to, and says how the run ends, if it does.
-fn settle<K: Sink>(turn: Turn, out: &mut Text, output: &mut K) -> Option<Status>
-    ensures settles { Settles turn out.old (K.taken output.old) (K.taken output.new) result }
+/// Gathers or writes what a turn came to, and says how the run ends, if it does.
+fn settle<K: Sink>(
+    turn: Turn,
+    out: &mut Text,
+    gathered: &mut Gathered,
+    output: &mut K,
+) -> Option<Status>
+    ensures settles { Settles turn gathered.old out.old gathered.new (K.taken output.old) (K.taken output.new) result }
     ensures empty { result ≡ None → out.new ≡ [] }
     ensures later { K.faults output.old ≤ K.faults output.new }
     ensures cause { WriteCause result (K.faults output.old) (K.faults output.new) }
 {
     match turn {
-        Turn::Answered => tell(output, out),
-        Turn::Refused(number, fault) => Some(refuse(output, out, number, fault)),
-        Turn::Done => Some(Status::Done),
-        Turn::TooLong => Some(Status::TooLong),
-        Turn::ReadFault => Some(Status::ReadFault),
+        Turn::Answered => tell(out, gathered, output),
+        Turn::Refused(number, fault) => Some(refuse(number, fault, out, gathered, output)),
+        Turn::Done => Some(conclude(Status::Done, gathered, output)),
+        Turn::TooLong => Some(conclude(Status::TooLong, gathered, output)),
+        Turn::ReadFault => Some(conclude(Status::ReadFault, gathered, output)),
     }
 }
 
-/// Answers line after line, until the run ends.
+/// Writes what is gathered, where the next answer of the reader takes a reading.
+fn make_way<K: Sink>(
+    lines: &mut Lines,
+    gathered: &mut Gathered,
+    output: &mut K,
+) -> Result<(), Failed>
+    ensures kept { lines.new ≡ lines.old }
+    ensures gathers { GathersAll result gathered.old gathered.new (K.taken output.old) (K.taken output.new) }
+    ensures ready { OnOk result (IsReady lines.new ⊎ (gathered.new ≡ [])) }
+    ensures later { K.faults output.old ≤ K.faults output.new }
+    ensures cause { OnErr result (Rose (K.faults output.old) (K.faults output.new)) }
+{
+    if lines.is_ready() {
+        Ok(())
+    } else {
+        gathered.flush(output)
+    }
+}
+
+/// Answers line after line, until the run ends. It reads only when all answers are written.
 fn serve<C: Command, S: Source, K: Sink>(
     command: &mut C,
     lines: &mut Lines,
@@ -118,15 +165,22 @@ fn serve<C: Command, S: Source, K: Sink>(
     ensures cause { HasCause result (S.faults input.old) (S.faults input.new)
         (K.faults output.old) (K.faults output.new) }
 
+    ensures opened { result ≢ Status.NoMemory }
     ensures later_source { S.faults input.old ≤ S.faults input.new }
     ensures later_sink { K.faults output.old ≤ K.faults output.new }
     ensures keeps { C.kept command.new ≡ C.kept command.old }
 {
     let mut out = Text::new();
+    let mut gathered = Gathered::new();
     loop {
+        match make_way(lines, &mut gathered, output) {
+            Ok(()) => {}
+            Err(_) => return Status::WriteFault,
+        }
         let turn = ask(command, lines, input, &mut out);
-        if let Some(status) = settle(turn, &mut out, output) {
-            return status;
+        match settle(turn, &mut out, &mut gathered, output) {
+            Some(status) => return status,
+            None => {}
         }
     }
 }
@@ -152,6 +206,10 @@ pub fn drive<C: Command, S: Source, K: Sink>(
         (K.faults output.old) (K.faults output.new) }
 
     ensures words { result ≢ Status.BadWords }
+
+    // Want of memory comes before anything is read or written.
+    ensures opening { result ≡ Status.NoMemory → (input.new ≡ input.old) × (output.new ≡ output.old) }
+
     ensures later_source { S.faults input.old ≤ S.faults input.new }
     ensures later_sink { K.faults output.old ≤ K.faults output.new }
     ensures keeps { C.kept command.new ≡ C.kept command.old }

@@ -3,6 +3,7 @@
 
 mod command;
 mod driver;
+mod gathered;
 mod laws;
 mod status;
 mod writing;

@@ -1,7 +1,7 @@
 //! Writing to the sink.
 ghost use Rattle.std.specs.Prelude.{◌≤◌, OnErr};
 ghost use Rattle.um_io.specs.Outside.{Rose};
-ghost use Rattle.um_driver.specs.Course.{TakesAll};
+ghost use Rattle.um_driver.specs.Taking.{TakesAll};
 
 use um_io::{Failed, Sink};
 

@@ -1,41 +1,49 @@
-use Rattle.std.proofs.Common.{arith, refl, ◌∙◌}
-use Rattle.um_driver.specs.declared.driver.Turn.TheVariants as turn
-use Rattle.um_driver.proofs.Settling.{run_ends, run_goes_on, is_answered, at_first}
+use Rattle.std.proofs.Common.{arith, refl, ◌<◌, ◌∙◌}
+use Rattle.um_driver.proofs.Settling.{underway_cut, way_made, run_ends, run_goes_on, is_answered, at_first}
 use Rattle.um_driver.proofs.driver.serve.Goals as goal
-use Rattle.um_driver.proofs.driver.serve.Goals.{In_default}
 
-pub loop-status-init : goal.loop-status-init
-loop-status-init g c = record {
-  at = at_first _ _ _ _ _ _ c.requires.first c.requires.stands;
+pub loop-command-init : goal.loop-command-init
+loop-command-init g c = record {
+  underway = rw c.new-gathered.ensures (at_first _ _ _ _ _ _ c.requires.first c.requires.stands);
   empty = c.new-out.ensures;
   later_source = omega arith;
   later_sink = omega arith;
-  keeps = cc
+  keeps = refl
 }
+
+pub returns-in-Err-clause-table : goal.returns-in-Err-clause-table
+returns-in-Err-clause-table g c =
+  underway_cut _ _ _ _ _ _ _ _ _ _ c.loop-command.invariant.underway c.in-Err.ensures.gathers
 
 pub returns-in-Some-clause-table : goal.returns-in-Some-clause-table
 returns-in-Some-clause-table g c =
-  run_ends _ _ _ _ _ _ _ _ _ c.ask-turn.result c.ask-turn.new.out c.in-Some.status
-    (c.ask-turn.ensures.comes _ _ _ _ c.loop-status.invariant.at) c.in-Some.ensures.settles
+  let way = way_made _ _ _ _ _ _ _ _ _ _ _ _ c.make_way.ensures.kept c.loop-command.invariant.underway c.in-Ok.ensures.gathers in
+  run_ends _ _ _ _ _ _ _ _ _ c.ask-turn.result _ c.ask-turn.new.out c.settle.new.gathered c.in-Some.status
+    (c.ask-turn.ensures.comes _ _ _ _ _ way c.in-Ok.ensures.ready) c.in-Some.ensures.settles
 
-pub loop-status-preserved : goal.loop-status-preserved
-loop-status-preserved g c =
+pub loop-command-preserved : goal.loop-command-preserved
+loop-command-preserved g c =
+  let way = way_made _ _ _ _ _ _ _ _ _ _ _ _ c.make_way.ensures.kept c.loop-command.invariant.underway c.in-Ok.ensures.gathers in
   let later_source = c.ask-turn.ensures.later in
-  let later_sink = c.in_default.ensures.later in
+  let later_way = c.in-Ok.ensures.later in
+  let later_sink = c.in-None.ensures.later in
   let keeps = c.ask-turn.ensures.keeps in
   record {
-    at = run_goes_on _ _ _ _ _ _ _ _ _ c.ask-turn.result c.ask-turn.new.out
-      (c.ask-turn.ensures.comes _ _ _ _ c.loop-status.invariant.at) c.in_default.ensures.settles;
-    empty = c.in_default.ensures.empty refl;
-    later_source = omega (arith, later_source, c.loop-status.invariant.later_source);
-    later_sink = omega (arith, later_sink, c.loop-status.invariant.later_sink);
-    keeps = keeps ∙ c.loop-status.invariant.keeps
+    underway = run_goes_on _ _ _ _ _ _ _ _ _ c.ask-turn.result _ c.ask-turn.new.out c.settle.new.gathered
+      (c.ask-turn.ensures.comes _ _ _ _ _ way c.in-Ok.ensures.ready) c.in-None.ensures.settles;
+    empty = c.in-None.ensures.empty refl;
+    later_source = omega (arith, later_source, c.loop-command.invariant.later_source);
+    later_sink = omega (arith, later_way, later_sink, c.loop-command.invariant.later_sink);
+    keeps = keeps ∙ c.loop-command.invariant.keeps
   }
 
-pub loop-status-smaller : goal.loop-status-smaller
-loop-status-smaller g c =
-  let rises = c.ask-turn.ensures.goes_on (is_answered c.ask-turn.result c.ask-turn.new.out _ _ c.in_default.ensures.settles) in
-  let at = run_goes_on _ _ _ _ _ _ _ _ _ c.ask-turn.result c.ask-turn.new.out
-      (c.ask-turn.ensures.comes _ _ _ _ c.loop-status.invariant.at) c.in_default.ensures.settles in
-  let limit = at.valid.limit in
-  omega (arith, rises, limit)
+pub loop-command-smaller : goal.loop-command-smaller
+loop-command-smaller g c =
+  let way = way_made _ _ _ _ _ _ _ _ _ _ _ _ c.make_way.ensures.kept c.loop-command.invariant.underway c.in-Ok.ensures.gathers in
+  let rises = c.ask-turn.ensures.goes_on (is_answered c.ask-turn.result _ c.ask-turn.new.out c.settle.new.gathered _ _ c.in-None.ensures.settles) in
+  let then = run_goes_on _ _ _ _ _ _ _ _ _ c.ask-turn.result _ c.ask-turn.new.out c.settle.new.gathered
+      (c.ask-turn.ensures.comes _ _ _ _ _ way c.in-Ok.ensures.ready) c.in-None.ensures.settles in
+  let limit = then.at.valid.limit in
+  let kept = c.make_way.ensures.kept in
+  let rises_from : c.loop-command.lines.answered < c.ask-turn.new.lines.answered = rw kept at rises in
+  omega (arith, rises_from, limit)

@@ -1,16 +1,16 @@
 use Rattle.std.proofs.Common.{◌≡◌, ◌≤◌, ◌-◌, []}
-use Rattle.um_driver.specs.Course.{IsAt}
+use Rattle.um_driver.specs.Course.{IsUnderway}
 use Rattle.um_driver.proofs.driver.serve.Given as goal
 
-abbrev pub invariant-loop-status : goal.invariant-loop-status
-invariant-loop-status g l = record {
-  at : IsAt g.C.Command.rules (g.C.Command.start l.fn.command) (g.C.Command.stands l.command) l.lines
-    (g.S.Source.left l.fn.input) (g.S.Source.left l.input) (g.K.Sink.taken l.fn.output) (g.K.Sink.taken l.output) [];
+abbrev pub invariant-loop-command : goal.invariant-loop-command
+invariant-loop-command g l = record {
+  underway : IsUnderway g.C.Command.rules (g.C.Command.start l.fn.command) (g.C.Command.stands l.command) l.lines
+    (g.S.Source.left l.fn.input) (g.S.Source.left l.input) (g.K.Sink.taken l.fn.output) (g.K.Sink.taken l.output) l.gathered;
   empty : l.out ≡ [];
   later_source : g.S.Source.faults l.fn.input ≤ g.S.Source.faults l.input;
   later_sink : g.K.Sink.faults l.fn.output ≤ g.K.Sink.faults l.output;
   keeps : g.C.Command.kept l.command ≡ g.C.Command.kept l.fn.command
 }
 
-abbrev pub decreases-loop-status : goal.decreases-loop-status
-decreases-loop-status g l = 67108864 - l.lines.answered
+abbrev pub decreases-loop-command : goal.decreases-loop-command
+decreases-loop-command g l = 67108864 - l.lines.answered

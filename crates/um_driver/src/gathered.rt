@@ -1,0 +1,98 @@
+//! Answers that wait to be written.
+ghost use Rattle.std.specs.Prelude.{◌≡◌, ◌≤◌, ◌+◌, [], ◌++◌, length, OnOk, OnErr, false, IsTrue};
+ghost use Rattle.um_io.specs.Outside.{Rose};
+ghost use Rattle.um_driver.specs.Taking.{TakesAll, Gathers, GathersAll};
+
+use crate::writing::put_all;
+use std::marker::Model;
+use um_io::{Failed, Sink};
+
+/// How many octets are gathered at most.
+const ROOM: usize = 16384;
+
+/// Octets that wait to be written.
+#[derive(Drop)]
+pub(crate) struct Gathered {
+    room: [u8; ROOM],
+    length: usize,
+}
+
+// Clauses see the list of octets.
+impl Model for Gathered {
+    ghost use Rattle.std.specs.Prelude.{ℕ, ◌≤◌, List, take};
+
+    ghost Value = { List ℕ };
+
+    ghost view = { λ g. take g.length g.room };
+
+    ghost invariant = { λ g. g.length ≤ 16384 };
+}
+
+impl Gathered {
+    pub(crate) fn new() -> Gathered
+        ensures { result ≡ [] }
+    {
+        Gathered {
+            room: [0; ROOM],
+            length: 0,
+        }
+    }
+
+    fn has_room(&self, count: usize) -> bool
+        requires { count ≤ 4096 }
+        ensures { IsTrue result → length self.now + count ≤ 16384 }
+    {
+        self.length + count <= ROOM
+    }
+
+    fn push(&mut self, octets: &[u8])
+        requires { length self.old + length octets.now ≤ 16384 }
+        ensures { self.new ≡ self.old ++ octets.now }
+    {
+        let end = self.length + octets.len();
+        self.room[self.length..end].copy_from_slice(octets);
+        self.length = end;
+    }
+
+    fn octets(&self) -> &[u8]
+        ensures { result.now ≡ self.now }
+    {
+        &self.room[..self.length]
+    }
+
+    /// Writes all that is gathered.
+    pub(crate) fn flush<K: Sink>(&mut self, output: &mut K) -> Result<(), Failed>
+        ensures taken { TakesAll (K.taken output.old) (K.taken output.new) result self.old }
+        ensures empty { OnOk result (self.new ≡ []) }
+        ensures later { K.faults output.old ≤ K.faults output.new }
+        ensures cause { OnErr result (Rose (K.faults output.old) (K.faults output.new)) }
+    {
+        put_all(output, self.octets())?;
+        self.length = 0;
+        Ok(())
+    }
+
+    /// Writes all that is gathered, where it may not wait.
+    pub(crate) fn flush_if<K: Sink>(&mut self, due: bool, output: &mut K) -> Result<(), Failed>
+        ensures gathers { GathersAll result self.old self.new (K.taken output.old) (K.taken output.new) }
+        ensures empty { IsTrue due → OnOk result (self.new ≡ []) }
+        ensures stays { due ≡ false → self.new ≡ self.old }
+        ensures later { K.faults output.old ≤ K.faults output.new }
+        ensures cause { OnErr result (Rose (K.faults output.old) (K.faults output.new)) }
+    {
+        if due { self.flush(output) } else { Ok(()) }
+    }
+
+    /// Gathers `octets` too, and writes what was gathered before where there is no room for them.
+    pub(crate) fn add<K: Sink>(&mut self, octets: &[u8], output: &mut K) -> Result<(), Failed>
+        requires { length octets.now ≤ 4096 }
+        ensures gathers { GathersAll result (self.old ++ octets.now) self.new (K.taken output.old) (K.taken output.new) }
+        ensures later { K.faults output.old ≤ K.faults output.new }
+        ensures cause { OnErr result (Rose (K.faults output.old) (K.faults output.new)) }
+    {
+        let full = !self.has_room(octets.len());
+        self.flush_if(full, output)?;
+        self.push(octets);
+        Ok(())
+    }
+}
