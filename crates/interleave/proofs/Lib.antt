@@ -1,4 +1,7 @@
-pub mod Computed
-pub mod PlaceTable
-pub mod PuttingLemmas
-pub mod GatheringLemmas
+pub mod Below
+pub mod Bijection
+pub mod BurstPlaces
+pub mod CodedBits
+pub mod HalfBursts
+pub mod Orders
+pub mod WholeBursts

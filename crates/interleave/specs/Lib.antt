@@ -1,4 +1,3 @@
--- The definitions that the contracts of this crate cite.
+pub mod Bursts
+pub mod Halves
 pub mod Places
-pub mod Interleaved
-pub mod Putting

@@ -1,9 +1,49 @@
-//! The places of a block's coded bits in its four bursts.
+//! The interleaving of a block's 456 coded bits over four bursts.
 #![tactic(auto)]
 
 mod gathering;
-mod places;
+mod laws;
 mod spreading;
+mod table;
 
 pub use gathering::{gather, gather_burst};
+pub use laws::{law_any_order, law_places};
 pub use spreading::{spread, spread_burst};
+
+#[cfg(test)]
+mod tests {
+    use super::spread;
+
+    // The last 88 bits of the coded list of a block of 23 octets 00, before which all are 0.
+    const LAST: &[u8; 88] =
+        b"1110100110101010101010101010101010101010101010101010101010101010101010101010101001000011";
+
+    // The places of its ones in the four bursts.
+    const ONES: [&[usize]; 4] = [
+        &[
+            7, 12, 21, 26, 28, 35, 40, 42, 49, 56, 63, 70, 77, 79, 84, 91, 93, 98, 107, 112,
+        ],
+        &[24, 112],
+        &[
+            3, 8, 10, 17, 24, 31, 33, 38, 45, 47, 52, 61, 66, 75, 80, 89, 94, 103, 108, 110,
+        ],
+        &[17, 43],
+    ];
+
+    #[test]
+    fn the_ones_of_a_block_come_to_their_places(rt: HostRuntime) {
+        let mut coded = [0; 456];
+        for (i, digit) in LAST.iter().enumerate() {
+            coded[368 + i] = digit & 1;
+        }
+        for (b, burst) in spread(&coded).iter().enumerate() {
+            for (place, bit) in burst.iter().enumerate() {
+                assert_eq!(rt;
+                    *bit == 1,
+                    ONES[b].contains(&place),
+                    "burst {b}, place {place}"
+                );
+            }
+        }
+    }
+}

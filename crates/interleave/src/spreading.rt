@@ -1,42 +1,45 @@
-ghost use Rattle.std.specs.Prelude.{◌≡◌, ◌+◌, ◌*◌, ◌<◌, ◌≤◌, ℕ, length, slice_index};
-ghost use Rattle.interleave.specs.Interleaved.{IsSpread, IsHalfSpread};
-ghost use Rattle.interleave.specs.Places.{coded_place};
+ghost use Rattle.std.specs.Prelude.{◌≡◌, ℕ, ◌+◌, ◌*◌, ◌<◌, ◌≤◌, List, [], All, length, slice_index, slice_index_or, slice_range};
+ghost use Rattle.bit_blocks.specs.Bits.{AllBits};
+ghost use Rattle.interleave.specs.Bursts.{IsInterleaved};
+ghost use Rattle.interleave.specs.Places.{burst_of, place_of};
 
-use crate::places::coded_bit;
+use crate::table::coded_bits;
 
-/// The 114 coded bits of each of the four bursts of a block.
+/// The four bursts of a block's coded bits.
 pub fn spread(coded: &[u8; 456]) -> [[u8; 114]; 4]
-    ensures { IsSpread coded.now result }
+    ensures interleaved { IsInterleaved coded.now result }
+    ensures only { (bursts : List (List ℕ)) → IsInterleaved coded.now bursts → bursts ≡ result }
+    ensures bits { AllBits coded.now → All AllBits result }
 {
-    [
-        burst_bits(coded, 0),
-        burst_bits(coded, 1),
-        burst_bits(coded, 2),
-        burst_bits(coded, 3),
-    ]
+    let mut bursts = [[0; 114]; 4];
+    for b in 0..4 {
+        bursts[b] = burst_of_block(coded, b);
+    }
+    bursts
 }
 
-/// Writes one half of the coded bits of burst `b`: the places 0 to 56 for the half 0, and 57 to 113
-/// for the half 1.
+/// Writes one half of burst `b`: the places 0 to 56 where `half` is 0, and 57 to 113 where it is 1.
 pub fn spread_burst(coded: &[u8; 456], b: usize, half: usize, out: &mut [u8])
     requires burst { b < 4 }
     requires half { half ≤ 1 }
     requires count { length out.old ≡ 57 }
-    ensures { IsHalfSpread coded.now b half out.new }
+    ensures places { (k i : ℕ) → k < 456 → burst_of k ≡ b → i < 57 → place_of k ≡ 57 * half + i →
+        slice_index out.new i ≡ slice_index coded.now k }
+    ensures part { (bursts : List (List ℕ)) → IsInterleaved coded.now bursts →
+        out.new ≡ slice_range (slice_index_or bursts b []) (57 * half) (57 * half + 57) }
+    ensures bits { AllBits coded.now → AllBits out.new }
 {
-    for i in 0..57 {
-        out[i] = coded[coded_bit(b, 57 * half + i)];
+    for (i, k) in coded_bits(b, half).iter().enumerate() {
+        out[i] = coded[usize::from(*k)];
     }
 }
 
-fn burst_bits(coded: &[u8; 456], b: usize) -> [u8; 114]
+fn burst_of_block(coded: &[u8; 456], b: usize) -> [u8; 114]
     requires { b < 4 }
-    ensures count { length result ≡ 114 }
-    ensures at { (j : ℕ) → j < 114 → slice_index result j ≡ slice_index coded.now (coded_place b j) }
+    ensures places { (k : ℕ) → k < 456 → burst_of k ≡ b → slice_index result (place_of k) ≡ slice_index coded.now k }
 {
-    let mut bits = [0; 114];
-    for j in 0..114 {
-        bits[j] = coded[coded_bit(b, j)];
-    }
-    bits
+    let mut burst = [0; 114];
+    spread_burst(coded, b, 0, &mut burst[..57]);
+    spread_burst(coded, b, 1, &mut burst[57..]);
+    burst
 }

@@ -9,6 +9,7 @@ use um_io::{ReadSource, WriteSink};
 
 /// The program's end where the system names want of memory for its words, and where it names another cause.
 const NO_MEMORY: u8 = 6;
+
 const NO_WORDS: u8 = 8;
 
 fn main(rt: HostRuntime) -> ExitCode {

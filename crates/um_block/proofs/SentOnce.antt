@@ -3,10 +3,10 @@ use Rattle.std.proofs.Common.{◌≡◌, ℕ, ◌*◌, ◌<◌, List, [], ◌++�
 use Rattle.bit_blocks.specs.Bits.{AllBits, add_bits}
 use Rattle.bit_blocks.specs.Polynomials.{IsMultiple}
 use Rattle.bit_blocks.proofs.Sums.{AllBits-add_bits, add_bits_twice}
-use Rattle.std.proofs.lemmas.Grind.{same_number_lists}
 use Rattle.bit_blocks.specs.Octets.{bits_of}
 use Rattle.conv_code.specs.Code.{coded}
-use Rattle.interleave.specs.Interleaved.{part, IsSpread}
+use Rattle.interleave.specs.Bursts.{IsInterleaved}
+use Rattle.interleave.proofs.Bijection.{same_bursts}
 use Rattle.fire_code.specs.Words.{g6, g10, g40, IsXcchWord, IsRachWord, IsSchWord}
 use Rattle.fire_code.proofs.ParityParts.{first_bits, second_bits, multiple_of_parts, same_parity, count_of_sum}
 use Rattle.fire_code.proofs.RachWords.{code_added}
@@ -15,7 +15,6 @@ use Rattle.burst_map.specs.AccessBurst.{access_burst}
 use Rattle.burst_map.specs.SyncBurst.{sync_burst}
 use Rattle.um_block.specs.Sent.{with_tail, IsCodedBlock, IsSentBlock, IsSentAccess, IsSentSync}
 use Rattle.um_block.proofs.Information.{length-bits_of}
-use Rattle.um_block.proofs.SpreadParts.{get_or-part, length-part, four, same_four}
 
 -- the parity under a code, with the code taken off, completes the information to a multiple
 rach_multiple : (d p b : List ℕ) → length d ≡ 8 → IsRachWord (d ++ p) b →
@@ -71,28 +70,11 @@ one_coded_block octets c c' code code' =
     let same = one_xcch_parity (bits_of octets) code.parity code'.parity long code.word code'.word in
     code.code ∙ ap (λ parity. coded (with_tail (bits_of octets ++ parity))) same ∙ sym code'.code
 
-one_part : (c : List ℕ) (parts parts' : List (List ℕ)) (b : ℕ) → IsSpread c parts → IsSpread c parts' → b < 4 →
-    part parts b ≡ part parts' b
-one_part c parts parts' b spread spread' hb =
-    let long = length-part c parts b spread hb in
-    let long' = length-part c parts' b spread' hb in
-    same_number_lists (part parts b) (part parts' b) (long ∙ sym long')
-    (λ j within. let hj : j < 114 = omega arith in
-    get_or-part c parts b j spread hb hj ∙ sym (get_or-part c parts' b j spread' hb hj))
-
-pub one_spread : (c : List ℕ) (parts parts' : List (List ℕ)) → IsSpread c parts → IsSpread c parts' → parts ≡ parts'
-one_spread c parts parts' spread spread' =
-    let one = λ (b : ℕ) (hb : b < 4). one_part c parts parts' b spread spread' hb in
-    four parts [] spread.count
-    ∙ same_four (part parts 0) (part parts' 0) (part parts 1) (part parts' 1) (part parts 2) (part parts' 2) (part parts 3) (part parts' 3)
-    (one 0 (lit< tt)) (one 1 (lit< tt)) (one 2 (lit< tt)) (one 3 (lit< tt))
-    ∙ sym (four parts' [] spread'.count)
-
 pub one_sent_block : (octets : List ℕ) (tsc : ℕ) (x x' : List (List ℕ)) →
     IsSentBlock octets tsc x → IsSentBlock octets tsc x' → x ≡ x'
 one_sent_block octets tsc x x' sent sent' =
     let same = one_coded_block octets sent.coded_bits sent'.coded_bits sent.code sent'.code in
-    let spread : IsSpread sent'.coded_bits sent.parts = subst (λ c. IsSpread c sent.parts) same sent.spread in
+    let spread : IsInterleaved sent'.coded_bits sent.parts = subst (λ c. IsInterleaved c sent.parts) same sent.spread in
     sent.layout
-    ∙ ap (map (λ bits. normal_burst (take 57 bits) (drop 57 bits) tsc)) (one_spread sent'.coded_bits sent.parts sent'.parts spread sent'.spread)
+    ∙ ap (map (λ bits. normal_burst (take 57 bits) (drop 57 bits) tsc)) (same_bursts sent'.coded_bits sent.parts sent'.parts spread sent'.spread)
     ∙ sym sent'.layout

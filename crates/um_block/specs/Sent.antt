@@ -3,7 +3,7 @@ use Rattle.std.specs.Prelude.{ℕ, ◌≡◌, ◌≤◌, List, ◌++◌, length,
 use Rattle.bit_blocks.specs.Octets.{bits_of}
 use Rattle.fire_code.specs.Words.{IsXcchWord, IsRachWord, IsSchWord}
 use Rattle.conv_code.specs.Code.{coded}
-use Rattle.interleave.specs.Interleaved.{IsSpread}
+use Rattle.interleave.specs.Bursts.{IsInterleaved}
 use Rattle.burst_map.specs.NormalBurst.{normal_burst}
 use Rattle.burst_map.specs.AccessBurst.{access_burst}
 use Rattle.burst_map.specs.SyncBurst.{sync_burst}
@@ -26,7 +26,7 @@ pub record IsSentBlock (octets : List ℕ) (tsc : ℕ) (bursts : List (List ℕ)
   pub parts : List (List ℕ)
   pub known : tsc ≤ 7
   pub code : IsCodedBlock octets coded_bits
-  pub spread : IsSpread coded_bits parts
+  pub spread : IsInterleaved coded_bits parts
   pub layout : bursts ≡ map (λ part. normal_burst (take 57 part) (drop 57 part) tsc) parts
 
 -- x is the access burst of eight bits d under the code b of a base station (GSM 05.03 section 4.6, GSM 05.02 section 5.2.7)

@@ -27,7 +27,8 @@ pub fn send_block(octets: &[u8; 23], tsc: u8) -> [[u8; 148]; 4]
 
 /// The 456 coded bits of 23 octets.
 fn code_block(octets: &[u8; 23]) -> [u8; 456]
-    ensures { IsCodedBlock octets.now result }
+    ensures coded { IsCodedBlock octets.now result }
+    ensures bits { AllBits result }
 {
     let mut bits = [0; 184];
     from_octets(octets, &mut bits);

@@ -72,7 +72,7 @@ some_answer line (Sch info) means =
 pub code_is_total : IsTotal code_rules tt
 code_is_total lines y b runs line plain good =
     let meant : HasOneMeaningUnless None (CodeMeans line) =
-        subst (λ fault. HasOneMeaningUnless fault (CodeMeans line)) good.no_fault (one_meaning line) in
+    subst (λ fault. HasOneMeaningUnless fault (CodeMeans line)) good.no_fault (one_meaning line) in
     let answer = some_answer line meant.0 meant.1 in
     (answer.0, tt, (meant.0, meant.1, answer.1))
 

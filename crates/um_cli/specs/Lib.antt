@@ -3,7 +3,6 @@ pub mod Code
 pub mod Runs
 pub mod Shapes
 pub mod WordLists
-
 -- what the definitions of this crate stand on
 pub use Rattle.um_driver.specs.Table
 pub use Rattle.um_driver.specs.Outputs

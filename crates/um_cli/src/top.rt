@@ -47,5 +47,4 @@ pub fn run<S: Source, K: Sink>(
 /// Every list of octets, good or bad and of any length, has one output of `code` and one way to end.
 pub fn law_code_has_one_output()
     ensures { HasOneOutput code_rules tt }
-{
-}
+{}

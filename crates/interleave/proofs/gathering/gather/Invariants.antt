@@ -1,6 +1,10 @@
-use Rattle.interleave.proofs.GatheringLemmas.{IsGatheredBefore}
+use Rattle.std.proofs.Common.{◌≡◌, ℕ, ◌<◌, [], length, get_or, pos}
+use Rattle.interleave.specs.Places.{burst_of, place_of}
 use Rattle.interleave.proofs.gathering.gather.Given as goal
 
--- the bursts so far are gathered
+-- the coded bits of the bursts so far have their values
 abbrev pub invariant-loop-b : goal.invariant-loop-b
-invariant-loop-b l = IsGatheredBefore l.b l.parts l.soft
+invariant-loop-b l =
+    (length l.soft ≡ 456)
+    × ((i : ℕ) → i < l.b → length (get_or l.parts i []) ≡ 114)
+    × ((k : ℕ) → k < 456 → burst_of k < l.b → get_or l.soft k (pos 0) ≡ get_or (get_or l.parts (burst_of k) []) (place_of k) (pos 0))

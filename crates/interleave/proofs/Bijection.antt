@@ -1,0 +1,58 @@
+-- Coded bits and places of bursts belong to each other one by one, so that each list is known by the other.
+use Rattle.std.proofs.Common.{◌≡◌, ℕ, ◌+◌, ◌*◌, ◌/◌, ◌%◌, ◌<◌, List, [], All, length, get_or, ap, sym, ◌∙◌, arith}
+use Rattle.std.proofs.lemmas.List.{same_lists, get_or_default}
+use Rattle.bit_blocks.specs.Bits.{AllBits}
+use Rattle.interleave.specs.Bursts.{IsInterleaved}
+use Rattle.interleave.specs.Places.{burst_of, place_of}
+use Rattle.interleave.proofs.CodedBits.{entry, entry-stands}
+
+-- the coded bit that stands at a place of a burst
+pub coded_bit_at : (b j : ℕ) → b < 4 → j < 114 → (k : ℕ) × (k < 456) × (burst_of k ≡ b) × (place_of k ≡ j)
+coded_bit_at b j hb hj =
+    let stands = entry-stands (2 * b + j / 57) (j % 57) (omega arith) (omega arith) in
+    let burst : (2 * b + j / 57) / 2 ≡ b = omega arith in
+    let place : 57 * ((2 * b + j / 57) % 2) + j % 57 ≡ j = omega arith in
+    (entry (2 * b + j / 57) (j % 57), stands.within, stands.burst ∙ burst, stands.place ∙ place)
+
+module _ {X : Type 0} where
+  -- the value at a place of the bursts is that of some coded bit
+  pub from_coded : (coded : List X) (bursts : List (List X)) → IsInterleaved coded bursts → (b j : ℕ) (d : X) → b < 4 → j < 114 →
+      (k : ℕ) × (k < 456) × (burst_of k ≡ b) × (place_of k ≡ j) × (get_or (get_or bursts b []) j d ≡ get_or coded k d)
+  from_coded coded bursts whole b j d hb hj =
+      let found = coded_bit_at b j hb hj in
+      let holds = whole.places found.0 d found.1 in
+      (found.0, found.1, found.2, found.3, rw (found.2, found.3) at holds)
+
+  pub same_coded : (coded coded' : List X) (bursts : List (List X)) → IsInterleaved coded bursts → IsInterleaved coded' bursts → coded ≡ coded'
+  same_coded coded coded' bursts whole whole' =
+      same_lists coded coded'
+      (whole.coded_count ∙ sym whole'.coded_count)
+      (λ k d lt. let hk : k < 456 = rw whole.coded_count at lt in sym (whole.places k d hk) ∙ whole'.places k d hk)
+
+  pub same_bursts : (coded : List X) (bursts bursts' : List (List X)) → IsInterleaved coded bursts → IsInterleaved coded bursts' → bursts ≡ bursts'
+  same_bursts coded bursts bursts' whole whole' =
+      same_lists bursts bursts'
+      (whole.burst_count ∙ sym whole'.burst_count)
+      (λ b d lt.
+      let hb : b < 4 = rw whole.burst_count at lt in
+      let lt' : b < length bursts' = rw whole'.burst_count hb in
+      same_lists _ _
+      (whole.each_count b d lt ∙ sym (whole'.each_count b d lt'))
+      (λ j e le.
+      let hj : j < 114 = rw (whole.each_count b d lt) at le in
+      let one = from_coded coded bursts whole b j e hb hj in
+      let k = one.0 in
+      let holds' = whole'.places k e one.1 in
+      ap (λ burst. get_or burst j e) (get_or_default bursts b d [] lt)
+      ∙ one.4
+      ∙ sym (rw (one.2, one.3) at holds')
+      ∙ ap (λ burst. get_or burst j e) (get_or_default bursts' b [] d lt')))
+
+pub AllBits-bursts : (coded : List ℕ) (bursts : List (List ℕ)) → IsInterleaved coded bursts → AllBits coded → All AllBits bursts
+AllBits-bursts coded bursts whole bits b none lt j d le =
+    let hb : b < 4 = rw whole.burst_count at lt in
+    let hj : j < 114 = rw (whole.each_count b none lt) at le in
+    let one = from_coded coded bursts whole b j d hb hj in
+    let same = get_or_default bursts b none [] lt in
+    let within : one.0 < length coded = rw whole.coded_count one.1 in
+    rw (same, one.4) (bits one.0 d within)

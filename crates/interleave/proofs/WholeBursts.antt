@@ -1,0 +1,45 @@
+-- Whole bursts of two halves.
+use Rattle.std.proofs.Common.{◌≡◌, ℕ, ◌+◌, ◌*◌, ◌-◌, ◌<◌, inl, inr, List, [], ◌++◌, length, get_or, take, drop, ap, ◌∙◌, arith}
+use Rattle.std.proofs.lemmas.Bool.{cases_lt}
+use Rattle.std.proofs.lemmas.List.{get_or_append_left, get_or-append_right, take_at, drop_at, drop_all, append-nil, take_all, length-drop, take-append-drop}
+use borrow.Rule.Slice.PartMut.{put_mid, mid_of}
+use Rattle.interleave.specs.Places.{burst_of, place_of}
+
+pub burst_of-below : (k : ℕ) → burst_of k < 4
+unfolding burst_of
+burst_of-below k = omega arith
+
+pub place_of-below : (k : ℕ) → place_of k < 114
+unfolding place_of
+place_of-below k = omega arith
+
+-- what holds of both halves holds of the burst
+pub halves-at : {X : Type 0} (first second : List X) (k : ℕ) (d value : X) → length first ≡ 57 →
+    ((i : ℕ) → i < 57 → place_of k ≡ 57 * 0 + i → get_or first i d ≡ value) →
+    ((i : ℕ) → i < 57 → place_of k ≡ 57 * 1 + i → get_or second i d ≡ value) →
+    get_or (first ++ second) (place_of k) d ≡ value
+halves-at first second k d value long in_first in_second =
+    let within = place_of-below k in
+    elim (cases_lt (place_of k) 57) [
+      | inl lower ↦
+          let here : place_of k < length first = omega arith in
+          get_or_append_left first second d (place_of k) here ∙ in_first (place_of k) lower (omega arith)
+      | inr upper ↦
+          get_or-append_right first second 57 (place_of k) d long upper ∙ in_second (place_of k - 57) (omega arith) (omega arith)
+    ]
+
+-- the second half is written behind the first
+pub put_mid-halves : {X : Type 0} (first old second : List X) → length first ≡ 57 → length old ≡ 57 → length second ≡ 57 →
+    put_mid 57 57 (first ++ old) second ≡ first ++ second
+put_mid-halves first old second f o s =
+    let before : take 57 (first ++ old) ≡ first = take_at first old 57 f in
+    let behind : drop 57 (drop 57 (first ++ old)) ≡ [] = ap (drop 57) (drop_at first old 57 f) ∙ drop_all 57 old (omega arith) in
+    ap (λ front. front ++ (second ++ drop 57 (drop 57 (first ++ old)))) before
+    ∙ ap (λ rest. first ++ (second ++ rest)) behind
+    ∙ ap (λ rest. first ++ rest) (append-nil second)
+
+-- a burst is its two halves
+pub halves-whole : {X : Type 0} (burst : List X) → length burst ≡ 114 → take 57 burst ++ mid_of 57 57 burst ≡ burst
+halves-whole burst long =
+    ap (λ rest. take 57 burst ++ rest) (take_all 57 (drop 57 burst) (omega (arith, length-drop 57 burst)))
+    ∙ take-append-drop 57 burst
