@@ -12,3 +12,6 @@ pub use command::Command;
 pub use driver::drive;
 pub use laws::{output_exists, output_is_unique};
 pub use status::Status;
+
+#[cfg(test)]
+mod tests;
