@@ -1,8 +1,8 @@
 //! Words of hexadecimal digits.
-ghost use Rattle.std.specs.Prelude.{◌≡◌, ◌*◌, ◌<◌, length, IsTrue};
+ghost use Rattle.std.specs.Prelude.{◌≡◌, ◌*◌, length, IsTrue};
 ghost use Rattle.std.specs.List.{list_all};
 ghost use Rattle.hex.specs.Hex.{is_hex_digit};
-ghost use Rattle.um_text.specs.HexDigits.{digit_value, hex_octets};
+ghost use Rattle.um_text.specs.HexDigits.{hex_octets};
 
 /// Whether a word has no other octets than hexadecimal digits, in either case.
 pub(crate) fn are_hex_digits(word: &[u8]) -> bool
@@ -28,17 +28,8 @@ pub(crate) fn octets_of<const N: usize>(digits: &[u8]) -> [u8; N]
     ensures { result ≡ hex_octets digits.now }
 {
     let mut octets = [0; N];
-    for i in 0..N {
-        octets[i] = 16 * digit_value(digits[2 * i]) + digit_value(digits[2 * i + 1]);
+    match hex::decode_to_slice(digits, &mut octets) {
+        Ok(()) => octets,
+        Err(_) => unreachable!(),
     }
-    octets
-}
-
-// The low four bits of a letter, in either case, count from 1 for `a`.
-fn digit_value(digit: u8) -> u8
-    requires { IsTrue (is_hex_digit digit) }
-    ensures value { result ≡ digit_value digit }
-    ensures small { result < 16 }
-{
-    digit % 16 + 9 * (digit / 64)
 }

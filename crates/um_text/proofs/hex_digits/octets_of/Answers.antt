@@ -1,18 +1,18 @@
-use Rattle.std.proofs.Common.{◌<◌, ◌+◌, ◌*◌, length, ◌∙◌, arith}
-use Rattle.std.proofs.lemmas.List.{length-set}
-use Rattle.um_text.proofs.HexLists.{hex_octets_more, hex_octets_done}
+use Rattle.std.proofs.Common.{◌≡◌, ℕ, List, Result, Ok, Err, length, replicate, sym, ◌∙◌}
+use Rattle.std.proofs.lemmas.List.{length-replicate}
+use Rattle.um_text.specs.HexDigits.{hex_octets}
+use Rattle.um_text.proofs.HexLists.{decoded_sized, decoded_result}
 use Rattle.um_text.proofs.hex_digits.octets_of.Goals as goal
 
-pub loop-i-preserved : goal.loop-i-preserved
-loop-i-preserved g c =
-    let i = c.loop-i.i in
-    let within : i < length c.loop-i.octets = omega arith in
-    let more : 2 * i + 1 < length c.args.digits.now = omega arith in (
-      rw (c.digit_value.ensures.value, c.digit_value-in-loop-i.ensures.value)
-          (hex_octets_more c.loop-i.octets c.args.digits.now i within more ∙ c.loop-i.invariant.0),
-      simp length-set c.loop-i.invariant.1,
-    )
+pub unreachable-requires : goal.unreachable-requires
+unreachable-requires g c =
+    let known = decoded_sized g.row.N _ c.args.digits.now c.requires.many (length-replicate g.row.N 0) c.requires.each in
+    let given : (c.decode_to_slice.result ≡ Ok tt) × (c.decode_to_slice.new.out ≡ hex_octets c.args.digits.now) = decoded_result c.args.digits.now _ c.decode_to_slice.result c.decode_to_slice.new.out known c.decode_to_slice.ensures.value in
+    let ok = given.0 in
+    let err = c.in-Err.is in
+    cc
 
 pub returns : goal.returns
 returns g c =
-    hex_octets_done c.loop-i.octets c.args.digits.now c.loop-i.i (omega arith) (omega arith) c.loop-i.invariant.0
+    let known = decoded_sized g.row.N _ c.args.digits.now c.requires.many (length-replicate g.row.N 0) c.requires.each in
+    (decoded_result c.args.digits.now _ c.decode_to_slice.result c.decode_to_slice.new.out known c.decode_to_slice.ensures.value).1
