@@ -123,3 +123,7 @@ IsDivided-lines_of (octet ∷ octets) =
     (λ (feed : octet ≡ 10). subst (λ o. IsDivided (o ∷ octets) (lines_of (o ∷ octets))) (sym feed) (IsDivided-feed octets (lines_of octets) rest))
     (λ (plain : IsPlain octet). subst (IsDivided (octet ∷ octets)) (sym (lines_of-plain octet octets plain)) (IsDivided-plain octet octets (lines_of octets) plain rest))
     (cases_eq octet 10)
+
+-- `a`, an empty line, and `b` without a line feed
+lines_of-example : lines_of (97 ∷ 10 ∷ 10 ∷ 98 ∷ []) ≡ (97 ∷ []) ∷ [] ∷ (98 ∷ []) ∷ []
+lines_of-example = refl

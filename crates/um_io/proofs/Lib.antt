@@ -1,4 +1,5 @@
 -- Lemmas that several proofs of this crate share.
+pub mod AnswersLemmas
 pub mod DivisionLemmas
 pub mod FeedLemmas
 pub mod NextLemmas

@@ -1,4 +1,5 @@
 -- The definitions that the contracts of this crate cite.
+pub mod Answers
 pub mod Buffer
 pub mod Found
 pub mod Lines

@@ -3,11 +3,13 @@
 
 mod adapters;
 mod buffer;
+mod laws;
 mod lines;
 mod memory;
 mod outside;
 
 pub use adapters::{ReadSource, WriteSink};
-pub use lines::{Lines, Next, law_lines};
+pub use laws::{law_answers, law_lines};
+pub use lines::{Lines, Next};
 pub use memory::{MemorySink, MemorySource, PlainSource};
 pub use outside::{Failed, NoMemory, Sink, Source};

@@ -2,7 +2,6 @@
 ghost use Rattle.std.specs.Prelude.{◌≡◌, ◌≤◌, ◌<◌, ◌+◌, ◌-◌, ◌↔◌, ℕ, List, Bool, true, false, None, [], ◌++◌, length, MatchBool, MatchOption, IfOk, IfSome, OnErr, IsTrue, ◌⊎◌};
 ghost use Rattle.std.specs.Borrow.{sem};
 ghost use Rattle.um_io.specs.Outside.{Rose};
-ghost use Rattle.um_io.specs.Lines.{IsDivided, lines_of};
 ghost use Rattle.um_io.specs.Found.{Shows, LacksAnswer};
 
 use crate::buffer::Buffer;
@@ -219,12 +218,6 @@ fn without_feed(within: usize, past: usize, ended: bool) -> Option<Found>
         Some(Found::Nothing)
     }
 }
-
-/// Each list of octets is divided into lines in exactly one way.
-pub fn law_lines()
-    ensures divided { (octets : List ℕ) → IsDivided octets (lines_of octets) }
-    ensures only { (octets : List ℕ) (lines : List (List ℕ)) → IsDivided octets lines → lines ≡ lines_of octets }
-{}
 
 #[cfg(test)]
 mod tests {

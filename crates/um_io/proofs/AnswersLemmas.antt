@@ -1,0 +1,141 @@
+-- The lines answered are those of the octets that came.
+use Rattle.std.proofs.Common.{◌≡◌, ◌<◌, ℕ, Bool, true, false, List, [], ◌∷◌, ◌++◌, length, Option, None, Some, refl, sym, ap, subst, ◌∙◌, arith, inl, inr, ⊎_elim}
+use Rattle.std.proofs.lemmas.List.{append-nil, append_assoc, length-append, nil_from_length}
+use Rattle.std.proofs.lemmas.Bool.{false≢true, cases_Bool}
+use Rattle.std.proofs.lemmas.List.Elements.{All-nil, All-cons}
+use Rattle.um_io.specs.declared.lines.Next.TheVariants.{Line, End}
+use Rattle.um_io.specs.declared.lines.Next.{Next}
+use Rattle.um_io.specs.Lines.{IsLine, text_of, IsCutOff, IsDivided, lines_of}
+use Rattle.um_io.specs.Reading.{Reading, at_start}
+use Rattle.um_io.specs.Next.{IsAnswered, IsStep}
+use Rattle.um_io.specs.Answers.{AnswersLines}
+use Rattle.um_io.proofs.DivisionLemmas.{lines_of-only}
+
+-- a line and its line feed before the octets is a line before their lines
+IsDivided-line : (line octets : List ℕ) (lines : List (List ℕ)) → IsLine line → IsDivided octets lines → IsDivided (line ++ 10 ∷ octets) (line ∷ lines)
+IsDivided-line line octets lines plain divided =
+    record {
+      plain = All-cons IsLine line lines plain divided.plain;
+      whole = ⊎_elim
+          (λ (whole : octets ≡ text_of lines). inl (ap (λ l. line ++ 10 ∷ l) whole))
+          (λ (cut : IsCutOff octets lines). inr record {
+            front = line ∷ cut.front;
+            last = cut.last;
+            lines_are = ap (λ l. line ∷ l) cut.lines_are;
+            octets_are = ap (λ l. line ++ 10 ∷ l) cut.octets_are ∙ sym (append_assoc line (10 ∷ text_of cut.front) cut.last);
+            some = cut.some;
+          })
+          divided.whole;
+    }
+
+-- a line without a line feed
+IsDivided-last : (line : List ℕ) → IsLine line → 0 < length line → IsDivided line (line ∷ [])
+IsDivided-last line plain some =
+    record {
+      plain = All-cons IsLine line [] plain (All-nil IsLine);
+      whole = inr record { front = []; last = line; lines_are = refl; octets_are = refl; some = some };
+    }
+
+-- behind what is left over at the end of the source no line is answered
+no_more : (r r' : Reading) (left left' : Option (List ℕ)) (lines : List (List ℕ)) (came : List ℕ) → r.held ++ r.past ≡ [] → r.ended ≡ true → AnswersLines r left lines came r' left' → (lines ≡ []) × (came ≡ [])
+no_more r r' left left' [] came none ended answers = (refl, answers.0)
+no_more r r' left left' (line ∷ lines) came none ended answers =
+    let step = answers.7 in
+    let nothing : length (r.held ++ r.past ++ answers.0) ≡ 0 = ap length (ap (λ l. r.held ++ r.past ++ l) (step.still ended).0 ∙ append-nil (r.held ++ r.past) ∙ none) in
+    absurd (⊎_elim
+    (λ (whole : IsAnswered r answers.2 (r.held ++ r.past ++ answers.0) answers.4.now (10 ∷ [])).
+    omega (arith, ap length whole.octets, length-append (answers.4.now ++ 10 ∷ []) (answers.2.held ++ answers.2.past), whole.some))
+    (λ (last : IsAnswered r answers.2 (r.held ++ r.past ++ answers.0) answers.4.now [] × (answers.2.held ++ answers.2.past ≡ []) × (answers.2.ended ≡ true)).
+    omega (arith, ap length last.0.octets, length-append (answers.4.now ++ []) (answers.2.held ++ answers.2.past), last.0.some))
+    step.gives)
+
+-- the lines answered are those of the octets held and of those that came, where none is held in the end
+pub IsDivided-answers : (lines : List (List ℕ)) (r r' : Reading) (left left' : Option (List ℕ)) (came : List ℕ) → AnswersLines r left lines came r' left' → r'.held ++ r'.past ≡ [] → IsDivided (r.held ++ r.past ++ came) lines
+IsDivided-answers [] r r' left left' came answers none =
+    let nothing : r.held ++ r.past ++ came ≡ [] =
+    ap (λ l. r.held ++ r.past ++ l) answers.0 ∙ append-nil (r.held ++ r.past) ∙ ap (λ (s : Reading). s.held ++ s.past) (sym answers.1) ∙ none in
+    subst (λ l. IsDivided l []) (sym nothing) record { plain = All-nil IsLine; whole = inl refl }
+IsDivided-answers (line ∷ lines) r r' left left' came answers none =
+    let first = answers.0 in
+    let rest = answers.1 in
+    let mid = answers.2 in
+    let shown = answers.4.now in
+    let step = answers.7 in
+    let later = answers.8 in
+    let joined : r.held ++ r.past ++ came ≡ (r.held ++ r.past ++ first) ++ rest = ap (λ l. r.held ++ r.past ++ l) answers.6 ∙ sym (append_assoc (r.held ++ r.past) first rest) in
+    let divided : IsDivided (r.held ++ r.past ++ came) (shown ∷ lines) = ⊎_elim
+    (λ (whole : IsAnswered r mid (r.held ++ r.past ++ first) shown (10 ∷ [])).
+    let behind = mid.held ++ mid.past in
+    let octets : r.held ++ r.past ++ came ≡ shown ++ 10 ∷ (behind ++ rest) =
+    joined ∙ ap (λ l. l ++ rest) whole.octets ∙ append_assoc (shown ++ 10 ∷ []) behind rest ∙ append_assoc shown (10 ∷ []) (behind ++ rest) in
+    subst (λ l. IsDivided l (shown ∷ lines)) (sym octets) (IsDivided-line shown (behind ++ rest) lines whole.plain (IsDivided-answers lines mid r' answers.3 left' rest later none)))
+    (λ (last : IsAnswered r mid (r.held ++ r.past ++ first) shown [] × (mid.held ++ mid.past ≡ []) × (mid.ended ≡ true)).
+    let ends = no_more mid r' answers.3 left' lines rest last.1 last.2 later in
+    let octets : r.held ++ r.past ++ came ≡ shown =
+    joined ∙ ap (λ l. (r.held ++ r.past ++ first) ++ l) ends.1 ∙ append-nil (r.held ++ r.past ++ first) ∙ last.0.octets ∙ ap (λ l. shown ++ [] ++ l) last.1
+    ∙ append-nil (shown ++ []) ∙ append-nil shown in
+    let some : 0 < length shown = omega (arith, ap length (append-nil shown), last.0.some) in
+    subst (λ l. IsDivided l (shown ∷ lines)) (sym octets) (subst (λ ls. IsDivided shown (shown ∷ ls)) (sym ends.0) (IsDivided-last shown last.0.plain some)))
+    step.gives in
+    subst (λ l. IsDivided (r.held ++ r.past ++ came) (l ∷ lines)) answers.5 divided
+
+-- nothing came where nothing is held in the end
+nothing_came : (held came : List ℕ) → held ++ came ≡ [] → (held ≡ []) × (came ≡ [])
+nothing_came held came none =
+    let size = ap length none in
+    let both = length-append held came in
+    (nil_from_length held (omega arith), nil_from_length came (omega arith))
+
+-- what a source has left after a step that took these octets
+pub record IsLeft (octets came : List ℕ) (left' : Option (List ℕ)) (ended : Bool) : Type 0 where
+  pub rest : List ℕ
+  pub left_is : left' ≡ Some rest
+  pub whole : octets ≡ came ++ rest
+  pub end : ended ≡ true → rest ≡ []
+
+IsLeft-step : (r r' : Reading) (octets : List ℕ) (left' : Option (List ℕ)) (next : Next) (came : List ℕ) → (r.ended ≡ true → octets ≡ []) → IsStep r r' (Some octets) left' next came → IsLeft octets came left' r'.ended
+IsLeft-step r r' octets None next came known step = absurd step.bytes
+IsLeft-step r r' octets (Some rest) next came known step =
+    record {
+      rest = rest;
+      left_is = refl;
+      whole = step.bytes;
+      end = λ yes. ⊎_elim
+          (λ (before : r.ended ≡ true).
+          let none : came ++ rest ≡ [] = sym step.bytes ∙ known before in
+          (nothing_came came rest none).1)
+          (λ (not_before : r.ended ≡ false). step.ended yes not_before)
+          (cases_Bool r.ended);
+    }
+
+-- what a source has left after calls that took these octets
+IsLeft-answers : (lines : List (List ℕ)) (r r' : Reading) (octets came : List ℕ) (left' : Option (List ℕ)) → (r.ended ≡ true → octets ≡ []) → AnswersLines r (Some octets) lines came r' left' → IsLeft octets came left' r'.ended
+IsLeft-answers [] r r' octets came left' known answers =
+    record {
+      rest = octets;
+      left_is = answers.2;
+      whole = ap (λ l. l ++ octets) (sym answers.0);
+      end = λ yes. known (ap (λ (s : Reading). s.ended) (sym answers.1) ∙ yes);
+    }
+IsLeft-answers (line ∷ lines) r r' octets came left' known answers =
+    let mid = answers.2 in
+    let one = IsLeft-step r mid octets answers.3 (Line answers.4) answers.0 known answers.7 in
+    let later = subst (λ l. AnswersLines mid l lines answers.1 r' left') one.left_is answers.8 in
+    let rest = IsLeft-answers lines mid r' one.rest answers.1 left' one.end later in
+    record {
+      rest = rest.rest;
+      left_is = rest.left_is;
+      whole = one.whole ∙ ap (λ l. answers.0 ++ l) rest.whole ∙ sym (append_assoc answers.0 answers.1 rest.rest) ∙ ap (λ l. l ++ rest.rest) (sym answers.6);
+      end = rest.end;
+    }
+
+-- the lines answered until the end are the lines of all that the source had
+pub lines_of-answers : (octets : List ℕ) (lines : List (List ℕ)) (came last : List ℕ) (r r' : Reading) (left left' : Option (List ℕ))
+    → AnswersLines at_start (Some octets) lines came r left → IsStep r r' left left' End last → lines ≡ lines_of octets
+lines_of-answers octets lines came last r r' left left' answers step =
+    let none : (r.held ++ r.past ≡ []) × (last ≡ []) = nothing_came (r.held ++ r.past) last step.gives.1 in
+    let had = IsLeft-answers lines at_start r octets came left (λ yes. absurd (false≢true yes)) answers in
+    let ends = IsLeft-step r r' had.rest left' End last had.end (subst (λ l. IsStep r r' l left' End last) had.left_is step) in
+    let nothing : had.rest ≡ [] = ends.whole ∙ ap (λ l. l ++ ends.rest) none.1 ∙ ends.end step.gives.2 in
+    let all : octets ≡ came = had.whole ∙ ap (λ l. came ++ l) nothing ∙ append-nil came in
+    lines_of-only octets lines (subst (λ l. IsDivided l lines) (sym all) (IsDivided-answers lines at_start r (Some octets) left came answers none.0))

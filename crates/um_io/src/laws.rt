@@ -1,0 +1,19 @@
+//! What holds of the lines of octets, and of all the answers of a reader of lines.
+ghost use Rattle.std.specs.Prelude.{◌≡◌, ℕ, List, Option, Some};
+ghost use Rattle.um_io.specs.Lines.{IsDivided, lines_of};
+ghost use Rattle.um_io.specs.Reading.{Reading, at_start};
+ghost use Rattle.um_io.specs.Next.{IsStep};
+ghost use Rattle.um_io.specs.Answers.{AnswersLines};
+ghost use Rattle.um_io.specs.declared.lines.Next.TheVariants.{End};
+
+/// Each list of octets is divided into lines in exactly one way.
+pub fn law_lines()
+    ensures divided { (octets : List ℕ) → IsDivided octets (lines_of octets) }
+    ensures only { (octets : List ℕ) (lines : List (List ℕ)) → IsDivided octets lines → lines ≡ lines_of octets }
+{}
+
+/// The lines that are answered until the end are the lines of all the octets that the source had.
+pub fn law_answers()
+    ensures { (octets : List ℕ) (lines : List (List ℕ)) (came last : List ℕ) (r r' : Reading) (left left' : Option (List ℕ)) →
+        AnswersLines at_start (Some octets) lines came r left → IsStep r r' left left' End last → lines ≡ lines_of octets }
+{}
