@@ -24,6 +24,9 @@ pub fn run<S: Source, K: Sink>(
     ensures bad_words { (result ≡ Status.BadWords) ↔ HasNoShape words.now }
     ensures untouched { HasNoShape words.now → (input.new ≡ input.old) × (output.new ≡ output.old) }
 
+    // Want of memory comes before anything is read or written.
+    ensures opening { result ≡ Status.NoMemory → (input.new ≡ input.old) × (output.new ≡ output.old) }
+
     // What was read and written of a run of `code`, for each way to end.
     ensures code { HasShape words.now Shape.Code → IsRun code_rules tt (λ _. Unit {0}) result
         (S.left input.old) (S.left input.new) (K.taken output.old) (K.taken output.new) }
