@@ -1,6 +1,6 @@
 -- Every information can be sent: it has a parity part, and its coded bits can be spread.
 use Rattle.std.proofs.Common.{◌≡◌, ℕ, zero, suc, ◌+◌, ◌*◌, ◌/◌, ◌%◌, ◌^◌, ◌<◌, ◌≤◌, List, [], ◌∷◌, ◌++◌, map, length, take, get_or, replicate, refl, ap, sym, ◌∙◌, arith, subst, length-append, bit_xor, bit_and, lit<}
-use Rattle.std.specs.List.{All, flat_map, range_with_len}
+use Rattle.std.specs.List.{flat_map, range_with_len}
 use Rattle.std.proofs.lemmas.List.{get_or_default}
 use Rattle.std.proofs.Math.Seq.{take-length}
 use Rattle.std.proofs.lemmas.Nat.{pow_pos}
@@ -13,7 +13,7 @@ use Rattle.bit_blocks.proofs.Multiples.{IsMultiple-zeros}
 use Rattle.burst_map.proofs.Filling.{AllBits-table}
 use Rattle.conv_code.specs.Code.{coded, coded_pair}
 use Rattle.fire_code.specs.Registers.{register_bits}
-use Rattle.fire_code.specs.Words.{g40, IsXcchWord, IsRachWord, IsSchWord}
+use Rattle.fire_code.specs.Words.{g40, IsXcchWord}
 use Rattle.fire_code.proofs.RegisterBits.{length-register_bits, AllBits-register_bits, register_bits-zero}
 use Rattle.fire_code.proofs.Steps.{remainder_along, remainder_within}
 use Rattle.fire_code.proofs.ParityParts.{count_of_sum}
@@ -24,7 +24,7 @@ use Rattle.interleave.specs.Places.{burst_of, place_of}
 use Rattle.interleave.specs.Bursts.{IsInterleaved}
 use Rattle.interleave.proofs.CodedBits.{entry, entry-stands, same_coded_bit}
 use Rattle.interleave.proofs.WholeBursts.{burst_of-below, place_of-below}
-use Rattle.um_block.specs.Sent.{with_tail, IsCodedBlock, IsSentBlock, IsSentAccess, IsSentSync}
+use Rattle.um_block.specs.Sent.{with_tail, IsSentBlock, IsSentAccess, IsSentSync}
 use Rattle.um_block.proofs.Information.{length-bits_of, AllBits-bits_of}
 
 -- what completes the first places of a list to a multiple

@@ -1,6 +1,6 @@
 -- Each information is sent in one way: it has one parity part, and so one burst.
-use Rattle.std.proofs.Common.{◌≡◌, ℕ, ◌*◌, ◌<◌, List, [], ◌++◌, map, length, lit<, drop, take, replicate, refl, ap, sym, ◌∙◌, arith, subst, length-append}
-use Rattle.bit_blocks.specs.Bits.{AllBits, add_bits}
+use Rattle.std.proofs.Common.{◌≡◌, ℕ, ◌*◌, List, ◌++◌, map, length, drop, take, replicate, refl, ap, sym, ◌∙◌, arith, subst, length-append}
+use Rattle.bit_blocks.specs.Bits.{add_bits}
 use Rattle.bit_blocks.specs.Polynomials.{IsMultiple}
 use Rattle.bit_blocks.proofs.Sums.{AllBits-add_bits, add_bits_twice}
 use Rattle.bit_blocks.specs.Octets.{bits_of}

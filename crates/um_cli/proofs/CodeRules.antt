@@ -14,7 +14,7 @@ use Rattle.um_driver.specs.Rules.{IsDetermined, IsTotal}
 use Rattle.um_driver.proofs.OutputExists.{output_exists}
 use Rattle.um_driver.proofs.OutputLemmas.{output_unique}
 use Rattle.um_cli.specs.Runs.{HasOneOutput}
-use Rattle.um_cli.specs.Code.{IsCodeAnswer, AnswersCode, code_rules}
+use Rattle.um_cli.specs.Code.{IsCodeAnswer, code_rules}
 
 -- a line has at most one meaning
 same_meaning : (line : List ℕ) (m m' : CodeLine) → CodeMeans line m → CodeMeans line m' → m ≡ m'

@@ -1,5 +1,5 @@
 -- What the command `code` answers to the lines of its input (this project's own rule).
-use Rattle.std.specs.Prelude.{ℕ, ◌≡◌, List, [], Option, None}
+use Rattle.std.specs.Prelude.{ℕ, ◌≡◌, List, [], None}
 use Rattle.um_block.specs.Sent.{IsSentBlock, IsSentAccess, IsSentSync}
 use Rattle.um_text.specs.declared.code.CodeLine.{CodeLine}
 use Rattle.um_text.specs.declared.code.CodeLine.TheVariants.{Skip, Block, Rach, Sch}

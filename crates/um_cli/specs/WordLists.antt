@@ -1,5 +1,5 @@
 -- The words after the program's name: this project's own rules.
-use Rattle.std.specs.Prelude.{ℕ, ◌≤◌, ◌<◌, List, [], ◌∷◌, ◌++◌, length, codes, nat_lt, nat_le, if◌then◌else◌}
+use Rattle.std.specs.Prelude.{ℕ, List, [], ◌∷◌, ◌++◌, length, codes, nat_lt, nat_le, if◌then◌else◌}
 
 -- a word as it is held: one of more than eight octets stands as `?`
 abbrev pub held_word : List ℕ → List ℕ

@@ -1,4 +1,4 @@
-use Rattle.std.proofs.Common.{◌≡◌, ℕ, ◌++◌, List, length, sym, ◌∙◌, ap, ap₂, subst, arith, lit<}
+use Rattle.std.proofs.Common.{◌≡◌, ◌++◌, sym, ◌∙◌, ap, ap₂, subst, arith, lit<}
 use Rattle.bit_blocks.specs.Bits.{AllBits}
 use Rattle.bit_blocks.specs.Octets.{bits_of}
 use Rattle.conv_code.specs.Code.{coded}

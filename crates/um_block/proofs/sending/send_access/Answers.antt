@@ -1,7 +1,6 @@
-use Rattle.std.proofs.Common.{◌≡◌, ◌<◌, ◌++◌, length, sym, ◌∙◌, ap, ap₂, subst, arith}
-use Rattle.std.proofs.Math.ListN.{length-append}
+use Rattle.std.proofs.Common.{◌≡◌, ◌++◌, length, sym, ◌∙◌, ap, ap₂, subst, arith}
 use Rattle.bit_blocks.specs.Bits.{AllBits}
-use Rattle.conv_code.specs.Code.{coded, IsInformation}
+use Rattle.conv_code.specs.Code.{coded}
 use Rattle.fire_code.specs.Words.{IsRachWord}
 use Rattle.burst_map.specs.AccessBurst.{access_burst}
 use Rattle.um_block.specs.Sent.{with_tail}

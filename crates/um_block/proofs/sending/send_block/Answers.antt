@@ -1,5 +1,4 @@
-use Rattle.std.proofs.Common.{◌≡◌, ℕ, ◌<◌, List, [], ◌∷◌, length, get_or, map, take, drop, sym, ◌∙◌, ap, arith}
-use Rattle.bit_blocks.specs.Bits.{AllBits}
+use Rattle.std.proofs.Common.{ℕ, List, [], get_or, map, take, drop, sym, ◌∙◌, ap, arith}
 use Rattle.burst_map.specs.NormalBurst.{normal_burst}
 use Rattle.um_block.proofs.SpreadParts.{AllBits-four, four, same_four}
 use Rattle.um_block.proofs.sending.send_block.Goals as goal

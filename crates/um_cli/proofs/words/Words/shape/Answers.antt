@@ -1,4 +1,4 @@
-use Rattle.std.proofs.Common.{◌≡◌, ℕ, List, [], ◌∷◌, map, ap, sym, ◌∙◌}
+use Rattle.std.proofs.Common.{[], ◌∷◌, map, ap, sym, ◌∙◌}
 use Rattle.um_cli.proofs.WordListsLemmas.{map-single}
 use Rattle.um_cli.proofs.words.Words.shape.Goals as goal
 
