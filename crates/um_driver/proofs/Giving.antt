@@ -35,67 +35,71 @@ abbrev pub Gives : {State : Type 0} → Rules State → State → ℕ → List (
 Gives r a n [] true status z = ((r.end_fault a ≡ None) × (status ≡ Done) × (z ≡ [])) ⊎ StopsAtEnd r a n status z
 Gives r a n [] false status z = (status ≡ TooLong) × (z ≡ [])
 Gives r a n (line ∷ judged) ended status z =
-  Goes r a line (λ mid rest. Gives r mid (n + 1) judged ended status rest) z ⊎ Stops r a n line status z
+    Goes r a line (λ mid rest. Gives r mid (n + 1) judged ended status rest) z ⊎ Stops r a n line status z
 
 pub good_or_bad : {State : Type 0} (r : Rules State) (a : State) (line : List ℕ) (fault : LineFault) →
-  IsGood r a line → IsBad r a line fault → ⊥
+    IsGood r a line → IsBad r a line fault → ⊥
 good_or_bad r a line fault good (inl (long, _)) = omega (arith, good.short)
 good_or_bad r a line fault good (inr (_, reason)) = let e = good.no_fault in cc (e, reason)
 
 pub IsBad-unique : {State : Type 0} (r : Rules State) (a : State) (line : List ℕ) (f f' : LineFault) →
-  IsBad r a line f → IsBad r a line f' → f ≡ f'
+    IsBad r a line f → IsBad r a line f' → f ≡ f'
 IsBad-unique r a line f f' (inl (_, e)) (inl (_, e')) = e ∙ sym e'
 IsBad-unique r a line f f' (inl (l, _)) (inr (l', _)) = absurd (omega arith)
 IsBad-unique r a line f f' (inr (l, _)) (inl (l', _)) = absurd (omega arith)
 IsBad-unique r a line f f' (inr (_, e)) (inr (_, e')) = cc (e, e')
 
 pub Gives-from : {State : Type 0} (r : Rules State) (a a' : State) (n n' : ℕ) (judged : List (List ℕ)) (ended : Bool) (s : Status) (z : List ℕ) →
-  a ≡ a' → n ≡ n' → Gives r a n judged ended s z → Gives r a' n' judged ended s z
+    a ≡ a' → n ≡ n' → Gives r a n judged ended s z → Gives r a' n' judged ended s z
 Gives-from {State} r a a' n n' judged ended s z e f h =
-  let P : State → Type 0 = λ b. Gives r b n judged ended s z in
-  let Q : ℕ → Type 0 = λ m. Gives r a' m judged ended s z in
-  subst Q f (subst P e h)
+    let P : State → Type 0 = λ b. Gives r b n judged ended s z in
+    let Q : ℕ → Type 0 = λ m. Gives r a' m judged ended s z in
+    subst Q f (subst P e h)
 
 pub Gives-unique : {State : Type 0} (r : Rules State) → IsDetermined r → (a : State) (n : ℕ) (judged : List (List ℕ)) (ended : Bool) (s s' : Status) (z z' : List ℕ) →
-  Gives r a n judged ended s z → Gives r a n judged ended s' z' → (s ≡ s') × (z ≡ z')
+    Gives r a n judged ended s z → Gives r a n judged ended s' z' → (s ≡ s') × (z ≡ z')
 Gives-unique r det a n [] true s s' z z' (inl (e, si, zi)) (inl (e', si', zi')) = (si ∙ sym si', zi ∙ sym zi')
 Gives-unique r det a n [] true s s' z z' (inl (e, si, zi)) (inr stop) = absurd (let b = stop.bad in cc (e, b))
 Gives-unique r det a n [] true s s' z z' (inr stop) (inl (e, si, zi)) = absurd (let b = stop.bad in cc (e, b))
 Gives-unique r det a n [] true s s' z z' (inr stop) (inr stop') =
-  let b = stop.bad in let b' = stop'.bad in
-  let f : stop.fault ≡ stop'.fault = cc (b, b') in
-  (stop.status_is ∙ sym stop'.status_is, stop.output ∙ ap (λ g. refused_text n g) f ∙ sym stop'.output)
+    let b = stop.bad in let b' = stop'.bad in
+    let f : stop.fault ≡ stop'.fault = cc (b, b') in
+    (stop.status_is ∙ sym stop'.status_is, stop.output ∙ ap (λ g. refused_text n g) f ∙ sym stop'.output)
 Gives-unique r det a n [] false s s' z z' (si, zi) (si', zi') = (si ∙ sym si', zi ∙ sym zi')
 Gives-unique r det a n (line ∷ judged) ended s s' z z' (inl g) (inl g') =
-  let same = det a line g.answer g'.answer g.mid g'.mid g.step g'.step in
-  let then = Gives-unique r det g'.mid (n + 1) judged ended s s' g.rest g'.rest
+    let same = det a line g.answer g'.answer g.mid g'.mid g.step g'.step in
+    let then = Gives-unique r det g'.mid (n + 1) judged ended s s' g.rest g'.rest
     (Gives-from r g.mid g'.mid (n + 1) (n + 1) judged ended s g.rest same.1 refl g.then_) g'.then_ in
-  (then.0, g.output ∙ (let p = same.0 in let q = then.1 in cc) ∙ sym g'.output)
+    (then.0, g.output ∙ (let p = same.0 in let q = then.1 in cc) ∙ sym g'.output)
 Gives-unique r det a n (line ∷ judged) ended s s' z z' (inl g) (inr stop) = absurd (good_or_bad r a line stop.fault g.good stop.bad)
 Gives-unique r det a n (line ∷ judged) ended s s' z z' (inr stop) (inl g) = absurd (good_or_bad r a line stop.fault g.good stop.bad)
 Gives-unique r det a n (line ∷ judged) ended s s' z z' (inr stop) (inr stop') =
-  let f = IsBad-unique r a line stop.fault stop'.fault stop.bad stop'.bad in
-  (stop.status_is ∙ sym stop'.status_is, stop.output ∙ ap (λ g. refused_text n g) f ∙ sym stop'.output)
+    let f = IsBad-unique r a line stop.fault stop'.fault stop.bad stop'.bad in
+    (stop.status_is ∙ sym stop'.status_is, stop.output ∙ ap (λ g. refused_text n g) f ∙ sym stop'.output)
 
 -- good lines first
 pub Gives-after : {State : Type 0} (r : Rules State) (a b : State) (n m : ℕ) (ls judged : List (List ℕ)) (ended : Bool) (s : Status) (y z : List ℕ) →
-  m ≡ length ls + n → Runs r a ls y b → Gives r b m judged ended s z → Gives r a n (ls ++ judged) ended s (y ++ z)
+    m ≡ length ls + n → Runs r a ls y b → Gives r b m judged ended s z → Gives r a n (ls ++ judged) ended s (y ++ z)
 Gives-after {State} r a b n m [] judged ended s y z e (y_is, b_is) h =
-  let number : m ≡ n = omega arith in
-  let output : z ≡ y ++ z = let f = ap (λ w. w ++ z) y_is in sym f in
-  let P : List ℕ → Type 0 = λ w. Gives r a n judged ended s w in
-  subst P output (Gives-from r b a m n judged ended s z b_is number h)
+    let number : m ≡ n = omega arith in
+    let output : z ≡ y ++ z = let f = ap (λ w. w ++ z) y_is in sym f in
+    let P : List ℕ → Type 0 = λ w. Gives r a n judged ended s w in
+    subst P output (Gives-from r b a m n judged ended s z b_is number h)
 Gives-after r a b n m (line ∷ ls) judged ended s y z e (answer, rest, mid, good, step, runs, y_is) h =
-  inl (record {
-    answer = answer; rest = rest ++ z; mid = mid; good = good; step = step;
-    then_ = Gives-after r mid b (n + 1) m ls judged ended s rest z (omega arith) runs h;
-    output = ap (λ w. w ++ z) y_is ∙ append_assoc answer rest z
-  })
+    inl (record {
+      answer = answer;
+      rest = rest ++ z;
+      mid = mid;
+      good = good;
+      step = step;
+      then_ = Gives-after r mid b (n + 1) m ls judged ended s rest z (omega arith) runs h;
+      output = ap (λ w. w ++ z) y_is ∙ append_assoc answer rest z;
+    })
 
 pub Gives-at : {State : Type 0} (r : Rules State) (a : State) (n : ℕ) (judged judged' : List (List ℕ)) (ended ended' : Bool) (s : Status) (z z' : List ℕ) →
-  judged' ≡ judged → ended' ≡ ended → z' ≡ z → Gives r a n judged ended s z → Gives r a n judged' ended' s z'
+    judged' ≡ judged → ended' ≡ ended → z' ≡ z → Gives r a n judged ended s z → Gives r a n judged' ended' s z'
 Gives-at r a n judged judged' ended ended' s z z' j e o h =
-  let P : List (List ℕ) → Type 0 = λ k. Gives r a n k ended s z in
-  let Q : Bool → Type 0 = λ k. Gives r a n judged' k s z in
-  let R : List ℕ → Type 0 = λ k. Gives r a n judged' ended' s k in
-  subst R (sym o) (subst Q (sym e) (subst P (sym j) h))
+    let P : List (List ℕ) → Type 0 = λ k. Gives r a n k ended s z in
+    let Q : Bool → Type 0 = λ k. Gives r a n judged' k s z in
+    let R : List ℕ → Type 0 = λ k. Gives r a n judged' ended' s k in
+    subst R (sym o) (subst Q (sym e) (subst P (sym j) h))

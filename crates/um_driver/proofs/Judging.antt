@@ -45,8 +45,8 @@ pub front_of : (u v c p : List ℕ) → u ++ v ≡ c ++ p → length u ≤ lengt
 front_of [] v c p e h = record { part = c; front_is = refl; rest_is = e }
 front_of (o ∷ u) v [] p e h = absurd (omega arith)
 front_of (o ∷ u) v (i ∷ c) p e h =
-  let rest = front_of u v c p (cc e) (omega arith) in
-  record { part = rest.part; front_is = let f = rest.front_is in cc (e, f); rest_is = rest.rest_is }
+    let rest = front_of u v c p (cc e) (omega arith) in
+    record { part = rest.part; front_is = let f = rest.front_is in cc (e, f); rest_is = rest.rest_is }
 
 -- octets are whole lines, and a rest without a line feed
 pub record Division (octets : List ℕ) : Type 0 where
@@ -57,25 +57,34 @@ pub record Division (octets : List ℕ) : Type 0 where
 
 with_plain : (o : ℕ) (octets : List ℕ) (lines : List (List ℕ)) (last : List ℕ) → IsPlain o → Begins octets lines last → IsLine last → Division (o ∷ octets)
 with_plain o octets [] last h b p = record {
-  lines = []; last = o ∷ last; begins = record { plain = All-nil IsLine; whole = ap (λ w. o ∷ w) b.whole }; plain = All-cons IsPlain o last h p }
+  lines = [];
+  last = o ∷ last;
+  begins = record { plain = All-nil IsLine; whole = ap (λ w. o ∷ w) b.whole };
+  plain = All-cons IsPlain o last h p;
+}
 with_plain o octets (l ∷ ls) last h b p = record {
-  lines = (o ∷ l) ∷ ls; last = last;
+  lines = (o ∷ l) ∷ ls;
+  last = last;
   begins = record {
     plain = All-cons IsLine (o ∷ l) ls (All-cons IsPlain o l h (All-head IsLine l ls b.plain)) (All-tail IsLine l ls b.plain);
-    whole = ap (λ w. o ∷ w) b.whole };
-  plain = p }
+    whole = ap (λ w. o ∷ w) b.whole;
+  };
+  plain = p;
+}
 
 with_feed : (o : ℕ) (octets : List ℕ) → o ≡ 10 → Division octets → Division (o ∷ octets)
 with_feed o octets e d = record {
-  lines = [] ∷ d.lines; last = d.last;
+  lines = [] ∷ d.lines;
+  last = d.last;
   begins = record { plain = All-cons IsLine [] d.lines (All-nil IsPlain) d.begins.plain; whole = let w = d.begins.whole in cc (e, w) };
-  plain = d.plain }
+  plain = d.plain;
+}
 
 pub divide : (octets : List ℕ) → Division octets
 divide [] = record { lines = []; last = []; begins = record { plain = All-nil IsLine; whole = refl }; plain = All-nil IsPlain }
 divide (o ∷ octets) =
-  let d = divide octets in
-  elim (cases_eq o 10) [ inl e ↦ with_feed o octets e d | inr h ↦ with_plain o octets d.lines d.last h d.begins d.plain ]
+    let d = divide octets in
+    elim (cases_eq o 10) [ inl e ↦ with_feed o octets e d | inr h ↦ with_plain o octets d.lines d.last h d.begins d.plain ]
 
 -- an input within the limit does not go on past it
 over_limit : (x counted past : List ℕ) → IsOver x counted past → length x ≤ 67108864 → ⊥
@@ -83,31 +92,34 @@ over_limit x counted past over h = omega (arith, ap length over.whole, length-ap
 
 -- the lines of an input within the limit are judged, and no others
 judged_whole : (x : List ℕ) (judged ls : List (List ℕ)) (last : List ℕ) → Judges x judged true → Begins x ls last → IsLine last →
-  ((judged ≡ ls) × (last ≡ [])) ⊎ ((judged ≡ ls ++ last ∷ []) × (0 < length last))
+    ((judged ≡ ls) × (last ≡ [])) ⊎ ((judged ≡ ls ++ last ∷ []) × (0 < length last))
 judged_whole x judged ls last j b p =
-  let same = one_division j.lines ls j.last last j.begins.plain b.plain j.plain p (sym j.begins.whole ∙ sym j.counts.0 ∙ b.whole) in
-  let l = same.0 in let r = same.1 in
-  elim j.tail [
-    inl (e, n) ↦ inl (e ∙ l, sym r ∙ n)
-  | inr (e, n) ↦ inr (cc (e, l, r), omega (arith, n, ap length r))
-  ]
+    let same = one_division j.lines ls j.last last j.begins.plain b.plain j.plain p (sym j.begins.whole ∙ sym j.counts.0 ∙ b.whole) in
+    let l = same.0 in let r = same.1 in
+    elim j.tail [
+      | inl (e, n) ↦ inl (e ∙ l, sym r ∙ n)
+      | inr (e, n) ↦ inr (cc (e, l, r), omega (arith, n, ap length r))
+    ]
 
 pub Judges-divided : (x : List ℕ) (judged : List (List ℕ)) (ended : Bool) (lines : List (List ℕ)) → Judges x judged ended →
-  IsDivided x lines → length x ≤ 67108864 → (ended ≡ true) × (judged ≡ lines)
-Judges-divided x judged true lines j d h = (refl, elim d.whole [
-    inl e ↦ elim (judged_whole x judged lines [] j (record { plain = d.plain; whole = e ∙ sym (append-nil (text_of lines)) }) (All-nil IsPlain)) [
-        inl (same, _) ↦ same
+    IsDivided x lines → length x ≤ 67108864 → (ended ≡ true) × (judged ≡ lines)
+Judges-divided x judged true lines j d h = (
+  refl,
+  elim d.whole [
+    | inl e ↦ elim (judged_whole x judged lines [] j (record { plain = d.plain; whole = e ∙ sym (append-nil (text_of lines)) }) (All-nil IsPlain)) [
+      | inl (same, _) ↦ same
       | inr (_, some) ↦ absurd (omega (arith, some))
-      ]
-  | inr cut ↦
-      let both : All IsLine (cut.front ++ cut.last ∷ []) = rw (← cut.lines_are) d.plain in
-      elim (judged_whole x judged cut.front cut.last j
+    ]
+    | inr cut ↦
+        let both : All IsLine (cut.front ++ cut.last ∷ []) = rw (← cut.lines_are) d.plain in
+        elim (judged_whole x judged cut.front cut.last j
         (record { plain = All-before IsLine cut.front (cut.last ∷ []) both; whole = cut.octets_are })
         (All-head IsLine cut.last [] (All-behind IsLine cut.front (cut.last ∷ []) both))) [
-        inl (_, none) ↦ absurd (omega (arith, cut.some, ap length none))
-      | inr (same, _) ↦ same ∙ sym cut.lines_are
-      ]
-  ])
+          | inl (_, none) ↦ absurd (omega (arith, cut.some, ap length none))
+          | inr (same, _) ↦ same ∙ sym cut.lines_are
+        ]
+  ],
+)
 Judges-divided x judged false lines j d h = absurd (over_limit x j.octets j.counts.0 j.counts.1 h)
 
 same_front : (c p c' p' : List ℕ) → c ++ p ≡ c' ++ p' → length c ≡ length c' → c ≡ c'
@@ -118,16 +130,18 @@ same_front (o ∷ c) p (i ∷ c') p' e h = let rest = same_front c p c' p' (cc e
 
 -- of an input that goes on past the limit the lines that ended within it are judged, where the next is not long there
 pub Judges-over : (x : List ℕ) (judged : List (List ℕ)) (ended : Bool) (counted past : List ℕ) (lines : List (List ℕ)) (last : List ℕ) →
-  Judges x judged ended → IsOver x counted past → Begins counted lines last → IsLine last → length last ≤ 4096 →
-  (ended ≡ false) × (judged ≡ lines)
+    Judges x judged ended → IsOver x counted past → Begins counted lines last → IsLine last → length last ≤ 4096 →
+    (ended ≡ false) × (judged ≡ lines)
 Judges-over x judged true counted past lines last j over b p short = absurd (over_limit x counted past over j.counts.1)
 Judges-over x judged false counted past lines last j over b p short =
-  let same_octets : j.octets ≡ counted = same_front j.octets j.counts.0 counted past (sym j.counts.1.whole ∙ over.whole) (j.counts.1.count ∙ sym over.count) in
-  let same = one_division j.lines lines j.last last j.begins.plain b.plain j.plain p (sym j.begins.whole ∙ same_octets ∙ b.whole) in
-  (refl, elim j.tail [
-    inl (e, _) ↦ e ∙ same.0
-  | inr (_, long) ↦ absurd (omega (arith, long, short, ap length same.1))
-  ])
+    let same_octets : j.octets ≡ counted = same_front j.octets j.counts.0 counted past (sym j.counts.1.whole ∙ over.whole) (j.counts.1.count ∙ sym over.count) in
+    let same = one_division j.lines lines j.last last j.begins.plain b.plain j.plain p (sym j.begins.whole ∙ same_octets ∙ b.whole) in (
+      refl,
+      elim j.tail [
+        | inl (e, _) ↦ e ∙ same.0
+        | inr (_, long) ↦ absurd (omega (arith, long, short, ap length same.1))
+      ],
+    )
 
 -- a front of the input that lies within the limit is a front of what counts
 pub record CountedFront (octets u v : List ℕ) (ended : Bool) : Type 0 where
@@ -139,25 +153,25 @@ pub record CountedFront (octets u v : List ℕ) (ended : Bool) : Type 0 where
 
 pub counted_front : (x octets u v : List ℕ) (ended : Bool) → x ≡ u ++ v → length u ≤ 67108864 → Counts x octets ended → CountedFront octets u v ended
 counted_front x octets u v true e h counts =
-  record { part = v; past = []; front_is = sym counts.0 ∙ e; rest_is = sym (append-nil v); none_past = λ _. refl }
+    record { part = v; past = []; front_is = sym counts.0 ∙ e; rest_is = sym (append-nil v); none_past = λ _. refl }
 counted_front x octets u v false e h counts =
-  let over = counts.1 in
-  let f = front_of u v octets counts.0 (sym e ∙ over.whole) (omega (arith, h, over.count)) in
-  record { part = f.part; past = counts.0; front_is = f.front_is; rest_is = f.rest_is; none_past = λ wrong. absurd (cc wrong) }
+    let over = counts.1 in
+    let f = front_of u v octets counts.0 (sym e ∙ over.whole) (omega (arith, h, over.count)) in
+    record { part = f.part; past = counts.0; front_is = f.front_is; rest_is = f.rest_is; none_past = λ wrong. absurd (cc wrong) }
 
 -- whole lines that came within the limit are the first that are judged
 pub Judges-first : (x : List ℕ) (judged : List (List ℕ)) (ended : Bool) (lines : List (List ℕ)) (more : List ℕ) → Judges x judged ended →
-  Begins x lines more → length (text_of lines) ≤ 67108864 → (rest : List (List ℕ)) × (judged ≡ lines ++ rest)
+    Begins x lines more → length (text_of lines) ≤ 67108864 → (rest : List (List ℕ)) × (judged ≡ lines ++ rest)
 Judges-first x judged ended lines more j b h =
-  let f = counted_front x j.octets (text_of lines) more ended b.whole h j.counts in
-  let tail : (t : List (List ℕ)) × (judged ≡ j.lines ++ t) = elim j.tail [ inl (e, _) ↦ ([], e ∙ sym (append-nil j.lines)) | inr (e, _) ↦ (j.last ∷ [], e) ] in
-  elim (compared lines j.lines f.part j.last b.plain j.begins.plain (sym f.front_is ∙ j.begins.whole)) [
-    inl (same, _) ↦ (tail.0, tail.1 ∙ ap (λ l. l ++ tail.0) (sym same))
-  | inr two ↦ elim two [
-      inl g ↦ (g.line ∷ g.more ++ tail.0, tail.1 ∙ ap (λ l. l ++ tail.0) g.lines_are ∙ append_assoc lines (g.line ∷ g.more) tail.0)
-    | inr g ↦ absurd (no_feed j.last g.line (text_of g.more ++ f.part) j.plain g.rest_is)
+    let f = counted_front x j.octets (text_of lines) more ended b.whole h j.counts in
+    let tail : (t : List (List ℕ)) × (judged ≡ j.lines ++ t) = elim j.tail [ inl (e, _) ↦ ([], e ∙ sym (append-nil j.lines)) | inr (e, _) ↦ (j.last ∷ [], e) ] in
+    elim (compared lines j.lines f.part j.last b.plain j.begins.plain (sym f.front_is ∙ j.begins.whole)) [
+      | inl (same, _) ↦ (tail.0, tail.1 ∙ ap (λ l. l ++ tail.0) (sym same))
+      | inr two ↦ elim two [
+        | inl g ↦ (g.line ∷ g.more ++ tail.0, tail.1 ∙ ap (λ l. l ++ tail.0) g.lines_are ∙ append_assoc lines (g.line ∷ g.more) tail.0)
+        | inr g ↦ absurd (no_feed j.last g.line (text_of g.more ++ f.part) j.plain g.rest_is)
+      ]
     ]
-  ]
 
 -- the line that is judged after these, or the whole of a long line of which more is judged
 pub record NextJudged (judged lines : List (List ℕ)) (line : List ℕ) : Type 0 where
@@ -175,15 +189,15 @@ feed_first (o ∷ part) t after h e = absurd (All-head IsPlain o part h (cc e))
 feed_within : (line part past after last : List ℕ) → IsLine last → line ++ part ≡ last → part ++ past ≡ 10 ∷ after → part ≡ []
 feed_within line [] past after last h w e = refl
 feed_within line (o ∷ part) past after last h w e =
-  absurd (no_feed last line part h (let first : o ≡ 10 = cc e in sym w ∙ ap (λ p. line ++ p ∷ part) first))
+    absurd (no_feed last line part h (let first : o ≡ 10 = cc e in sym w ∙ ap (λ p. line ++ p ∷ part) first))
 
 -- where a line feed follows within the limit, something that counts follows
 feed_counts : (x octets u v after : List ℕ) (ended : Bool) → Counts x octets ended → (f : CountedFront octets u v ended) →
-  f.part ≡ [] → v ≡ 10 ∷ after → length u < 67108864 → ⊥
+    f.part ≡ [] → v ≡ 10 ∷ after → length u < 67108864 → ⊥
 feed_counts x octets u v after true counts f none feed under =
-  let p = f.none_past refl in let q = f.rest_is in cc (p, q, none, feed)
+    let p = f.none_past refl in let q = f.rest_is in cc (p, q, none, feed)
 feed_counts x octets u v after false counts f none feed under =
-  omega (arith, under, counts.1.count, ap length f.front_is, length-append u f.part, ap length none)
+    omega (arith, under, counts.1.count, ap length f.front_is, length-append u f.part, ap length none)
 
 not_long : (last : List ℕ) (ended : Bool) → NotJudged last ended → 4096 < length last → ⊥
 not_long last true none long = omega (arith, long, ap length none)
@@ -193,7 +207,7 @@ not_long last false short long = omega (arith, long, short)
 is_ended : (x octets u : List ℕ) (ended : Bool) → Counts x octets ended → x ≡ u ++ [] → length u ≤ 67108864 → ended ≡ true
 is_ended x octets u true counts e h = refl
 is_ended x octets u false counts e h =
-  absurd (over_limit x octets counts.0 counts.1 (omega (arith, h, ap length e, length-append u [])))
+    absurd (over_limit x octets counts.0 counts.1 (omega (arith, h, ap length e, length-append u [])))
 
 nil_left : (u v : List ℕ) → u ++ v ≡ [] → u ≡ []
 nil_left [] v e = refl
@@ -206,30 +220,31 @@ none_last last false e short = absurd (cc e)
 module _ (x : List ℕ) (judged lines : List (List ℕ)) (line : List ℕ) (ended : Bool) (j : Judges x judged ended) (n : IsJudged x [] lines line) where
   front : CountedFront j.octets (text_of lines ++ line) n.more ended
   front = counted_front x j.octets (text_of lines ++ line) n.more ended
-    (n.begins.whole ∙ sym (append_assoc (text_of lines) line n.more)) n.limit j.counts
+      (n.begins.whole ∙ sym (append_assoc (text_of lines) line n.more)) n.limit j.counts
 
   -- the next line is whole
   next_whole : (l : List ℕ) (m t : List (List ℕ)) → j.lines ≡ lines ++ l ∷ m → judged ≡ j.lines ++ t →
-    line ++ front.part ≡ l ++ 10 ∷ (text_of m ++ j.last) → NextJudged judged lines line
+      line ++ front.part ≡ l ++ 10 ∷ (text_of m ++ j.last) → NextJudged judged lines line
   next_whole l m t ls e w =
-    let plain : IsLine l = All-head IsLine l m (All-behind IsLine lines (l ∷ m) (rw (← ls) j.begins.plain)) in
-    let in_l = within line front.part l (text_of m ++ j.last) n.plain plain w in
-    let rest : IsLine in_l.part = All-behind IsPlain line in_l.part (rw (← in_l.line_is) plain) in
-    record {
-      next = l; more = m ++ t;
-      judged_are = e ∙ ap (λ k. k ++ t) ls ∙ append_assoc lines (l ∷ m) t;
-      same = elim n.judged [
-        inl (after, feed, _) ↦ inl (
-          let more_is : n.more ≡ (in_l.part ++ 10 ∷ (text_of m ++ j.last)) ++ front.past = front.rest_is ∙ ap (λ k. k ++ front.past) in_l.more_is in
-          let first = feed_first in_l.part ((text_of m ++ j.last) ++ front.past) after rest
-            (sym (append_assoc in_l.part (10 ∷ (text_of m ++ j.last)) front.past) ∙ sym more_is ∙ feed) in
-          in_l.line_is ∙ ap (λ k. line ++ k) first ∙ append-nil line)
-      | inr two ↦ elim two [
-          inl long ↦ inr (long, omega (arith, long, ap length in_l.line_is, length-append line in_l.part))
-        | inr (some, none, _) ↦ absurd (no_more in_l.part (sym none ∙ front.rest_is ∙ ap (λ k. k ++ front.past) in_l.more_is))
-        ]
-      ]
-    }
+      let plain : IsLine l = All-head IsLine l m (All-behind IsLine lines (l ∷ m) (rw (← ls) j.begins.plain)) in
+      let in_l = within line front.part l (text_of m ++ j.last) n.plain plain w in
+      let rest : IsLine in_l.part = All-behind IsPlain line in_l.part (rw (← in_l.line_is) plain) in
+      record {
+        next = l;
+        more = m ++ t;
+        judged_are = e ∙ ap (λ k. k ++ t) ls ∙ append_assoc lines (l ∷ m) t;
+        same = elim n.judged [
+          | inl (after, feed, _) ↦ inl (
+              let more_is : n.more ≡ (in_l.part ++ 10 ∷ (text_of m ++ j.last)) ++ front.past = front.rest_is ∙ ap (λ k. k ++ front.past) in_l.more_is in
+              let first = feed_first in_l.part ((text_of m ++ j.last) ++ front.past) after rest
+              (sym (append_assoc in_l.part (10 ∷ (text_of m ++ j.last)) front.past) ∙ sym more_is ∙ feed) in
+              in_l.line_is ∙ ap (λ k. line ++ k) first ∙ append-nil line)
+          | inr two ↦ elim two [
+            | inl long ↦ inr (long, omega (arith, long, ap length in_l.line_is, length-append line in_l.part))
+            | inr (some, none, _) ↦ absurd (no_more in_l.part (sym none ∙ front.rest_is ∙ ap (λ k. k ++ front.past) in_l.more_is))
+          ]
+        ];
+      }
     where
       no_more : (p : List ℕ) → [] ≡ (p ++ 10 ∷ (text_of m ++ j.last)) ++ front.past → ⊥
       no_more [] e = cc e
@@ -237,7 +252,7 @@ module _ (x : List ℕ) (judged lines : List (List ℕ)) (line : List ℕ) (ende
 
   -- what follows the whole lines is the next
   next_last : lines ≡ j.lines → judged ≡ j.lines ++ j.last ∷ [] → (j.last ≡ line) ⊎ ((4096 < length line) × (4096 < length j.last)) →
-    NextJudged judged lines line
+      NextJudged judged lines line
   next_last ls e same = record { next = j.last; more = []; judged_are = e ∙ ap (λ k. k ++ j.last ∷ []) (sym ls); same = same }
 
   long_last : line ++ front.part ≡ j.last → 4096 < length line → 4096 < length j.last
@@ -246,24 +261,24 @@ module _ (x : List ℕ) (judged lines : List (List ℕ)) (line : List ℕ) (ende
   -- a line that is judged after the whole lines is the last, or a part of it
   last_of : line ++ front.part ≡ j.last → lines ≡ j.lines → NextJudged judged lines line
   last_of w ls = elim n.judged [
-      inl (after, feed, under) ↦ absurd (feed_counts x j.octets (text_of lines ++ line) n.more after ended j.counts front
+    | inl (after, feed, under) ↦ absurd (feed_counts x j.octets (text_of lines ++ line) n.more after ended j.counts front
         (feed_within line front.part front.past after j.last j.plain w (sym front.rest_is ∙ feed)) feed under)
     | inr two ↦ elim two [
-        inl long ↦ elim j.tail [
-            inl (_, none) ↦ absurd (not_long j.last ended none (long_last w long))
-          | inr (e, _) ↦ next_last ls e (inr (long, long_last w long))
-          ]
+      | inl long ↦ elim j.tail [
+        | inl (_, none) ↦ absurd (not_long j.last ended none (long_last w long))
+        | inr (e, _) ↦ next_last ls e (inr (long, long_last w long))
+      ]
       | inr (some, none, _) ↦
           let no_part : front.part ≡ [] = nil_left front.part front.past (sym front.rest_is ∙ none) in
           let last_is : j.last ≡ line = sym w ∙ ap (λ p. line ++ p) no_part ∙ append-nil line in
           let at_end : ended ≡ true = is_ended x j.octets (text_of lines ++ line) ended j.counts
-            (n.begins.whole ∙ sym (append_assoc (text_of lines) line n.more) ∙ ap (λ m. (text_of lines ++ line) ++ m) none) n.limit in
+          (n.begins.whole ∙ sym (append_assoc (text_of lines) line n.more) ∙ ap (λ m. (text_of lines ++ line) ++ m) none) n.limit in
           elim j.tail [
-            inl (_, no_last) ↦ absurd (omega (arith, some, ap length last_is, ap length (none_last j.last ended at_end no_last)))
-          | inr (e, _) ↦ next_last ls e (inl last_is)
+            | inl (_, no_last) ↦ absurd (omega (arith, some, ap length last_is, ap length (none_last j.last ended at_end no_last)))
+            | inr (e, _) ↦ next_last ls e (inl last_is)
           ]
-      ]
     ]
+  ]
 
   tail : (t : List (List ℕ)) × (judged ≡ j.lines ++ t)
   tail = elim j.tail [ inl (e, _) ↦ ([], e ∙ sym (append-nil j.lines)) | inr (e, _) ↦ (j.last ∷ [], e) ]
@@ -271,39 +286,83 @@ module _ (x : List ℕ) (judged lines : List (List ℕ)) (line : List ℕ) (ende
   -- a line that is judged after these comes next, whole
   pub Judges-next : NextJudged judged lines line
   Judges-next =
-    elim (compared lines j.lines (line ++ front.part) j.last n.begins.plain j.begins.plain
+      elim (compared lines j.lines (line ++ front.part) j.last n.begins.plain j.begins.plain
       (sym (append_assoc (text_of lines) line front.part) ∙ sym front.front_is ∙ j.begins.whole)) [
-      inl (same, w) ↦ last_of w same
-    | inr two ↦ elim two [
-        inl g ↦ next_whole g.line g.more tail.0 g.lines_are tail.1 g.rest_is
-      | inr g ↦ absurd (no_feed j.last g.line (text_of g.more ++ (line ++ front.part)) j.plain g.rest_is)
+        | inl (same, w) ↦ last_of w same
+        | inr two ↦ elim two [
+          | inl g ↦ next_whole g.line g.more tail.0 g.lines_are tail.1 g.rest_is
+          | inr g ↦ absurd (no_feed j.last g.line (text_of g.more ++ (line ++ front.part)) j.plain g.rest_is)
+        ]
       ]
-    ]
 
 cut_at : (n : ℕ) (x : List ℕ) → n < length x → (c p : List ℕ) × (x ≡ c ++ p) × (length c ≡ n) × (0 < length p)
 cut_at n x h = (take n x, drop n x, sym (take-append-drop n x), length-take-le n x (omega arith), rw length-drop (omega arith))
 
 judges_ended : (x : List ℕ) (lines : List (List ℕ)) (last : List ℕ) → length x ≤ 67108864 → Begins x lines last → IsLine last →
-  (judged : List (List ℕ)) × (ended : Bool) × Judges x judged ended
-judges_ended x lines [] h b p = (lines, true, record {
-  octets = x; lines = lines; last = []; counts = (refl, h); begins = b; plain = p; tail = inl (refl, refl) })
-judges_ended x lines (o ∷ last) h b p = (lines ++ (o ∷ last) ∷ [], true, record {
-  octets = x; lines = lines; last = o ∷ last; counts = (refl, h); begins = b; plain = p; tail = inr (refl, omega arith) })
+    (judged : List (List ℕ)) × (ended : Bool) × Judges x judged ended
+judges_ended x lines [] h b p = (
+  lines,
+  true,
+  record {
+    octets = x;
+    lines = lines;
+    last = [];
+    counts = (refl, h);
+    begins = b;
+    plain = p;
+    tail = inl (refl, refl);
+  },
+)
+judges_ended x lines (o ∷ last) h b p = (
+  lines ++ (o ∷ last) ∷ [],
+  true,
+  record {
+    octets = x;
+    lines = lines;
+    last = o ∷ last;
+    counts = (refl, h);
+    begins = b;
+    plain = p;
+    tail = inr (refl, omega arith);
+  },
+)
 
 judges_over : (x counted past : List ℕ) (d : Division counted) → IsOver x counted past →
-  (judged : List (List ℕ)) × (ended : Bool) × Judges x judged ended
+    (judged : List (List ℕ)) × (ended : Bool) × Judges x judged ended
 judges_over x counted past d over = elim (cases_lt 4096 (length d.last)) [
-    inl long ↦ (d.lines ++ d.last ∷ [], false, record {
-      octets = counted; lines = d.lines; last = d.last; counts = (past, over); begins = d.begins; plain = d.plain; tail = inr (refl, long) })
-  | inr short ↦ (d.lines, false, record {
-      octets = counted; lines = d.lines; last = d.last; counts = (past, over); begins = d.begins; plain = d.plain; tail = inl (refl, short) })
-  ]
+  | inl long ↦ (
+    d.lines ++ d.last ∷ [],
+    false,
+    record {
+      octets = counted;
+      lines = d.lines;
+      last = d.last;
+      counts = (past, over);
+      begins = d.begins;
+      plain = d.plain;
+      tail = inr (refl, long);
+    },
+  )
+  | inr short ↦ (
+    d.lines,
+    false,
+    record {
+      octets = counted;
+      lines = d.lines;
+      last = d.last;
+      counts = (past, over);
+      begins = d.begins;
+      plain = d.plain;
+      tail = inl (refl, short);
+    },
+  )
+]
 
 -- of every input some lines are judged
 pub judged_of : (x : List ℕ) → (judged : List (List ℕ)) × (ended : Bool) × Judges x judged ended
 judged_of x = elim (cases_lt 67108864 (length x)) [
-    inl over ↦
+  | inl over ↦
       let c = cut_at 67108864 x over in
       judges_over x c.0 c.1 (divide c.0) (record { whole = c.2; count = c.3; some = c.4 })
   | inr h ↦ let d = divide x in judges_ended x d.lines d.last h d.begins d.plain
-  ]
+]

@@ -42,7 +42,7 @@ TakesFront-take a b n piece taken = (take n piece, (drop n piece, sym (take-appe
 
 -- a front of the piece, and then n octets of the rest of it
 pub Appends-front : (a b c : Option (List ℕ)) (w n : ℕ) (piece : List ℕ) → Appends a b (take w piece) →
-  Appends b c (take n (take (length piece - w) (drop w piece))) → Appends a c (take (w + n) piece)
+    Appends b c (take n (take (length piece - w) (drop w piece))) → Appends a c (take (w + n) piece)
 Appends-front a b c w n piece first then =
-  let rest : take (length piece - w) (drop w piece) ≡ drop w piece = take_rest piece w in
-  rw take-add (Appends-append a b c (take w piece) (take n (drop w piece)) first (rw rest at then))
+    let rest : take (length piece - w) (drop w piece) ≡ drop w piece = take_rest piece w in
+    rw take-add (Appends-append a b c (take w piece) (take n (drop w piece)) first (rw rest at then))

@@ -15,8 +15,8 @@ pub within : (u more v t : List ℕ) → IsLine u → IsLine v → u ++ more ≡
 within [] more v t hu hv e = record { part = v; line_is = refl; more_is = e }
 within (o ∷ u) more [] t hu hv e = absurd (All-head IsPlain o u hu (cc e))
 within (o ∷ u) more (p ∷ v) t hu hv e =
-  let rest = within u more v t (All-tail IsPlain o u hu) (All-tail IsPlain p v hv) (cc e) in
-  record { part = rest.part; line_is = let l = rest.line_is in cc (e, l); more_is = rest.more_is }
+    let rest = within u more v t (All-tail IsPlain o u hu) (All-tail IsPlain p v hv) (cc e) in
+    record { part = rest.part; line_is = let l = rest.line_is in cc (e, l); more_is = rest.more_is }
 
 pub no_feed : (u v t : List ℕ) → IsLine u → u ≡ v ++ 10 ∷ t → ⊥
 no_feed [] [] t h e = cc e
@@ -29,8 +29,8 @@ same_line [] x [] y hu hv e = (refl, cc e)
 same_line [] x (p ∷ v) y hu hv e = absurd (All-head IsPlain p v hv (cc e))
 same_line (o ∷ u) x [] y hu hv e = absurd (All-head IsPlain o u hu (cc e))
 same_line (o ∷ u) x (p ∷ v) y hu hv e =
-  let rest = same_line u x v y (All-tail IsPlain o u hu) (All-tail IsPlain p v hv) (cc e) in
-  (let l = rest.0 in cc (e, l), rest.1)
+    let rest = same_line u x v y (All-tail IsPlain o u hu) (All-tail IsPlain p v hv) (cc e) in
+    (let l = rest.0 in cc (e, l), rest.1)
 
 -- these lines go on after those
 pub record GoesOn (lines lines' : List (List ℕ)) (rest rest' : List ℕ) : Type 0 where
@@ -42,33 +42,33 @@ pub record GoesOn (lines lines' : List (List ℕ)) (rest rest' : List ℕ) : Typ
 -- two lists of lines with which the same octets begin
 abbrev pub Compared : List (List ℕ) → List (List ℕ) → List ℕ → List ℕ → Type 0
 Compared lines lines' rest rest' =
-  ((lines ≡ lines') × (rest ≡ rest')) ⊎ (GoesOn lines lines' rest rest' ⊎ GoesOn lines' lines rest' rest)
+    ((lines ≡ lines') × (rest ≡ rest')) ⊎ (GoesOn lines lines' rest rest' ⊎ GoesOn lines' lines rest' rest)
 
 pub text-cons : (line : List ℕ) (lines : List (List ℕ)) (rest : List ℕ) →
-  text_of (line ∷ lines) ++ rest ≡ line ++ 10 ∷ (text_of lines ++ rest)
+    text_of (line ∷ lines) ++ rest ≡ line ++ 10 ∷ (text_of lines ++ rest)
 text-cons line lines rest = append_assoc line (10 ∷ text_of lines) rest
 
 compared-cons : (line : List ℕ) (ls ls' : List (List ℕ)) (u v : List ℕ) → Compared ls ls' u v → Compared (line ∷ ls) (line ∷ ls') u v
 compared-cons line ls ls' u v (inl e) = inl (ap (λ l. line ∷ l) e.0, e.1)
 compared-cons line ls ls' u v (inr (inl g)) =
-  inr (inl (record { line = g.line; more = g.more; lines_are = ap (λ l. line ∷ l) g.lines_are; rest_is = g.rest_is }))
+    inr (inl (record { line = g.line; more = g.more; lines_are = ap (λ l. line ∷ l) g.lines_are; rest_is = g.rest_is }))
 compared-cons line ls ls' u v (inr (inr g)) =
-  inr (inr (record { line = g.line; more = g.more; lines_are = ap (λ l. line ∷ l) g.lines_are; rest_is = g.rest_is }))
+    inr (inr (record { line = g.line; more = g.more; lines_are = ap (λ l. line ∷ l) g.lines_are; rest_is = g.rest_is }))
 
 compared-same : (l l' : List ℕ) (ls ls' : List (List ℕ)) (u v : List ℕ) → l ≡ l' → Compared ls ls' u v → Compared (l ∷ ls) (l' ∷ ls') u v
 compared-same l l' ls ls' u v e h = rw (← e) (compared-cons l ls ls' u v h)
 
 pub compared : (ls ls' : List (List ℕ)) (u v : List ℕ) → All IsLine ls → All IsLine ls' →
-  text_of ls ++ u ≡ text_of ls' ++ v → Compared ls ls' u v
+    text_of ls ++ u ≡ text_of ls' ++ v → Compared ls ls' u v
 compared [] [] u v h h' e = inl (refl, e)
 compared [] (l ∷ ls') u v h h' e =
-  inr (inl (record { line = l; more = ls'; lines_are = refl; rest_is = e ∙ text-cons l ls' v }))
+    inr (inl (record { line = l; more = ls'; lines_are = refl; rest_is = e ∙ text-cons l ls' v }))
 compared (l ∷ ls) [] u v h h' e =
-  inr (inr (record { line = l; more = ls; lines_are = refl; rest_is = sym e ∙ text-cons l ls u }))
+    inr (inr (record { line = l; more = ls; lines_are = refl; rest_is = sym e ∙ text-cons l ls u }))
 compared (l ∷ ls) (l' ∷ ls') u v h h' e =
-  let firsts = same_line l (text_of ls ++ u) l' (text_of ls' ++ v) (All-head IsLine l ls h) (All-head IsLine l' ls' h')
+    let firsts = same_line l (text_of ls ++ u) l' (text_of ls' ++ v) (All-head IsLine l ls h) (All-head IsLine l' ls' h')
     (sym (text-cons l ls u) ∙ e ∙ text-cons l' ls' v) in
-  compared-same l l' ls ls' u v firsts.0
+    compared-same l l' ls ls' u v firsts.0
     (compared ls ls' u v (All-tail IsLine l ls h) (All-tail IsLine l' ls' h') firsts.1)
 
 pub All-before : {A : Type 0} (P : A → Type 0) (xs ys : List A) → All P (xs ++ ys) → All P xs
@@ -81,22 +81,22 @@ All-behind P (x ∷ xs) ys h = All-behind P xs ys (All-tail P x (xs ++ ys) h)
 
 -- octets are whole lines and a rest without a line feed in one way
 pub one_division : (ls ls' : List (List ℕ)) (u v : List ℕ) → All IsLine ls → All IsLine ls' → IsLine u → IsLine v →
-  text_of ls ++ u ≡ text_of ls' ++ v → (ls ≡ ls') × (u ≡ v)
+    text_of ls ++ u ≡ text_of ls' ++ v → (ls ≡ ls') × (u ≡ v)
 one_division ls ls' u v h h' hu hv e = elim (compared ls ls' u v h h' e) [
-    inl same ↦ same
+  | inl same ↦ same
   | inr two ↦ elim two [
-      inl g ↦ absurd (no_feed u g.line (text_of g.more ++ v) hu g.rest_is)
+    | inl g ↦ absurd (no_feed u g.line (text_of g.more ++ v) hu g.rest_is)
     | inr g ↦ absurd (no_feed v g.line (text_of g.more ++ u) hv g.rest_is)
-    ]
   ]
+]
 
 -- one line more
 pub text-push : (ls : List (List ℕ)) (l u : List ℕ) → text_of (ls ++ l ∷ []) ++ u ≡ text_of ls ++ (l ++ 10 ∷ u)
 text-push [] l u = text-cons l [] u
 text-push (k ∷ ls) l u =
-  text-cons k (ls ++ l ∷ []) u ∙ ap (λ w. k ++ 10 ∷ w) (text-push ls l u) ∙ sym (text-cons k ls (l ++ 10 ∷ u))
+    text-cons k (ls ++ l ∷ []) u ∙ ap (λ w. k ++ 10 ∷ w) (text-push ls l u) ∙ sym (text-cons k ls (l ++ 10 ∷ u))
 
 pub length-text-push : (ls : List (List ℕ)) (l : List ℕ) → length (text_of (ls ++ l ∷ [])) ≡ length (text_of ls ++ l) + 1
 length-text-push ls l =
-  let e = ap length (text-push ls l []) in
-  omega (arith, e, length-append (text_of (ls ++ l ∷ [])) [], length-append (text_of ls) (l ++ 10 ∷ []), length-append l (10 ∷ []), length-append (text_of ls) l)
+    let e = ap length (text-push ls l []) in
+    omega (arith, e, length-append (text_of (ls ++ l ∷ [])) [], length-append (text_of ls) (l ++ 10 ∷ []), length-append l (10 ∷ []), length-append (text_of ls) l)

@@ -69,8 +69,8 @@ pub record HasLine {State : Type 0} (r : Rules State) (a : State) (Stands : Stat
   pub short : length line ≤ 4096
   pub near : IsNear r a q y
   pub there :
-    ((q ≡ text_of lines ++ (line ++ 10 ∷ (reading'.held ++ reading'.past))) × (reading'.answered ≡ length (text_of lines ++ line) + 1))
-    ⊎ ((q ≡ text_of lines ++ line) × (0 < length line) × (reading'.held ++ reading'.past ≡ []) × (reading'.ended ≡ true) × (reading'.answered ≡ length q))
+      ((q ≡ text_of lines ++ (line ++ 10 ∷ (reading'.held ++ reading'.past))) × (reading'.answered ≡ length (text_of lines ++ line) + 1))
+      ⊎ ((q ≡ text_of lines ++ line) × (0 < length line) × (reading'.held ++ reading'.past ≡ []) × (reading'.ended ≡ true) × (reading'.answered ≡ length q))
 
 -- no line came after good lines, whose answers are written or gathered
 pub record HasNone {State : Type 0} (r : Rules State) (a : State) (Stands : State → Type 0) (reading' : Reading)
@@ -121,34 +121,33 @@ nil_behind (o ∷ u) v e = cc e
 module _ {State : Type 0} (r : Rules State) (a : State) (Stands : State → Type 0) (reading reading' : Reading)
     (left mid left' taken taken' : Option (List ℕ)) (gathered : List ℕ) (at : IsAt r a Stands reading left mid taken taken' gathered)
     (near_before : IsNear r a at.q at.y) (ready : IsReady reading ⊎ (gathered ≡ [])) (answer : Next) (came : List ℕ) (step : IsStep reading reading' mid left' answer came) (valid : IsReading reading') where
-
   abbrev pub all : List ℕ
   all = reading.held ++ reading.past ++ came
 
   -- the source is at its end where the reader says so
   ends_at : reading'.ended ≡ true → EndsAt left left'
   ends_at e = elim (cases_Bool reading.ended) [
-      inl before ↦ EndsAt-still left mid left' at.q at.read
+    | inl before ↦ EndsAt-still left mid left' at.q at.read
         (Consumes-at mid left' came [] (step.still before).0 step.bytes) (at.at_end before)
     | inr open_ ↦ EndsAt-now left left' (step.ended e open_)
-    ]
+  ]
 
   read : Consumes left left' (at.q ++ came)
   read = Consumes-append left mid left' at.q came at.read step.bytes
 
   -- where something is held or was not at its end, all that was read is whole lines and what is held
   whole : (reading.held ++ reading.past ≡ [] → reading.ended ≡ true → ⊥) →
-    (at.q ++ came ≡ text_of at.lines ++ (reading.held ++ reading.past ++ came)) × (reading.answered ≡ length (text_of at.lines))
+      (at.q ++ came ≡ text_of at.lines ++ (reading.held ++ reading.past ++ came)) × (reading.answered ≡ length (text_of at.lines))
   whole open_ = elim at.holds [
-      inl (q_is, answered) ↦ (ap (λ q. q ++ came) q_is ∙ append_assoc (text_of at.lines) (reading.held ++ reading.past) came, answered)
+    | inl (q_is, answered) ↦ (ap (λ q. q ++ came) q_is ∙ append_assoc (text_of at.lines) (reading.held ++ reading.past) came, answered)
     | inr (cut, none, ended, _) ↦ absurd (open_ none ended)
-    ]
+  ]
 
   -- so it is where there is something to answer
   pub not_cut : 0 < length all → reading.held ++ reading.past ≡ [] → reading.ended ≡ true → ⊥
   not_cut some none ended =
-    let no_came = (step.still ended).0 in
-    omega (arith, some, ap length none, ap length no_came, length-append (reading.held ++ reading.past) came)
+      let no_came = (step.still ended).0 in
+      omega (arith, some, ap length none, ap length no_came, length-append (reading.held ++ reading.past) came)
 
   -- where nothing is gathered, what is written are the answers
   runs_written : gathered ≡ [] → Runs r a at.lines at.y at.state
@@ -161,80 +160,161 @@ module _ {State : Type 0} (r : Rules State) (a : State) (Stands : State → Type
 
   near_at : came ≡ [] → IsNear r a (at.q ++ came) at.y
   near_at none =
-    let P : List ℕ → Type 0 = λ q. IsNear r a q at.y in
-    subst P (sym (ap (λ c. at.q ++ c) none ∙ append-nil at.q)) near_before
+      let P : List ℕ → Type 0 = λ q. IsNear r a q at.y in
+      subst P (sym (ap (λ c. at.q ++ c) none ∙ append-nil at.q)) near_before
 
   near : at.q ++ came ≡ text_of at.lines ++ (reading.held ++ reading.past ++ came) → IsNear r a (at.q ++ came) at.y
   near q_is = elim ready [
-      inl answer_ ↦ near_at (no_came answer_)
+    | inl answer_ ↦ near_at (no_came answer_)
     | inr none ↦ record {
-        lines = at.lines; rest = reading.held ++ reading.past ++ came; answers = at.y; more = []; state = at.state;
-        begins = record { plain = at.plain; whole = q_is }; runs = runs_written none; taken = sym (append-nil at.y); near = step.room }
-    ]
+      lines = at.lines;
+      rest = reading.held ++ reading.past ++ came;
+      answers = at.y;
+      more = [];
+      state = at.state;
+      begins = record { plain = at.plain; whole = q_is };
+      runs = runs_written none;
+      taken = sym (append-nil at.y);
+      near = step.room;
+    }
+  ]
 
   bound : at.q ++ came ≡ text_of at.lines ++ (reading.held ++ reading.past ++ came) → reading.answered ≡ length (text_of at.lines) →
-    length (at.q ++ came) ≤ 67108864 + 4097
+      length (at.q ++ came) ≤ 67108864 + 4097
   bound q_is answered = omega (arith, ap length q_is, answered, step.room, at.valid.limit, length-append (text_of at.lines) (reading.held ++ reading.past ++ came))
 
   -- a line came
   pub has_line : (line : List ℕ) →
-    (IsAnswered reading reading' all line (10 ∷ []) ⊎ (IsAnswered reading reading' all line [] × (reading'.held ++ reading'.past ≡ []) × (reading'.ended ≡ true))) →
-    HasLine r a Stands reading' left left' taken taken' gathered line
+      (IsAnswered reading reading' all line (10 ∷ []) ⊎ (IsAnswered reading reading' all line [] × (reading'.held ++ reading'.past ≡ []) × (reading'.ended ≡ true))) →
+      HasLine r a Stands reading' left left' taken taken' gathered line
   has_line line (inl l) =
-    let w = whole (not_cut (omega (arith, ap length l.octets, l.some, length-append (line ++ 10 ∷ []) (reading'.held ++ reading'.past)))) in
-    record {
-      q = at.q ++ came; y = at.y; lines = at.lines; answers = at.answers; state = at.state; read = read; written = at.written; valid = valid; plain = at.plain;
-      runs = at.runs; output = at.output; stands = at.stands; number = omega (arith, l.number, at.number); goes_on = l.over; at_end = ends_at;
-      within = omega (arith, w.1, at.valid.limit); bound = bound w.0 w.1; line_plain = l.plain; short = l.short; near = near w.0;
-      there = inl (w.0 ∙ ap (λ o. text_of at.lines ++ o) (l.octets ∙ append_assoc line (10 ∷ []) (reading'.held ++ reading'.past)),
-        omega (arith, l.answered, w.1, length-append line (10 ∷ []), length-append (text_of at.lines) line))
-    }
+      let w = whole (not_cut (omega (arith, ap length l.octets, l.some, length-append (line ++ 10 ∷ []) (reading'.held ++ reading'.past)))) in
+      record {
+        q = at.q ++ came;
+        y = at.y;
+        lines = at.lines;
+        answers = at.answers;
+        state = at.state;
+        read = read;
+        written = at.written;
+        valid = valid;
+        plain = at.plain;
+        runs = at.runs;
+        output = at.output;
+        stands = at.stands;
+        number = omega (arith, l.number, at.number);
+        goes_on = l.over;
+        at_end = ends_at;
+        within = omega (arith, w.1, at.valid.limit);
+        bound = bound w.0 w.1;
+        line_plain = l.plain;
+        short = l.short;
+        near = near w.0;
+        there = inl (
+          w.0 ∙ ap (λ o. text_of at.lines ++ o) (l.octets ∙ append_assoc line (10 ∷ []) (reading'.held ++ reading'.past)),
+          omega (arith, l.answered, w.1, length-append line (10 ∷ []), length-append (text_of at.lines) line),
+        );
+      }
   has_line line (inr (l, none, ended)) =
-    let w = whole (not_cut (omega (arith, ap length l.octets, l.some, length-append (line ++ []) (reading'.held ++ reading'.past)))) in
-    let q_is : at.q ++ came ≡ text_of at.lines ++ line =
+      let w = whole (not_cut (omega (arith, ap length l.octets, l.some, length-append (line ++ []) (reading'.held ++ reading'.past)))) in
+      let q_is : at.q ++ came ≡ text_of at.lines ++ line =
       w.0 ∙ ap (λ o. text_of at.lines ++ o) (l.octets ∙ ap (λ o. line ++ [] ++ o) none ∙ append-nil (line ++ []) ∙ append-nil line) in
-    record {
-      q = at.q ++ came; y = at.y; lines = at.lines; answers = at.answers; state = at.state; read = read; written = at.written; valid = valid; plain = at.plain;
-      runs = at.runs; output = at.output; stands = at.stands; number = omega (arith, l.number, at.number); goes_on = l.over; at_end = ends_at;
-      within = omega (arith, w.1, at.valid.limit); bound = bound w.0 w.1; line_plain = l.plain; short = l.short; near = near w.0;
-      there = inr (q_is, omega (arith, l.some, length-append line []), none, ended,
-        omega (arith, l.answered, w.1, length-append line [], length-append (text_of at.lines) line, ap length q_is))
-    }
+      record {
+        q = at.q ++ came;
+        y = at.y;
+        lines = at.lines;
+        answers = at.answers;
+        state = at.state;
+        read = read;
+        written = at.written;
+        valid = valid;
+        plain = at.plain;
+        runs = at.runs;
+        output = at.output;
+        stands = at.stands;
+        number = omega (arith, l.number, at.number);
+        goes_on = l.over;
+        at_end = ends_at;
+        within = omega (arith, w.1, at.valid.limit);
+        bound = bound w.0 w.1;
+        line_plain = l.plain;
+        short = l.short;
+        near = near w.0;
+        there = inr (
+          q_is,
+          omega (arith, l.some, length-append line []),
+          none,
+          ended,
+          omega (arith, l.answered, w.1, length-append line [], length-append (text_of at.lines) line, ap length q_is),
+        );
+      }
 
   -- no line came, and there is something, or the source was not at its end
   pub has_none : (stops : Bool) → IsHeld reading reading' all stops → (reading.held ++ reading.past ≡ [] → reading.ended ≡ true → ⊥) →
-    HasNone r a Stands reading' left left' taken taken' gathered
+      HasNone r a Stands reading' left left' taken taken' gathered
   has_none stops h open_ =
-    let w = whole open_ in
-    record {
-      q = at.q ++ came; y = at.y; lines = at.lines; answers = at.answers; state = at.state; read = read; written = at.written; plain = at.plain;
-      runs = at.runs; output = at.output; stands = at.stands; number = h.number ∙ at.number; within = omega (arith, w.1, at.valid.limit); bound = bound w.0 w.1;
-      near = near w.0; held_plain = h.plain; whole = w.0 ∙ ap (λ o. text_of at.lines ++ o) h.octets; answered = h.answered ∙ w.1
-    }
+      let w = whole open_ in
+      record {
+        q = at.q ++ came;
+        y = at.y;
+        lines = at.lines;
+        answers = at.answers;
+        state = at.state;
+        read = read;
+        written = at.written;
+        plain = at.plain;
+        runs = at.runs;
+        output = at.output;
+        stands = at.stands;
+        number = h.number ∙ at.number;
+        within = omega (arith, w.1, at.valid.limit);
+        bound = bound w.0 w.1;
+        near = near w.0;
+        held_plain = h.plain;
+        whole = w.0 ∙ ap (λ o. text_of at.lines ++ o) h.octets;
+        answered = h.answered ∙ w.1;
+      }
 
   divided : at.q ≡ at.q ++ came → reading.held ++ reading.past ≡ [] → IsDivided (at.q ++ came) at.lines
   divided same none =
-    let P : List ℕ → Type 0 = λ q. IsDivided q at.lines in
-    subst P same (record { plain = at.plain; whole = elim at.holds [
-      inl (q_is, _) ↦ inl (q_is ∙ ap (λ o. text_of at.lines ++ o) none ∙ append-nil (text_of at.lines))
-    | inr (cut, _, _, _) ↦ inr cut
-    ] })
+      let P : List ℕ → Type 0 = λ q. IsDivided q at.lines in
+      subst P same (record {
+        plain = at.plain;
+        whole = elim at.holds [
+          | inl (q_is, _) ↦ inl (q_is ∙ ap (λ o. text_of at.lines ++ o) none ∙ append-nil (text_of at.lines))
+          | inr (cut, _, _, _) ↦ inr cut
+        ];
+      })
 
   limit : at.q ≡ at.q ++ came → reading.held ++ reading.past ≡ [] → length (at.q ++ came) ≤ 67108864
   limit same none =
-    let P : List ℕ → Type 0 = λ q. length q ≤ 67108864 in
-    subst P same (elim at.holds [
-      inl (q_is, answered) ↦ omega (arith, ap length q_is, answered, at.valid.limit, ap length none, length-append (text_of at.lines) (reading.held ++ reading.past))
-    | inr (_, _, _, answered) ↦ omega (arith, answered, at.valid.limit)
-    ])
+      let P : List ℕ → Type 0 = λ q. length q ≤ 67108864 in
+      subst P same (elim at.holds [
+        | inl (q_is, answered) ↦ omega (arith, ap length q_is, answered, at.valid.limit, ap length none, length-append (text_of at.lines) (reading.held ++ reading.past))
+        | inr (_, _, _, answered) ↦ omega (arith, answered, at.valid.limit)
+      ])
 
   -- the input ended
   pub has_end : IsHeld reading reading' all false → all ≡ [] → reading'.ended ≡ true → HasEnd r a Stands reading' left left' taken taken' gathered
   has_end h none ended =
-    let parts = nil_behind (reading.held ++ reading.past) came none in
-    let same : at.q ≡ at.q ++ came = sym (ap (λ c. at.q ++ c) parts.1 ∙ append-nil at.q) in
-    let rest = rest_of left left' (at.q ++ came) read in
-    record {
-      q = at.q ++ came; y = at.y; rest = rest.rest; lines = at.lines; answers = at.answers; state = at.state; reads = rest.reads; none_left = rest.at_end (ends_at ended);
-      written = at.written; runs = at.runs; output = at.output; stands = at.stands; number = h.number ∙ at.number;
-      divided = divided same parts.0; limit = limit same parts.0; near = near_at parts.1 }
+      let parts = nil_behind (reading.held ++ reading.past) came none in
+      let same : at.q ≡ at.q ++ came = sym (ap (λ c. at.q ++ c) parts.1 ∙ append-nil at.q) in
+      let rest = rest_of left left' (at.q ++ came) read in
+      record {
+        q = at.q ++ came;
+        y = at.y;
+        rest = rest.rest;
+        lines = at.lines;
+        answers = at.answers;
+        state = at.state;
+        reads = rest.reads;
+        none_left = rest.at_end (ends_at ended);
+        written = at.written;
+        runs = at.runs;
+        output = at.output;
+        stands = at.stands;
+        number = h.number ∙ at.number;
+        divided = divided same parts.0;
+        limit = limit same parts.0;
+        near = near_at parts.1;
+      }

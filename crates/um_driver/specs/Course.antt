@@ -79,10 +79,10 @@ pub record IsEnding {State : Type 0} (r : Rules State) (a : State) (Stands : Sta
 
 -- what one turn comes to, before it writes: this was gathered, and this text is the answer
 abbrev pub Comes : {State : Type 0} → Rules State → State → (State → Type 0) → Reading →
-  Option (List ℕ) → Option (List ℕ) → Option (List ℕ) → Option (List ℕ) → List ℕ → List ℕ → Turn → Type 0
+    Option (List ℕ) → Option (List ℕ) → Option (List ℕ) → Option (List ℕ) → List ℕ → List ℕ → Turn → Type 0
 Comes r a Stands reading left left' taken taken' gathered text turn.Answered = IsUnderway r a Stands reading left left' taken taken' (gathered ++ text)
 Comes r a Stands reading left left' taken taken' gathered text (turn.Refused number fault) =
-  IsEnding r a Stands BadInput left left' taken taken' (gathered ++ refused_text number fault)
+    IsEnding r a Stands BadInput left left' taken taken' (gathered ++ refused_text number fault)
 Comes r a Stands reading left left' taken taken' gathered text turn.Done = IsEnding r a Stands Done left left' taken taken' gathered
 Comes r a Stands reading left left' taken taken' gathered text turn.TooLong = IsEnding r a Stands TooLong left left' taken taken' gathered
 Comes r a Stands reading left left' taken taken' gathered text turn.ReadFault = IsEnding r a Stands ReadFault left left' taken taken' gathered
@@ -90,7 +90,7 @@ Comes r a Stands reading left left' taken taken' gathered text turn.ReadFault = 
 -- the text was taken whole and the status is this, or a front of the text was taken
 abbrev pub Concludes : Status → List ℕ → Option (List ℕ) → Option (List ℕ) → Status → Type 0
 Concludes status text taken taken' result =
-  ((result ≡ status) × Appends taken taken' text) ⊎ ((result ≡ WriteFault) × TakesFront taken taken' text)
+    ((result ≡ status) × Appends taken taken' text) ⊎ ((result ≡ WriteFault) × TakesFront taken taken' text)
 
 -- what was written for a turn, what is gathered then, and how the run ends with it, if it does
 abbrev pub Settles : Turn → List ℕ → List ℕ → List ℕ → Option (List ℕ) → Option (List ℕ) → Option Status → Type 0

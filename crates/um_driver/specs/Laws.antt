@@ -7,8 +7,8 @@ use Rattle.um_driver.specs.declared.status.Status.{Status}
 -- where no line has two answers, no input has two outputs, nor two ways to end
 abbrev pub OutputIsUnique : {State : Type 0} → Rules State → Type 0
 OutputIsUnique {State} r = IsDetermined r →
-  (a : State) (x : List ℕ) (status status' : Status) (z z' : List ℕ) →
-  IsOutput r a x status z → IsOutput r a x status' z' → (status ≡ status') × (z ≡ z')
+    (a : State) (x : List ℕ) (status status' : Status) (z z' : List ℕ) →
+    IsOutput r a x status z → IsOutput r a x status' z' → (status ≡ status') × (z ≡ z')
 
 -- where good lines always have an answer, every input has an output
 abbrev pub OutputExists : {State : Type 0} → Rules State → Type 0

@@ -19,11 +19,11 @@ impl Command for Sizes {
     ghost State = { Bool };
 
     ghost rules = { record {
-        fault = λ a line. if length line == 3 then Some Word else None;
-        end_fault = λ a. if a then Some Order else None;
-        Step = λ a line y b.
-            (y ≡ (if nat_lt (length line) 2 then [] else refused_text (length line) Twice))
-            × (b ≡ (if length line == 1 then not a else a))
+      fault = λ a line. if length line == 3 then Some Word else None;
+      end_fault = λ a. if a then Some Order else None;
+      Step = λ a line y b.
+          (y ≡ (if nat_lt (length line) 2 then [] else refused_text (length line) Twice))
+          × (b ≡ (if length line == 1 then not a else a));
     } };
 
     ghost start = { λ s. s.open };
@@ -72,7 +72,11 @@ const RUNS: [(&str, Status, &str); 12] = [
         Status::BadInput,
         "refused 2 twice\nrefused 3 word\n",
     ),
-    ("ab\nbad", Status::BadInput, "refused 2 twice\nrefused 2 word\n"),
+    (
+        "ab\nbad",
+        Status::BadInput,
+        "refused 2 twice\nrefused 2 word\n",
+    ),
     ("(", Status::BadInput, "refused 2 order\n"),
     ("(\n", Status::BadInput, "refused 2 order\n"),
     (

@@ -3,28 +3,28 @@ use Rattle.um_driver.proofs.driver.ask.Goals as goal
 
 pub returns-in-Ok-clause-comes : goal.returns-in-Ok-clause-comes
 returns-in-Ok-clause-comes g c = λ a left taken taken' gathered before ready.
-  line_answered _ _ _ _ _ _ _ _ _ _ _ before ready _ _ _ (rw c.in-Line.is at c.next.follows.holds-at-none) c.in-Ok.ensures.answered
+    line_answered _ _ _ _ _ _ _ _ _ _ _ before ready _ _ _ (rw c.in-Line.is at c.next.follows.holds-at-none) c.in-Ok.ensures.answered
 
 pub returns-in-Err-clause-comes : goal.returns-in-Err-clause-comes
 returns-in-Err-clause-comes g c = λ a left taken taken' gathered before ready.
-  line_refused _ _ _ _ _ _ _ _ _ _ _ before ready _ _ _ _ _ (rw c.in-Line.is at c.next.follows.holds-at-none) c.number.ensures c.in-Err.ensures.answered
+    line_refused _ _ _ _ _ _ _ _ _ _ _ before ready _ _ _ _ _ (rw c.in-Line.is at c.next.follows.holds-at-none) c.number.ensures c.in-Err.ensures.answered
 
 pub returns-in-None-clause-comes : goal.returns-in-None-clause-comes
 returns-in-None-clause-comes g c = λ a left taken taken' gathered before ready.
-  end_good _ _ _ _ _ _ _ _ _ _ _ before ready _ (rw c.in-End.is at c.next.follows.holds-at-none) c.in-None.is c.finish.ensures
+    end_good _ _ _ _ _ _ _ _ _ _ _ before ready _ (rw c.in-End.is at c.next.follows.holds-at-none) c.in-None.is c.finish.ensures
 
 pub returns-in-Some-clause-comes : goal.returns-in-Some-clause-comes
 returns-in-Some-clause-comes g c = λ a left taken taken' gathered before ready.
-  end_refused _ _ _ _ _ _ _ _ _ _ _ before ready _ _ _ (rw c.in-End.is at c.next.follows.holds-at-none) c.number-in-Some.ensures c.in-Some.is c.finish.ensures
+    end_refused _ _ _ _ _ _ _ _ _ _ _ before ready _ _ _ (rw c.in-End.is at c.next.follows.holds-at-none) c.number-in-Some.ensures c.in-Some.is c.finish.ensures
 
 pub returns-in-Long-clause-comes : goal.returns-in-Long-clause-comes
 returns-in-Long-clause-comes g c = λ a left taken taken' gathered before ready.
-  long_refused _ _ _ _ _ _ _ _ _ _ _ before ready _ (rw c.in-Long.is at c.next.follows.holds-at-none) c.number-in-Long.ensures
+    long_refused _ _ _ _ _ _ _ _ _ _ _ before ready _ (rw c.in-Long.is at c.next.follows.holds-at-none) c.number-in-Long.ensures
 
 pub returns-in-TooMany-clause-comes : goal.returns-in-TooMany-clause-comes
 returns-in-TooMany-clause-comes g c = λ a left taken taken' gathered before ready.
-  ends_too_long _ _ _ _ _ _ _ _ _ _ _ before ready (rw c.in-TooMany.is at c.next.follows.holds-at-none)
+    ends_too_long _ _ _ _ _ _ _ _ _ _ _ before ready (rw c.in-TooMany.is at c.next.follows.holds-at-none)
 
 pub returns-in-Failed-clause-comes : goal.returns-in-Failed-clause-comes
 returns-in-Failed-clause-comes g c = λ a left taken taken' gathered before ready.
-  ends_failed _ _ _ _ _ _ _ _ _ _ _ before ready (rw c.in-Failed.is at c.next.follows.holds-at-none)
+    ends_failed _ _ _ _ _ _ _ _ _ _ _ before ready (rw c.in-Failed.is at c.next.follows.holds-at-none)

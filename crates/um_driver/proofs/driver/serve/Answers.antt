@@ -8,42 +8,42 @@ loop-command-init g c = record {
   empty = c.new-out.ensures;
   later_source = omega arith;
   later_sink = omega arith;
-  keeps = refl
+  keeps = refl;
 }
 
 pub returns-in-Err-clause-table : goal.returns-in-Err-clause-table
 returns-in-Err-clause-table g c =
-  underway_cut _ _ _ _ _ _ _ _ _ _ c.loop-command.invariant.underway c.in-Err.ensures.gathers
+    underway_cut _ _ _ _ _ _ _ _ _ _ c.loop-command.invariant.underway c.in-Err.ensures.gathers
 
 pub returns-in-Some-clause-table : goal.returns-in-Some-clause-table
 returns-in-Some-clause-table g c =
-  let way = way_made _ _ _ _ _ _ _ _ _ _ _ _ c.make_way.ensures.kept c.loop-command.invariant.underway c.in-Ok.ensures.gathers in
-  run_ends _ _ _ _ _ _ _ _ _ c.ask-turn.result _ c.ask-turn.new.out c.settle.new.gathered c.in-Some.status
+    let way = way_made _ _ _ _ _ _ _ _ _ _ _ _ c.make_way.ensures.kept c.loop-command.invariant.underway c.in-Ok.ensures.gathers in
+    run_ends _ _ _ _ _ _ _ _ _ c.ask-turn.result _ c.ask-turn.new.out c.settle.new.gathered c.in-Some.status
     (c.ask-turn.ensures.comes _ _ _ _ _ way c.in-Ok.ensures.ready) c.in-Some.ensures.settles
 
 pub loop-command-preserved : goal.loop-command-preserved
 loop-command-preserved g c =
-  let way = way_made _ _ _ _ _ _ _ _ _ _ _ _ c.make_way.ensures.kept c.loop-command.invariant.underway c.in-Ok.ensures.gathers in
-  let later_source = c.ask-turn.ensures.later in
-  let later_way = c.in-Ok.ensures.later in
-  let later_sink = c.in-None.ensures.later in
-  let keeps = c.ask-turn.ensures.keeps in
-  record {
-    underway = run_goes_on _ _ _ _ _ _ _ _ _ c.ask-turn.result _ c.ask-turn.new.out c.settle.new.gathered
-      (c.ask-turn.ensures.comes _ _ _ _ _ way c.in-Ok.ensures.ready) c.in-None.ensures.settles;
-    empty = c.in-None.ensures.empty refl;
-    later_source = omega (arith, later_source, c.loop-command.invariant.later_source);
-    later_sink = omega (arith, later_way, later_sink, c.loop-command.invariant.later_sink);
-    keeps = keeps ∙ c.loop-command.invariant.keeps
-  }
+    let way = way_made _ _ _ _ _ _ _ _ _ _ _ _ c.make_way.ensures.kept c.loop-command.invariant.underway c.in-Ok.ensures.gathers in
+    let later_source = c.ask-turn.ensures.later in
+    let later_way = c.in-Ok.ensures.later in
+    let later_sink = c.in-None.ensures.later in
+    let keeps = c.ask-turn.ensures.keeps in
+    record {
+      underway = run_goes_on _ _ _ _ _ _ _ _ _ c.ask-turn.result _ c.ask-turn.new.out c.settle.new.gathered
+          (c.ask-turn.ensures.comes _ _ _ _ _ way c.in-Ok.ensures.ready) c.in-None.ensures.settles;
+      empty = c.in-None.ensures.empty refl;
+      later_source = omega (arith, later_source, c.loop-command.invariant.later_source);
+      later_sink = omega (arith, later_way, later_sink, c.loop-command.invariant.later_sink);
+      keeps = keeps ∙ c.loop-command.invariant.keeps;
+    }
 
 pub loop-command-smaller : goal.loop-command-smaller
 loop-command-smaller g c =
-  let way = way_made _ _ _ _ _ _ _ _ _ _ _ _ c.make_way.ensures.kept c.loop-command.invariant.underway c.in-Ok.ensures.gathers in
-  let rises = c.ask-turn.ensures.goes_on (is_answered c.ask-turn.result _ c.ask-turn.new.out c.settle.new.gathered _ _ c.in-None.ensures.settles) in
-  let then = run_goes_on _ _ _ _ _ _ _ _ _ c.ask-turn.result _ c.ask-turn.new.out c.settle.new.gathered
-      (c.ask-turn.ensures.comes _ _ _ _ _ way c.in-Ok.ensures.ready) c.in-None.ensures.settles in
-  let limit = then.at.valid.limit in
-  let kept = c.make_way.ensures.kept in
-  let rises_from : c.loop-command.lines.answered < c.ask-turn.new.lines.answered = rw kept at rises in
-  omega (arith, rises_from, limit)
+    let way = way_made _ _ _ _ _ _ _ _ _ _ _ _ c.make_way.ensures.kept c.loop-command.invariant.underway c.in-Ok.ensures.gathers in
+    let rises = c.ask-turn.ensures.goes_on (is_answered c.ask-turn.result _ c.ask-turn.new.out c.settle.new.gathered _ _ c.in-None.ensures.settles) in
+    let then = run_goes_on _ _ _ _ _ _ _ _ _ c.ask-turn.result _ c.ask-turn.new.out c.settle.new.gathered
+    (c.ask-turn.ensures.comes _ _ _ _ _ way c.in-Ok.ensures.ready) c.in-None.ensures.settles in
+    let limit = then.at.valid.limit in
+    let kept = c.make_way.ensures.kept in
+    let rises_from : c.loop-command.lines.answered < c.ask-turn.new.lines.answered = rw kept at rises in
+    omega (arith, rises_from, limit)

@@ -5,11 +5,11 @@ use Rattle.um_driver.proofs.driver.serve.Given as goal
 abbrev pub invariant-loop-command : goal.invariant-loop-command
 invariant-loop-command g l = record {
   underway : IsUnderway g.C.Command.rules (g.C.Command.start l.fn.command) (g.C.Command.stands l.command) l.lines
-    (g.S.Source.left l.fn.input) (g.S.Source.left l.input) (g.K.Sink.taken l.fn.output) (g.K.Sink.taken l.output) l.gathered;
+      (g.S.Source.left l.fn.input) (g.S.Source.left l.input) (g.K.Sink.taken l.fn.output) (g.K.Sink.taken l.output) l.gathered;
   empty : l.out ≡ [];
   later_source : g.S.Source.faults l.fn.input ≤ g.S.Source.faults l.input;
   later_sink : g.K.Sink.faults l.fn.output ≤ g.K.Sink.faults l.output;
-  keeps : g.C.Command.kept l.command ≡ g.C.Command.kept l.fn.command
+  keeps : g.C.Command.kept l.command ≡ g.C.Command.kept l.fn.command;
 }
 
 abbrev pub decreases-loop-command : goal.decreases-loop-command

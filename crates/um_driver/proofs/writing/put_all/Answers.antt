@@ -7,16 +7,16 @@ use Rattle.um_driver.proofs.writing.put_all.Goals as goal
 
 pub returns-in_err-written-clause-taken : goal.returns-in_err-written-clause-taken
 returns-in_err-written-clause-taken g c =
-  MatchResult-from_err c.from_residual.result
+    MatchResult-from_err c.from_residual.result
     (λ _. Appends (g.K.Sink.taken c.args.output.now) (g.K.Sink.taken c.put.new.self) c.args.piece.now)
     (λ _. TakesFront (g.K.Sink.taken c.args.output.now) (g.K.Sink.taken c.put.new.self) c.args.piece.now)
     c.from_residual.ensures.0
     (λ _. TakesFront-take _ _ c.loop-written.written _
-      (Appends-keeps _ _ _ _ c.loop-written.invariant.front c.in_err-written.ensures.octets))
+    (Appends-keeps _ _ _ _ c.loop-written.invariant.front c.in_err-written.ensures.octets))
 
 pub loop-written-preserved : goal.loop-written-preserved
 loop-written-preserved g c = record {
   bound = let n = c.in_ok-written.ensures.bound in omega (arith, simp (length-take, length-drop) at n);
   front = Appends-front _ _ _ _ _ _ c.loop-written.invariant.front c.in_ok-written.ensures.octets;
-  later = omega (arith, c.in_ok-written.ensures.later, c.loop-written.invariant.later)
+  later = omega (arith, c.in_ok-written.ensures.later, c.loop-written.invariant.later);
 }
