@@ -23,6 +23,17 @@ fn answers(count: usize) -> Option<[u8; 294]> {
     Some(all)
 }
 
+/// Gives one line a reading, so that each answer is written alone, in pieces of 50 and 48 octets.
+fn one_line_a_reading(failing_puts: &[u64]) -> Outside<'_> {
+    Outside {
+        take_most: 21,
+        failing_takes: &[],
+        put_most: 50,
+        failing_puts,
+        room: 100_000,
+    }
+}
+
 #[test]
 fn a_reading_that_fails_leaves_the_answers_to_the_lines_before(rt: HostRuntime) {
     let third = Outside::failing(8, &[3], &[]);
@@ -124,7 +135,7 @@ fn each_writing_fails_in_turn(rt: HostRuntime) -> Result<(), Fail> {
     let cases = [(1, 0), (2, 50), (3, 98), (4, 148), (5, 196), (6, 246)];
     for (call, taken) in cases {
         let calls = [call];
-        let outside = Outside::failing(50, &[], &calls);
+        let outside = one_line_a_reading(&calls);
         compare(
             &rt,
             &["code"],
@@ -134,7 +145,7 @@ fn each_writing_fails_in_turn(rt: HostRuntime) -> Result<(), Fail> {
             &all[..taken],
         );
     }
-    let seventh = Outside::failing(50, &[], &[7]);
+    let seventh = one_line_a_reading(&[7]);
     compare(&rt, &["code"], THREE_LINES, seventh, Status::Done, &all);
     Ok(())
 }
