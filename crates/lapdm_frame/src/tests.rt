@@ -126,11 +126,17 @@ fn reads_back(rt: &impl Abort, f: &FrameView<'_>, channel: Channel) {
     assert_eq!(rt; read_on(&write_on(f, channel), channel), Ok(*f));
 }
 
+fn read_back_both_ways(rt: &impl Abort, bodies: &[Body<'_>], channel: Channel) {
+    for body in bodies {
+        reads_back(rt, &view(0, true, *body), channel);
+        reads_back(rt, &view(7, false, *body), channel);
+    }
+}
+
 #[test]
-fn reads_back_every_kind(rt: HostRuntime) {
+fn reads_back_every_numbered_kind(rt: HostRuntime) {
     let message = [0x5au8; 20];
     for channel in [Channel::Sdcch, Channel::Sacch] {
-        let whole = &message[..channel.n201()];
         let bodies = [
             Body::I {
                 ns: 7,
@@ -144,11 +150,22 @@ fn reads_back_every_kind(rt: HostRuntime) {
                 nr: 7,
                 p: true,
                 more: false,
-                info: whole,
+                info: &message[..channel.n201()],
             },
             Body::Rr { nr: 1, pf: true },
             Body::Rnr { nr: 2, pf: false },
             Body::Rej { nr: 4, pf: true },
+        ];
+        read_back_both_ways(&rt, &bodies, channel);
+    }
+}
+
+#[test]
+fn reads_back_every_unnumbered_kind(rt: HostRuntime) {
+    let message = [0x5au8; 20];
+    for channel in [Channel::Sdcch, Channel::Sacch] {
+        let whole = &message[..channel.n201()];
+        let bodies = [
             Body::Sabm { p: true, info: &[] },
             Body::Sabm {
                 p: true,
@@ -170,9 +187,6 @@ fn reads_back_every_kind(rt: HostRuntime) {
                 info: whole,
             },
         ];
-        for body in bodies {
-            reads_back(&rt, &view(0, true, body), channel);
-            reads_back(&rt, &view(7, false, body), channel);
-        }
+        read_back_both_ways(&rt, &bodies, channel);
     }
 }
