@@ -2,12 +2,17 @@
 #![tactic(auto)]
 
 mod access_burst;
+mod laws;
+mod lending;
 mod normal_burst;
+mod normal_parts;
 mod place;
 mod sync_burst;
 
 pub use access_burst::{AccessView, access};
+pub use laws::law_filled;
 pub use normal_burst::{NormalView, normal};
+pub use normal_parts::NormalParts;
 pub use sync_burst::{SyncView, sync};
 
 #[cfg(test)]

@@ -1,7 +1,8 @@
-ghost use Rattle.std.specs.Prelude.{◌≡◌, length};
+ghost use Rattle.std.specs.Prelude.{◌≡◌, ◌≤◌, length};
 ghost use Rattle.bit_blocks.specs.Bits.{AllBits};
+ghost use Rattle.burst_map.specs.NormalBurst.{normal_burst};
 
-use super::{access, normal, sync};
+use super::{NormalParts, access, normal, sync};
 use std::alloc::{AllocError, Global};
 use std::process::Abort;
 
@@ -21,6 +22,20 @@ fn assert_bits(rt: &impl Abort, bits: &[u8], count: usize)
     assert_eq!(rt; bits.len(), count);
     let are_bits = bits.iter().all(|bit| *bit <= 1);
     assert!(rt; are_bits);
+}
+
+// The same burst as `normal` makes, written half by half.
+fn filled(first: &[u8], second: &[u8], tsc: u8) -> [u8; 148]
+    requires first { length first.now ≡ 57 }
+    requires second { length second.now ≡ 57 }
+    requires known { tsc ≤ 7 }
+    ensures { result ≡ normal_burst first.now second.now tsc }
+{
+    let mut burst = [0; 148];
+    let mut parts = NormalParts::new(&mut burst, tsc);
+    parts.first_mut().copy_from_slice(first);
+    parts.second_mut().copy_from_slice(second);
+    burst
 }
 
 // The first burst of a block of 23 octets 00.
@@ -44,6 +59,7 @@ fn a_normal_burst_has_both_flags_and_its_sequence(rt: HostRuntime) -> Result<(),
     assert_bits(&rt, first, 57);
     assert_bits(&rt, second, 57);
     assert_eq!(rt; normal(first, second, 0).as_slice(), expected.as_slice());
+    assert_eq!(rt; filled(first, second, 0).as_slice(), expected.as_slice());
     Ok(())
 }
 
