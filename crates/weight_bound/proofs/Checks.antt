@@ -1,0 +1,29 @@
+-- The definitions at worked values.
+use Rattle.std.proofs.Common.{◌≡◌, pos, negsuc, [], ◌∷◌, replicate, refl, true, nat_le, arith}
+use Rattle.std.specs.Prelude.{unsigned_abs}
+use Rattle.std.specs.List.{list_all}
+use Rattle.std.proofs.lemmas.List.Sums.{AllPass-from_list_all}
+use Rattle.std.proofs.lemmas.Bool.{leb-true}
+use Rattle.conv_code.specs.Code.{coded}
+use Rattle.weight_bound.specs.Distance.{distance}
+use Rattle.weight_bound.specs.Restoring.{wrong_bits, IsStrengths}
+
+distance-two : distance (0 ∷ 1 ∷ 1 ∷ []) (1 ∷ 1 ∷ 0 ∷ []) ≡ 2
+distance-two = refl
+
+wrong_bits-two : wrong_bits (pos 0 ∷ pos 3 ∷ negsuc 2 ∷ []) (0 ∷ 0 ∷ 0 ∷ []) ≡ 2
+wrong_bits-two = refl
+
+-- a one alone, at the first of eighteen places
+distance-seven : distance (coded (1 ∷ replicate 17 0)) (coded (replicate 18 0)) ≡ 7
+distance-seven = refl
+
+are_within : list_all (λ value. nat_le (unsigned_abs value) 5) (negsuc 4 ∷ pos 4 ∷ pos 0 ∷ []) ≡ true
+are_within = refl
+
+strengths-zero_five : IsStrengths (negsuc 4 ∷ pos 4 ∷ pos 0 ∷ []) 0 5
+strengths-zero_five = record {
+  between = (λ k d lt. (omega arith, leb-true _ _ (AllPass-from_list_all (λ value. nat_le (unsigned_abs value) 5) (negsuc 4 ∷ pos 4 ∷ pos 0 ∷ []) are_within k d lt)));
+  least = (2, omega arith, refl);
+  greatest = (0, omega arith, refl);
+}

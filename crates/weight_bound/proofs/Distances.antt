@@ -1,0 +1,183 @@
+-- The coded lists of two information lists differ in at least seven places, and some in no more.
+use Rattle.std.proofs.Common.{◌≡◌, ◌≢◌, ℕ, zero, suc, ◌+◌, ◌-◌, ◌*◌, ◌%◌, ◌≤◌, List, [], ◌∷◌, ◌++◌, length, take, drop, replicate, not, ◌==◌, cond, refl, ap, ap₂, sym, ◌∙◌, arith, length-drop}
+use Rattle.std.proofs.lemmas.List.{take-append-drop, length-replicate, length-take}
+use Rattle.std.proofs.lemmas.List.Elements.{All-nil, All-cons, All-head, All-tail, All-take, All-drop, All-replicate}
+use Rattle.std.specs.List.{All, flat_map, range_with_len}
+use Rattle.bit_blocks.specs.Bits.{AllBits, add_bits}
+use Rattle.conv_code.specs.Code.{coded_pair, coded, IsInformation}
+use Rattle.trellis_decode.specs.Trellis.{coded_from}
+use Rattle.trellis_decode.proofs.Likelihoods.{AllBits-coded}
+use Rattle.trellis_decode.proofs.Lists.{coded_from_start}
+use Rattle.weight_bound.specs.Distance.{distance, AtLeastSeven, ReachesSeven}
+use Rattle.weight_bound.proofs.Counting.{distance-cons}
+use Rattle.weight_bound.proofs.Linear.{coded-add_bits}
+use Rattle.weight_bound.proofs.Weights.{ones, tail_bits, ones_bound}
+
+length-pairs : (u places : List ℕ) → length (flat_map (coded_pair u) places) ≡ 2 * length places
+length-pairs u [] = refl
+length-pairs u (k ∷ places) = let later = length-pairs u places in omega arith
+
+length-range : (n a : ℕ) → length (range_with_len a n) ≡ n
+length-range zero a = refl
+length-range (suc n) a = ap suc (length-range n (a + 1))
+
+pub length-coded : (u : List ℕ) → length (coded u) ≡ 2 * length u
+length-coded u = length-pairs u (range_with_len 0 (length u)) ∙ ap (λ n. 2 * n) (length-range (length u) 0)
+
+-- bits differ where their sum is 1
+distance-add_bits : (a b : List ℕ) → length a ≡ length b → AllBits a → AllBits b → distance a b ≡ ones (add_bits a b)
+distance-add_bits [] b e bits_a bits_b = refl
+distance-add_bits (x ∷ a) [] e bits_a bits_b = absurd (omega arith)
+distance-add_bits (x ∷ a) (y ∷ b) e bits_a bits_b =
+    let e' : length a ≡ length b = omega arith in
+    let later = distance-add_bits a b e' (All-tail (λ bit. bit ≤ 1) x a bits_a) (All-tail (λ bit. bit ≤ 1) y b bits_b) in
+    distance-cons x y a b
+    ∙ ap₂ (λ here after. here + after) (one_place x y (All-head (λ bit. bit ≤ 1) x a bits_a) (All-head (λ bit. bit ≤ 1) y b bits_b)) later
+  where
+    one_place : (x y : ℕ) → x ≤ 1 → y ≤ 1 → cond (not (x == y)) 1 0 ≡ (x + y) % 2
+    one_place zero zero hx hy = refl
+    one_place zero (suc zero) hx hy = refl
+    one_place (suc zero) zero hx hy = refl
+    one_place (suc zero) (suc zero) hx hy = refl
+    one_place zero (suc (suc y)) hx hy = absurd (omega arith)
+    one_place (suc zero) (suc (suc y)) hx hy = absurd (omega arith)
+    one_place (suc (suc x)) y hx hy = absurd (omega arith)
+
+AllBits-add_bits : (u v : List ℕ) → AllBits (add_bits u v)
+AllBits-add_bits [] v = All-nil (λ bit. bit ≤ 1)
+AllBits-add_bits (x ∷ u) [] = All-nil (λ bit. bit ≤ 1)
+AllBits-add_bits (x ∷ u) (y ∷ v) = All-cons (λ bit. bit ≤ 1) _ _ (omega arith) (AllBits-add_bits u v)
+
+add_bits-append : (a b c d : List ℕ) → length a ≡ length b → add_bits (a ++ c) (b ++ d) ≡ add_bits a b ++ add_bits c d
+add_bits-append [] [] c d e = refl
+add_bits-append [] (y ∷ b) c d e = absurd (omega arith)
+add_bits-append (x ∷ a) [] c d e = absurd (omega arith)
+add_bits-append (x ∷ a) (y ∷ b) c d e =
+    let e' : length a ≡ length b = omega arith in
+    ap (λ tail. ((x + y) % 2) ∷ tail) (add_bits-append a b c d e')
+
+-- the first place where two lists differ gives two ones, and leads to the state from which five more come
+seven_ones : (u v : List ℕ) → AllBits u → AllBits v → length u ≡ length v → u ≢ v → 7 ≤ ones (coded_from 0 (add_bits u v ++ tail_bits))
+seven_ones [] [] bits_u bits_v e ne = absurd (ne refl)
+seven_ones [] (y ∷ v) bits_u bits_v e ne = absurd (omega arith)
+seven_ones (x ∷ u) [] bits_u bits_v e ne = absurd (omega arith)
+seven_ones (zero ∷ u) (zero ∷ v) bits_u bits_v e ne =
+    let e' : length u ≡ length v = omega arith in
+    let later = seven_ones u v (All-tail (λ bit. bit ≤ 1) 0 u bits_u) (All-tail (λ bit. bit ≤ 1) 0 v bits_v) e' (λ same. ne (ap (λ w. 0 ∷ w) same)) in
+    omega (arith, later)
+seven_ones (suc zero ∷ u) (suc zero ∷ v) bits_u bits_v e ne =
+    let e' : length u ≡ length v = omega arith in
+    let later = seven_ones u v (All-tail (λ bit. bit ≤ 1) 1 u bits_u) (All-tail (λ bit. bit ≤ 1) 1 v bits_v) e' (λ same. ne (ap (λ w. 1 ∷ w) same)) in
+    omega (arith, later)
+seven_ones (zero ∷ u) (suc zero ∷ v) bits_u bits_v e ne =
+    let later = ones_bound 1 (add_bits u v) (omega arith) (AllBits-add_bits u v) in
+    omega (arith, later)
+seven_ones (suc zero ∷ u) (zero ∷ v) bits_u bits_v e ne =
+    let later = ones_bound 1 (add_bits u v) (omega arith) (AllBits-add_bits u v) in
+    omega (arith, later)
+seven_ones (suc (suc x) ∷ u) (y ∷ v) bits_u bits_v e ne =
+    let bit : suc (suc x) ≤ 1 = All-head (λ bit. bit ≤ 1) (suc (suc x)) u bits_u in
+    absurd (omega arith)
+seven_ones (x ∷ u) (suc (suc y) ∷ v) bits_u bits_v e ne =
+    let bit : suc (suc y) ≤ 1 = All-head (λ bit. bit ≤ 1) (suc (suc y)) v bits_v in
+    absurd (omega arith)
+
+-- four places that are all 0
+tail_bits-from_zeros : (t : List ℕ) → length t ≡ 4 → All (λ bit. bit ≡ 0) t → t ≡ tail_bits
+tail_bits-from_zeros [] e zeros = absurd (omega arith)
+tail_bits-from_zeros (a ∷ []) e zeros = absurd (omega arith)
+tail_bits-from_zeros (a ∷ b ∷ []) e zeros = absurd (omega arith)
+tail_bits-from_zeros (a ∷ b ∷ c ∷ []) e zeros = absurd (omega arith)
+tail_bits-from_zeros (a ∷ b ∷ c ∷ d ∷ x ∷ t) e zeros = absurd (omega arith)
+tail_bits-from_zeros (a ∷ b ∷ c ∷ d ∷ []) e zeros =
+    ap₂ (λ x t. x ∷ t) (zeros 0 0 (omega arith))
+    (ap₂ (λ x t. x ∷ t) (zeros 1 0 (omega arith))
+    (ap₂ (λ x t. x ∷ t) (zeros 2 0 (omega arith))
+    (ap (λ x. x ∷ []) (zeros 3 0 (omega arith)))))
+
+-- what stands before the last four places
+abbrev front : List ℕ → List ℕ
+front u = take (length u - 4) u
+
+front-tail_bits : (u : List ℕ) → IsInformation u → front u ++ tail_bits ≡ u
+front-tail_bits u information =
+    let count = information.count in
+    let four : length (drop (length u - 4) u) ≡ 4 = rw length-drop (omega arith) in
+    ap (λ tail. front u ++ tail) (sym (tail_bits-from_zeros (drop (length u - 4) u) four information.tail)) ∙ take-append-drop (length u - 4) u
+
+-- as many places differ as the coded list of the sum has ones
+distance-coded : (u v : List ℕ) → length u ≡ length v → AllBits u → AllBits v →
+    distance (coded u) (coded v) ≡ ones (coded_from 0 (add_bits u v))
+distance-coded u v same bits_u bits_v =
+    let count : length (coded u) ≡ length (coded v) = length-coded u ∙ ap (λ n. 2 * n) same ∙ sym (length-coded v) in
+    distance-add_bits (coded u) (coded v) count (AllBits-coded u bits_u) (AllBits-coded v bits_v)
+    ∙ ap ones (sym (coded-add_bits u v same) ∙ coded_from_start (add_bits u v) (AllBits-add_bits u v))
+
+pub at_least_seven : AtLeastSeven
+at_least_seven u v information_u information_v same ne =
+    let bits_u = information_u.bits in
+    let bits_v = information_v.bits in
+    let fronts : length (front u) ≡ length (front v) = simp length-take (omega arith) in
+    let split : add_bits u v ≡ add_bits (front u) (front v) ++ tail_bits =
+    ap₂ add_bits (sym (front-tail_bits u information_u)) (sym (front-tail_bits v information_v)) ∙ add_bits-append (front u) (front v) tail_bits tail_bits fronts in
+    let whole : distance (coded u) (coded v) ≡ ones (coded_from 0 (add_bits (front u) (front v) ++ tail_bits)) =
+    distance-coded u v same bits_u bits_v ∙ ap (λ w. ones (coded_from 0 w)) split in
+    let ne' : front u ≢ front v = λ e. ne (sym (front-tail_bits u information_u) ∙ ap (λ w. w ++ tail_bits) e ∙ front-tail_bits v information_v) in
+    let bound = seven_ones (front u) (front v) (All-take (λ bit. bit ≤ 1) (length u - 4) u bits_u) (All-take (λ bit. bit ≤ 1) (length v - 4) v bits_v) fronts ne' in
+    omega (arith, whole, bound)
+
+add_bits-zeros : (n : ℕ) → add_bits (replicate n 0) (replicate n 0) ≡ replicate n 0
+add_bits-zeros zero = refl
+add_bits-zeros (suc n) = ap (λ w. 0 ∷ w) (add_bits-zeros n)
+
+ones-zeros : (n : ℕ) → ones (coded_from 0 (replicate n 0)) ≡ 0
+ones-zeros zero = refl
+ones-zeros (suc n) = let later = ones-zeros n in omega (arith, later)
+
+IsInformation-zeros : (n : ℕ) → 5 ≤ n → IsInformation (replicate n 0)
+IsInformation-zeros n count = record {
+  count = rw length-replicate count;
+  bits = All-replicate (λ bit. bit ≤ 1) n 0 (omega arith);
+  tail = All-drop (λ bit. bit ≡ 0) (length (replicate n 0) - 4) (replicate n 0) (All-replicate (λ bit. bit ≡ 0) n 0 (refl {a = 0}));
+}
+
+-- a one, and zeros after it
+abbrev one_first : ℕ → List ℕ
+one_first n = 1 ∷ replicate n 0
+
+IsInformation-one_first : (n : ℕ) → 4 ≤ n → IsInformation (one_first n)
+IsInformation-one_first n four =
+    let zeros : length (replicate {A = ℕ} n 0) ≡ n = length-replicate n 0 in
+    let after : length (one_first n) - 4 ≡ suc (n - 4) = omega arith in
+    record {
+      count = omega arith;
+      bits = All-cons (λ bit. bit ≤ 1) 1 (replicate n 0) (omega arith) (All-replicate (λ bit. bit ≤ 1) n 0 (omega arith));
+      tail = rw after (All-drop (λ bit. bit ≡ 0) (n - 4) (replicate n 0) (All-replicate (λ bit. bit ≡ 0) n 0 (refl {a = 0})));
+    }
+
+distance-one_first : (m : ℕ) → distance (coded (one_first (suc (suc (suc (suc m)))))) (coded (replicate (suc (suc (suc (suc (suc m))))) 0)) ≡ 7
+distance-one_first m =
+    let u = one_first (suc (suc (suc (suc m)))) in
+    let v = replicate {A = ℕ} (suc (suc (suc (suc (suc m))))) 0 in
+    let same : length u ≡ length v = ap suc refl in
+    let later = ones-zeros m in
+    distance-coded u v same (IsInformation-one_first (suc (suc (suc (suc m)))) (omega arith)).bits (IsInformation-zeros (suc (suc (suc (suc (suc m))))) (omega arith)).bits
+    ∙ ap (λ w. ones (coded_from 0 (1 ∷ 0 ∷ 0 ∷ 0 ∷ 0 ∷ w))) (add_bits-zeros m)
+    ∙ omega (arith, later)
+
+-- a one at the first place alone, and the list of zeros
+pub reaches_seven : (n : ℕ) → 5 ≤ n → ReachesSeven n
+reaches_seven zero h = absurd (omega arith)
+reaches_seven (suc zero) h = absurd (omega arith)
+reaches_seven (suc (suc zero)) h = absurd (omega arith)
+reaches_seven (suc (suc (suc zero))) h = absurd (omega arith)
+reaches_seven (suc (suc (suc (suc zero)))) h = absurd (omega arith)
+reaches_seven (suc (suc (suc (suc (suc m))))) h = record {
+  u = one_first (suc (suc (suc (suc m))));
+  v = replicate (suc (suc (suc (suc (suc m))))) 0;
+  first = IsInformation-one_first (suc (suc (suc (suc m)))) (omega arith);
+  second = IsInformation-zeros (suc (suc (suc (suc (suc m))))) h;
+  first_count = ap suc (length-replicate (suc (suc (suc (suc m)))) 0);
+  second_count = length-replicate (suc (suc (suc (suc (suc m))))) 0;
+  seven = distance-one_first m;
+}

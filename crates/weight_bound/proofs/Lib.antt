@@ -1,0 +1,7 @@
+mod Checks
+pub mod AbsoluteValues
+pub mod Counting
+pub mod Distances
+pub mod Linear
+pub mod Restoring
+pub mod Weights

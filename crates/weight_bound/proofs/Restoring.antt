@@ -1,0 +1,138 @@
+-- Three wrong places do not make up for seven that differ, where all values are nearly as strong.
+use Rattle.std.proofs.Common.{◌≡◌, ◌≢◌, ℕ, zero, suc, ◌+◌, ◌*◌, ◌<◌, ◌≤◌, not, ◌==◌, cond, true, false, inl, inr, ℤ, pos, negsuc, ◌+ℤ◌, ◌-ℤ◌, List, [], ◌∷◌, length, refl, sym, ap, ◌∙◌, arith}
+use Rattle.std.specs.Prelude.{◌<ℤ◌, ◌≤ℤ◌, ◌⊎◌, int_le, unsigned_abs}
+use Rattle.std.specs.List.{All}
+use Rattle.std.proofs.Math.Nat.{mul-le-mul_left}
+use Rattle.std.proofs.lemmas.Int.{ints}
+use Rattle.std.proofs.lemmas.List.Elements.{All-head, All-tail, All-weaker}
+use Rattle.bit_blocks.specs.Bits.{AllBits}
+use Rattle.conv_code.specs.Code.{coded, IsInformation}
+use Rattle.conv_code.specs.Likelihood.{agreement, likelihood, IsMostLikely}
+use Rattle.trellis_decode.proofs.EdgeLanes.{agreement-zero, agreement-one}
+use Rattle.trellis_decode.proofs.Likelihoods.{AllBits-coded}
+use Rattle.trellis_decode.proofs.MostLikely.{IsMostLikely-only}
+use Rattle.weight_bound.specs.Distance.{distance}
+use Rattle.weight_bound.specs.Restoring.{wrong_bits, IsHardlyDamaged, Restores}
+use Rattle.weight_bound.proofs.AbsoluteValues.{Between, Contains-strength}
+use Rattle.weight_bound.proofs.Counting.{distance-cons, wrong_bits-cons}
+use Rattle.weight_bound.proofs.Distances.{at_least_seven, length-coded}
+
+-- a place is right or wrong, by the test and as a fact
+right_or_wrong : (z : ℤ) → ((int_le z (pos 0) ≡ true) × (z ≤ℤ pos 0)) ⊎ ((int_le z (pos 0) ≡ false) × (pos 0 <ℤ z))
+right_or_wrong (pos zero) = inl (refl, omega (arith, ints))
+right_or_wrong (pos (suc n)) = inr (grind (arith, ints), omega (arith, ints))
+right_or_wrong (negsuc n) = inl (refl, omega (arith, ints))
+
+-- what the right bit of a place counts, and what the other bit does: one of them the value, the other its negative
+abbrev Opposite : ℤ → ℤ → ℤ → Type 0
+Opposite p a b = ((a ≡ p) × (b ≡ pos 0 -ℤ p)) ⊎ ((b ≡ p) × (a ≡ pos 0 -ℤ p))
+
+-- where the values differ and the place is right, the sum gains twice the least absolute value
+right_place : (p a b : ℤ) (lo hi : ℕ) → Between lo hi p → Opposite p a b → pos 0 <ℤ a → (b +ℤ pos (2 * lo)) ≤ℤ a
+right_place (pos n) a b lo hi between (inl e) right = omega (arith, ints)
+right_place (pos n) a b lo hi between (inr e) right = omega (arith, ints)
+right_place (negsuc n) a b lo hi between (inl e) right = omega (arith, ints)
+right_place (negsuc n) a b lo hi between (inr e) right = omega (arith, ints)
+
+-- where it is wrong, the sum loses at most twice the greatest
+wrong_place : (p a b : ℤ) (lo hi : ℕ) → Between lo hi p → Opposite p a b → a ≤ℤ pos 0 → b ≤ℤ (a +ℤ pos (2 * hi))
+wrong_place (pos n) a b lo hi between (inl e) wrong = omega (arith, ints)
+wrong_place (pos n) a b lo hi between (inr e) wrong = omega (arith, ints)
+wrong_place (negsuc n) a b lo hi between (inl e) wrong = omega (arith, ints)
+wrong_place (negsuc n) a b lo hi between (inr e) wrong = omega (arith, ints)
+
+-- the other list is worth at least 2 lo less for each place that differs, but for 2 (lo + hi) at each wrong one
+abbrev IsOutweighed : ℤ → ℤ → ℕ → ℕ → ℕ → ℕ → Type 0
+IsOutweighed a b lo hi differ wrong = (b +ℤ pos (2 * (lo * differ))) ≤ℤ (a +ℤ pos (2 * ((lo + hi) * wrong)))
+
+differing_place : (p a b : ℤ) (lo hi : ℕ) → Between lo hi p → Opposite p a b → IsOutweighed a b lo hi 1 (cond (int_le a (pos 0)) 1 0)
+differing_place p a b lo hi between opposite =
+    elim (right_or_wrong a) [
+      | inl wrong ↦ let bound = wrong_place p a b lo hi between opposite wrong.1 in rw wrong.0 (omega (arith, ints))
+      | inr right ↦ let bound = right_place p a b lo hi between opposite right.1 in rw right.0 (omega (arith, ints))
+    ]
+
+-- a place at which the bits agree cancels; at others the other list gains where the place is wrong
+one_place : (p : ℤ) (x y lo hi : ℕ) → Between lo hi p → x ≤ 1 → y ≤ 1 →
+    IsOutweighed (agreement p x) (agreement p y) lo hi (cond (not (x == y)) 1 0) (cond (int_le (agreement p x) (pos 0)) 1 0)
+one_place p zero zero lo hi between hx hy = omega (arith, ints)
+one_place p (suc zero) (suc zero) lo hi between hx hy = omega (arith, ints)
+one_place p zero (suc zero) lo hi between hx hy =
+    differing_place p (agreement p 0) (agreement p 1) lo hi between (inl (agreement-zero p, agreement-one p))
+one_place p (suc zero) zero lo hi between hx hy =
+    differing_place p (agreement p 1) (agreement p 0) lo hi between (inr (agreement-zero p, agreement-one p))
+one_place p (suc (suc x)) y lo hi between hx hy = absurd (omega arith)
+one_place p zero (suc (suc y)) lo hi between hx hy = absurd (omega arith)
+one_place p (suc zero) (suc (suc y)) lo hi between hx hy = absurd (omega arith)
+
+-- the same, summed over all places
+all_places : (s : List ℤ) (c d : List ℕ) (lo hi : ℕ) → length s ≡ length c → length s ≡ length d → AllBits c → AllBits d →
+    All (Between lo hi) s → IsOutweighed (likelihood s c) (likelihood s d) lo hi (distance c d) (wrong_bits s c)
+all_places [] [] [] lo hi ec ed bits_c bits_d between = omega (arith, ints)
+all_places [] (x ∷ c) d lo hi ec ed bits_c bits_d between = absurd (omega arith)
+all_places [] [] (y ∷ d) lo hi ec ed bits_c bits_d between = absurd (omega arith)
+all_places (p ∷ s) [] d lo hi ec ed bits_c bits_d between = absurd (omega arith)
+all_places (p ∷ s) (x ∷ c) [] lo hi ec ed bits_c bits_d between = absurd (omega arith)
+all_places (p ∷ s) (x ∷ c) (y ∷ d) lo hi ec ed bits_c bits_d between =
+    let ec' : length s ≡ length c = omega arith in
+    let ed' : length s ≡ length d = omega arith in
+    let hx = All-head (λ bit. bit ≤ 1) x c bits_c in
+    let hy = All-head (λ bit. bit ≤ 1) y d bits_d in
+    let here = one_place p x y lo hi (All-head (Between lo hi) p s between) hx hy in
+    let later = all_places s c d lo hi ec' ed' (All-tail (λ bit. bit ≤ 1) x c bits_c) (All-tail (λ bit. bit ≤ 1) y d bits_d) (All-tail (Between lo hi) p s between) in
+    rw (distance-cons x y c d, wrong_bits-cons p x s c) (joined (agreement p x) (agreement p y) (likelihood s c) (likelihood s d) lo hi _ _ _ _ here later)
+  where
+    joined : (a b la lb : ℤ) (lo hi d w ds ws : ℕ) → IsOutweighed a b lo hi d w → IsOutweighed la lb lo hi ds ws →
+        IsOutweighed (a +ℤ la) (b +ℤ lb) lo hi (d + ds) (w + ws)
+    joined a b la lb lo hi d w ds ws here later = omega (arith, ints)
+
+-- seven places at strength lo outweigh what three wrong ones take back
+pub less_likely : (s : List ℤ) (u v : List ℕ) → IsInformation u → IsInformation v → length s ≡ 2 * length u → length v ≡ length u → v ≢ u →
+    IsHardlyDamaged s (coded u) → likelihood s (coded v) <ℤ likelihood s (coded u)
+less_likely s u v information_u information_v pairs same ne damage =
+    let lo = damage.lo in
+    let hi = damage.hi in
+    let count_u : length s ≡ length (coded u) = pairs ∙ sym (length-coded u) in
+    let count_v : length s ≡ length (coded v) = pairs ∙ ap (λ n. 2 * n) (sym same) ∙ sym (length-coded v) in
+    let sums = all_places s (coded u) (coded v) lo hi count_u count_v (AllBits-coded u information_u.bits) (AllBits-coded v information_v.bits) damage.strengths.between in
+    let seven = at_least_seven u v information_u information_v (sym same) (λ e. ne (sym e)) in
+    weighed (likelihood s (coded u)) (likelihood s (coded v)) lo hi (distance (coded u) (coded v)) (wrong_bits s (coded u)) sums seven damage.few damage.even
+  where
+    weighed : (a b : ℤ) (lo hi d w : ℕ) → IsOutweighed a b lo hi d w → 7 ≤ d → w ≤ 3 → 3 * hi < 4 * lo → b <ℤ a
+    weighed a b lo hi d w sums seven few even =
+        let gained = mul-le-mul_left lo seven in
+        let lost = mul-le-mul_left (lo + hi) few in
+        omega (arith, ints, gained, lost)
+
+-- the list that was sent is the most likely one, and no other is as likely
+pub restores : (soft : List ℤ) (u : List ℕ) → Restores soft u
+restores soft u information pairs damage = (
+  record {
+    information = information;
+    count = pairs;
+    others = (λ v other same ne. inl (less_likely soft u v information other pairs same ne damage));
+  },
+  (λ v other same ne. less_likely soft u v information other pairs same ne damage),
+)
+
+-- so whatever is most likely is the list that was sent
+pub restored : (soft : List ℤ) (u v : List ℕ) → IsInformation u → length soft ≡ 2 * length u → IsHardlyDamaged soft (coded u) →
+    IsMostLikely soft v → v ≡ u
+restored soft u v information pairs damage most = IsMostLikely-only soft u v (restores soft u information pairs damage).0 most
+
+-- values of one strength other than 0 are strong enough
+pub IsHardlyDamaged-equal : (soft : List ℤ) (c : List ℕ) (strength : ℕ) → 0 < length soft → 0 < strength →
+    All (λ value. unsigned_abs value ≡ strength) soft → wrong_bits soft c ≤ 3 → IsHardlyDamaged soft c
+IsHardlyDamaged-equal soft c strength any more equal few =
+    let first = Contains-strength soft 0 strength any (sym (equal 0 (pos 0) any)) in
+    record {
+      few = few;
+      lo = strength;
+      hi = strength;
+      strengths = record {
+        between = All-weaker (λ value. unsigned_abs value ≡ strength) (Between strength strength) (λ value e. (omega arith, omega arith)) soft equal;
+        least = first;
+        greatest = first;
+      };
+      even = omega arith;
+    }

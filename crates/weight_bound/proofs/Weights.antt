@@ -1,0 +1,58 @@
+-- How many ones a coded list has, by a potential of the coder's states.
+use Rattle.std.proofs.Common.{◌≡◌, ℕ, zero, suc, ◌+◌, ◌<◌, ◌≤◌, Bool, ◌&&◌, true, nat_le, List, [], ◌∷◌, ◌++◌, get_or, refl, subst, ◌∙◌, zero-add, arith}
+use Rattle.std.specs.List.{list_all, range_with_len}
+use Rattle.std.proofs.lemmas.Bool.{and_parts, leb-true}
+use Rattle.std.proofs.lemmas.List.Elements.{All-head, All-tail}
+use Rattle.std.proofs.lemmas.List.FromFn.{get_or-range_with_len}
+use Rattle.std.proofs.lemmas.List.Sums.{AllPass-from_list_all}
+use Rattle.bit_blocks.specs.Bits.{AllBits}
+use Rattle.trellis_decode.specs.Trellis.{next, first_bit, second_bit, coded_from}
+
+-- the number of ones of a list of bits
+abbrev pub ones : List ℕ → ℕ
+ones [] = 0
+ones (x ∷ c) = x + ones c
+
+-- the four tail bits, which bring the coder back to rest
+abbrev pub tail_bits : List ℕ
+tail_bits = 0 ∷ 0 ∷ 0 ∷ 0 ∷ []
+
+-- the least number of ones that are still to come in a state
+abbrev pub potential : ℕ → ℕ
+potential state = get_or (0 ∷ 5 ∷ 4 ∷ 4 ∷ 4 ∷ 5 ∷ 4 ∷ 3 ∷ 2 ∷ 5 ∷ 5 ∷ 4 ∷ 2 ∷ 5 ∷ 2 ∷ 3 ∷ []) state 0
+
+-- no step takes more from the potential than it has ones, and neither do the last four
+abbrev is_paid : ℕ → ℕ → Bool
+is_paid state bit = nat_le (potential state) (first_bit state bit + second_bit state bit + potential (next state bit))
+
+abbrev are_paid : ℕ → Bool
+are_paid state = is_paid state 0 && is_paid state 1 && nat_le (potential state) (ones (coded_from state tail_bits))
+
+all_paid : list_all are_paid (range_with_len 0 16) ≡ true
+all_paid = refl
+
+paid_at : (state : ℕ) → state < 16 → are_paid state ≡ true
+paid_at state h =
+    let found = AllPass-from_list_all are_paid (range_with_len 0 16) all_paid state 0 h in
+    subst (λ k. are_paid k ≡ true) (get_or-range_with_len 0 16 state 0 h ∙ zero-add state) found
+
+paid_step : (state bit : ℕ) → state < 16 → bit ≤ 1 →
+    potential state ≤ first_bit state bit + second_bit state bit + potential (next state bit)
+paid_step state zero h b =
+    let parts = and_parts (is_paid state 0) _ (and_parts (is_paid state 0 && is_paid state 1) _ (paid_at state h)).0 in
+    leb-true _ _ parts.0
+paid_step state (suc zero) h b =
+    let parts = and_parts (is_paid state 0) _ (and_parts (is_paid state 0 && is_paid state 1) _ (paid_at state h)).0 in
+    leb-true _ _ parts.1
+paid_step state (suc (suc bit)) h b = absurd (omega arith)
+
+paid_rest : (state : ℕ) → state < 16 → potential state ≤ ones (coded_from state tail_bits)
+paid_rest state h = leb-true _ _ (and_parts (is_paid state 0 && is_paid state 1) _ (paid_at state h)).1
+
+-- from a state on, at least its potential comes
+pub ones_bound : (state : ℕ) (u : List ℕ) → state < 16 → AllBits u → potential state ≤ ones (coded_from state (u ++ tail_bits))
+ones_bound state [] h bits = paid_rest state h
+ones_bound state (x ∷ u) h bits =
+    let step = paid_step state x h (All-head (λ bit. bit ≤ 1) x u bits) in
+    let later = ones_bound (next state x) u (omega arith) (All-tail (λ bit. bit ≤ 1) x u bits) in
+    omega (arith, step, later)

@@ -1,0 +1,10 @@
+use Rattle.std.proofs.Common.{arith}
+use Rattle.std.proofs.lemmas.Bool.Decides.{nat_tests}
+use Rattle.weight_bound.specs.Distance.{is_different}
+use Rattle.weight_bound.proofs.Counting.{count_by_more}
+use Rattle.weight_bound.proofs.counts.distance.Goals as goal
+
+pub loop-k-preserved : goal.loop-k-preserved
+loop-k-preserved c =
+    let more = count_by_more (is_different c.args.a.now c.args.b.now) c.loop-k.k in
+    grind (arith, nat_tests, more)

@@ -1,0 +1,65 @@
+//! The plain counts over lists.
+
+ghost use Rattle.std.specs.Prelude.{◌≡◌, ◌<◌, ◌≤◌, pos, int_le, length};
+ghost use Rattle.bit_blocks.specs.Bits.{AllBits};
+ghost use Rattle.conv_code.specs.Likelihood.{agreement, AllSoft};
+ghost use Rattle.weight_bound.specs.Distance.{distance};
+ghost use Rattle.weight_bound.specs.Restoring.{wrong_bits, IsStrengths};
+
+/// How many places two lists of bits differ in.
+pub fn distance(a: &[u8], b: &[u8]) -> u32
+    requires count { length a.now ≡ length b.now }
+    requires at_most { length a.now ≤ 456 }
+    requires bits_a { AllBits a.now }
+    requires bits_b { AllBits b.now }
+    ensures { result ≡ distance a.now b.now }
+{
+    let mut places = 0;
+    for (k, bit) in a.iter().enumerate() {
+        if *bit != b[k] {
+            places += 1;
+        }
+    }
+    places
+}
+
+/// How many soft values are 0 or speak for the other bit.
+pub fn wrong_bits(soft: &[i8], coded: &[u8]) -> u32
+    requires count { length soft.now ≡ length coded.now }
+    requires at_most { length soft.now ≤ 456 }
+    requires soft { AllSoft soft.now }
+    requires bits { AllBits coded.now }
+    ensures { result ≡ wrong_bits soft.now coded.now }
+{
+    let mut places = 0;
+    for (k, value) in soft.iter().enumerate() {
+        if is_wrong(*value, coded[k]) {
+            places += 1;
+        }
+    }
+    places
+}
+
+/// Whether a soft value is 0 or speaks for the other bit.
+fn is_wrong(value: i8, bit: u8) -> bool
+    requires { bit ≤ 1 }
+    ensures { result ≡ int_le (agreement value bit) (pos 0) }
+{
+    if bit == 0 { value <= 0 } else { value >= 0 }
+}
+
+/// The least and the greatest absolute value.
+pub fn strengths(soft: &[i8]) -> (u8, u8)
+    requires any { 0 < length soft.now }
+    requires soft { AllSoft soft.now }
+    ensures { IsStrengths soft.now result.0 result.1 }
+{
+    let mut least = soft[0].unsigned_abs();
+    let mut greatest = least;
+    for value in soft {
+        let strength = value.unsigned_abs();
+        least = least.min(strength);
+        greatest = greatest.max(strength);
+    }
+    (least, greatest)
+}

@@ -1,0 +1,21 @@
+//! How many places two lists differ in, how far soft values are damaged, and how much damage the convolutional code
+//! undoes.
+#![tactic(auto)]
+
+mod counts;
+mod laws;
+
+pub use counts::{distance, strengths, wrong_bits};
+pub use laws::{law_distance, law_least_distance, law_restores};
+
+#[cfg(test)]
+mod tests {
+    use super::{distance, strengths, wrong_bits};
+
+    #[test]
+    fn counts_by_hand(rt: HostRuntime) {
+        assert_eq!(rt; strengths(&[-5, 4, 0]), (0, 5));
+        assert_eq!(rt; wrong_bits(&[0, 3, -3], &[0, 0, 0]), 2);
+        assert_eq!(rt; distance(&[0, 1, 1], &[1, 1, 0]), 2);
+    }
+}
