@@ -1,4 +1,14 @@
+pub mod CleanRestoring
+pub mod CleanBursts
+pub mod CleanCodewords
+pub mod ReceivedExists
+pub mod ReceivedOnce
+pub mod OctetsOfBits
+pub mod Softness
 pub mod Information
 pub mod SentOnce
 pub mod SpreadParts
 pub mod SentExists
+pub mod SentShapes
+pub mod Restoring
+pub mod AcceptedOctets

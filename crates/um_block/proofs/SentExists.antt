@@ -13,7 +13,7 @@ use Rattle.bit_blocks.proofs.Multiples.{IsMultiple-zeros}
 use Rattle.burst_map.proofs.Filling.{AllBits-table}
 use Rattle.conv_code.specs.Code.{coded, coded_pair}
 use Rattle.fire_code.specs.Registers.{register_bits}
-use Rattle.fire_code.specs.Words.{g40, IsXcchWord}
+use Rattle.fire_code.specs.Words.{g40, IsXcchWord, IsRachWord, IsSchWord}
 use Rattle.fire_code.proofs.RegisterBits.{length-register_bits, AllBits-register_bits, register_bits-zero}
 use Rattle.fire_code.proofs.Steps.{remainder_along, remainder_within}
 use Rattle.fire_code.proofs.ParityParts.{count_of_sum}
@@ -75,29 +75,37 @@ parity_of n taps d positive small all ones_bits ones_count =
           (sym (add_bits_twice r ones (AllBits-register_bits n whole.register) (long ∙ sym ones_count))) multiple;
     }
 
+-- each information has a parity part
+pub some_rach_parity : (d b : List ℕ) → length d ≡ 8 → AllBits d → length b ≡ 6 → AllBits b → (p : List ℕ) × IsRachWord (d ++ p) b
+some_rach_parity d b ed bd eb bb =
+    let p = parity_of 6 61 d (lit< tt) (lit< tt) bd (AllBits-table (replicate 6 1) refl) refl in
+    (add_bits p.parity b, rach_word d p.parity b ed bd p.count p.bits eb bb p.multiple)
+
+pub some_sch_parity : (d : List ℕ) → length d ≡ 25 → AllBits d → (p : List ℕ) × IsSchWord (d ++ p)
+some_sch_parity d ed bd =
+    let p = parity_of 10 698 d (lit< tt) (lit< tt) bd (AllBits-table (replicate 10 1) refl) refl in
+    (p.parity, sch_word d p.parity ed bd p.count p.bits p.multiple)
+
+-- the taps of the Fire code's register
+taps_of_g40 : 1 ∷ register_bits 40 618479558656 ≡ g40
+unfolding register_bits
+taps_of_g40 = refl
+
+pub some_xcch_parity : (d : List ℕ) → length d ≡ 184 → AllBits d → (p : List ℕ) × IsXcchWord (d ++ p)
+some_xcch_parity d ed bd =
+    let p = parity_of 40 618479558656 d (lit< tt) (lit< tt) bd (AllBits-table (replicate 40 1) refl) refl in (
+      p.parity,
+      xcch_word d p.parity ed bd p.count p.bits
+          (subst (λ g. IsMultiple (d ++ add_bits p.parity (replicate 40 1)) g) taps_of_g40 p.multiple),
+    )
+
 pub some_access_burst : (d b : List ℕ) → length d ≡ 8 → AllBits d → length b ≡ 6 → AllBits b → (x : List ℕ) × IsSentAccess d b x
 some_access_burst d b ed bd eb bb =
-    let p = parity_of 6 61 d (lit< tt) (lit< tt) bd (AllBits-table (replicate 6 1) refl) refl in (
-      _,
-      record {
-        parity = add_bits p.parity b;
-        count = ed;
-        word = rach_word d p.parity b ed bd p.count p.bits eb bb p.multiple;
-        burst = refl;
-      },
-    )
+    let p = some_rach_parity d b ed bd eb bb in (_, record { parity = p.0; count = ed; word = p.1; burst = refl })
 
 pub some_sync_burst : (d : List ℕ) → length d ≡ 25 → AllBits d → (x : List ℕ) × IsSentSync d x
 some_sync_burst d ed bd =
-    let p = parity_of 10 698 d (lit< tt) (lit< tt) bd (AllBits-table (replicate 10 1) refl) refl in (
-      _,
-      record {
-        parity = p.parity;
-        count = ed;
-        word = sch_word d p.parity ed bd p.count p.bits p.multiple;
-        burst = refl;
-      },
-    )
+    let p = some_sch_parity d ed bd in (_, record { parity = p.0; count = ed; word = p.1; burst = refl })
 
 get_or-listed : (f : ℕ → ℕ) (n a j : ℕ) → j < n → get_or (map f (range_with_len a n)) j 0 ≡ f (a + j)
 get_or-listed f zero a j h = absurd (omega arith)
@@ -188,33 +196,24 @@ length-range : (n a : ℕ) → length (range_with_len a n) ≡ n
 length-range zero a = refl
 length-range (suc n) a = ap suc (length-range n (a + 1))
 
-length-coded : (u : List ℕ) → length (coded u) ≡ 2 * length u
+pub length-coded : (u : List ℕ) → length (coded u) ≡ 2 * length u
 length-coded u = length-pairs u (range_with_len 0 (length u)) ∙ ap (λ n. 2 * n) (length-range (length u) 0)
-
--- the taps of the Fire code's register
-taps_of_g40 : 1 ∷ register_bits 40 618479558656 ≡ g40
-unfolding register_bits
-taps_of_g40 = refl
 
 pub some_sent_block : (octets : List ℕ) (tsc : ℕ) → length octets ≡ 23 → tsc ≤ 7 → (x : List (List ℕ)) × IsSentBlock octets tsc x
 some_sent_block octets tsc count known =
     let d = bits_of octets in
     let long : length d ≡ 184 = length-bits_of octets ∙ ap (λ n. 8 * n) count in
-    let p = parity_of 40 618479558656 d (lit< tt) (lit< tt) (AllBits-bits_of octets) (AllBits-table (replicate 40 1) refl) refl in
-    let word : IsXcchWord (d ++ p.parity) =
-    xcch_word d p.parity long (AllBits-bits_of octets) p.count p.bits
-    (subst (λ g. IsMultiple (d ++ add_bits p.parity (replicate 40 1)) g) taps_of_g40 p.multiple) in
-    let joined : length (with_tail (d ++ p.parity)) ≡ 228 =
-    length-append (d ++ p.parity) (replicate 4 0) ∙ ap (λ n. n + 4) word.count in
-    let coded_count : length (coded (with_tail (d ++ p.parity))) ≡ 456 =
-    length-coded (with_tail (d ++ p.parity)) ∙ ap (λ n. 2 * n) joined in (
+    let p = some_xcch_parity d long (AllBits-bits_of octets) in
+    let joined : length (with_tail (d ++ p.0)) ≡ 228 = length-append (d ++ p.0) (replicate 4 0) ∙ ap (λ n. n + 4) p.1.count in
+    let coded_count : length (coded (with_tail (d ++ p.0))) ≡ 456 =
+    length-coded (with_tail (d ++ p.0)) ∙ ap (λ n. 2 * n) joined in (
       _,
       record {
-        coded_bits = coded (with_tail (d ++ p.parity));
-        parts = parts_of (coded (with_tail (d ++ p.parity)));
+        coded_bits = coded (with_tail (d ++ p.0));
+        parts = parts_of (coded (with_tail (d ++ p.0)));
         known = known;
-        code = record { parity = p.parity; count = count; word = word; code = refl };
-        spread = some_spread (coded (with_tail (d ++ p.parity))) coded_count;
+        code = record { parity = p.0; count = count; word = p.1; code = refl };
+        spread = some_spread (coded (with_tail (d ++ p.0))) coded_count;
         layout = refl;
       },
     )

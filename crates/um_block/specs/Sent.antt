@@ -19,6 +19,20 @@ pub record IsCodedBlock (octets c : List ℕ) : Type 0 where
   pub word : IsXcchWord (bits_of octets ++ parity)
   pub code : c ≡ coded (with_tail (bits_of octets ++ parity))
 
+-- c are the coded bits of eight bits d under the code b of a base station (GSM 05.03 section 4.6)
+pub record IsCodedAccess (d b c : List ℕ) : Type 0 where
+  pub parity : List ℕ
+  pub count : length d ≡ 8
+  pub word : IsRachWord (d ++ parity) b
+  pub code : c ≡ coded (with_tail (d ++ parity))
+
+-- c are the coded bits of 25 bits d (GSM 05.03 section 4.7)
+pub record IsCodedSync (d c : List ℕ) : Type 0 where
+  pub parity : List ℕ
+  pub count : length d ≡ 25
+  pub word : IsSchWord (d ++ parity)
+  pub code : c ≡ coded (with_tail (d ++ parity))
+
 -- these are the four normal bursts of 23 octets with a training sequence: the coded bits stand at their places in the
 -- bursts, half of each burst before the training sequence and half behind it (GSM 05.03 section 4.1, GSM 05.02 section 5.2.3)
 pub record IsSentBlock (octets : List ℕ) (tsc : ℕ) (bursts : List (List ℕ)) : Type 0 where

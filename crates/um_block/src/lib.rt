@@ -1,6 +1,14 @@
-//! Blocks, access bursts and synchronisation bursts, from their information to the bits of bursts.
+//! Blocks, access bursts and synchronisation bursts: from their information to the bits of
+//! bursts, and from the soft values of bursts to what is received.
 #![tactic(auto)]
 
+mod received;
+mod receiving;
 mod sending;
+#[cfg(test)]
+mod tests;
+mod training;
 
+pub use received::{Received, ReceivedAccess, ReceivedSync};
+pub use receiving::{receive_access, receive_block, receive_sync, soften};
 pub use sending::{send_access, send_block, send_sync};

@@ -1,0 +1,224 @@
+-- The parts of a burst that comes as it was sent.
+use Rattle.std.proofs.Common.{◌≡◌, ◌⊎◌, inl, inr, ℕ, zero, suc, ◌-◌, ◌<◌, ◌≤◌, Bool, true, false, ◌||◌, eqb, int_lt, ℤ, List, [], ◌∷◌, ◌++◌, map, take, drop, length, get_or, subst, ap, ap₂, sym, ◌∙◌, refl, arith, append_assoc, length-append, zero-add}
+use Rattle.std.specs.Prelude.{slice_range}
+use Rattle.std.specs.List.{All}
+use Rattle.std.proofs.lemmas.Bool.{eqb-true}
+use Rattle.std.proofs.lemmas.List.{take_at, drop_at, take-map, drop-map, map-append, length-map, get_or-map, take-append-drop, length-take, length-drop}
+use Rattle.std.proofs.lemmas.List.Elements.{All-head, All-tail}
+use Rattle.bit_blocks.specs.Bits.{AllBits}
+use Rattle.interleave.specs.Bursts.{IsInterleaved}
+use Rattle.interleave.specs.Places.{burst_of, place_of}
+use Rattle.interleave.proofs.WholeBursts.{burst_of-below, place_of-below}
+use Rattle.interleave.proofs.Below.{passes_below, at_passes_below}
+use Rattle.trellis_decode.proofs.Searching.{less_by_test}
+use Rattle.training_seq.specs.Choice.{IsFirstGreatest, total_correlation}
+use Rattle.training_seq.specs.Correlation.{wrong_places}
+use Rattle.training_seq.specs.Sequences.{training_sequence}
+use Rattle.training_seq.proofs.SequenceTable.{length-training_sequence}
+use Rattle.burst_map.specs.Tails.{tail_bits}
+use Rattle.burst_map.specs.NormalBurst as N
+use Rattle.burst_map.specs.AccessBurst as A
+use Rattle.burst_map.specs.SyncBurst as S
+use Rattle.um_block.specs.Received.{soft_value, softened, coded_places}
+
+-- ---- parts
+
+-- the part behind the first i places
+pub range_at : {X : Type 0} (front part back : List X) (i j : ℕ) → length front ≡ i → length part ≡ j - i →
+    slice_range (front ++ (part ++ back)) i j ≡ part
+range_at front part back i j hf hp = ap (take (j - i)) (drop_at front (part ++ back) i hf) ∙ take_at part back (j - i) hp
+
+pub softened-range : (bits : List ℕ) (i j : ℕ) → slice_range (softened bits) i j ≡ softened (slice_range bits i j)
+softened-range bits i j = ap (take (j - i)) (drop-map soft_value i bits) ∙ take-map soft_value (j - i) (drop i bits)
+
+-- a part of a softened burst, which the burst has between two others
+softened_part : (burst front part back : List ℕ) (i j : ℕ) → burst ≡ front ++ (part ++ back) → length front ≡ i → length part ≡ j - i →
+    slice_range (softened burst) i j ≡ softened part
+softened_part burst front part back i j whole hf hp =
+    softened-range burst i j ∙ ap softened (ap (λ b. slice_range b i j) whole ∙ range_at front part back i j hf hp)
+
+module _ (a b c d e f g : List ℕ) where
+  second_of_seven : a ++ b ++ c ++ d ++ e ++ f ++ g ≡ a ++ (b ++ (c ++ d ++ e ++ f ++ g))
+  second_of_seven = simp append_assoc
+
+  fourth_of_seven : a ++ b ++ c ++ d ++ e ++ f ++ g ≡ (a ++ b ++ c) ++ (d ++ (e ++ f ++ g))
+  fourth_of_seven = simp append_assoc
+
+  sixth_of_seven : a ++ b ++ c ++ d ++ e ++ f ++ g ≡ (a ++ b ++ c ++ d ++ e) ++ (f ++ g)
+  sixth_of_seven = simp append_assoc
+
+-- ---- the normal burst
+
+module _ (first second : List ℕ) (tsc : ℕ) (known : tsc ≤ 7) (hf : length first ≡ 57) (hs : length second ≡ 57) where
+  flag : List ℕ
+  flag = 1 ∷ []
+
+  normal_first : N.first_half (softened (N.normal_burst first second tsc)) ≡ softened first
+  unfolding flag
+  normal_first =
+      softened_part (N.normal_burst first second tsc) tail_bits first _ 3 60
+      (second_of_seven tail_bits first flag (training_sequence tsc) flag second tail_bits) refl hf
+
+  normal_training : N.training (softened (N.normal_burst first second tsc)) ≡ softened (training_sequence tsc)
+  unfolding flag
+  normal_training =
+      softened_part (N.normal_burst first second tsc) (tail_bits ++ first ++ flag) (training_sequence tsc) _ 61 87
+      (fourth_of_seven tail_bits first flag (training_sequence tsc) flag second tail_bits)
+      (omega (arith, length-append (tail_bits ++ first) flag, length-append tail_bits first)) (length-training_sequence tsc known)
+
+  normal_second : N.second_half (softened (N.normal_burst first second tsc)) ≡ softened second
+  unfolding flag
+  normal_second =
+      let sequence = training_sequence tsc in
+      let long = length-training_sequence tsc known in
+      softened_part (N.normal_burst first second tsc) (tail_bits ++ first ++ flag ++ sequence ++ flag) second tail_bits 88 145
+      (sixth_of_seven tail_bits first flag sequence flag second tail_bits)
+      (omega (
+        arith,
+        length-append (tail_bits ++ first ++ flag ++ sequence) flag,
+        length-append (tail_bits ++ first ++ flag) sequence,
+        length-append (tail_bits ++ first) flag,
+        length-append tail_bits first,
+      )) hs
+
+-- the burst of 114 coded bits
+abbrev pub burst_of_part : ℕ → List ℕ → List ℕ
+burst_of_part tsc part = N.normal_burst (take 57 part) (drop 57 part) tsc
+
+module _ (part : List ℕ) (tsc : ℕ) (known : tsc ≤ 7) (count : length part ≡ 114) where
+  front_half : length (take 57 part) ≡ 57
+  front_half = omega (arith, length-take 57 part)
+
+  back_half : length (drop 57 part) ≡ 57
+  back_half = omega (arith, length-drop 57 part)
+
+  clean_places : coded_places (softened (burst_of_part tsc part)) ≡ softened part
+  clean_places =
+      ap₂ (λ x y. x ++ y)
+      (normal_first (take 57 part) (drop 57 part) tsc known front_half back_half)
+      (normal_second (take 57 part) (drop 57 part) tsc known front_half back_half)
+      ∙ sym (map-append soft_value (take 57 part) (drop 57 part))
+      ∙ ap softened (take-append-drop 57 part)
+
+  clean_training : N.training (softened (burst_of_part tsc part)) ≡ softened (training_sequence tsc)
+  clean_training = normal_training (take 57 part) (drop 57 part) tsc known front_half back_half
+
+abbrev IsPart : List ℕ → Type 0
+IsPart part = length part ≡ 114
+
+pub clean_parts : (parts : List (List ℕ)) (tsc : ℕ) → tsc ≤ 7 → All IsPart parts →
+    map coded_places (map softened (map (burst_of_part tsc) parts)) ≡ map softened parts
+clean_parts [] tsc known each = refl
+clean_parts (part ∷ parts) tsc known each =
+    ap₂ (λ x y. x ∷ y) (clean_places part tsc known (All-head IsPart part parts each))
+    (clean_parts parts tsc known (All-tail IsPart part parts each))
+
+pub clean_training_of : (parts : List (List ℕ)) (tsc b : ℕ) → tsc ≤ 7 → All IsPart parts → b < length parts →
+    N.training (get_or (map softened (map (burst_of_part tsc) parts)) b []) ≡ softened (training_sequence tsc)
+clean_training_of [] tsc b known each h = absurd (omega arith)
+clean_training_of (part ∷ parts) tsc zero known each h = clean_training part tsc known (All-head IsPart part parts each)
+clean_training_of (part ∷ parts) tsc (suc b) known each h =
+    clean_training_of parts tsc b known (All-tail IsPart part parts each) (omega arith)
+
+-- the sure values of interleaved bits are interleaved
+pub IsInterleaved-softened : (c : List ℕ) (parts : List (List ℕ)) → IsInterleaved c parts → IsInterleaved (softened c) (map softened parts)
+IsInterleaved-softened c parts spread = record {
+  coded_count = length-map c soft_value ∙ spread.coded_count;
+  burst_count = length-map parts softened ∙ spread.burst_count;
+  each_count = λ i d h.
+      let within : i < length parts = subst (λ n. i < n) (length-map parts softened) h in
+      ap length (get_or-map softened parts i [] d within)
+      ∙ length-map (get_or parts i []) soft_value
+      ∙ spread.each_count i [] within;
+  places = λ k d h.
+      let b = burst_of k in
+      let j = place_of k in
+      let within : b < length parts = subst (λ n. b < n) (sym spread.burst_count) (burst_of-below k) in
+      let place : j < length (get_or parts b []) = subst (λ n. j < n) (sym (spread.each_count b [] within)) (place_of-below k) in
+      let here : k < length c = subst (λ n. k < n) (sym spread.coded_count) h in
+      ap (λ values. get_or values j d) (get_or-map softened parts b [] [] within)
+      ∙ get_or-map soft_value (get_or parts b []) j 0 d place
+      ∙ ap soft_value (spread.places k 0 h)
+      ∙ sym (get_or-map soft_value c k 0 d here);
+}
+
+-- ---- the training places
+
+-- no place of a sequence is wrong against itself
+pub wrong_places-own : (bits : List ℕ) → AllBits bits → wrong_places (softened bits) bits ≡ 0
+wrong_places-own [] all = refl
+wrong_places-own (zero ∷ bits) all = zero-add _ ∙ wrong_places-own bits (All-tail (λ bit. bit ≤ 1) 0 bits all)
+wrong_places-own (suc zero ∷ bits) all = zero-add _ ∙ wrong_places-own bits (All-tail (λ bit. bit ≤ 1) 1 bits all)
+wrong_places-own (suc (suc x) ∷ bits) all =
+    let head = All-head (λ bit. bit ≤ 1) (suc (suc x)) bits all in absurd (omega arith)
+
+-- the sum of the correlations of four training parts that come as they were sent
+total : ℕ → ℕ → ℤ
+total sent tsc =
+    let soft = softened (training_sequence sent) in
+    total_correlation soft soft soft soft tsc
+
+abbrev falls_behind : ℕ → ℕ → Bool
+falls_behind sent tsc = eqb tsc sent || int_lt (total sent tsc) (total sent sent)
+
+sequences_differ : passes_below (λ sent. passes_below (falls_behind sent) 8) 8 ≡ true
+unfolding total passes_below
+sequences_differ = refl
+
+either_true : (x y : Bool) → (x || y) ≡ true → (x ≡ true) ⊎ (y ≡ true)
+either_true true y h = inl refl
+either_true false y h = inr h
+
+pub best_own : (sent : ℕ) → sent ≤ 7 →
+    let soft = softened (training_sequence sent) in IsFirstGreatest (total_correlation soft soft soft soft) 7 sent
+unfolding total
+best_own sent known = record {
+  within = known;
+  others = λ tsc h ne.
+      let row = at_passes_below (λ s. passes_below (falls_behind s) 8) 8 sequences_differ sent (omega arith) in
+      let here = at_passes_below (falls_behind sent) 8 row tsc (omega arith) in
+      elim (either_true (eqb tsc sent) (int_lt (total sent tsc) (total sent sent)) here) [
+        | inl same ↦ absurd (ne (eqb-true tsc sent same))
+        | inr less ↦ inl (less_by_test (total sent tsc) (total sent sent) (total sent tsc) (total sent sent) refl refl less)
+      ];
+}
+
+-- ---- the access burst and the synchronisation burst
+
+module _ (c : List ℕ) (count : length c ≡ 36) where
+  pub clean_body : A.body (softened (A.access_burst c)) ≡ softened c
+  clean_body =
+      softened_part (A.access_burst c) (A.extended_tail_bits ++ A.access_sequence) c tail_bits 49 85
+      (append_assoc (A.extended_tail_bits ++ A.access_sequence) c tail_bits) refl count
+
+  pub clean_access_training : A.training (softened (A.access_burst c)) ≡ softened A.access_sequence
+  clean_access_training =
+      softened_part (A.access_burst c) A.extended_tail_bits A.access_sequence (c ++ tail_bits) 8 49
+      (append_assoc (A.extended_tail_bits ++ A.access_sequence) c tail_bits) refl refl
+
+module _ (a b c d e : List ℕ) where
+  second_of_five : a ++ b ++ c ++ d ++ e ≡ a ++ (b ++ (c ++ d ++ e))
+  second_of_five = simp append_assoc
+
+  third_of_five : a ++ b ++ c ++ d ++ e ≡ (a ++ b) ++ (c ++ (d ++ e))
+  third_of_five = simp append_assoc
+
+  fourth_of_five : a ++ b ++ c ++ d ++ e ≡ (a ++ b ++ c) ++ (d ++ e)
+  fourth_of_five = simp append_assoc
+
+module _ (first second : List ℕ) (hf : length first ≡ 39) (hs : length second ≡ 39) where
+  pub clean_halves : S.first_half (softened (S.sync_burst first second)) ++ S.second_half (softened (S.sync_burst first second)) ≡
+      softened (first ++ second)
+  clean_halves =
+      ap₂ (λ x y. x ++ y)
+      (softened_part (S.sync_burst first second) tail_bits first _ 3 42
+      (second_of_five tail_bits first S.sync_sequence second tail_bits) refl hf)
+      (softened_part (S.sync_burst first second) (tail_bits ++ first ++ S.sync_sequence) second tail_bits 106 145
+      (fourth_of_five tail_bits first S.sync_sequence second tail_bits)
+      (omega (arith, length-append (tail_bits ++ first) S.sync_sequence, length-append tail_bits first)) hs)
+      ∙ sym (map-append soft_value first second)
+
+  pub clean_sync_training : S.training (softened (S.sync_burst first second)) ≡ softened S.sync_sequence
+  clean_sync_training =
+      softened_part (S.sync_burst first second) (tail_bits ++ first) S.sync_sequence (second ++ tail_bits) 42 106
+      (third_of_five tail_bits first S.sync_sequence second tail_bits) (omega (arith, length-append tail_bits first)) refl

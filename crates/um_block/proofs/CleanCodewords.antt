@@ -1,0 +1,117 @@
+-- A coded list that comes as it was sent is the most likely one: every other differs from it, and so agrees less.
+use Rattle.std.proofs.Common.{◌≡◌, ◌≢◌, ◌⊎◌, inl, inr, ℕ, zero, suc, ◌+◌, ◌*◌, ◌/◌, ◌%◌, ◌≤◌, ℤ, pos, negsuc, ◌<ℤ◌, List, [], ◌∷◌, length, subst, ap, ap₂, sym, ◌∙◌, refl, arith}
+use Rattle.std.proofs.lemmas.Int.{ints}
+use Rattle.std.proofs.lemmas.Bool.{cases_eq}
+use Rattle.std.proofs.lemmas.List.{length-map}
+use Rattle.std.proofs.lemmas.List.Elements.{All-head, All-tail}
+use Rattle.bit_blocks.specs.Bits.{AllBits}
+use Rattle.conv_code.specs.Code.{coded, IsInformation}
+use Rattle.conv_code.specs.Likelihood.{agreement, likelihood, IsMostLikely}
+use Rattle.trellis_decode.specs.Trellis.{next, first_bit, coded_from}
+use Rattle.trellis_decode.proofs.Lists.{coded_from_start}
+use Rattle.trellis_decode.proofs.MostLikely.{IsMostLikely-only}
+use Rattle.um_block.specs.Received.{soft_value, softened}
+use Rattle.um_block.proofs.Information.{AllBits-coded}
+use Rattle.um_block.proofs.SentExists.{length-coded}
+
+-- a sure value counts 127 for its own bit, and -127 for the other
+agreement-own : (x : ℕ) → x ≤ 1 → agreement (soft_value x) x ≡ pos 127
+agreement-own zero h = refl
+agreement-own (suc zero) h = refl
+agreement-own (suc (suc x)) h = absurd (omega arith)
+
+agreement-other : (x y : ℕ) → x ≤ 1 → y ≤ 1 → x ≢ y → agreement (soft_value x) y ≡ negsuc 126
+agreement-other zero zero hx hy ne = absurd (ne refl)
+agreement-other zero (suc zero) hx hy ne = refl
+agreement-other (suc zero) zero hx hy ne = refl
+agreement-other (suc zero) (suc zero) hx hy ne = absurd (ne refl)
+agreement-other (suc (suc x)) y hx hy ne = absurd (omega arith)
+agreement-other zero (suc (suc y)) hx hy ne = absurd (omega arith)
+agreement-other (suc zero) (suc (suc y)) hx hy ne = absurd (omega arith)
+
+likelihood-own : (c : List ℕ) → AllBits c → likelihood (softened c) c ≡ pos (127 * length c)
+likelihood-own [] bits = refl
+likelihood-own (x ∷ c) bits =
+    let here = agreement-own x (All-head (λ bit. bit ≤ 1) x c bits) in
+    let rest = likelihood-own c (All-tail (λ bit. bit ≤ 1) x c bits) in
+    omega (arith, ints, here, rest)
+
+-- bits are the same as those of the sure values, or agree less
+agrees_less : (c d : List ℕ) → AllBits c → AllBits d → length c ≡ length d →
+    (c ≡ d) ⊎ (likelihood (softened c) d <ℤ pos (127 * length c))
+agrees_less [] [] bc bd e = inl refl
+agrees_less [] (y ∷ d) bc bd e = absurd (omega arith)
+agrees_less (x ∷ c) [] bc bd e = absurd (omega arith)
+agrees_less (x ∷ c) (y ∷ d) bc bd e =
+    let hx : x ≤ 1 = All-head (λ bit. bit ≤ 1) x c bc in
+    let hy : y ≤ 1 = All-head (λ bit. bit ≤ 1) y d bd in
+    let bc' = All-tail (λ bit. bit ≤ 1) x c bc in
+    let e' : length c ≡ length d = omega arith in
+    let rest = agrees_less c d bc' (All-tail (λ bit. bit ≤ 1) y d bd) e' in
+    elim (cases_eq x y) [
+      | inl same ↦ elim rest [
+        | inl all ↦ inl (ap₂ (λ z w. z ∷ w) same all)
+        | inr less ↦
+            let here : agreement (soft_value x) y ≡ pos 127 = ap (agreement (soft_value x)) (sym same) ∙ agreement-own x hx in
+            inr (omega (arith, ints, here, less))
+      ]
+      | inr other ↦
+          let here = agreement-other x y hx hy other in
+          elim rest [
+            | inl all ↦
+                let own : likelihood (softened c) d ≡ pos (127 * length c) = ap (likelihood (softened c)) (sym all) ∙ likelihood-own c bc' in
+                inr (omega (arith, ints, here, own))
+            | inr less ↦ inr (omega (arith, ints, here, less))
+          ]
+    ]
+
+same_bit : (x y a b : ℕ) → x ≤ 1 → y ≤ 1 → (x + a + b) % 2 ≡ (y + a + b) % 2 → x ≡ y
+same_bit x y a b hx hy e = omega arith
+
+-- from one state two lists have different coded bits
+same_information : (state : ℕ) (u v : List ℕ) → AllBits u → AllBits v → length u ≡ length v → coded_from state u ≡ coded_from state v → u ≡ v
+same_information state [] [] bu bv e same = refl
+same_information state [] (y ∷ v) bu bv e same = absurd (omega arith)
+same_information state (x ∷ u) [] bu bv e same = absurd (omega arith)
+same_information state (x ∷ u) (y ∷ v) bu bv e same =
+    let e' : length u ≡ length v = omega arith in
+    let first : first_bit state x ≡ first_bit state y = cc in
+    let tail : coded_from (next state x) u ≡ coded_from (next state y) v = cc in
+    let head : x ≡ y =
+    same_bit x y (state / 4 % 2) (state / 8 % 2) (All-head (λ bit. bit ≤ 1) x u bu) (All-head (λ bit. bit ≤ 1) y v bv) first in
+    let tail' : coded_from (next state x) u ≡ coded_from (next state x) v = tail ∙ ap (λ z. coded_from (next state z) v) (sym head) in
+    ap₂ (λ z w. z ∷ w) head
+    (same_information (next state x) u v (All-tail (λ bit. bit ≤ 1) x u bu) (All-tail (λ bit. bit ≤ 1) y v bv) e' tail')
+
+-- two information lists of one length have different coded lists
+pub one_information : (u v : List ℕ) → AllBits u → AllBits v → length u ≡ length v → coded u ≡ coded v → u ≡ v
+one_information u v bu bv e same =
+    same_information 0 u v bu bv e (sym (coded_from_start u bu) ∙ same ∙ coded_from_start v bv)
+
+clean_most_likely : (w : List ℕ) → IsInformation w → IsMostLikely (softened (coded w)) w
+clean_most_likely w information = record {
+  information = information;
+  count = length-map (coded w) soft_value ∙ length-coded w;
+  others = λ v other count ne.
+      let long : length (coded w) ≡ length (coded v) = length-coded w ∙ ap (λ n. 2 * n) (sym count) ∙ sym (length-coded v) in
+      elim (agrees_less (coded w) (coded v) (AllBits-coded w) (AllBits-coded v) long) [
+        | inl same ↦ absurd (ne (sym (one_information w v information.bits other.bits (sym count) same)))
+        | inr less ↦ let own = likelihood-own (coded w) (AllBits-coded w) in inl (omega (arith, ints, own, less))
+      ];
+}
+
+-- the most likely list of sure values is the one that was sent, and each of its coded bits counts 127
+pub record IsHeard (soft : List ℤ) (w v : List ℕ) : Type 0 where
+  pub same : v ≡ w
+  pub value : likelihood soft (coded v) ≡ pos (127 * (2 * length w))
+
+pub heard : (soft : List ℤ) (w v : List ℕ) → IsInformation w → soft ≡ softened (coded w) → IsMostLikely soft v → IsHeard soft w v
+heard soft w v information sure best =
+    let same : v ≡ w =
+    IsMostLikely-only (softened (coded w)) w v (clean_most_likely w information) (subst (λ s. IsMostLikely s v) sure best) in
+    record {
+      same = same;
+      value = ap₂ (λ s u. likelihood s (coded u)) sure same
+          ∙ likelihood-own (coded w) (AllBits-coded w)
+          ∙ ap (λ n. pos (127 * n)) (length-coded w);
+    }

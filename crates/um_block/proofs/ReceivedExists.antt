@@ -1,0 +1,234 @@
+-- Every burst and every block is received in some way.
+use Rattle.std.proofs.Common.{◌≡◌, ◌≢◌, ◌⊎◌, inl, inr, ℕ, zero, suc, ◌+◌, ◌-◌, ◌*◌, ◌^◌, ◌<◌, ◌≤◌, ℤ, pos, Option, Some, None, List, [], ◌++◌, map, take, drop, length, get_or, subst, ap, ap₂, sym, ◌∙◌, refl, arith, lit≤}
+use Rattle.std.specs.Prelude.{MatchOption, slice_range}
+use Rattle.std.specs.List.{All, range_with_len}
+use Rattle.std.proofs.lemmas.Int.{by_lt_z}
+use Rattle.std.proofs.lemmas.Nat.{pow-add, pow_pos}
+use Rattle.std.proofs.lemmas.List.{length-take, length-drop, length-append, take-append-drop}
+use Rattle.std.proofs.lemmas.List.FromFn.{get_or-map-range_with_len, length-map-range_with_len}
+use Rattle.std.proofs.lemmas.List.Elements.{All-take}
+use Rattle.bit_blocks.specs.Bits.{AllBits}
+use Rattle.fire_code.specs.Words.{IsXcchWord, IsRachWord, IsSchWord}
+use Rattle.conv_code.specs.Code.{coded}
+use Rattle.conv_code.specs.Likelihood.{likelihood, FallsBehind, IsMostLikely}
+use Rattle.trellis_decode.specs.Words.{word}
+use Rattle.trellis_decode.proofs.MostLikely.{same_list}
+use Rattle.trellis_decode.proofs.Searching.{new_leads, old_leads, IsMostLikely-chosen}
+use Rattle.trellis_decode.proofs.WordLists.{length-word}
+use Rattle.training_seq.specs.Choice.{IsFirstGreatest, total_wrong_places, total_correlation}
+use Rattle.training_seq.specs.Correlation.{wrong_places}
+use Rattle.training_seq.proofs.Greatest.{LeadsBelow, LeadsBelow-one, LeadsBelow-overtaken, LeadsBelow-kept, IsFirstGreatest-from_LeadsBelow}
+use Rattle.interleave.specs.Bursts.{IsInterleaved}
+use Rattle.interleave.specs.Places.{burst_of, place_of}
+use Rattle.burst_map.specs.AccessBurst as A
+use Rattle.burst_map.specs.SyncBurst as S
+use Rattle.um_block.specs.Packed.{octets_of}
+use Rattle.um_block.specs.Received.{coded_places, training_of, IsReceivedBlock, IsReceivedAccess, IsReceivedSync}
+use Rattle.um_block.specs.declared.received.Received.{Received}
+use Rattle.um_block.specs.declared.received.ReceivedAccess.{ReceivedAccess}
+use Rattle.um_block.specs.declared.received.ReceivedSync.{ReceivedSync}
+use Rattle.um_block.proofs.SentOnce.{one_xcch_parity, one_rach_parity, one_sch_parity}
+use Rattle.um_block.proofs.SentExists.{some_xcch_parity, some_rach_parity, some_sch_parity}
+use Rattle.um_block.proofs.Softness.{interleaved_places}
+
+-- ---- the most likely list
+
+-- the first of the most likely among the lists up to a number
+record Leading (soft : List ℤ) (n number : ℕ) : Type 0 where
+  chosen : ℕ
+  within : chosen < number
+  others : (m : ℕ) → m < number → m ≢ chosen → FallsBehind soft (word n (16 * m)) (word n (16 * chosen))
+
+leading : (soft : List ℤ) (n number : ℕ) → 16 * (number + 1) ≤ 2 ^ n → Leading soft n (number + 1)
+leading soft n zero room = record {
+  chosen = 0;
+  within = omega arith;
+  others = λ m h ne. absurd (omega arith);
+}
+leading soft n (suc number) room =
+    let before = leading soft n number (omega arith) in
+    let chosen = before.chosen in
+    let within = before.within in
+    let last : ℕ = number + 1 in
+    let inside : 16 * last < 2 ^ n = omega arith in
+    let value : ℕ → ℤ = λ m. likelihood soft (coded (word n (16 * m))) in
+    by_lt_z (value chosen) (value last)
+    (λ more. record {
+      chosen = last;
+      within = omega arith;
+      others = λ m h ne. new_leads soft n chosen last within inside before.others more m (omega arith) ne;
+    })
+    (λ most. record {
+      chosen = chosen;
+      within = omega arith;
+      others = λ m h ne. old_leads soft n chosen last within inside before.others most m (omega arith) ne;
+    })
+
+pub some_most_likely : (soft : List ℤ) (n : ℕ) → length soft ≡ 2 * n → 5 ≤ n → (u : List ℕ) × IsMostLikely soft u × (length u ≡ n)
+some_most_likely soft n pairs long =
+    let parted : 2 ^ n ≡ 16 * 2 ^ (n - 4) =
+    ap (λ k. 2 ^ k) (let e : n ≡ 4 + (n - 4) = omega arith in e) ∙ pow-add 2 4 (n - 4) in
+    let some : 0 < 2 ^ (n - 4) = pow_pos (n - 4) in
+    let lists : ℕ = 2 ^ (n - 4) in
+    let whole : lists - 1 + 1 ≡ lists = omega arith in
+    let found = leading soft n (lists - 1) (omega arith) in (
+      word n (16 * found.chosen),
+      IsMostLikely-chosen soft n found.chosen lists long pairs (sym parted) (λ m h ne. found.others m (omega arith) ne),
+      length-word n (16 * found.chosen),
+    )
+
+-- ---- the best training sequence
+
+leads : (score : ℕ → ℤ) (n : ℕ) → (best : ℕ) × LeadsBelow score (n + 1) best
+leads score zero = (0, LeadsBelow-one score)
+leads score (suc n) =
+    let before = leads score n in
+    let longer : n + 1 + 1 ≡ suc n + 1 = omega arith in
+    by_lt_z (score before.0) (score (n + 1))
+    (λ more. (n + 1, subst (λ k. LeadsBelow score k (n + 1)) longer (LeadsBelow-overtaken score (n + 1) before.0 before.1 more)))
+    (λ less. (before.0, subst (λ k. LeadsBelow score k before.0) longer (LeadsBelow-kept score (n + 1) before.0 before.1 less)))
+
+pub some_first_greatest : (score : ℕ → ℤ) → (best : ℕ) × IsFirstGreatest score 7 best
+some_first_greatest score =
+    let found = leads score 7 in (found.0, IsFirstGreatest-from_LeadsBelow score found.0 found.1)
+
+-- ---- whether a parity holds
+
+-- a word is the one with its information, or none
+decided : (P : List ℕ → Type 0) (n : ℕ) (w p : List ℕ) → P (take n w ++ p) →
+    ((q : List ℕ) → P (take n w ++ p) → P (take n w ++ q) → p ≡ q) → P w ⊎ (¬ P w)
+decided P n w p holds only =
+    let whole : take n w ++ drop n w ≡ w = take-append-drop n w in
+    elim (same_list p (drop n w)) [
+      | inl same ↦ inl (subst P (ap (λ x. take n w ++ x) same ∙ whole) holds)
+      | inr other ↦ inr (λ h. other (only (drop n w) holds (subst P (sym whole) h)))
+    ]
+
+-- what is accepted
+answered : {X : Type 0} (P : Type 0) (x : X) → P ⊎ (¬ P) → (a : Option X) × MatchOption a (¬ P) (λ v. P × (v ≡ x))
+answered P x (inl holds) = (Some x, (holds, refl))
+answered P x (inr fails) = (None, fails)
+
+length-front : (n : ℕ) (u : List ℕ) → n ≤ length u → length (take n u) ≡ n
+length-front n u h = omega (arith, length-take n u)
+
+AllBits-front : (n : ℕ) (u : List ℕ) → AllBits u → AllBits (take n u)
+AllBits-front n u bits = All-take (λ bit. bit ≤ 1) n u bits
+
+xcch_decided : (w : List ℕ) → length w ≡ 224 → AllBits w → IsXcchWord w ⊎ (¬ IsXcchWord w)
+xcch_decided w count bits =
+    let d = take 184 w in
+    let long = length-front 184 w (omega arith) in
+    let p = some_xcch_parity d long (AllBits-front 184 w bits) in
+    decided IsXcchWord 184 w p.0 p.1 (λ q h g. one_xcch_parity d p.0 q long h g)
+
+rach_decided : (w b : List ℕ) → length w ≡ 14 → AllBits w → length b ≡ 6 → AllBits b → IsRachWord w b ⊎ (¬ IsRachWord w b)
+rach_decided w b count bits code code_bits =
+    let d = take 8 w in
+    let long = length-front 8 w (omega arith) in
+    let p = some_rach_parity d b long (AllBits-front 8 w bits) code code_bits in
+    decided (λ v. IsRachWord v b) 8 w p.0 p.1 (λ q h g. one_rach_parity d p.0 q b long h g)
+
+sch_decided : (w : List ℕ) → length w ≡ 35 → AllBits w → IsSchWord w ⊎ (¬ IsSchWord w)
+sch_decided w count bits =
+    let d = take 25 w in
+    let long = length-front 25 w (omega arith) in
+    let p = some_sch_parity d long (AllBits-front 25 w bits) in
+    decided IsSchWord 25 w p.0 p.1 (λ q h g. one_sch_parity d p.0 q long h g)
+
+-- ---- a block
+
+-- the value that coded bit k has in the bursts
+held : List (List ℤ) → ℕ → ℤ
+held bursts k = get_or (coded_places (get_or bursts (burst_of k) [])) (place_of k) (pos 0)
+
+length-range : (burst : List ℤ) (i j : ℕ) → i ≤ j → j ≤ length burst → length (slice_range burst i j) ≡ j - i
+length-range burst i j ordered within = omega (arith, length-take (j - i) (drop i burst), length-drop i burst)
+
+some_gathered : (bursts : List (List ℤ)) → length bursts ≡ 4 → All (λ burst. length burst ≡ 148) bursts →
+    (soft : List ℤ) × IsInterleaved soft (map coded_places bursts)
+unfolding held
+some_gathered bursts four each =
+    let soft = map (held bursts) (range_with_len 0 456) in
+    let whole = length-map-range_with_len (held bursts) 0 456 in (
+      soft,
+      interleaved_places bursts soft four whole
+          (λ i h.
+          let burst = get_or bursts i [] in
+          let long : length burst ≡ 148 = each i [] (omega arith) in
+          let first = length-range burst 3 60 (lit≤ tt) (omega arith) in
+          let second = length-range burst 88 145 (lit≤ tt) (omega arith) in
+          length-append (slice_range burst 3 60) (slice_range burst 88 145) ∙ ap₂ (λ m n. m + n) first second)
+          (λ k h. get_or-map-range_with_len (held bursts) 0 456 k k (pos 0) h (omega arith)),
+    )
+
+pub some_received_block : (bursts : List (List ℤ)) → length bursts ≡ 4 → All (λ burst. length burst ≡ 148) bursts →
+    (r : Received) × IsReceivedBlock bursts r
+some_received_block bursts four each =
+    let gathered = some_gathered bursts four each in
+    let soft = gathered.0 in
+    let best = some_most_likely soft 228 gathered.1.coded_count (lit≤ tt) in
+    let u = best.0 in
+    let a = training_of bursts 0 in
+    let b = training_of bursts 1 in
+    let c = training_of bursts 2 in
+    let d = training_of bursts 3 in
+    let tsc = some_first_greatest (total_correlation a b c d) in
+    let answer = answered (IsXcchWord (take 224 u)) (octets_of (take 184 u))
+    (xcch_decided (take 224 u) (length-front 224 u (omega (arith, best.2))) (AllBits-front 224 u best.1.information.bits)) in (
+      record {
+        u = u;
+        metric = likelihood soft (coded u);
+        tsc = tsc.0;
+        wrong_training = total_wrong_places a b c d tsc.0;
+        accepted = answer.0;
+      },
+      record {
+        soft = soft;
+        gathered = gathered.1;
+        best = best.1;
+        metric = refl;
+        tsc = tsc.1;
+        wrong_training = refl;
+        accepted = answer.1;
+      },
+    )
+
+-- ---- the other bursts
+
+pub some_received_access : (burst : List ℤ) (bsic : List ℕ) → length burst ≡ 88 → length bsic ≡ 6 → AllBits bsic →
+    (r : ReceivedAccess) × IsReceivedAccess burst bsic r
+some_received_access burst bsic count code code_bits =
+    let soft = A.body burst in
+    let best = some_most_likely soft 18 (length-range burst 49 85 (lit≤ tt) (omega arith)) (lit≤ tt) in
+    let u = best.0 in
+    let answer = answered (IsRachWord (take 14 u) bsic) (take 8 u)
+    (rach_decided (take 14 u) bsic (length-front 14 u (omega (arith, best.2))) (AllBits-front 14 u best.1.information.bits) code code_bits) in (
+      record {
+        u = u;
+        metric = likelihood soft (coded u);
+        wrong_training = wrong_places (A.training burst) A.access_sequence;
+        accepted = answer.0;
+      },
+      record { best = best.1; metric = refl; wrong_training = refl; accepted = answer.1 },
+    )
+
+pub some_received_sync : (burst : List ℤ) → length burst ≡ 148 → (r : ReceivedSync) × IsReceivedSync burst r
+some_received_sync burst count =
+    let soft = S.first_half burst ++ S.second_half burst in
+    let first = length-range burst 3 42 (lit≤ tt) (omega arith) in
+    let second = length-range burst 106 145 (lit≤ tt) (omega arith) in
+    let long : length soft ≡ 78 =
+    length-append (S.first_half burst) (S.second_half burst) ∙ ap₂ (λ m n. m + n) first second in
+    let best = some_most_likely soft 39 long (lit≤ tt) in
+    let u = best.0 in
+    let answer = answered (IsSchWord (take 35 u)) (take 25 u)
+    (sch_decided (take 35 u) (length-front 35 u (omega (arith, best.2))) (AllBits-front 35 u best.1.information.bits)) in (
+      record {
+        u = u;
+        metric = likelihood soft (coded u);
+        wrong_training = wrong_places (S.training burst) S.sync_sequence;
+        accepted = answer.0;
+      },
+      record { best = best.1; metric = refl; wrong_training = refl; accepted = answer.1 },
+    )

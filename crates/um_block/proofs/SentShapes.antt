@@ -1,0 +1,126 @@
+-- How many places the bursts that are sent have, and that all of them are bits.
+use Rattle.std.proofs.Common.{◌≡◌, ℕ, ◌+◌, ◌*◌, ◌≤◌, List, [], ◌∷◌, ◌++◌, length, length-append, map, take, drop, replicate, refl, sym, ap, ◌∙◌, subst, arith}
+use Rattle.std.specs.List.{All, flat_map, range_with_len}
+use Rattle.std.proofs.lemmas.List.{length-map, length-drop, length-take-le}
+use Rattle.std.proofs.lemmas.List.Elements.{All-nil, All-cons, All-head, All-tail, All-append, All-take, All-drop}
+use Rattle.bit_blocks.specs.Bits.{AllBits}
+use Rattle.bit_blocks.specs.Octets.{bits_of}
+use Rattle.conv_code.specs.Code.{coded, coded_pair, first_sum, second_sum}
+use Rattle.interleave.proofs.Bijection.{AllBits-bursts}
+use Rattle.training_seq.specs.Sequences.{training_sequence}
+use Rattle.training_seq.proofs.SequenceTable.{length-training_sequence, AllBits-training_sequence}
+use Rattle.burst_map.specs.Tails.{tail_bits}
+use Rattle.burst_map.specs.NormalBurst.{normal_burst}
+use Rattle.burst_map.specs.AccessBurst.{access_burst, access_sequence, extended_tail_bits}
+use Rattle.burst_map.specs.SyncBurst.{sync_burst, sync_sequence}
+use Rattle.burst_map.proofs.Filling.{AllBits-table}
+use Rattle.um_block.specs.Sent.{with_tail, IsSentBlock, IsSentAccess, IsSentSync}
+use Rattle.um_block.proofs.SentExists.{length-coded}
+
+-- so many bits
+pub record AreBits (count : ℕ) (bits : List ℕ) : Type 0 where
+  pub many : length bits ≡ count
+  pub each : AllBits bits
+
+joined : (m n : ℕ) (xs ys : List ℕ) → AreBits m xs → AreBits n ys → AreBits (m + n) (xs ++ ys)
+joined m n xs ys x y = record {
+  many = omega (arith, length-append xs ys, x.many, y.many);
+  each = All-append (λ bit. bit ≤ 1) xs ys x.each y.each;
+}
+
+-- the sums of the code are bits
+pairs : (u ks : List ℕ) → AllBits (flat_map (coded_pair u) ks)
+pairs u [] = All-nil (λ bit. bit ≤ 1)
+pairs u (k ∷ ks) =
+    All-cons (λ bit. bit ≤ 1) (first_sum u k) (second_sum u k ∷ flat_map (coded_pair u) ks) (omega arith)
+    (All-cons (λ bit. bit ≤ 1) (second_sum u k) (flat_map (coded_pair u) ks) (omega arith) (pairs u ks))
+
+pub AllBits-coded : (u : List ℕ) → AllBits (coded u)
+AllBits-coded u = pairs u (range_with_len 0 (length u))
+
+pub coded_bits : (word : List ℕ) (n : ℕ) → length word ≡ n → AreBits (2 * (n + 4)) (coded (with_tail word))
+coded_bits word n e =
+    let whole : length (with_tail word) ≡ n + 4 = length-append word (replicate 4 0) ∙ ap (λ k. k + 4) e in
+    record { many = length-coded (with_tail word) ∙ ap (λ k. 2 * k) whole; each = AllBits-coded (with_tail word) }
+
+tail : AreBits 3 tail_bits
+tail = record { many = refl; each = AllBits-table tail_bits refl }
+
+flag : AreBits 1 (1 ∷ [])
+flag = record { many = refl; each = AllBits-table (1 ∷ []) refl }
+
+-- ---- the three bursts
+
+normal_bits : (first second : List ℕ) (tsc : ℕ) → tsc ≤ 7 → AreBits 57 first → AreBits 57 second → AreBits 148 (normal_burst first second tsc)
+normal_bits first second tsc known f s =
+    let sequence : AreBits 26 (training_sequence tsc) =
+    record { many = length-training_sequence tsc known; each = AllBits-training_sequence tsc known } in
+    let one : List ℕ = 1 ∷ [] in
+    let two = joined 3 57 tail_bits first tail f in
+    let three = joined 60 1 (tail_bits ++ first) one two flag in
+    let four = joined 61 26 (tail_bits ++ first ++ one) (training_sequence tsc) three sequence in
+    let five = joined 87 1 (tail_bits ++ first ++ one ++ training_sequence tsc) one four flag in
+    let six = joined 88 57 (tail_bits ++ first ++ one ++ training_sequence tsc ++ one) second five s in
+    joined 145 3 (tail_bits ++ first ++ one ++ training_sequence tsc ++ one ++ second) tail_bits six tail
+
+access_bits : (body : List ℕ) → AreBits 36 body → AreBits 88 (access_burst body)
+access_bits body b =
+    let head : AreBits 8 extended_tail_bits = record { many = refl; each = AllBits-table extended_tail_bits refl } in
+    let sequence : AreBits 41 access_sequence = record { many = refl; each = AllBits-table access_sequence refl } in
+    let two = joined 8 41 extended_tail_bits access_sequence head sequence in
+    let three = joined 49 36 (extended_tail_bits ++ access_sequence) body two b in
+    joined 85 3 (extended_tail_bits ++ access_sequence ++ body) tail_bits three tail
+
+sync_bits : (first second : List ℕ) → AreBits 39 first → AreBits 39 second → AreBits 148 (sync_burst first second)
+sync_bits first second f s =
+    let sequence : AreBits 64 sync_sequence = record { many = refl; each = AllBits-table sync_sequence refl } in
+    let two = joined 3 39 tail_bits first tail f in
+    let three = joined 42 64 (tail_bits ++ first) sync_sequence two sequence in
+    let four = joined 106 39 (tail_bits ++ first ++ sync_sequence) second three s in
+    joined 145 3 (tail_bits ++ first ++ sync_sequence ++ second) tail_bits four tail
+
+-- ---- what is sent
+
+taken : (m n : ℕ) (bits : List ℕ) → AreBits (m + n) bits → AreBits m (take m bits)
+taken m n bits b = record {
+  many = length-take-le m bits (let e = b.many in omega arith);
+  each = All-take (λ bit. bit ≤ 1) m bits b.each;
+}
+
+dropped : (m n : ℕ) (bits : List ℕ) → AreBits (m + n) bits → AreBits n (drop m bits)
+dropped m n bits b = record {
+  many = let e = b.many in let l = length-drop m bits in omega arith;
+  each = All-drop (λ bit. bit ≤ 1) m bits b.each;
+}
+
+bursts_of : ℕ → List (List ℕ) → List (List ℕ)
+bursts_of tsc parts = map (λ part. normal_burst (take 57 part) (drop 57 part) tsc) parts
+
+each_burst : (tsc : ℕ) (parts : List (List ℕ)) → tsc ≤ 7 → All (λ part. length part ≡ 114) parts → All AllBits parts → All (AreBits 148) (bursts_of tsc parts)
+unfolding bursts_of
+each_burst tsc [] known counts bits = All-nil (AreBits 148)
+each_burst tsc (part ∷ parts) known counts bits =
+    let Full : List ℕ → Type 0 = λ p. length p ≡ 114 in
+    let whole : AreBits (57 + 57) part = record { many = All-head Full part parts counts; each = All-head AllBits part parts bits } in
+    let more = each_burst tsc parts known (All-tail Full part parts counts) (All-tail AllBits part parts bits) in
+    All-cons (AreBits 148) (normal_burst (take 57 part) (drop 57 part) tsc) (bursts_of tsc parts)
+    (normal_bits (take 57 part) (drop 57 part) tsc known (taken 57 57 part whole) (dropped 57 57 part whole)) more
+
+pub sent_block_bits : (octets : List ℕ) (tsc : ℕ) (bursts : List (List ℕ)) → IsSentBlock octets tsc bursts →
+    (length bursts ≡ 4) × All (AreBits 148) bursts
+unfolding bursts_of
+sent_block_bits octets tsc bursts s =
+    let f : List ℕ → List ℕ = λ part. normal_burst (take 57 part) (drop 57 part) tsc in
+    let bits : AllBits s.coded_bits = subst AllBits (sym s.code.code) (AllBits-coded (with_tail (bits_of octets ++ s.code.parity))) in
+    let each = each_burst tsc s.parts s.known s.spread.each_count (AllBits-bursts s.coded_bits s.parts s.spread bits) in
+    (ap length s.layout ∙ length-map s.parts f ∙ s.spread.burst_count, subst (All (AreBits 148)) (sym s.layout) each)
+
+pub sent_access_bits : (info bsic burst : List ℕ) → IsSentAccess info bsic burst → AreBits 88 burst
+sent_access_bits info bsic burst s =
+    subst (AreBits 88) (sym s.burst) (access_bits (coded (with_tail (info ++ s.parity))) (coded_bits (info ++ s.parity) 14 s.word.count))
+
+pub sent_sync_bits : (info burst : List ℕ) → IsSentSync info burst → AreBits 148 burst
+sent_sync_bits info burst s =
+    let c = coded (with_tail (info ++ s.parity)) in
+    let bits : AreBits (39 + 39) c = coded_bits (info ++ s.parity) 35 s.word.count in
+    subst (AreBits 148) (sym s.burst) (sync_bits (take 39 c) (drop 39 c) (taken 39 39 c bits) (dropped 39 39 c bits))

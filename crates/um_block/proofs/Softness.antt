@@ -1,0 +1,77 @@
+-- Soft values: which of them a burst has, and where they stand in its block.
+use Rattle.std.proofs.Common.{◌≡◌, ◌≢◌, ℕ, ◌-◌, ◌<◌, ◌==◌, if◌then◌else◌, true, false, ℤ, pos, negsuc, List, [], ◌∷◌, ◌++◌, map, take, drop, length, get_or, ap, sym, subst, ◌∙◌, arith}
+use Rattle.std.specs.Prelude.{slice_range}
+use Rattle.std.proofs.lemmas.Int.{ints}
+use Rattle.std.specs.List.{All}
+use Rattle.std.proofs.lemmas.List.{get_or-map, get_or_default, length-map, take_at, drop_at, drop_all, append-nil}
+use borrow.Rule.Slice.PartMut.{put_mid}
+use Rattle.std.proofs.lemmas.List.Elements.{All-append, All-cons, All-nil, All-take, All-drop, All-map}
+use Rattle.conv_code.specs.Likelihood.{AllSoft}
+use Rattle.interleave.specs.Bursts.{IsInterleaved}
+use Rattle.interleave.specs.Places.{burst_of, place_of}
+use Rattle.interleave.proofs.WholeBursts.{burst_of-below, place_of-below}
+use Rattle.um_block.specs.Received.{soft_value, softened, coded_places}
+
+abbrev pub IsSoft : ℤ → Type 0
+IsSoft value = value ≢ negsuc 127
+
+IsSoft-soft_value : (bit : ℕ) → IsSoft (soft_value bit)
+IsSoft-soft_value bit =
+    elim (bit == 0) as (λ zero. IsSoft (if zero then pos 127 else negsuc 126)) [
+      | true ↦ λ e. omega (arith, ints)
+      | false ↦ λ e. omega (arith, ints)
+    ]
+
+pub AllSoft-softened : (bits : List ℕ) → AllSoft (softened bits)
+AllSoft-softened [] = All-nil IsSoft
+AllSoft-softened (bit ∷ bits) = All-cons IsSoft (soft_value bit) (softened bits) (IsSoft-soft_value bit) (AllSoft-softened bits)
+
+pub AllSoft-range : (values : List ℤ) (i j : ℕ) → AllSoft values → AllSoft (slice_range values i j)
+AllSoft-range values i j soft = All-take IsSoft (j - i) (drop i values) (All-drop IsSoft i values soft)
+
+pub AllSoft-coded_places : (burst : List ℤ) → AllSoft burst → AllSoft (coded_places burst)
+AllSoft-coded_places burst soft = All-append IsSoft _ _ (AllSoft-range burst 3 60 soft) (AllSoft-range burst 88 145 soft)
+
+-- each coded bit has the value at its place
+pub interleaved_places : (bursts : List (List ℤ)) (soft : List ℤ) → length bursts ≡ 4 → length soft ≡ 456 →
+    ((i : ℕ) → i < 4 → length (coded_places (get_or bursts i [])) ≡ 114) →
+    ((k : ℕ) → k < 456 → get_or soft k (pos 0) ≡ get_or (coded_places (get_or bursts (burst_of k) [])) (place_of k) (pos 0)) →
+    IsInterleaved soft (map coded_places bursts)
+interleaved_places bursts soft four whole each stands = record {
+  coded_count = whole;
+  burst_count = length-map bursts coded_places ∙ four;
+  each_count = λ i d h.
+      let within : i < length bursts = subst (λ n. i < n) (length-map bursts coded_places) h in
+      ap length (get_or-map coded_places bursts i [] d within) ∙ each i (omega arith);
+  places = λ k d h.
+      let burst = burst_of-below k in
+      let within : burst_of k < length bursts = omega arith in
+      let long = each (burst_of k) burst in
+      let place = place_of-below k in
+      ap (λ values. get_or values (place_of k) d) (get_or-map coded_places bursts (burst_of k) [] [] within)
+      ∙ get_or_default (coded_places (get_or bursts (burst_of k) [])) (place_of k) d (pos 0) (omega arith)
+      ∙ sym (stands k h)
+      ∙ get_or_default soft k (pos 0) d (omega arith);
+}
+
+pub AllSoft-gathered : (bursts : List (List ℤ)) (soft : List ℤ) → length bursts ≡ 4 →
+    IsInterleaved soft (map coded_places bursts) → All AllSoft bursts → AllSoft soft
+AllSoft-gathered bursts soft four gathered all k d h =
+    let parts = map coded_places bursts in
+    let within : k < 456 = subst (λ n. k < n) gathered.coded_count h in
+    let burst : burst_of k < length bursts = subst (λ n. burst_of k < n) (sym four) (burst_of-below k) in
+    let part : burst_of k < length parts = subst (λ n. burst_of k < n) (sym (length-map bursts coded_places)) burst in
+    let place : place_of k < length (get_or parts (burst_of k) []) =
+    subst (λ n. place_of k < n) (sym (gathered.each_count (burst_of k) [] part)) (place_of-below k) in
+    subst IsSoft (gathered.places k d within)
+    (All-map AllSoft coded_places bursts (λ i e lt. AllSoft-coded_places (get_or bursts i e) (all i e lt)) (burst_of k) [] part (place_of k) d place)
+
+-- the second part is written behind the first
+pub put_mid-behind : {X : Type 0} (n m : ℕ) (first old second : List X) → length first ≡ n → length old ≡ m →
+    put_mid n m (first ++ old) second ≡ first ++ second
+put_mid-behind n m first old second f o =
+    let before : take n (first ++ old) ≡ first = take_at first old n f in
+    let behind : drop m (drop n (first ++ old)) ≡ [] = ap (drop m) (drop_at first old n f) ∙ drop_all m old (omega arith) in
+    ap (λ front. front ++ (second ++ drop m (drop n (first ++ old)))) before
+    ∙ ap (λ rest. first ++ (second ++ rest)) behind
+    ∙ ap (λ rest. first ++ rest) (append-nil second)

@@ -1,0 +1,12 @@
+use Rattle.std.proofs.Common.{◌<◌, get_or, arith, subst}
+use Rattle.std.proofs.lemmas.List.{get_or_default}
+use Rattle.um_block.proofs.OctetsOfBits.{octets_of-bits_of}
+use Rattle.um_block.proofs.receiving.law_octets.Goals as goal
+
+pub returns : goal.returns
+returns c =
+    let octets = c.args.octets.now in
+    octets_of-bits_of octets
+    (λ k d h.
+    let fits : get_or octets k 0 < 256 = omega (arith, c.type_inv.octets k) in
+    subst (λ octet. octet < 256) (get_or_default octets k 0 d h) fits)

@@ -1,0 +1,33 @@
+use Rattle.std.proofs.Common.{◌≡◌, ℕ, ℤ, List, length, rules, ap, sym, subst, ◌∙◌}
+use Rattle.conv_code.specs.Likelihood.{AllSoft}
+use Rattle.burst_map.specs.AccessBurst.{body}
+use Rattle.um_block.specs.Sent.{IsSentAccess}
+use Rattle.um_block.specs.Received.{softened, IsReceivedAccess}
+use Rattle.um_block.specs.Restored.{IsCleanAccess}
+use Rattle.um_block.specs.declared.received.ReceivedAccess.{ReceivedAccess}
+use Rattle.um_block.proofs.ReceivedOnce.{one_received_access}
+use Rattle.um_block.proofs.CleanRestoring.{clean_access}
+use Rattle.um_block.proofs.Softness.{AllSoft-range}
+use Rattle.um_block.proofs.Restoring.{restored_access}
+use Rattle.um_block.proofs.receiving.receive_access.Goals as goal
+
+restored : (burst : List ℤ) (bsic : List ℕ) (r : ReceivedAccess) → IsReceivedAccess burst bsic r → (info sent : List ℕ) → IsSentAccess info bsic sent → burst ≡ softened sent → IsCleanAccess info r
+restored burst bsic r received info sent s same = clean_access info bsic sent r s (subst (λ x. IsReceivedAccess x bsic r) same received)
+
+pub decode-metric-requires-clause-soft : goal.decode-metric-requires-clause-soft
+decode-metric-requires-clause-soft c =
+    subst AllSoft (sym (c.body.ensures.value ∙ ap body c.new-parts.ensures.value)) (AllSoft-range c.args.burst.now 49 85 c.requires)
+
+pub returns-clause-received : goal.returns-clause-received
+returns-clause-received c = search rules
+
+pub returns-clause-only : goal.returns-clause-only
+returns-clause-only c other h = one_received_access c.args.burst.now c.args.bsic.now other _ h (returns-clause-received c)
+
+pub returns-clause-clean : goal.returns-clause-clean
+returns-clause-clean c = restored c.args.burst.now c.args.bsic.now _ (returns-clause-received c)
+
+pub returns-clause-restores : goal.returns-clause-restores
+returns-clause-restores c info d code damage =
+    let is_body = c.body.ensures.value ∙ ap body c.new-parts.ensures.value in
+    restored_access c.args.burst.now info c.args.bsic.now d _ (ap length (sym is_body) ∙ c.body.ensures.count) code damage (returns-clause-received c)

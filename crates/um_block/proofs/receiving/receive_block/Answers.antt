@@ -1,0 +1,28 @@
+use Rattle.std.proofs.Common.{◌≡◌, ℕ, ◌<◌, ℤ, List, map, subst, rules}
+use Rattle.std.specs.List.{All}
+use Rattle.um_block.specs.Sent.{IsSentBlock}
+use Rattle.um_block.specs.Received.{softened, IsReceivedBlock}
+use Rattle.um_block.specs.Restored.{IsCleanBlock}
+use Rattle.um_block.specs.declared.received.Received.{Received}
+use Rattle.um_block.proofs.ReceivedOnce.{one_received_block}
+use Rattle.um_block.proofs.CleanRestoring.{clean_block}
+use Rattle.um_block.proofs.Restoring.{restored_block}
+use Rattle.um_block.proofs.receiving.receive_block.Goals as goal
+
+restored : (bursts : List (List ℤ)) (r : Received) → IsReceivedBlock bursts r → (octets : List ℕ) (tsc : ℕ) (sent : List (List ℕ)) →
+    All (λ octet. octet < 256) octets → IsSentBlock octets tsc sent → bursts ≡ map softened sent → IsCleanBlock octets tsc r
+restored bursts r received octets tsc sent small s same =
+    clean_block octets tsc sent r small s (subst (λ b. IsReceivedBlock b r) same received)
+
+pub returns-clause-received : goal.returns-clause-received
+returns-clause-received c = search rules
+
+pub returns-clause-only : goal.returns-clause-only
+returns-clause-only c other h = one_received_block c.args.bursts.now other _ h (returns-clause-received c)
+
+pub returns-clause-clean : goal.returns-clause-clean
+returns-clause-clean c = restored c.args.bursts.now _ (returns-clause-received c)
+
+pub returns-clause-restores : goal.returns-clause-restores
+returns-clause-restores c octets d soft small code gathered damage =
+    restored_block c.args.bursts.now octets d soft _ small code gathered damage (returns-clause-received c)

@@ -1,0 +1,40 @@
+use Rattle.std.proofs.Common.{◌≡◌, ℕ, ℤ, List, length, rules, ◌++◌, ap, ap₂, sym, subst, ◌∙◌}
+use Rattle.std.proofs.lemmas.List.Elements.{All-append}
+use Rattle.conv_code.specs.Likelihood.{AllSoft}
+use Rattle.burst_map.specs.SyncBurst.{first_half, second_half}
+use Rattle.um_block.specs.Sent.{IsSentSync}
+use Rattle.um_block.specs.Received.{softened, IsReceivedSync}
+use Rattle.um_block.specs.Restored.{IsCleanSync}
+use Rattle.um_block.specs.declared.received.ReceivedSync.{ReceivedSync}
+use Rattle.um_block.proofs.ReceivedOnce.{one_received_sync}
+use Rattle.um_block.proofs.CleanRestoring.{clean_sync}
+use Rattle.um_block.proofs.Softness.{IsSoft, AllSoft-range}
+use Rattle.um_block.proofs.Restoring.{restored_sync}
+use Rattle.um_block.proofs.receiving.receive_sync.Goals as goal
+
+restored : (burst : List ℤ) (r : ReceivedSync) → IsReceivedSync burst r → (info sent : List ℕ) → IsSentSync info sent → burst ≡ softened sent → IsCleanSync info r
+restored burst r received info sent s same = clean_sync info sent r s (subst (λ x. IsReceivedSync x r) same received)
+
+pub decode-metric-requires-clause-soft : goal.decode-metric-requires-clause-soft
+decode-metric-requires-clause-soft c =
+    let burst = c.new-parts.ensures.value in
+    subst AllSoft
+    (sym (c.join_halves-halves.ensures
+    ∙ ap₂ (λ x y. x ++ y) (c.first.ensures.value ∙ ap first_half burst) (c.second.ensures.value ∙ ap second_half burst)))
+    (All-append IsSoft _ _ (AllSoft-range c.args.burst.now 3 42 c.requires) (AllSoft-range c.args.burst.now 106 145 c.requires))
+
+pub returns-clause-received : goal.returns-clause-received
+returns-clause-received c = search rules
+
+pub returns-clause-only : goal.returns-clause-only
+returns-clause-only c other h = one_received_sync c.args.burst.now other _ h (returns-clause-received c)
+
+pub returns-clause-clean : goal.returns-clause-clean
+returns-clause-clean c = restored c.args.burst.now _ (returns-clause-received c)
+
+pub returns-clause-restores : goal.returns-clause-restores
+returns-clause-restores c info d code damage =
+    let burst = c.new-parts.ensures.value in
+    let first = ap length (sym (c.first.ensures.value ∙ ap first_half burst)) ∙ c.first.ensures.count in
+    let second = ap length (sym (c.second.ensures.value ∙ ap second_half burst)) ∙ c.second.ensures.count in
+    restored_sync c.args.burst.now info d _ first second code damage (returns-clause-received c)

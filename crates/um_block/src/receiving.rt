@@ -1,0 +1,200 @@
+//! What bursts are received as: the most likely word of their soft values.
+ghost use Rattle.std.specs.Prelude.{◌≡◌, ℕ, ◌<◌, ◌≤◌, ◌++◌, ℤ, List, Some, length, map, take, drop, All, MatchOption};
+ghost use Rattle.bit_blocks.specs.Bits.{AllBits};
+ghost use Rattle.bit_blocks.specs.Octets.{bits_of};
+ghost use Rattle.conv_code.specs.Likelihood.{AllSoft};
+ghost use Rattle.fire_code.specs.Words.{IsXcchWord, IsRachWord, IsSchWord};
+ghost use Rattle.interleave.specs.Bursts.{IsInterleaved};
+ghost use Rattle.training_seq.specs.Choice.{IsBestSequence, total_wrong_places};
+ghost use Rattle.weight_bound.specs.Restoring.{IsHardlyDamaged};
+ghost use Rattle.burst_map.specs.AccessBurst as A;
+ghost use Rattle.burst_map.specs.SyncBurst as S;
+ghost use Rattle.um_block.specs.Sent.{IsCodedBlock, IsCodedAccess, IsCodedSync, IsSentBlock, IsSentAccess, IsSentSync};
+ghost use Rattle.um_block.specs.Restored.{IsCleanBlock, IsCleanAccess, IsCleanSync};
+ghost use Rattle.um_block.specs.Packed.{octets_of};
+ghost use Rattle.um_block.specs.Received.{coded_places, training_of, softened, IsReceivedBlock, IsReceivedAccess, IsReceivedSync};
+
+use crate::received::{Received, ReceivedAccess, ReceivedSync};
+use crate::training::{wrong_access_places, wrong_sync_places};
+use bit_blocks::{Bits, to_octets};
+use burst_map::{AccessView, NormalView, SyncView};
+use fire_code::{rach_holds, sch_holds, xcch_holds};
+use interleave::gather_burst;
+use training_seq::best;
+use trellis_decode::decode;
+
+/// The bits of a burst as sure soft values: 127 for a 0, and -127 for a 1.
+pub fn soften(burst: &[u8; 148]) -> [i8; 148]
+    requires { AllBits burst.now }
+    ensures value { result ≡ softened burst.now }
+    ensures soft { AllSoft result }
+{
+    let mut soft = [0; 148];
+    for (i, bit) in burst.iter().enumerate() {
+        soft[i] = if *bit == 0 { 127 } else { -127 };
+    }
+    soft
+}
+
+/// What the four bursts of a block are received as.
+pub fn receive_block(bursts: &[[i8; 148]; 4]) -> Received
+    requires { All AllSoft bursts.now }
+    ensures received { IsReceivedBlock bursts.now result }
+    ensures only { (other : Received) → IsReceivedBlock bursts.now other → other ≡ result }
+    ensures clean { (octets : List ℕ) (tsc : ℕ) (sent : List (List ℕ)) → All (λ octet. octet < 256) octets →
+        IsSentBlock octets tsc sent → bursts.now ≡ map softened sent → IsCleanBlock octets tsc result }
+    ensures restores { (octets c : List ℕ) (soft : List ℤ) → All (λ octet. octet < 256) octets → IsCodedBlock octets c →
+        IsInterleaved soft (map coded_places bursts.now) → IsHardlyDamaged soft c → result.accepted ≡ Some octets }
+{
+    let soft = gather_block(bursts);
+    let mut u = [0; 228];
+    let metric = decode(&soft, &mut u);
+    let (tsc, wrong_training) = best_sequence(bursts);
+    Received {
+        u: Bits::from_array(u),
+        metric,
+        tsc,
+        wrong_training,
+        accepted: block_data(&u),
+    }
+}
+
+/// The soft values of a block's coded bits.
+fn gather_block(bursts: &[[i8; 148]; 4]) -> [i8; 456]
+    requires { All AllSoft bursts.now }
+    ensures gathered { IsInterleaved result (map coded_places bursts.now) }
+    ensures soft { AllSoft result }
+{
+    let mut soft = [0; 456];
+    for (b, burst) in bursts.iter().enumerate() {
+        let parts = NormalView::new(burst);
+        gather_burst(b, parts.first(), parts.second(), &mut soft);
+    }
+    soft
+}
+
+/// The training sequence of four bursts, and how many of its places are wrong.
+fn best_sequence(bursts: &[[i8; 148]; 4]) -> (u8, u32)
+    ensures tsc { IsBestSequence
+        (training_of bursts.now 0) (training_of bursts.now 1) (training_of bursts.now 2) (training_of bursts.now 3) result.0 }
+    ensures wrong { result.1 ≡ total_wrong_places
+        (training_of bursts.now 0) (training_of bursts.now 1) (training_of bursts.now 2) (training_of bursts.now 3) result.0 }
+{
+    best(
+        NormalView::new(&bursts[0]).training(),
+        NormalView::new(&bursts[1]).training(),
+        NormalView::new(&bursts[2]).training(),
+        NormalView::new(&bursts[3]).training(),
+    )
+}
+
+/// The octets of an information list whose parity holds.
+fn block_data(u: &[u8; 228]) -> Option<[u8; 23]>
+    requires { AllBits u.now }
+    ensures { MatchOption result
+        (¬ IsXcchWord (take 224 u.now))
+        (λ octets. IsXcchWord (take 224 u.now) × (octets ≡ octets_of (take 184 u.now))) }
+{
+    let mut word = [0; 224];
+    word.copy_from_slice(&u[..224]);
+    if !xcch_holds(&Bits::from_array(word)) {
+        return None;
+    }
+    let mut octets = [0; 23];
+    to_octets(&u[..184], &mut octets);
+    law_octets(&octets);
+    Some(octets)
+}
+
+/// Law: octets are those of their bits.
+fn law_octets(octets: &[u8])
+    ensures { octets_of (bits_of octets.now) ≡ octets.now }
+{}
+
+/// What an access burst is received as, under the six bits of a base station's colour code
+/// (BSIC).
+pub fn receive_access(burst: &[i8; 88], bsic: &Bits<6>) -> ReceivedAccess
+    requires { AllSoft burst.now }
+    ensures received { IsReceivedAccess burst.now bsic.now result }
+    ensures only { (other : ReceivedAccess) → IsReceivedAccess burst.now bsic.now other → other ≡ result }
+    ensures clean { (info sent : List ℕ) → IsSentAccess info bsic.now sent → burst.now ≡ softened sent → IsCleanAccess info result }
+    ensures restores { (info c : List ℕ) → IsCodedAccess info bsic.now c → IsHardlyDamaged (A.body burst.now) c →
+        result.accepted ≡ Some info }
+{
+    let parts = AccessView::new(burst);
+    let mut u = [0; 18];
+    let metric = decode(parts.body(), &mut u);
+    ReceivedAccess {
+        u: Bits::from_array(u),
+        metric,
+        wrong_training: wrong_access_places(parts.training()),
+        accepted: access_data(&u, bsic),
+    }
+}
+
+/// The eight bits of an information list whose parity holds for the code.
+fn access_data(u: &[u8; 18], bsic: &Bits<6>) -> Option<Bits<8>>
+    requires { AllBits u.now }
+    ensures { MatchOption result
+        (¬ IsRachWord (take 14 u.now) bsic.now)
+        (λ info. IsRachWord (take 14 u.now) bsic.now × (info ≡ take 8 u.now)) }
+{
+    let mut word = [0; 14];
+    word.copy_from_slice(&u[..14]);
+    if !rach_holds(&Bits::from_array(word), bsic) {
+        return None;
+    }
+    let mut info = [0; 8];
+    info.copy_from_slice(&u[..8]);
+    Some(Bits::from_array(info))
+}
+
+/// What a synchronisation burst is received as.
+pub fn receive_sync(burst: &[i8; 148]) -> ReceivedSync
+    requires { AllSoft burst.now }
+    ensures received { IsReceivedSync burst.now result }
+    ensures only { (other : ReceivedSync) → IsReceivedSync burst.now other → other ≡ result }
+    ensures clean { (info sent : List ℕ) → IsSentSync info sent → burst.now ≡ softened sent → IsCleanSync info result }
+    ensures restores { (info c : List ℕ) → IsCodedSync info c →
+        IsHardlyDamaged (S.first_half burst.now ++ S.second_half burst.now) c → result.accepted ≡ Some info }
+{
+    let parts = SyncView::new(burst);
+    let halves = join_halves(parts.first(), parts.second());
+    let mut u = [0; 39];
+    let metric = decode(&halves, &mut u);
+    ReceivedSync {
+        u: Bits::from_array(u),
+        metric,
+        wrong_training: wrong_sync_places(parts.training()),
+        accepted: sync_data(&u),
+    }
+}
+
+/// The 78 soft values of two halves.
+fn join_halves(first: &[i8], second: &[i8]) -> [i8; 78]
+    requires first { length first.now ≡ 39 }
+    requires second { length second.now ≡ 39 }
+    ensures { result ≡ first.now ++ second.now }
+{
+    let mut soft = [0; 78];
+    soft[..39].copy_from_slice(first);
+    soft[39..].copy_from_slice(second);
+    soft
+}
+
+/// The 25 bits of an information list whose parity holds.
+fn sync_data(u: &[u8; 39]) -> Option<Bits<25>>
+    requires { AllBits u.now }
+    ensures { MatchOption result
+        (¬ IsSchWord (take 35 u.now))
+        (λ info. IsSchWord (take 35 u.now) × (info ≡ take 25 u.now)) }
+{
+    let mut word = [0; 35];
+    word.copy_from_slice(&u[..35]);
+    if !sch_holds(&Bits::from_array(word)) {
+        return None;
+    }
+    let mut info = [0; 25];
+    info.copy_from_slice(&u[..25]);
+    Some(Bits::from_array(info))
+}

@@ -1,0 +1,126 @@
+ghost use Rattle.std.specs.Prelude.{◌↔◌, IsTrue, All};
+ghost use Rattle.conv_code.specs.Likelihood.{AllSoft};
+
+use super::*;
+use bit_blocks::{Bits, from_octets};
+use std::process::Abort;
+
+fn are_soft(values: &[i8]) -> bool
+    ensures { IsTrue result ↔ AllSoft values.now }
+{
+    values.iter().all(|value| *value != -128)
+}
+
+fn block(rt: &impl Abort, bursts: &[[i8; 148]; 4]) -> Received {
+    let all_soft = bursts.iter().all(|burst| are_soft(burst));
+    assert!(rt; all_soft);
+    receive_block(bursts)
+}
+
+fn access(rt: &impl Abort, burst: &[i8; 88], bsic: [u8; 6]) -> ReceivedAccess {
+    assert!(rt; are_soft(burst));
+    let are_bits = bsic.iter().all(|bit| *bit <= 1);
+    assert!(rt; are_bits);
+    receive_access(burst, &Bits::from_array(bsic))
+}
+
+fn softened(rt: &impl Abort, burst: &[u8; 148]) -> [i8; 148] {
+    let are_bits = burst.iter().all(|bit| *bit <= 1);
+    assert!(rt; are_bits);
+    soften(burst)
+}
+
+#[test]
+fn a_lost_block_is_the_first_word(rt: HostRuntime) {
+    let lost = block(&rt, &[[0; 148]; 4]);
+    let expected = Received {
+        u: Bits::zero(),
+        metric: 0,
+        tsc: 0,
+        wrong_training: 104,
+        accepted: None,
+    };
+    assert_eq!(rt; lost, expected);
+}
+
+#[test]
+fn soft_values_outweigh_signs(rt: HostRuntime) {
+    let mut burst = [0; 88];
+    burst[49..85].fill(1);
+    burst[49] = -7;
+    let received = access(&rt, &burst, [1; 6]);
+    assert_eq!(rt; received.metric, 30);
+    assert_eq!(rt; received.wrong_training, 41);
+    assert_eq!(rt; received.accepted.is_none(), true);
+    assert_eq!(rt; received.u.get(0), 1);
+    assert_eq!(rt; received.u.get(1), 0);
+}
+
+#[test]
+fn a_lost_access_burst_fits_one_code_alone(rt: HostRuntime) {
+    let fits = access(&rt, &[0; 88], [1; 6]);
+    assert_eq!(rt; fits.accepted, Some(Bits::zero()));
+    assert_eq!(rt; fits.metric, 0);
+    assert_eq!(rt; access(&rt, &[0; 88], [0; 6]).accepted, None);
+}
+
+#[test]
+fn the_last_bits_of_an_access_word_are_zero(rt: HostRuntime) {
+    let mut burst = [0; 88];
+    burst[49..85].fill(1);
+    burst[83] = -1;
+    burst[84] = -1;
+    let received = access(&rt, &burst, [1; 6]);
+    assert_eq!(rt; received.metric, 32);
+    assert_eq!(rt; received.accepted, Some(Bits::zero()));
+}
+
+#[test]
+fn a_block_is_restored_without_one_of_its_bursts(rt: HostRuntime) {
+    let octets = [0; 23];
+    let sent = send_block(&octets, 0);
+    let bursts = [
+        softened(&rt, &sent[0]),
+        [0; 148],
+        softened(&rt, &sent[2]),
+        softened(&rt, &sent[3]),
+    ];
+    let received = block(&rt, &bursts);
+    assert_eq!(rt; received.metric, 43434);
+    assert_eq!(rt; received.tsc, 0);
+    assert_eq!(rt; received.wrong_training, 26);
+    assert_eq!(rt; received.accepted, Some(octets));
+}
+
+// Seven wrong bits are the distance of two words, and here the other word is reached.
+#[test]
+fn a_neighbour_is_reported_and_not_accepted(rt: HostRuntime) {
+    let mut octets = [0x2b; 23];
+    octets[0] = 3;
+    octets[1] = 3;
+    octets[2] = 1;
+    let mut sent = send_block(&octets, 7);
+    for (burst, place) in [
+        (0, 3),
+        (0, 131),
+        (1, 115),
+        (1, 129),
+        (2, 22),
+        (3, 6),
+        (3, 97),
+    ] {
+        sent[burst][place] ^= 1;
+    }
+    let bursts = sent.map(|burst| softened(&rt, &burst));
+    let received = block(&rt, &bursts);
+    assert_eq!(rt; received.metric, 57912);
+    assert_eq!(rt; received.tsc, 7);
+    assert_eq!(rt; received.wrong_training, 0);
+    assert_eq!(rt; received.accepted, None);
+    octets[0] = 2;
+    let mut bits = [0; 184];
+    from_octets(&octets, &mut bits);
+    for (k, bit) in bits.iter().enumerate() {
+        assert_eq!(rt; received.u.get(k), *bit);
+    }
+}
