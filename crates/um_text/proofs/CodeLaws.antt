@@ -18,7 +18,7 @@ use Rattle.um_text.specs.Forms.{words_fault}
 use Rattle.um_text.specs.Meanings.{HasOneMeaningUnless}
 use Rattle.um_text.specs.CodeLines.{code_forms, code_fault, WordsMean, CodeMeans}
 use Rattle.um_text.specs.CodeReading.{IsReadAs}
-use Rattle.um_text.proofs.DigitWords.{SpellsBits-digits, SpellsBits-length, SpellsBits-unique, spelled_bits, SpellsDigit-digit, SpellsDigit-unique, spelled_digit}
+use Rattle.um_text.proofs.DigitWords.{SpellsBits-digits, SpellsBits-length, SpellsBits-unique, bits_of, spelled_bits, SpellsDigit-digit, SpellsDigit-unique, spelled_digit}
 
 -- ---- what has a meaning has no reason
 
@@ -34,7 +34,7 @@ words_without_fault parts (Sch info) m =
     rw (m.1, SpellsBits-digits 25 m.0 info m.2, SpellsBits-length 25 m.0 info m.2) refl
 
 -- a line that is passed over is no line of words with a meaning
-is_skipped_by_words : (line : List ℕ) (parts : List (List ℕ)) → words line ≡ parts → is_skipped line ≡ is_skipped (join_with_byte 32 parts)
+pub is_skipped_by_words : (line : List ℕ) (parts : List (List ℕ)) → words line ≡ parts → is_skipped line ≡ is_skipped (join_with_byte 32 parts)
 is_skipped_by_words line parts e =
     ap is_skipped (sym (join_with_byte-slice_split 32 line)) ∙ ap (λ ws. is_skipped (join_with_byte 32 ws)) e
 
@@ -82,7 +82,7 @@ rach_means (info ∷ bsic ∷ []) good =
     let bsic_many : length bsic ≡ 6 = grind (arith, good) in
     let a = spelled_bits 8 info info_digits info_many in
     let b = spelled_bits 6 bsic bsic_digits bsic_many in
-    (Rach a.0 b.0, (info, bsic, refl, a.1, b.1))
+    (Rach (bits_of info) (bits_of bsic), (info, bsic, refl, a, b))
 rach_means (info ∷ bsic ∷ other ∷ rest) good = absurd cc
 
 sch_means : (rest : List (List ℕ)) → words_fault code_forms (codes "sch" ∷ rest) ≡ None
@@ -92,7 +92,7 @@ sch_means (info ∷ []) good =
     let digits : list_all is_bit_digit info ≡ true = grind (arith, good) in
     let many : length info ≡ 25 = grind (arith, good) in
     let a = spelled_bits 25 info digits many in
-    (Sch a.0, (info, refl, a.1))
+    (Sch (bits_of info), (info, refl, a))
 sch_means (info ∷ other ∷ rest) good = absurd cc
 
 -- whether a word is the fixed word of a form

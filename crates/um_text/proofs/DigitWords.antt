@@ -25,11 +25,10 @@ SpellsBits-length count word bits spells =
     ap length spells.spelled ∙ length-map bits (λ bit. 48 + bit) ∙ spells.many
 
 -- the bits of a word of digits
-bits_of : List ℕ → List ℕ
+abbrev pub bits_of : List ℕ → List ℕ
 bits_of word = map (λ octet. octet - 48) word
 
 bit_digits-bits_of : (word : List ℕ) → list_all is_bit_digit word ≡ true → (word ≡ bit_digits (bits_of word)) × AllBits (bits_of word)
-unfolding bits_of
 bit_digits-bits_of [] digits = (refl, All-nil (λ bit. bit ≤ 1))
 bit_digits-bits_of (octet ∷ word) digits =
     let parts = and_parts (is_bit_digit octet) (list_all is_bit_digit word) digits in
@@ -41,15 +40,12 @@ bit_digits-bits_of (octet ∷ word) digits =
       All-cons (λ bit. bit ≤ 1) (octet - 48) (bits_of word) small rest.1,
     )
 
--- every word of so many digits spells bits
+-- every word of so many digits spells its bits
 pub spelled_bits : (count : ℕ) (word : List ℕ) → list_all is_bit_digit word ≡ true → length word ≡ count
-    → (bits : List ℕ) × SpellsBits count word bits
-unfolding bits_of
+    → SpellsBits count word (bits_of word)
 spelled_bits count word digits many =
-    let spelled = bit_digits-bits_of word digits in (
-      bits_of word,
-      record { spelled = spelled.0; many = length-map word (λ octet. octet - 48) ∙ many; each = spelled.1 },
-    )
+    let spelled = bit_digits-bits_of word digits in
+    record { spelled = spelled.0; many = length-map word (λ octet. octet - 48) ∙ many; each = spelled.1 }
 
 bit_digits-injective : (a b : List ℕ) → bit_digits a ≡ bit_digits b → a ≡ b
 bit_digits-injective [] [] e = refl

@@ -1,9 +1,17 @@
+pub mod BurstLines
+pub mod BurstReading
 pub mod BurstTexts
 pub mod CodeLines
 pub mod CodeReading
 pub mod Digits
 pub mod Forms
+pub mod FrameTexts
 pub mod HexDigits
 pub mod Meanings
 pub mod Refusals
+pub mod Reports
+pub mod ShowLines
+pub mod ShowReading
+pub mod SoftWords
 pub mod Words
+pub mod WrittenBursts

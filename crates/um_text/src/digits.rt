@@ -10,7 +10,11 @@ use bit_blocks::Bits;
 pub(crate) fn are_bit_digits(word: &[u8]) -> bool
     ensures { result ≡ list_all is_bit_digit word.now }
 {
-    word.iter().all(|octet| matches!(*octet, b'0' | b'1'))
+    let mut all = true;
+    for octet in word {
+        all &= matches!(*octet, b'0' | b'1');
+    }
+    all
 }
 
 /// The bits of `N` digits.
@@ -37,4 +41,20 @@ pub(crate) fn digit_to(most: u8, word: &[u8]) -> Result<u8, LineFault>
         [digit] if b'0' <= *digit && *digit <= b'0' + most => Ok(*digit - b'0'),
         _ => Err(LineFault::Digits),
     }
+}
+
+/// Whether a word is one digit that is no greater than `most`.
+pub(crate) fn is_digit_to(most: u8, word: &[u8]) -> bool
+    requires { most ≤ 9 }
+    ensures { result ≡ is_digit_to most word.now }
+{
+    digit_to(most, word).is_ok()
+}
+
+/// The number of a word of one digit from `0` to `7`.
+pub(crate) fn digit_of(word: &[u8]) -> u8
+    requires { IsTrue (is_digit_to 7 word.now) }
+    ensures { SpellsDigit 7 word.now result }
+{
+    word[0] - b'0'
 }

@@ -1,21 +1,33 @@
 //! The lines that `um` reads and writes.
 #![tactic(auto)]
 
+mod burst_lines;
 mod bursts;
 mod code;
 mod digits;
 mod fault;
+mod frame_words;
+mod frames;
 mod hex_digits;
 mod refusal;
+mod reports;
+mod show;
+mod soft_digits;
 mod text;
 mod words;
 
+pub use burst_lines::{BurstLine, law_burst, law_written_bursts, parse_burst};
 pub use bursts::{access_line, block_lines, normal_line, sync_line};
 pub use code::{CodeLine, law_code, parse_code};
 pub use fault::LineFault;
+pub use frames::{frame_line, octets_line};
 pub use refusal::refused_line;
+pub use reports::{access_report, block_report, sync_report};
+pub use show::{ShowLine, law_show, parse_show};
 pub use text::Text;
 pub use words::law_words;
 
+#[cfg(test)]
+mod report_tests;
 #[cfg(test)]
 mod tests;

@@ -57,6 +57,62 @@ fn digits_of_both_cases_are_read_the_high_one_first(rt: HostRuntime) -> Result<(
     Ok(())
 }
 
+const REFUSED_BURSTS: [(&str, u8, LineFault); 12] = [
+    ("a xx yy", 1, LineFault::Order),
+    ("a xx yy", 0, LineFault::Digits),
+    ("S ", 3, LineFault::Order),
+    ("a 000000", 1, LineFault::Word),
+    ("n 0g", 2, LineFault::Digits),
+    ("N 0g", 2, LineFault::Digits),
+    ("n ", 0, LineFault::Length),
+    ("n", 0, LineFault::Word),
+    ("S 80", 0, LineFault::Length),
+    ("A 00000 80", 0, LineFault::Length),
+    ("lost ", 0, LineFault::Word),
+    ("lost\r", 0, LineFault::Word),
+];
+
+#[test]
+fn a_bad_burst_has_its_first_reason(rt: HostRuntime) {
+    for (line, held, fault) in REFUSED_BURSTS {
+        assert_eq!(rt; parse_burst(line.as_bytes(), held), Err(fault), "{line}");
+    }
+}
+
+#[test]
+fn soft_values_are_signed_octets(rt: HostRuntime) -> Result<(), Fail> {
+    let line = format!(in rt.alloc();
+        "A 100011 {ZEROS}{ZEROS}{ZEROS}000000000000000000000000000000007F81ff"
+    )?;
+    let bsic = Bits::from_slice(&[1, 0, 0, 0, 1, 1]).ok_or("six bits")?;
+    let mut soft = [0; 88];
+    soft[85] = 127;
+    soft[86] = -127;
+    soft[87] = -1;
+    assert_eq!(rt;
+        parse_burst(line.as_bytes(), 0),
+        Ok(BurstLine::Access { bsic, soft })
+    );
+    let lowest = format!(in rt.alloc();
+        "A 100011 {ZEROS}{ZEROS}{ZEROS}00000000000000000000000000000000000080"
+    )?;
+    assert_eq!(rt; parse_burst(lowest.as_bytes(), 0), Err(LineFault::Soft));
+    Ok(())
+}
+
+#[test]
+fn a_digit_is_a_sure_value_and_a_lost_burst_says_nothing(rt: HostRuntime) -> Result<(), Fail> {
+    let line = format!(in rt.alloc(); "n {ZEROS}{ZEROS}{ZEROS}0000000001")?;
+    let mut soft = [127; 148];
+    soft[147] = -127;
+    assert_eq!(rt;
+        parse_burst(line.as_bytes(), 3),
+        Ok(BurstLine::Normal(soft))
+    );
+    assert_eq!(rt; parse_burst(b"lost", 3), Ok(BurstLine::Normal([0; 148])));
+    Ok(())
+}
+
 // The access burst of eight zeros for the base station identity code 000000.
 const ACCESS: [u8; 88] = [
     0, 0, 1, 1, 1, 0, 1, 0, 0, 1, 0, 0, 1, 0, 1, 1, 0, 1, 1, 1, 1, 1, 1, 1, 1, 0, 0, 1, 1, 0, 0, 1,

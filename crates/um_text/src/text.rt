@@ -1,5 +1,6 @@
 //! What is written before it goes out.
-ghost use Rattle.std.specs.Prelude.{◌≡◌, ◌+◌, ◌≤◌, [], ◌++◌, length};
+ghost use Rattle.std.specs.Prelude.{◌≡◌, ◌+◌, ◌*◌, ◌≤◌, [], ◌++◌, length};
+ghost use Rattle.hex.specs.Hex.{encode_lower};
 ghost use Rattle.bit_blocks.specs.Bits.{AllBits};
 ghost use Rattle.um_text.specs.Digits.{bit_digits};
 
@@ -68,6 +69,27 @@ impl Text {
         let end = self.length + bits.len();
         write_digits(&mut self.room[self.length..end], bits);
         self.length = end;
+    }
+
+    /// Appends two hexadecimal digits for each octet, in lower case.
+    pub(crate) fn push_hex(&mut self, octets: &[u8])
+        requires { length self.old + 2 * length octets.now ≤ 4096 }
+        ensures text { self.new ≡ self.old ++ encode_lower octets.now }
+        ensures length { length self.new ≡ length self.old + 2 * length octets.now }
+    {
+        let end = self.length + 2 * octets.len();
+        write_hex(&mut self.room[self.length..end], octets);
+        self.length = end;
+    }
+}
+
+fn write_hex(digits: &mut [u8], octets: &[u8])
+    requires { length digits.old ≡ 2 * length octets.now }
+    ensures { digits.new ≡ encode_lower octets.now }
+{
+    match hex::encode_to_slice(octets, digits) {
+        Ok(()) => {}
+        Err(_) => unreachable!(),
     }
 }
 

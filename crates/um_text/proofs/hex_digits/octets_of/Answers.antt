@@ -1,4 +1,4 @@
-use Rattle.std.proofs.Common.{◌≡◌, ℕ, List, Result, Ok, Err, length, replicate, sym, ◌∙◌}
+use Rattle.std.proofs.Common.{◌≡◌, Ok}
 use Rattle.std.proofs.lemmas.List.{length-replicate}
 use Rattle.um_text.specs.HexDigits.{hex_octets}
 use Rattle.um_text.proofs.HexLists.{decoded_sized, decoded_result}

@@ -1,0 +1,126 @@
+-- Lines of `show` and reports that were judged by hand, and what the definitions say of them.
+use Rattle.std.proofs.Common.{◌≡◌, ◌<◌, true, false, [], ◌∷◌, ◌++◌, Some, None, refl, codes, replicate, take, drop, inl, inr, arith}
+use Rattle.hex.specs.Hex.{encode_with, encode_lower}
+use Rattle.lapdm_frame.specs.declared.Channel.TheVariants.{Sdcch}
+use Rattle.lapdm_frame.specs.declared.Refusal.{Refusal}
+use Rattle.lapdm_frame.specs.declared.Refusal.TheVariants.{Lpd, Ea}
+use Rattle.lapdm_frame.specs.Content.{I, Rnr, Ui, Frame}
+use Rattle.lapdm_frame.specs.Refusals.{AppliesTo, place, IsRefused}
+use Rattle.um_block.specs.Packed.{octets_of}
+use Rattle.um_text.specs.declared.fault.LineFault.TheVariants.{Digits}
+use Rattle.um_text.specs.declared.fault.LineFault.TheVariants as F
+use Rattle.um_text.specs.Words.{words}
+use Rattle.um_text.specs.HexDigits.{hex_octets}
+use Rattle.um_text.specs.FrameTexts.{frame_text, IsFrameText}
+use Rattle.um_text.specs.ShowLines.{show_fault, frame_words}
+
+-- a frame with information, both ways
+asked : Frame
+asked = record { sapi = 0; cr = false; content = I 5 2 true false (6 ∷ 1 ∷ []) }
+
+asked_text : frame_text asked ≡ codes "frame sapi 0 cr 0 i ns 5 nr 2 p 1 m 0 info 0601\n"
+unfolding asked encode_with
+asked_text = refl
+
+asked_words : words (codes "frame sapi 0 cr 0 i ns 5 nr 2 p 1 m 0 info 0601") ≡ frame_words asked (codes "0601")
+unfolding asked
+asked_words = refl
+
+asked_octets : hex_octets (codes "0601") ≡ 6 ∷ 1 ∷ []
+asked_octets = refl
+
+asked_is_good : show_fault (codes "frame sapi 0 cr 0 i ns 5 nr 2 p 1 m 0 info 0601") ≡ None
+asked_is_good = refl
+
+ready_is_good : show_fault (codes "frame sapi 0 cr 1 rr nr 7 pf 0") ≡ None
+ready_is_good = refl
+
+-- 23 octets with other fill are written as their frame
+other_fill : IsFrameText (3 ∷ 3 ∷ 1 ∷ replicate 20 255) (codes "frame sapi 0 cr 1 ui p 0 info -\n")
+other_fill = inl (
+  record { sapi = 0; cr = true; content = Ui false [] },
+  record {
+    count = refl;
+    fits = record { sapi = omega arith; numbers = tt; information = omega arith };
+    at_address = refl;
+    at_control = refl;
+    at_length = refl;
+    at_information = refl;
+  },
+  refl,
+)
+
+not_ready : IsFrameText (3 ∷ 0x75 ∷ 1 ∷ replicate 20 0x2b) (codes "frame sapi 0 cr 1 rnr nr 3 pf 1\n")
+not_ready = inl (
+  record { sapi = 0; cr = true; content = Rnr 3 true },
+  record {
+    count = refl;
+    fits = record { sapi = omega arith; numbers = omega arith; information = omega arith };
+    at_address = refl;
+    at_control = refl;
+    at_length = refl;
+    at_information = refl;
+  },
+  refl,
+)
+
+-- zeros are no frame, since the address field goes on
+zeros_refused : IsRefused Sdcch (replicate 23 0) Ea
+zeros_refused = record { applies = refl; first = earlier }
+  where
+    earlier : (reason : Refusal) → place reason < 1 → ¬ AppliesTo Sdcch (replicate 23 0) reason
+    earlier Lpd before applies = omega arith
+    earlier reason before applies = omega arith
+
+zeros_text : IsFrameText (replicate 23 0) (codes "unread ea\n")
+zeros_text = inr (Ea, zeros_refused, refl)
+
+-- the words of the data and of the check of a block of zeros, whose parity is 40 ones
+zeros_data : encode_lower (octets_of (take 184 (replicate 184 0 ++ replicate 40 1 ++ replicate 4 0))) ≡ codes "0000000000000000000000000000000000000000000000"
+unfolding encode_with
+zeros_data = refl
+
+zeros_check : encode_lower (octets_of (take 40 (drop 184 (replicate 184 0 ++ replicate 40 1 ++ replicate 4 0)))) ≡ codes "ffffffffff"
+unfolding encode_with
+zeros_check = refl
+
+-- ---- reasons
+
+no_information : show_fault (codes "frame sapi 0 cr 0 i ns 0 nr 0 p 0 m 0 info -") ≡ Some F.Length
+no_information = refl
+
+digits_before_length : show_fault (codes "frame sapi 0 cr 0 i ns 8 nr 0 p 0 m 0 info -") ≡ Some Digits
+digits_before_length = refl
+
+most_octets : show_fault (codes "frame sapi 0 cr 0 ui p 0 info 000102030405060708090a0b0c0d0e0f10111213") ≡ None
+most_octets = refl
+
+too_many_octets : show_fault (codes "frame sapi 0 cr 0 ui p 0 info 000102030405060708090a0b0c0d0e0f1011121314") ≡ Some F.Length
+too_many_octets = refl
+
+odd_digits : show_fault (codes "frame sapi 0 cr 0 ua f 0 info 0") ≡ Some F.Length
+odd_digits = refl
+
+empty_information : show_fault (codes "frame sapi 0 cr 0 ua f 0 info ") ≡ Some F.Length
+empty_information = refl
+
+two_signs : show_fault (codes "frame sapi 0 cr 0 ua f 0 info --") ≡ Some Digits
+two_signs = refl
+
+number_of_two_digits : show_fault (codes "frame sapi 00 cr 0 rr nr 7 pf 0") ≡ Some Digits
+number_of_two_digits = refl
+
+empty_number : show_fault (codes "frame sapi  cr 0 rr nr 7 pf 0") ≡ Some Digits
+empty_number = refl
+
+unknown_kind : show_fault (codes "frame sapi 9 cr 0 frmr f 0") ≡ Some F.Word
+unknown_kind = refl
+
+other_name : show_fault (codes "frame sapi 0 cr 0 dm p 0") ≡ Some F.Word
+other_name = refl
+
+information_too_many : show_fault (codes "frame sapi 0 cr 0 rr nr 0 pf 0 info -") ≡ Some F.Word
+information_too_many = refl
+
+sign_for_octets : show_fault (codes "octets -") ≡ Some Digits
+sign_for_octets = refl

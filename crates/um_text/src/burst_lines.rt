@@ -1,0 +1,212 @@
+//! The lines of the command `replay`.
+ghost use Rattle.std.specs.Prelude.{◌≡◌, ◌≤◌, ℕ, List, [], ◌∷◌, ◌++◌, length, IfOk, codes};
+ghost use Rattle.std.specs.Result.{result_err};
+ghost use Rattle.bit_blocks.specs.Bits.{AllBits};
+ghost use Rattle.um_block.specs.Received.{softened};
+ghost use Rattle.um_text.specs.Words.{words};
+ghost use Rattle.um_text.specs.Meanings.{HasOneMeaningUnless};
+ghost use Rattle.um_text.specs.BurstLines.{burst_fault, BurstMeans};
+ghost use Rattle.um_text.specs.BurstReading.{IsBurstReadAs};
+ghost use Rattle.um_text.specs.BurstTexts.{normal_text, access_text, sync_text};
+ghost use Rattle.um_text.specs.WrittenBursts.{IsWholeLine};
+
+use crate::digits::{are_bit_digits, bits_of};
+use crate::fault::LineFault;
+use crate::hex_digits::are_hex_digits;
+use crate::soft_digits::{hard_values, has_lowest, soft_values};
+use crate::words::{LINE_LIMIT, first_word, is_skipped, one_word, two_words};
+use bit_blocks::Bits;
+
+/// What a line of the command `replay` brings: soft values, which are positive for a 0 and negative for a 1.
+#[derive(Clone, Copy, PartialEq, Eq, Debug)]
+pub enum BurstLine {
+    /// Nothing: an empty line, or one that begins with `#`.
+    Skip,
+    /// A normal burst, one of the four of a block.
+    Normal([i8; 148]),
+    /// An access burst, for the cell of this base station identity code.
+    Access { bsic: Bits<6>, soft: [i8; 88] },
+    /// A synchronisation burst.
+    Sync([i8; 148]),
+}
+
+/// Reads a line of `replay`, given without its line feed, where `held` bursts of an unfinished block came before:
+/// `n DIGITS148`, `a BSIC6 DIGITS88`, `s DIGITS148`, `N HEX296`, `A BSIC6 HEX176`, `S HEX296` or `lost`.
+///
+/// Its reasons are `Long`, `Word`, `Order`, `Digits`, `Length` and `Soft`. Each is looked for in the whole line before the
+/// next.
+pub fn parse_burst(line: &[u8], held: u8) -> Result<BurstLine, LineFault>
+    requires { held ≤ 3 }
+    ensures means { IfOk result (BurstMeans held line.now) }
+    ensures refused { result_err result ≡ burst_fault held line.now }
+{
+    if line.len() > LINE_LIMIT {
+        return Err(LineFault::Long);
+    }
+    if is_skipped(line) {
+        return Ok(BurstLine::Skip);
+    }
+    parse_words(line, held)
+}
+
+#[tactic(auto, using(crate::proofs::BurstFaults::other_kind))]
+fn parse_words(line: &[u8], held: u8) -> Result<BurstLine, LineFault>
+    ensures { IsBurstReadAs held (words line.now) result }
+{
+    let Some((kind, rest)) = first_word(line) else {
+        return parse_lost(line);
+    };
+    let [letter] = kind else {
+        return Err(LineFault::Word);
+    };
+    parse_letter(*letter, rest, held)
+}
+
+#[tactic(auto, using(crate::proofs::BurstFaults::other_letter))]
+fn parse_letter(letter: u8, rest: &[u8], held: u8) -> Result<BurstLine, LineFault>
+    ensures { IsBurstReadAs held ((letter ∷ []) ∷ words rest.now) result }
+{
+    match letter {
+        b'n' => parse_hard_normal(rest),
+        b'N' => parse_soft_normal(rest),
+        b'a' => parse_hard_access(rest, held),
+        b'A' => parse_soft_access(rest, held),
+        b's' => parse_hard_sync(rest, held),
+        b'S' => parse_soft_sync(rest, held),
+        _ => Err(LineFault::Word),
+    }
+}
+
+fn parse_lost(word: &[u8]) -> Result<BurstLine, LineFault>
+    ensures { (held : ℕ) → IsBurstReadAs held (word.now ∷ []) result }
+{
+    match word {
+        b"lost" => Ok(BurstLine::Normal([0; 148])),
+        _ => Err(LineFault::Word),
+    }
+}
+
+fn parse_hard_normal(rest: &[u8]) -> Result<BurstLine, LineFault>
+    ensures { (held : ℕ) → IsBurstReadAs held (codes "n" ∷ words rest.now) result }
+{
+    let digits = one_word(rest)?;
+    if !are_bit_digits(digits) {
+        return Err(LineFault::Digits);
+    }
+    if digits.len() != 148 {
+        return Err(LineFault::Length);
+    }
+    Ok(BurstLine::Normal(hard_values(digits)))
+}
+
+#[tactic(auto, using(crate::proofs::SoftLists::lowest_octets))]
+fn parse_soft_normal(rest: &[u8]) -> Result<BurstLine, LineFault>
+    ensures { (held : ℕ) → IsBurstReadAs held (codes "N" ∷ words rest.now) result }
+{
+    let digits = one_word(rest)?;
+    if !are_hex_digits(digits) {
+        return Err(LineFault::Digits);
+    }
+    if digits.len() != 296 {
+        return Err(LineFault::Length);
+    }
+    let soft = soft_values(digits);
+    if has_lowest(&soft) {
+        return Err(LineFault::Soft);
+    }
+    Ok(BurstLine::Normal(soft))
+}
+
+fn parse_hard_access(rest: &[u8], held: u8) -> Result<BurstLine, LineFault>
+    ensures { IsBurstReadAs held (codes "a" ∷ words rest.now) result }
+{
+    let (bsic, digits) = two_words(rest)?;
+    if held > 0 {
+        return Err(LineFault::Order);
+    }
+    if !are_bit_digits(bsic) || !are_bit_digits(digits) {
+        return Err(LineFault::Digits);
+    }
+    if bsic.len() != 6 || digits.len() != 88 {
+        return Err(LineFault::Length);
+    }
+    Ok(BurstLine::Access {
+        bsic: bits_of(bsic),
+        soft: hard_values(digits),
+    })
+}
+
+fn parse_soft_access(rest: &[u8], held: u8) -> Result<BurstLine, LineFault>
+    ensures { IsBurstReadAs held (codes "A" ∷ words rest.now) result }
+{
+    let (bsic, digits) = two_words(rest)?;
+    if held > 0 {
+        return Err(LineFault::Order);
+    }
+    if !are_bit_digits(bsic) || !are_hex_digits(digits) {
+        return Err(LineFault::Digits);
+    }
+    if bsic.len() != 6 || digits.len() != 176 {
+        return Err(LineFault::Length);
+    }
+    let bsic = bits_of(bsic);
+    let soft = soft_values(digits);
+    if has_lowest(&soft) {
+        return Err(LineFault::Soft);
+    }
+    Ok(BurstLine::Access { bsic, soft })
+}
+
+fn parse_hard_sync(rest: &[u8], held: u8) -> Result<BurstLine, LineFault>
+    ensures { IsBurstReadAs held (codes "s" ∷ words rest.now) result }
+{
+    let digits = one_word(rest)?;
+    if held > 0 {
+        return Err(LineFault::Order);
+    }
+    if !are_bit_digits(digits) {
+        return Err(LineFault::Digits);
+    }
+    if digits.len() != 148 {
+        return Err(LineFault::Length);
+    }
+    Ok(BurstLine::Sync(hard_values(digits)))
+}
+
+fn parse_soft_sync(rest: &[u8], held: u8) -> Result<BurstLine, LineFault>
+    ensures { IsBurstReadAs held (codes "S" ∷ words rest.now) result }
+{
+    let digits = one_word(rest)?;
+    if held > 0 {
+        return Err(LineFault::Order);
+    }
+    if !are_hex_digits(digits) {
+        return Err(LineFault::Digits);
+    }
+    if digits.len() != 296 {
+        return Err(LineFault::Length);
+    }
+    let soft = soft_values(digits);
+    if has_lowest(&soft) {
+        return Err(LineFault::Soft);
+    }
+    Ok(BurstLine::Sync(soft))
+}
+
+/// Each line has one meaning and no other where it has no reason, and none where it has one.
+pub fn law_burst()
+    ensures { (held : ℕ) (line : List ℕ) → HasOneMeaningUnless (burst_fault held line) (BurstMeans held line) }
+{}
+
+/// The line of a burst of bits as it is written is whole without its line feed, and means these bits as sure soft values.
+pub fn law_written_bursts()
+    ensures normal { (held : ℕ) (burst line : List ℕ) → length burst ≡ 148 → AllBits burst
+        → normal_text burst ≡ line ++ codes "\n"
+        → IsWholeLine line × BurstMeans held line (BurstLine.Normal (softened burst)) }
+    ensures access { (bsic burst line : List ℕ) → length bsic ≡ 6 → AllBits bsic → length burst ≡ 88 → AllBits burst
+        → access_text bsic burst ≡ line ++ codes "\n"
+        → IsWholeLine line × BurstMeans 0 line (BurstLine.Access bsic (softened burst)) }
+    ensures sync { (burst line : List ℕ) → length burst ≡ 148 → AllBits burst
+        → sync_text burst ≡ line ++ codes "\n"
+        → IsWholeLine line × BurstMeans 0 line (BurstLine.Sync (softened burst)) }
+{}

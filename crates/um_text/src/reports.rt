@@ -1,0 +1,128 @@
+//! The lines that report what is received.
+ghost use Rattle.std.specs.Prelude.{◌≡◌, ◌+◌, ◌-◌, ◌*◌, ◌≤◌, [], ◌++◌, length, take, drop};
+ghost use Rattle.std.specs.Fmt.{decimal};
+ghost use Rattle.bit_blocks.specs.Bits.{AllBits};
+ghost use Rattle.bit_blocks.specs.Octets.{bits_of};
+ghost use Rattle.hex.specs.Hex.{encode_lower};
+ghost use Rattle.um_block.specs.Packed.{octets_of};
+ghost use Rattle.um_text.specs.Digits.{bit_digits};
+ghost use Rattle.um_text.specs.Reports.{parity_word, quality_text, data_text, block_line_text, IsBlockReport, access_report_text, sync_report_text};
+
+use crate::frames::push_frame;
+use crate::text::Text;
+use bit_blocks::{Bits, to_octets};
+use um_block::{Received, ReceivedAccess, ReceivedSync};
+
+/// Writes what four bursts of a block were received as and, exactly where the parity holds, the line of the octets' frame.
+pub fn block_report(out: &mut Text, r: &Received)
+    requires { out.old ≡ [] }
+    ensures { IsBlockReport r.now out.new }
+{
+    push_block(out, r);
+    if let Some(octets) = &r.accepted {
+        push_frame(out, octets);
+    }
+}
+
+/// Writes what an access burst was received as under the base station identity code of its line.
+pub fn access_report(out: &mut Text, bsic: &Bits<6>, r: &ReceivedAccess)
+    requires { out.old ≡ [] }
+    ensures { out.new ≡ access_report_text bsic.now r.now }
+{
+    out.push(b"access ");
+    out.push_digits(bsic.as_slice());
+    push_quality(out, r.wrong_training, r.metric, r.accepted.is_some());
+    push_bits(out, &r.u, 8, 14);
+}
+
+/// Writes what a synchronisation burst was received as.
+pub fn sync_report(out: &mut Text, r: &ReceivedSync)
+    requires { out.old ≡ [] }
+    ensures { out.new ≡ sync_report_text r.now }
+{
+    out.push(b"sync");
+    push_quality(out, r.wrong_training, r.metric, r.accepted.is_some());
+    push_bits(out, &r.u, 25, 35);
+}
+
+fn push_block(out: &mut Text, r: &Received)
+    requires { out.old ≡ [] }
+    ensures text { out.new ≡ block_line_text r.now }
+    ensures length { length out.new ≤ 400 }
+{
+    out.push(b"block tsc ");
+    push_decimal(out, u32::from(r.tsc));
+    push_quality(out, r.wrong_training, r.metric, r.accepted.is_some());
+    push_octets(out, &packed::<23, _>(&r.u, 0), &packed::<5, _>(&r.u, 184));
+}
+
+fn push_quality(out: &mut Text, wrong: u32, metric: i32, holds: bool)
+    requires { length out.old + 120 ≤ 4096 }
+    ensures text { out.new ≡ out.old ++ quality_text wrong metric holds }
+    ensures length { length out.new ≤ length out.old + 120 }
+{
+    out.push(b" train ");
+    push_decimal(out, wrong);
+    out.push(b" metric ");
+    out.push(itoa::Buffer::new().format(metric).as_bytes());
+    out.push(b" parity ");
+    out.push(parity(holds));
+}
+
+fn push_decimal(out: &mut Text, number: u32)
+    requires { length out.old + 40 ≤ 4096 }
+    ensures text { out.new ≡ out.old ++ decimal number }
+    ensures length { length out.new ≤ length out.old + 40 }
+{
+    out.push(itoa::Buffer::new().format(number).as_bytes());
+}
+
+fn parity(holds: bool) -> &'static [u8]
+    ensures word { result.now ≡ parity_word holds }
+    ensures short { length result.now ≤ 3 }
+{
+    if holds { b"ok" } else { b"bad" }
+}
+
+// The data are the first bits of the word, up to this place, and the check those from there to the end.
+fn push_bits<const N: usize>(out: &mut Text, word: &Bits<N>, place: usize, end: usize)
+    requires room { length out.old + end + 14 ≤ 4096 }
+    requires order { place ≤ end }
+    requires within { end ≤ N }
+    ensures { out.new ≡ out.old ++ data_text (bit_digits (take place word.now)) (bit_digits (take (end - place) (drop place word.now))) }
+{
+    let bits = word.as_slice();
+    out.push(b" data ");
+    out.push_digits(&bits[..place]);
+    out.push(b" check ");
+    out.push_digits(&bits[place..end]);
+    out.push(b"\n");
+}
+
+fn push_octets(out: &mut Text, octets: &[u8], check: &[u8])
+    requires room { length out.old + 70 ≤ 4096 }
+    requires many { length octets.now + length check.now ≡ 28 }
+    ensures text { out.new ≡ out.old ++ data_text (encode_lower octets.now) (encode_lower check.now) }
+    ensures length { length out.new ≡ length out.old + 70 }
+
+    // Both are what their own bits give, as octets are.
+    ensures octets { octets_of (bits_of octets.now) ≡ octets.now }
+    ensures check { octets_of (bits_of check.now) ≡ check.now }
+{
+    out.push(b" data ");
+    out.push_hex(octets);
+    out.push(b" check ");
+    out.push_hex(check);
+    out.push(b"\n");
+}
+
+// The octets of the bits from this place on.
+fn packed<const N: usize, const M: usize>(word: &Bits<M>, place: usize) -> [u8; N]
+    requires { place + 8 * N ≤ M }
+    ensures { bits_of result ≡ take (8 * N) (drop place word.now) }
+{
+    let bits = &word.as_slice()[place..place + 8 * N];
+    let mut octets = [0; N];
+    to_octets(bits, &mut octets);
+    octets
+}

@@ -1,0 +1,84 @@
+//! The lines of the command `show`.
+ghost use Rattle.std.specs.Prelude.{◌≡◌, ℕ, List, ◌∷◌, IfOk, codes};
+ghost use Rattle.std.specs.Result.{result_err};
+ghost use Rattle.um_text.specs.Words.{words};
+ghost use Rattle.um_text.specs.Meanings.{HasOneMeaningUnless};
+ghost use Rattle.um_text.specs.ShowLines.{show_fault, ShowMeans};
+ghost use Rattle.um_text.specs.ShowReading.{IsReadAs};
+
+use crate::fault::LineFault;
+use crate::frame_words::frame_words;
+use crate::hex_digits::{are_hex_digits, octets_of};
+use crate::words::{LINE_LIMIT, first_word, is_skipped, one_word};
+
+/// What a line of the command `show` asks for.
+#[derive(Clone, Copy, PartialEq, Eq, Debug)]
+pub enum ShowLine {
+    /// Nothing: an empty line, or one that begins with `#`.
+    Skip,
+    /// The line of the frame that these octets are.
+    Octets([u8; 23]),
+    /// The line of these octets, the canonical ones on SDCCH of a frame that the line spells.
+    Frame([u8; 23]),
+}
+
+/// Reads a line of `show`, given without its line feed: `octets HEX46`, or the line of a frame as `frame_line` writes it,
+/// with hexadecimal digits in either case.
+///
+/// Its reasons are `Long`, `Word`, `Digits` and `Length`. Each is looked for in the whole line before the next.
+pub fn parse_show(line: &[u8]) -> Result<ShowLine, LineFault>
+    ensures means { IfOk result (ShowMeans line.now) }
+    ensures refused { result_err result ≡ show_fault line.now }
+{
+    if line.len() > LINE_LIMIT {
+        return Err(LineFault::Long);
+    }
+    if is_skipped(line) {
+        return Ok(ShowLine::Skip);
+    }
+    parse_words(line)
+}
+
+fn parse_words(line: &[u8]) -> Result<ShowLine, LineFault>
+    ensures { IsReadAs (words line.now) result }
+{
+    let Some((command, rest)) = first_word(line) else {
+        return Err(LineFault::Word);
+    };
+    match command {
+        b"octets" => parse_octets(rest),
+        b"frame" => parse_frame(rest),
+        _ => Err(LineFault::Word),
+    }
+}
+
+fn parse_octets(rest: &[u8]) -> Result<ShowLine, LineFault>
+    ensures { IsReadAs (codes "octets" ∷ words rest.now) result }
+{
+    let digits = one_word(rest)?;
+    if !are_hex_digits(digits) {
+        return Err(LineFault::Digits);
+    }
+    if digits.len() != 46 {
+        return Err(LineFault::Length);
+    }
+    Ok(ShowLine::Octets(octets_of(digits)))
+}
+
+fn parse_frame(rest: &[u8]) -> Result<ShowLine, LineFault>
+    ensures { IsReadAs (codes "frame" ∷ words rest.now) result }
+{
+    let found = frame_words(rest)?;
+    if !found.have_digits() {
+        return Err(LineFault::Digits);
+    }
+    if !found.have_length() {
+        return Err(LineFault::Length);
+    }
+    Ok(ShowLine::Frame(found.octets()))
+}
+
+/// Each line has one meaning and no other where it has no reason, and none where it has one.
+pub fn law_show()
+    ensures { (line : List ℕ) → HasOneMeaningUnless (show_fault line) (ShowMeans line) }
+{}

@@ -1,0 +1,73 @@
+//! Words of soft values.
+ghost use Rattle.std.specs.Prelude.{◌≡◌, ◌+◌, ◌*◌, ◌≤◌, ◌==◌, if◌then◌else◌, pos, negsuc, length, IsTrue};
+ghost use Rattle.std.specs.List.{list_all, list_any};
+ghost use Rattle.std.specs.Ordering.{int_eq};
+ghost use Rattle.hex.specs.Hex.{is_hex_digit};
+ghost use Rattle.um_text.specs.Digits.{is_bit_digit};
+ghost use Rattle.um_text.specs.HexDigits.{digit_value, hex_octets};
+ghost use Rattle.um_text.specs.SoftWords.{SpellsHard, signed_octets};
+
+/// The bits of `N` digits as sure soft values.
+pub(crate) fn hard_values<const N: usize>(digits: &[u8]) -> [i8; N]
+    requires each { IsTrue (list_all is_bit_digit digits.now) }
+    requires many { length digits.now ≡ N }
+    ensures { SpellsHard N digits.now result }
+{
+    let mut values = [0; N];
+    for (i, digit) in digits.iter().enumerate() {
+        values[i] = hard_value(*digit);
+    }
+    values
+}
+
+fn hard_value(digit: u8) -> i8
+    ensures { result ≡ (if digit == 48 then pos 127 else negsuc 126) }
+{
+    if digit == b'0' { 127 } else { -127 }
+}
+
+/// The signed octets of `2 * N` digits.
+pub(crate) fn soft_values<const N: usize>(digits: &[u8]) -> [i8; N]
+    requires each { IsTrue (list_all is_hex_digit digits.now) }
+    requires many { length digits.now ≡ 2 * N }
+    ensures { result ≡ signed_octets (hex_octets digits.now) }
+{
+    let mut values = [0; N];
+    for i in 0..N {
+        values[i] = octet_of(digits[2 * i], digits[2 * i + 1]).cast_signed();
+    }
+    values
+}
+
+fn octet_of(high: u8, low: u8) -> u8
+    requires high { IsTrue (is_hex_digit high) }
+    requires low { IsTrue (is_hex_digit low) }
+    ensures { result ≡ 16 * digit_value high + digit_value low }
+{
+    16 * digit_value(high) + digit_value(low)
+}
+
+fn digit_value(digit: u8) -> u8
+    requires { IsTrue (is_hex_digit digit) }
+    ensures value { result ≡ digit_value digit }
+    ensures within { result ≤ 15 }
+{
+    if digit <= b'9' {
+        digit - b'0'
+    } else if digit <= b'F' {
+        digit - b'A' + 10
+    } else {
+        digit - b'a' + 10
+    }
+}
+
+/// Whether a value is -128, which is no soft value.
+pub(crate) fn has_lowest(values: &[i8]) -> bool
+    ensures { result ≡ list_any (λ value. int_eq value (negsuc 127)) values.now }
+{
+    let mut found = false;
+    for value in values {
+        found |= *value == i8::MIN;
+    }
+    found
+}
