@@ -1,2 +1,9 @@
 pub mod CodeRules
+pub mod Headlines
+pub mod HeldBursts
+pub mod ReplayRules
+pub mod Restoring
+pub mod ShowRules
+pub mod Tops
+pub mod Weaker
 pub mod WordListsLemmas

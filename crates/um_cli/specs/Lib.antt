@@ -1,7 +1,11 @@
 -- The definitions that the contracts of this crate cite.
 pub mod Code
+pub mod Headline
+pub mod Replay
+pub mod Restored
 pub mod Runs
 pub mod Shapes
+pub mod Show
 pub mod WordLists
 -- what the definitions of this crate stand on
 pub use Rattle.um_driver.specs.Table

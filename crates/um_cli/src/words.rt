@@ -1,5 +1,5 @@
 //! The words that the program was called with.
-ghost use Rattle.std.specs.Prelude.{◌≡◌, ℕ, List, [], ◌↔◌, map, MatchOption, IsTrue, codes};
+ghost use Rattle.std.specs.Prelude.{◌≡◌, ℕ, List, [], ◌∷◌, map, MatchOption};
 ghost use Rattle.um_cli.specs.WordLists.{held_word, added_word};
 ghost use Rattle.um_cli.specs.Shapes.{HasShape, HasNoShape};
 
@@ -8,6 +8,10 @@ ghost use Rattle.um_cli.specs.Shapes.{HasShape, HasNoShape};
 pub enum Shape {
     /// Blocks to bursts.
     Code,
+    /// Bursts to blocks.
+    Replay,
+    /// Frames to text and back.
+    Show,
 }
 
 use arrayvec::{ArrayString, ArrayVec};
@@ -53,7 +57,7 @@ impl Words {
         ensures { MatchOption result (HasNoShape self.now) (HasShape self.now) }
     {
         match self.held.as_slice() {
-            [word] if is_code(word.as_str()) => Some(Shape::Code),
+            [word] => shape_of(word.as_str()),
             _ => None,
         }
     }
@@ -72,8 +76,14 @@ fn hold(word: &str) -> ArrayString<8>
     }
 }
 
-fn is_code(word: &str) -> bool
-    ensures { IsTrue result ↔ (word.now ≡ codes "code") }
+/// What one word asks for.
+fn shape_of(word: &str) -> Option<Shape>
+    ensures { MatchOption result (HasNoShape (word.now ∷ [])) (HasShape (word.now ∷ [])) }
 {
-    word == "code"
+    match word {
+        "code" => Some(Shape::Code),
+        "replay" => Some(Shape::Replay),
+        "show" => Some(Shape::Show),
+        _ => None,
+    }
 }

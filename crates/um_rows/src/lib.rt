@@ -9,3 +9,7 @@ mod code;
 mod failing;
 #[cfg(test)]
 mod outside;
+#[cfg(test)]
+mod replay;
+#[cfg(test)]
+mod show;

@@ -2,8 +2,9 @@
 ghost use Rattle.std.specs.Prelude.{◌≤◌};
 
 use std::process::Abort;
+use std::test::Fail;
 use um_cli::{Status, Words, run};
-use um_io::{MemorySink, MemorySource};
+use um_io::{MemorySink, MemorySource, PlainSource};
 
 /// How much a call gives or takes, and which calls fail.
 #[derive(Clone, Copy)]
@@ -87,4 +88,19 @@ pub fn compare_in_pieces(
     compare(rt, words, input, Outside::of_most(2), status, output);
     compare(rt, words, input, Outside::of_most(7), status, output);
     compare(rt, words, input, Outside::of_most(100_000), status, output);
+}
+
+/// What `code` writes for an input.
+pub fn coded(rt: &(impl Abort + AllocGlobal), input: &[u8]) -> Result<Vec<u8>, Fail> {
+    let mut words = Words::new();
+    words.add("code");
+    let mut source = PlainSource::new(input, 100);
+    let mut sink = MemorySink::new(rt.alloc(), 10_000, 10_000, &[])
+        .ok()
+        .ok_or("no memory")?;
+    assert_eq!(rt;
+        run(rt.alloc(), &words, &mut source, &mut sink),
+        Status::Done
+    );
+    Ok(sink.octets().to_vec(rt.alloc())?)
 }

@@ -1,11 +1,15 @@
-use Rattle.std.proofs.Common.{[], ◌∷◌, map, ap, sym, ◌∙◌}
+use Rattle.std.proofs.Common.{◌≡◌, [], ◌∷◌, map, ap, sym, subst, ◌∙◌}
+use Rattle.std.specs.Prelude.{MatchOption}
+use Rattle.um_cli.specs.Shapes.{HasShape, HasNoShape}
 use Rattle.um_cli.proofs.WordListsLemmas.{map-single}
 use Rattle.um_cli.proofs.words.Words.shape.Goals as goal
 
 pub returns-in-len1 : goal.returns-in-len1
 returns-in-len1 c =
+    let words_are : c.args.self.now ≡ c.as_str.result.now ∷ [] =
     sym c.self.view_is
     ∙ ap (map (λ word. word.bytes)) (sym c.as_slice.ensures.value)
     ∙ map-single (λ word. word.bytes) c.as_slice.result.now c.word-item.result c.in-len1.len_at_least c.in-len1.len_below
     ∙ ap (λ word. word.bytes ∷ []) (sym c.word-item.is)
-    ∙ ap (λ word. word ∷ []) (sym c.as_str.ensures.value ∙ c.is_code.ensures.0 c.if-is_code.true)
+    ∙ ap (λ word. word ∷ []) (sym c.as_str.ensures.value) in
+    subst (λ words. MatchOption c.shape_of.result (HasNoShape words) (HasShape words)) (sym words_are) c.shape_of.ensures

@@ -1,0 +1,31 @@
+-- The bursts that are held in a row of four.
+use Rattle.std.proofs.Common.{◌≡◌, ℕ, ℤ, pos, negsuc, ◌≤◌, ◌≢◌, List, [], ◌∷◌, ◌++◌, length, take, replicate, set, refl, sym, subst, arith}
+use Rattle.std.specs.List.{All}
+use Rattle.std.proofs.lemmas.Int.{ints}
+use Rattle.std.proofs.lemmas.List.Elements.{All-nil, All-cons, All-replicate}
+use Rattle.conv_code.specs.Likelihood.{AllSoft}
+
+-- values of 0 are soft values
+pub AllSoft-zeros : (n : ℕ) → AllSoft (replicate n (pos 0))
+AllSoft-zeros n = All-replicate (λ z. z ≢ negsuc 127) n (pos 0) (λ same. omega (arith, ints))
+
+pub four_of_zeros : (zeros : List ℤ) → AllSoft zeros → All AllSoft (zeros ∷ zeros ∷ zeros ∷ zeros ∷ [])
+four_of_zeros zeros soft =
+    All-cons AllSoft zeros (zeros ∷ zeros ∷ zeros ∷ []) soft
+    (All-cons AllSoft zeros (zeros ∷ zeros ∷ []) soft
+    (All-cons AllSoft zeros (zeros ∷ []) soft (All-cons AllSoft zeros [] soft (All-nil AllSoft))))
+
+-- the fourth of four is put behind the first three
+pub fourth_set : (bursts : List (List ℤ)) (burst : List ℤ) (held : ℕ) → length bursts ≡ 4 → held ≤ 3 → 3 ≤ held →
+    set bursts held burst ≡ take held bursts ++ burst ∷ []
+fourth_set bursts burst held four most least =
+    let e : held ≡ 3 = omega arith in
+    subst (λ n. set bursts n burst ≡ take n bursts ++ burst ∷ []) (sym e) (at_three bursts four)
+  where
+    at_three : (bs : List (List ℤ)) → length bs ≡ 4 → set bs 3 burst ≡ take 3 bs ++ burst ∷ []
+    at_three [] e = absurd (omega arith)
+    at_three (a ∷ []) e = absurd (omega arith)
+    at_three (a ∷ b ∷ []) e = absurd (omega arith)
+    at_three (a ∷ b ∷ c ∷ []) e = absurd (omega arith)
+    at_three (a ∷ b ∷ c ∷ d ∷ []) e = refl
+    at_three (a ∷ b ∷ c ∷ d ∷ f ∷ bs) e = absurd (omega arith)

@@ -1,0 +1,257 @@
+-- What `code` writes, `replay` restores.
+use Rattle.std.proofs.Common.{◌≡◌, ℕ, ℤ, ◌<◌, ◌≤◌, inl, inr, List, [], ◌∷◌, ◌++◌, length, map, Option, None, Some, refl, sym, ap, ◌∙◌, subst, append_assoc, append-nil, arith, lit<}
+use Rattle.std.specs.List.{All}
+use Rattle.std.proofs.lemmas.List.{length-map}
+use Rattle.std.proofs.lemmas.List.Elements.{All-nil, All-cons, All-head, All-tail, All-append}
+use Rattle.bit_blocks.specs.Bits.{AllBits}
+use Rattle.um_io.specs.Lines.{IsLine, IsDivided, text_of}
+use Rattle.um_block.specs.Sent.{IsSentBlock, IsSentAccess, IsSentSync}
+use Rattle.um_block.specs.Received.{softened, soft_value, IsReceivedBlock}
+use Rattle.um_block.specs.declared.received.Received.{Received}
+use Rattle.um_block.proofs.SentShapes.{AreBits, sent_block_bits, sent_access_bits, sent_sync_bits}
+use Rattle.um_block.proofs.ReceivedExists.{some_received_block, some_received_access, some_received_sync}
+use Rattle.um_block.proofs.AcceptedOctets.{accepted_count}
+use Rattle.um_block.proofs.CleanRestoring.{clean_block, clean_access, clean_sync}
+use Rattle.um_text.specs.declared.fault.LineFault.{LineFault}
+use Rattle.um_text.specs.declared.code.CodeLine.{CodeLine}
+use Rattle.um_text.specs.declared.code.CodeLine.TheVariants as C
+use Rattle.um_text.specs.declared.burst_lines.BurstLine.{BurstLine}
+use Rattle.um_text.specs.declared.burst_lines.BurstLine.TheVariants.{Normal, Access, Sync}
+use Rattle.um_text.specs.BurstLines.{burst_fault, BurstMeans}
+use Rattle.um_text.specs.BurstTexts.{normal_text, block_text, access_text, sync_text}
+use Rattle.um_text.specs.CodeLines.{CodeMeans}
+use Rattle.um_text.specs.Meanings.{HasOneMeaningUnless}
+use Rattle.um_text.specs.Reports.{IsBlockReport, access_report_text, sync_report_text}
+use Rattle.um_text.proofs.BurstLaws.{one_meaning}
+use Rattle.um_text.proofs.WrittenBursts.{normal_line, access_line, sync_line, normal_restored, access_restored, sync_restored, normal_whole, access_whole, sync_whole}
+use Rattle.um_text.proofs.ReportLaws.{some_block_report}
+use Rattle.um_text.proofs.SmallOctets.{small_octets}
+use Rattle.um_driver.specs.Rules.{Runs, IsGood}
+use Rattle.um_driver.specs.Outputs.{IsGoodInput, IsOutput}
+use Rattle.um_driver.specs.declared.status.Status.TheVariants.{Done}
+use Rattle.um_driver.proofs.RunLemmas.{Runs-append}
+use Rattle.um_cli.specs.Code.{IsCodeAnswer, code_rules}
+use Rattle.um_cli.specs.Replay.{IsReplayAnswer, replay_rules}
+use Rattle.um_cli.specs.Restored.{IsRestored, AreRestored}
+
+-- octets are lines of `replay` that are reported so, with no burst held before or after them
+pub record IsRead (octets reports : List ℕ) : Type 0 where
+  pub lines : List (List ℕ)
+  pub plain : All IsLine lines
+  pub whole : octets ≡ text_of lines
+  pub runs : Runs replay_rules [] lines reports []
+
+nothing_read : IsRead [] []
+nothing_read = record { lines = []; plain = All-nil IsLine; whole = refl; runs = (refl, refl) }
+
+text-append : (ls ls' : List (List ℕ)) → text_of (ls ++ ls') ≡ text_of ls ++ text_of ls'
+text-append [] ls' = refl
+text-append (l ∷ ls) ls' = ap (λ w. l ++ 10 ∷ w) (text-append ls ls') ∙ sym (append_assoc l (10 ∷ text_of ls) (text_of ls'))
+
+both_read : (x x' y y' : List ℕ) → IsRead x y → IsRead x' y' → IsRead (x ++ x') (y ++ y')
+both_read x x' y y' r r' = record {
+  lines = r.lines ++ r'.lines;
+  plain = All-append IsLine r.lines r'.lines r.plain r'.plain;
+  whole = (let p = r.whole in let q = r'.whole in cc (p, q)) ∙ sym (text-append r.lines r'.lines);
+  runs = Runs-append replay_rules [] [] [] r.lines r'.lines y y' r.runs r'.runs;
+}
+
+-- a line with a meaning has no reason
+good_line : (held : List (List ℤ)) (line : List ℕ) (m : BurstLine) → length line ≤ 4096 → BurstMeans (length held) line m → IsGood replay_rules held line
+good_line held line m short means = go (burst_fault (length held) line) refl (one_meaning (length held) line)
+  where
+    go : (fault : Option LineFault) → burst_fault (length held) line ≡ fault → HasOneMeaningUnless fault (BurstMeans (length held) line) →
+        IsGood replay_rules held line
+    go None e only = record { short = short; no_fault = e }
+    go (Some fault) e none = absurd (none m means)
+
+-- one good line and its answer before others
+then : (held mid after : List (List ℤ)) (line answer rest : List ℕ) (lines : List (List ℕ)) (m : BurstLine) → length line ≤ 4096 →
+    BurstMeans (length held) line m → IsReplayAnswer held m answer mid → Runs replay_rules mid lines rest after →
+    Runs replay_rules held (line ∷ lines) (answer ++ rest) after
+then held mid after line answer rest lines m short means answers runs =
+    (answer, rest, mid, good_line held line m short means, (m, means, answers), runs, refl)
+
+last_line : (held : List (List ℤ)) (line answer : List ℕ) (m : BurstLine) → length line ≤ 4096 → BurstMeans (length held) line m →
+    IsReplayAnswer held m answer [] → Runs replay_rules held (line ∷ []) answer []
+last_line held line answer m short means answers =
+    (answer, [], [], good_line held line m short means, (m, means, answers), (refl, refl), sym (append-nil answer))
+
+length-softened : (bits : List ℕ) (n : ℕ) → length bits ≡ n → length (softened bits) ≡ n
+length-softened bits n e = length-map bits soft_value ∙ e
+
+-- ---- access bursts and synchronisation bursts
+
+-- what a line of `code` is answered with is read and reported
+pub record IsBroughtBack (meaning : CodeLine) (answer : List ℕ) : Type 0 where
+  pub report : List ℕ
+  pub restored : IsRestored meaning report
+  pub read : IsRead answer report
+
+access_back : (info bsic burst : List ℕ) → length bsic ≡ 6 → AllBits bsic → IsSentAccess info bsic burst →
+    IsBroughtBack (C.Rach info bsic) (access_text bsic burst)
+access_back info bsic burst count bits sent =
+    let b = sent_access_bits info bsic burst sent in
+    let received = some_received_access (softened burst) bsic (length-softened burst 88 b.many) count bits in
+    let means = access_restored bsic burst count bits b.many b.each in
+    record {
+      report = access_report_text bsic received.0;
+      restored = (received.0, clean_access info bsic burst received.0 sent received.1, refl);
+      read = record {
+        lines = access_line bsic burst ∷ [];
+        plain = All-cons IsLine (access_line bsic burst) [] (access_whole bsic burst).uncut (All-nil IsLine);
+        whole = refl;
+        runs = last_line [] (access_line bsic burst) (access_report_text bsic received.0) (Access bsic (softened burst)) means.0 means
+            (refl, (received.0, received.1, refl));
+      };
+    }
+
+sync_back : (info burst : List ℕ) → IsSentSync info burst → IsBroughtBack (C.Sch info) (sync_text burst)
+sync_back info burst sent =
+    let b = sent_sync_bits info burst sent in
+    let received = some_received_sync (softened burst) (length-softened burst 148 b.many) in
+    let means = sync_restored burst b.many b.each in
+    record {
+      report = sync_report_text received.0;
+      restored = (received.0, clean_sync info burst received.0 sent received.1, refl);
+      read = record {
+        lines = sync_line burst ∷ [];
+        plain = All-cons IsLine (sync_line burst) [] (sync_whole burst).uncut (All-nil IsLine);
+        whole = refl;
+        runs = last_line [] (sync_line burst) (sync_report_text received.0) (Sync (softened burst)) means.0 means
+            (refl, (received.0, received.1, refl));
+      };
+    }
+
+-- ---- blocks
+
+block_text-lines : (bursts : List (List ℕ)) → block_text bursts ≡ text_of (map normal_line bursts)
+block_text-lines [] = refl
+block_text-lines (burst ∷ bursts) =
+    ap (λ w. normal_text burst ++ w) (block_text-lines bursts)
+    ∙ append_assoc (normal_line burst) (10 ∷ []) (text_of (map normal_line bursts))
+
+plain_lines : (bursts : List (List ℕ)) → All (AreBits 148) bursts → All IsLine (map normal_line bursts)
+plain_lines [] each = All-nil IsLine
+plain_lines (burst ∷ bursts) each =
+    All-cons IsLine (normal_line burst) (map normal_line bursts) (normal_whole burst).uncut
+    (plain_lines bursts (All-tail (AreBits 148) burst bursts each))
+
+softened_counts : (bursts : List (List ℕ)) → All (AreBits 148) bursts → All (λ soft. length soft ≡ 148) (map softened bursts)
+softened_counts [] each = All-nil (λ soft. length soft ≡ 148)
+softened_counts (burst ∷ bursts) each =
+    let b = All-head (AreBits 148) burst bursts each in
+    All-cons (λ soft. length soft ≡ 148) (softened burst) (map softened bursts) (length-softened burst 148 b.many)
+    (softened_counts bursts (All-tail (AreBits 148) burst bursts each))
+
+-- four bursts are read one after the other
+four_runs : (a b c d report : List ℕ) (r : Received) → All (AreBits 148) (a ∷ b ∷ c ∷ d ∷ []) →
+    IsReceivedBlock (map softened (a ∷ b ∷ c ∷ d ∷ [])) r → IsBlockReport r report →
+    Runs replay_rules [] (map normal_line (a ∷ b ∷ c ∷ d ∷ [])) report []
+four_runs a b c d report r each received text =
+    let P : List ℕ → Type 0 = AreBits 148 in
+    let rest = All-tail P a (b ∷ c ∷ d ∷ []) each in
+    let rest' = All-tail P b (c ∷ d ∷ []) rest in
+    let rest'' = All-tail P c (d ∷ []) rest' in
+    let first = All-head P a (b ∷ c ∷ d ∷ []) each in
+    let second = All-head P b (c ∷ d ∷ []) rest in
+    let third = All-head P c (d ∷ []) rest' in
+    let fourth = All-head P d [] rest'' in
+    let sa = softened a in
+    let sb = softened b in
+    let sc = softened c in
+    let sd = softened d in
+    let ma = normal_restored 0 a first.many first.each in
+    let mb = normal_restored 1 b second.many second.each in
+    let mc = normal_restored 2 c third.many third.each in
+    let md = normal_restored 3 d fourth.many fourth.each in
+    let at_last = last_line (sa ∷ sb ∷ sc ∷ []) (normal_line d) report (Normal sd) md.0 md (inr (refl, refl, (r, received, text))) in
+    let from_third = then (sa ∷ sb ∷ []) (sa ∷ sb ∷ sc ∷ []) [] (normal_line c) [] report (normal_line d ∷ []) (Normal sc) mc.0 mc
+    (inl (lit< tt, refl, refl)) at_last in
+    let from_second = then (sa ∷ []) (sa ∷ sb ∷ []) [] (normal_line b) [] report (normal_line c ∷ normal_line d ∷ []) (Normal sb) mb.0 mb
+    (inl (lit< tt, refl, refl)) from_third in
+    then [] (sa ∷ []) [] (normal_line a) [] report (normal_line b ∷ normal_line c ∷ normal_line d ∷ []) (Normal sa) ma.0 ma
+    (inl (lit< tt, refl, refl)) from_second
+
+block_runs : (bursts : List (List ℕ)) (report : List ℕ) (r : Received) → length bursts ≡ 4 → All (AreBits 148) bursts →
+    IsReceivedBlock (map softened bursts) r → IsBlockReport r report → Runs replay_rules [] (map normal_line bursts) report []
+block_runs [] report r count each received text = absurd (omega arith)
+block_runs (a ∷ []) report r count each received text = absurd (omega arith)
+block_runs (a ∷ b ∷ []) report r count each received text = absurd (omega arith)
+block_runs (a ∷ b ∷ c ∷ []) report r count each received text = absurd (omega arith)
+block_runs (a ∷ b ∷ c ∷ d ∷ []) report r count each received text = four_runs a b c d report r each received text
+block_runs (a ∷ b ∷ c ∷ d ∷ e ∷ more) report r count each received text = absurd (omega arith)
+
+block_back : (octets : List ℕ) (tsc : ℕ) (bursts : List (List ℕ)) → All (λ octet. octet < 256) octets → IsSentBlock octets tsc bursts →
+    IsBroughtBack (C.Block tsc octets) (block_text bursts)
+block_back octets tsc bursts small sent =
+    let shape = sent_block_bits octets tsc bursts sent in
+    let counts = softened_counts bursts shape.1 in
+    let received = some_received_block (map softened bursts) (length-map bursts softened ∙ shape.0) counts in
+    let text = some_block_report received.0 (accepted_count (map softened bursts) received.0 received.1) in
+    record {
+      report = text.0;
+      restored = (received.0, clean_block octets tsc bursts received.0 small sent received.1, text.1);
+      read = record {
+        lines = map normal_line bursts;
+        plain = plain_lines bursts shape.1;
+        whole = block_text-lines bursts;
+        runs = block_runs bursts text.0 received.0 shape.0 shape.1 received.1 text.1;
+      };
+    }
+
+-- ---- lines and whole inputs
+
+brought_back : (line : List ℕ) (m : CodeLine) (answer : List ℕ) → CodeMeans line m → IsCodeAnswer m answer → IsBroughtBack m answer
+brought_back line C.Skip answer means a = record { report = []; restored = refl; read = subst (λ w. IsRead w []) (sym a) nothing_read }
+brought_back line (C.Block tsc octets) answer means (bursts, sent, text) =
+    subst (IsBroughtBack (C.Block tsc octets)) (sym text) (block_back octets tsc bursts (small_octets 46 means.1.1 octets means.1.4) sent)
+brought_back line (C.Rach info bsic) answer means (burst, sent, text) =
+    let code = means.1.4 in
+    subst (IsBroughtBack (C.Rach info bsic)) (sym text) (access_back info bsic burst code.many code.each sent)
+brought_back line (C.Sch info) answer means (burst, sent, text) =
+    subst (IsBroughtBack (C.Sch info)) (sym text) (sync_back info burst sent)
+
+-- the answers to lines are read, and their reports restore the lines
+pub record AreBroughtBack (lines : List (List ℕ)) (answers : List ℕ) : Type 0 where
+  pub reports : List ℕ
+  pub restored : AreRestored lines reports
+  pub read : IsRead answers reports
+
+all_brought_back : (lines : List (List ℕ)) (answers : List ℕ) (state : Unit {0}) → Runs code_rules tt lines answers state → AreBroughtBack lines answers
+all_brought_back [] answers state (none, _) =
+    record { reports = []; restored = refl; read = subst (λ w. IsRead w []) (sym none) nothing_read }
+all_brought_back (line ∷ lines) answers state (answer, rest, mid, good, (m, means, a), runs, whole) =
+    let one = brought_back line m answer means a in
+    let others = all_brought_back lines rest state runs in
+    record {
+      reports = one.report ++ others.reports;
+      restored = (m, one.report, others.reports, means, one.restored, others.restored, refl);
+      read = subst (λ w. IsRead w (one.report ++ others.reports)) (sym whole) (both_read answer rest one.report others.reports one.read others.read);
+    }
+
+-- the output of a good input of `code` is a good input of `replay`, and its reports restore the input
+pub record IsRestoredWhole (z x : List ℕ) : Type 0 where
+  pub lines : List (List ℕ)
+  pub reports : List ℕ
+  pub divided : IsDivided z lines
+  pub restored : AreRestored lines reports
+  pub output : IsOutput replay_rules [] x Done reports
+
+pub restored_whole : (z x : List ℕ) → IsGoodInput code_rules tt z x → length x ≤ 67108864 → IsRestoredWhole z x
+restored_whole z x good limit =
+    let back = all_brought_back good.lines x good.state good.runs in
+    record {
+      lines = good.lines;
+      reports = back.reports;
+      divided = good.all;
+      restored = back.restored;
+      output = record {
+        lines = back.read.lines;
+        state = [];
+        all = record { plain = back.read.plain; whole = inl back.read.whole };
+        limit = limit;
+        runs = back.read.runs;
+        end_good = refl;
+      };
+    }

@@ -1,0 +1,37 @@
+-- What `code` writes, `replay` restores (this project's own rule).
+use Rattle.std.specs.Prelude.{ℕ, ◌≡◌, ◌≤◌, List, [], ◌∷◌, ◌++◌, length, Option, IfSome}
+use Rattle.um_io.specs.Lines.{IsDivided}
+use Rattle.um_block.specs.Restored.{IsCleanBlock, IsCleanAccess, IsCleanSync}
+use Rattle.um_block.specs.declared.received.Received.{Received}
+use Rattle.um_block.specs.declared.received.ReceivedAccess.{ReceivedAccess}
+use Rattle.um_block.specs.declared.received.ReceivedSync.{ReceivedSync}
+use Rattle.um_text.specs.declared.code.CodeLine.{CodeLine}
+use Rattle.um_text.specs.declared.code.CodeLine.TheVariants.{Skip, Block, Rach, Sch}
+use Rattle.um_text.specs.CodeLines.{CodeMeans}
+use Rattle.um_text.specs.Reports.{IsBlockReport, access_report_text, sync_report_text}
+use Rattle.um_driver.specs.Outputs.{IsGoodInput}
+use Rattle.um_driver.specs.Table.{Agrees}
+use Rattle.um_driver.specs.declared.status.Status.{Status}
+use Rattle.um_driver.specs.declared.status.Status.TheVariants.{Done}
+use Rattle.um_cli.specs.Code.{code_rules}
+
+-- the report of undamaged bursts that carry what a line of `code` means: the same information, with the parity held, no
+-- wrong training place and the metric of sure values that all agree
+abbrev pub IsRestored : CodeLine → List ℕ → Type 0
+IsRestored Skip report = report ≡ []
+IsRestored (Block tsc octets) report = (r : Received) × IsCleanBlock octets tsc r × IsBlockReport r report
+IsRestored (Rach info bsic) report = (r : ReceivedAccess) × IsCleanAccess info r × (report ≡ access_report_text bsic r)
+IsRestored (Sch info) report = (r : ReceivedSync) × IsCleanSync info r × (report ≡ sync_report_text r)
+
+-- the reports of lines of `code`, one after the other
+abbrev pub AreRestored : List (List ℕ) → List ℕ → Type 0
+AreRestored [] reports = reports ≡ []
+AreRestored (line ∷ lines) reports =
+    (meaning : CodeLine) × (report : List ℕ) × (rest : List ℕ) ×
+    CodeMeans line meaning × IsRestored meaning report × AreRestored lines rest × (reports ≡ report ++ rest)
+
+-- over an input that is the whole output of a good input of `code`, a run ends as one that writes the reports of that
+-- input's lines, unless the outside failed or there was no memory
+abbrev pub Restores : Status → Option (List ℕ) → Option (List ℕ) → Option (List ℕ) → Type 0
+Restores status left taken taken' = IfSome left (λ x. (z : List ℕ) → IsGoodInput code_rules tt z x → length x ≤ 67108864 →
+    (lines : List (List ℕ)) × (reports : List ℕ) × IsDivided z lines × AreRestored lines reports × Agrees status Done reports taken taken')

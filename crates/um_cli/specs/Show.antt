@@ -1,0 +1,25 @@
+-- What the command `show` answers to the lines of its input (this project's own rule).
+use Rattle.std.specs.Prelude.{ℕ, ◌≡◌, List, [], None}
+use Rattle.um_text.specs.declared.show.ShowLine.{ShowLine}
+use Rattle.um_text.specs.declared.show.ShowLine.TheVariants.{Skip, Octets, Frame}
+use Rattle.um_text.specs.ShowLines.{show_fault, ShowMeans}
+use Rattle.um_text.specs.FrameTexts.{IsFrameText, octets_text}
+use Rattle.um_driver.specs.Rules.{Rules}
+
+-- octets are shown as the frame that they are, or with the reason why they are none; a frame is shown as its octets
+abbrev pub IsShowAnswer : ShowLine → List ℕ → Type 0
+IsShowAnswer Skip answer = answer ≡ []
+IsShowAnswer (Octets octets) answer = IsFrameText octets answer
+IsShowAnswer (Frame octets) answer = answer ≡ octets_text octets
+
+-- a line of the command and its answer
+abbrev pub AnswersShow : List ℕ → List ℕ → Type 0
+AnswersShow line answer = (meaning : ShowLine) × ShowMeans line meaning × IsShowAnswer meaning answer
+
+-- the command has no state, and an input may end anywhere
+abbrev pub show_rules : Rules (Unit {0})
+show_rules = record {
+  fault = λ _ line. show_fault line;
+  end_fault = λ _. None;
+  Step = λ _ line answer _. AnswersShow line answer;
+}
