@@ -1,0 +1,4 @@
+mod Worked
+pub mod Cutting
+pub mod Joins
+pub mod Taking

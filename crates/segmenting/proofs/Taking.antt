@@ -1,0 +1,71 @@
+-- What a joiner holds after one more piece.
+use Rattle.std.proofs.Common.{◌≡◌, sym, ◌∙◌, ap, subst, arith, ℕ, ◌+◌, ◌-◌, ◌<◌, ◌≤◌, Bool, true, false, List, [], ◌∷◌, ◌++◌, length, take, Some, None, unwrap_or}
+use Rattle.std.proofs.lemmas.List.{length-append, length-take-le}
+use Rattle.std.proofs.lemmas.Slice.{take-put_mid}
+use borrow.Rule.Slice.PartMut.{put_mid}
+use Rattle.std.proofs.lemmas.Bool.Decides.{nat_tests}
+use Rattle.segmenting.specs.declared.joiner.Part.{Part}
+use Rattle.segmenting.specs.declared.joiner.Part.TheVariants as P
+use Rattle.segmenting.specs.Pieces.{Piece, longest}
+use Rattle.segmenting.specs.Joining.{within, open_part}
+use Rattle.segmenting.specs.Joiners.{Holds}
+use Rattle.segmenting.proofs.Joins.{within_some, within_none, open_after-more, open_after-last, latest_after-more, latest_after-last}
+
+-- what is begun is told by what is held of it
+pub open_is : (ps : List Piece) (octets : List ℕ) → Some octets ≡ within (open_part ps) → octets ≡ open_part ps
+open_is ps octets h = grind (arith, nat_tests)
+
+pub too_long : (ps : List Piece) (octets : List ℕ) → None ≡ within (open_part ps) → longest < length (open_part ps ++ octets)
+too_long ps octets h =
+    let over : longest < length (open_part ps) = grind (arith, nat_tests) in
+    omega (arith, length-append (open_part ps) octets)
+
+-- where the octets are not too many
+pub goes_on : (ps : List Piece) (octets held : List ℕ) → held ≡ open_part ps ++ octets → length held ≤ longest → Holds P.Open held (ps ++ (octets, true) ∷ [])
+goes_on ps octets held e h =
+    record {
+      begun = sym (within_some held h) ∙ ap within (e ∙ sym (open_after-more [] ps octets));
+      completed = sym (latest_after-more [] ps octets);
+    }
+
+pub completes : (ps : List Piece) (octets held : List ℕ) → held ≡ open_part ps ++ octets → length held ≤ longest → Holds P.Whole held (ps ++ (octets, false) ∷ [])
+completes ps octets held e h =
+    let whole : within (open_part ps ++ octets) ≡ Some held = ap within (sym e) ∙ within_some held h in
+    record {
+      begun = ap within (sym (open_after-last [] ps octets));
+      completed = ap (λ o. unwrap_or o []) (sym whole) ∙ sym (latest_after-last [] ps octets);
+    }
+
+-- where they are
+pub goes_over : (ps : List Piece) (octets held : List ℕ) → longest < length (open_part ps ++ octets) → Holds P.Over held (ps ++ (octets, true) ∷ [])
+goes_over ps octets held h =
+    record {
+      begun = sym (within_none (open_part ps ++ octets) h) ∙ ap within (sym (open_after-more [] ps octets));
+      completed = sym (latest_after-more [] ps octets);
+    }
+
+pub drops : (ps : List Piece) (octets : List ℕ) → longest < length (open_part ps ++ octets) → Holds P.Open [] (ps ++ (octets, false) ∷ [])
+drops ps octets h =
+    record {
+      begun = ap within (sym (open_after-last [] ps octets));
+      completed = ap (λ o. unwrap_or o []) (sym (within_none (open_part ps ++ octets) h)) ∙ sym (latest_after-last [] ps octets);
+    }
+
+-- octets written behind those that are begun
+pub record IsWritten (ps : List Piece) (octets held : List ℕ) : Type 0 where
+  pub same : held ≡ open_part ps ++ octets
+  pub fits : length held ≤ longest
+
+pub written : (start : ℕ) (octets : List ℕ) (ps : List Piece) (buffer part : List ℕ) → length buffer ≡ 251 → start + length octets ≤ 251 → part ≡ octets → take start buffer ≡ open_part ps → IsWritten ps octets (take (start + length octets) (put_mid start (start + length octets - start) buffer part))
+written start octets ps buffer part size room same begun =
+    let l : length part ≡ length octets = ap length same in
+    let e : take (start + length octets) (put_mid start (start + length octets - start) buffer part) ≡ take start buffer ++ part = take-put_mid start (start + length octets - start) buffer part (start + length octets) (omega arith) (omega arith) in
+    record {
+      same = cc;
+      fits = omega (arith, ap length e, length-append (take start buffer) part, length-take-le start buffer (omega arith));
+    }
+
+pub Holds-same : (part part' : Part) (held : List ℕ) (ps : List Piece) (octets : List ℕ) (more more' : Bool) → part ≡ part' → more ≡ more' → Holds part held (ps ++ (octets, more) ∷ []) → Holds part' held (ps ++ (octets, more') ∷ [])
+Holds-same part part' held ps octets more more' e f h =
+    let g : Holds part' held (ps ++ (octets, more) ∷ []) = subst (λ (p : Part). Holds p held (ps ++ (octets, more) ∷ [])) e h in
+    subst (λ (b : Bool). Holds part' held (ps ++ (octets, b) ∷ [])) f g

@@ -1,0 +1,36 @@
+-- Pieces worked by hand.
+use Rattle.std.proofs.Common.{◌≡◌, true, false, [], ◌∷◌, ◌++◌, replicate, refl}
+use Rattle.segmenting.specs.declared.joiner.Joined.TheVariants.{More, Whole, Oversize}
+use Rattle.segmenting.specs.Pieces.{pieces}
+use Rattle.segmenting.specs.Joining.{messages, answer_to, latest}
+
+two_whole_pieces : pieces 20 (replicate 40 7) ≡ (replicate 20 7, true) ∷ (replicate 20 7, false) ∷ []
+two_whole_pieces = refl
+
+thirteen_on_sdcch : pieces 20 (replicate 251 7) ≡ replicate 12 (replicate 20 7, true) ++ (replicate 11 7, false) ∷ []
+thirteen_on_sdcch = refl
+
+fourteen_on_sacch : pieces 18 (replicate 251 7) ≡ replicate 13 (replicate 18 7, true) ++ (replicate 17 7, false) ∷ []
+fourteen_on_sacch = refl
+
+-- 251 octets are a message, 252 are none, and the next piece begins another
+longest_message : messages (replicate 12 (replicate 20 7, true) ++ (replicate 11 8, false) ∷ []) ≡ (replicate 240 7 ++ replicate 11 8) ∷ []
+longest_message = refl
+
+one_octet_too_many : messages (replicate 12 (replicate 20 7, true) ++ (replicate 12 8, false) ∷ (9 ∷ [], false) ∷ []) ≡ (9 ∷ []) ∷ []
+one_octet_too_many = refl
+
+twelve_hold : answer_to (replicate 11 (replicate 20 7, true)) (replicate 20 7, true) ≡ More
+twelve_hold = refl
+
+thirteen_do_not : answer_to (replicate 12 (replicate 20 7, true)) (replicate 20 7, true) ≡ Oversize
+thirteen_do_not = refl
+
+dropped_to_the_end : answer_to (replicate 13 (replicate 20 7, true)) (9 ∷ [], false) ≡ Oversize
+dropped_to_the_end = refl
+
+begins_anew : answer_to (replicate 13 (replicate 20 7, true) ++ (9 ∷ [], false) ∷ []) (9 ∷ [], false) ≡ Whole
+begins_anew = refl
+
+and_is_the_latest : latest (replicate 13 (replicate 20 7, true) ++ (9 ∷ [], false) ∷ (9 ∷ [], false) ∷ []) ≡ 9 ∷ []
+and_is_the_latest = refl

@@ -1,0 +1,68 @@
+//! Messages to pieces.
+
+ghost use Rattle.std.specs.Prelude.{◌≡◌, ◌<◌, ◌≤◌, length};
+ghost use Rattle.lapdm_frame.specs.Layout.{n201};
+
+use lapdm_frame::Channel;
+
+/// A part of a message, as one I frame carries it.
+#[derive(Clone, Copy, PartialEq, Eq, Debug)]
+pub struct Piece<'a> {
+    pub octets: &'a [u8],
+    /// Whether the message goes on in the next piece.
+    pub more: bool,
+}
+
+/// The pieces of a message, each borrowed from it.
+#[derive(Clone, Copy, Debug)]
+pub struct Pieces<'a> {
+    message: &'a [u8],
+    channel: Channel,
+    ghost some: { 1 ≤ length message.now },
+    ghost most: { length message.now ≤ 251 },
+}
+
+impl<'a> Pieces<'a> {
+    ghost use Rattle.std.specs.Prelude.{slice_get, Some};
+    ghost use Rattle.segmenting.specs.Pieces.{pieces};
+    ghost use Rattle.segmenting.specs.Cuttings.{pieces_of};
+
+    /// The pieces of the message for SDCCH, of at most 20 octets each.
+    pub fn new(message: &'a [u8]) -> Pieces<'a>
+        requires some { 1 ≤ length message.now }
+        requires most { length message.now ≤ 251 }
+        ensures { pieces_of result ≡ pieces 20 message.now }
+    {
+        Pieces::new_on(message, Channel::Sdcch)
+    }
+
+    /// The pieces of the message, of at most N201 octets of the channel each.
+    pub fn new_on(message: &'a [u8], channel: Channel) -> Pieces<'a>
+        requires some { 1 ≤ length message.now }
+        requires most { length message.now ≤ 251 }
+        ensures { pieces_of result ≡ pieces (n201 channel) message.now }
+    {
+        Pieces { message, channel }
+    }
+
+    /// How many pieces there are: at most 13 on SDCCH, and 14 on SACCH.
+    pub fn count(&self) -> usize
+        ensures { result ≡ length (pieces_of self.now) }
+    {
+        (self.message.len() - 1) / self.channel.n201() + 1
+    }
+
+    /// One of the pieces, counted from 0.
+    pub fn piece(&self, i: usize) -> Piece<'a>
+        requires { i < length (pieces_of self.now) }
+        ensures { slice_get (pieces_of self.now) i ≡ Some (result.octets.now, result.more) }
+    {
+        let most = self.channel.n201();
+        let start = i * most;
+        let left = self.message.len() - start;
+        Piece {
+            octets: &self.message[start..start + left.min(most)],
+            more: most < left,
+        }
+    }
+}
