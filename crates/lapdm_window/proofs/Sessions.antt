@@ -1,0 +1,163 @@
+-- Sessions of both ends, worked by hand: each end's frames go over in their order, or are lost.
+use Rattle.std.proofs.Common.{◌≡◌, ℕ, true, false, List, [], ◌∷◌, ◌++◌, map, drop, replicate, refl, Ok, Err, Result}
+use Rattle.lapdm_frame.specs.declared.Channel.{Channel}
+use Rattle.lapdm_frame.specs.declared.Channel.TheVariants.{Sdcch, Sacch}
+use Rattle.lapdm_frame.specs.Content.{Sabm, Frame}
+use Rattle.lapdm_frame.specs.Frames.{octets_of}
+use Rattle.segmenting.specs.Pieces.{Message}
+use Rattle.lapdm_window.specs.declared.Sapi.TheVariants.{Zero}
+use Rattle.lapdm_window.specs.declared.Notice.{Notice}
+use Rattle.lapdm_window.specs.declared.Notice.TheVariants as N
+use Rattle.lapdm_window.specs.declared.Reason.TheVariants as R
+use Rattle.lapdm_window.specs.declared.Refused.{Refused}
+use Rattle.lapdm_window.specs.declared.Refused.TheVariants as No
+use Rattle.lapdm_window.specs.declared.State.TheVariants as S
+use Rattle.lapdm_window.specs.Ends.{EndState, start, Mobile, Network, Outcome}
+use Rattle.lapdm_window.specs.Calls.{Call, Opens, Sends, Closes, Ticks}
+use Rattle.lapdm_window.specs.Steps.{Asked, Received, step}
+
+data Event : Type 0 where
+  Mob : Call → Event
+  Net : Call → Event
+  Up : Event
+  Down : Event
+  LoseUp : Event
+  LoseDown : Event
+  Rival : Message → Event
+
+record Pair : Type 0 where
+  mobile : EndState
+  network : EndState
+  up : List Frame
+  down : List Frame
+
+-- what is seen of an event: the notices and the blocks, or the refusal
+abbrev Seen : Type 0
+Seen = Result (List Notice × List (List ℕ)) Refused
+
+abbrev seen_in : Channel → Result Outcome Refused → Seen
+seen_in channel (Ok o) = Ok (o.notices, map (octets_of channel) o.frames)
+seen_in channel (Err refusal) = Err refusal
+
+abbrev with_mobile : Result Outcome Refused → Pair → Pair
+with_mobile (Ok o) p = record p { mobile = o.after; up = p.up ++ o.frames }
+with_mobile (Err refusal) p = p
+
+abbrev with_network : Result Outcome Refused → Pair → Pair
+with_network (Ok o) p = record p { network = o.after; down = p.down ++ o.frames }
+with_network (Err refusal) p = p
+
+-- the first frame on a way is taken
+abbrev taken_from : List Frame → EndState → Result Outcome Refused
+taken_from [] e = Err No.NotRunning
+taken_from (f ∷ fs) e = step (Received f) e
+
+abbrev nothing : Seen
+nothing = Ok ([], [])
+
+abbrev rival : Message → Frame
+rival info = record { sapi = 0; cr = false; content = Sabm true info }
+
+abbrev seen_at : Event → Pair → Seen
+seen_at (Mob call) p = seen_in p.mobile.channel (step (Asked call) p.mobile)
+seen_at (Net call) p = seen_in p.network.channel (step (Asked call) p.network)
+seen_at Up p = seen_in p.network.channel (taken_from p.up p.network)
+seen_at Down p = seen_in p.mobile.channel (taken_from p.down p.mobile)
+seen_at LoseUp p = nothing
+seen_at LoseDown p = nothing
+seen_at (Rival info) p = Ok ([], octets_of p.mobile.channel (rival info) ∷ [])
+
+abbrev after_event : Event → Pair → Pair
+after_event (Mob call) p = with_mobile (step (Asked call) p.mobile) p
+after_event (Net call) p = with_network (step (Asked call) p.network) p
+after_event Up p = with_network (taken_from p.up p.network) (record p { up = drop 1 p.up })
+after_event Down p = with_mobile (taken_from p.down p.mobile) (record p { down = drop 1 p.down })
+after_event LoseUp p = record p { up = drop 1 p.up }
+after_event LoseDown p = record p { down = drop 1 p.down }
+after_event (Rival info) p = record p { up = p.up ++ rival info ∷ [] }
+
+abbrev session : Pair → List Event → List Seen
+session p [] = []
+session p (event ∷ events) = seen_at event p ∷ session (after_event event p) events
+
+abbrev idle_on : Channel → Pair
+idle_on channel = record { mobile = start Mobile Zero channel; network = start Network Zero channel; up = []; down = [] }
+
+-- both ends open, by the information 01
+abbrev open_pair : Pair
+open_pair =
+    let idle = idle_on Sdcch in
+    record idle { mobile = record idle.mobile { state = S.Open; kept = 0x01 ∷ [] }; network = record idle.network { state = S.Open; kept = 0x01 ∷ [] } }
+
+abbrev block : List ℕ → ℕ → List ℕ
+block octets fill = octets ++ replicate fill 0x2b
+
+abbrev sent : List ℕ → ℕ → Seen
+sent octets fill = Ok ([], block octets fill ∷ [])
+
+-- the network is opened by another mobile
+contention : session (idle_on Sdcch)
+    (Rival (0x02 ∷ []) ∷ Mob (Opens (0x01 ∷ [])) ∷ Up ∷ Net (Sends (0xaa ∷ [])) ∷ Net Ticks ∷ Up ∷ Down ∷ Down ∷ Down ∷ Up ∷ [])
+    ≡ sent (0x01 ∷ 0x3f ∷ 0x05 ∷ 0x02 ∷ []) 19 ∷ sent (0x01 ∷ 0x3f ∷ 0x05 ∷ 0x01 ∷ []) 19
+    ∷ Ok (N.Opened (0x02 ∷ []) ∷ [], block (0x01 ∷ 0x73 ∷ 0x05 ∷ 0x02 ∷ []) 19 ∷ [])
+    ∷ sent (0x03 ∷ 0x00 ∷ 0x05 ∷ 0xaa ∷ []) 19 ∷ sent (0x03 ∷ 0x10 ∷ 0x05 ∷ 0xaa ∷ []) 19 ∷ nothing
+    ∷ Ok (N.Closed R.Contention ∷ [], []) ∷ nothing ∷ sent (0x03 ∷ 0x1f ∷ 0x01 ∷ []) 20 ∷ Ok (N.Closed R.Failed ∷ [], []) ∷ []
+contention = refl
+
+-- messages both ways, with an I frame as acknowledgement
+both_ways : session open_pair
+    (Mob (Sends (0xaa ∷ [])) ∷ Mob (Sends (0xcc ∷ [])) ∷ Up ∷ LoseDown ∷ Net (Sends (0xbb ∷ [])) ∷ Down ∷ Up ∷ Down ∷ [])
+    ≡ sent (0x01 ∷ 0x00 ∷ 0x05 ∷ 0xaa ∷ []) 19 ∷ nothing
+    ∷ Ok (N.Got (0xaa ∷ []) ∷ [], block (0x01 ∷ 0x21 ∷ 0x01 ∷ []) 20 ∷ []) ∷ nothing
+    ∷ sent (0x03 ∷ 0x20 ∷ 0x05 ∷ 0xbb ∷ []) 19
+    ∷ Ok (N.Acked 1 ∷ N.Got (0xbb ∷ []) ∷ [], block (0x01 ∷ 0x22 ∷ 0x05 ∷ 0xcc ∷ []) 19 ∷ [])
+    ∷ Ok (N.Acked 1 ∷ N.Got (0xcc ∷ []) ∷ [], block (0x01 ∷ 0x41 ∷ 0x01 ∷ []) 20 ∷ []) ∷ Ok (N.Acked 2 ∷ [], []) ∷ []
+both_ways = refl
+
+-- a REJ that crosses an RR
+crossing_rej : session open_pair
+    (Mob (Sends (0xaa ∷ [])) ∷ Mob Ticks ∷ Up ∷ Up ∷ Mob (Sends (0xdd ∷ [])) ∷ Down ∷ Down ∷ Up ∷ Up ∷ Down ∷ Down ∷ [])
+    ≡ sent (0x01 ∷ 0x00 ∷ 0x05 ∷ 0xaa ∷ []) 19 ∷ sent (0x01 ∷ 0x10 ∷ 0x05 ∷ 0xaa ∷ []) 19
+    ∷ Ok (N.Got (0xaa ∷ []) ∷ [], block (0x01 ∷ 0x21 ∷ 0x01 ∷ []) 20 ∷ []) ∷ sent (0x01 ∷ 0x39 ∷ 0x01 ∷ []) 20 ∷ nothing
+    ∷ Ok (N.Acked 1 ∷ [], block (0x01 ∷ 0x02 ∷ 0x05 ∷ 0xdd ∷ []) 19 ∷ []) ∷ sent (0x01 ∷ 0x02 ∷ 0x05 ∷ 0xdd ∷ []) 19
+    ∷ Ok (N.Got (0xdd ∷ []) ∷ [], block (0x01 ∷ 0x41 ∷ 0x01 ∷ []) 20 ∷ []) ∷ sent (0x01 ∷ 0x49 ∷ 0x01 ∷ []) 20
+    ∷ Ok (N.Acked 2 ∷ [], []) ∷ nothing ∷ []
+crossing_rej = refl
+
+-- an I frame goes out again 23 times on SDCCH, and then the mobile gives up
+unanswered_message : session open_pair (Mob (Sends (0xaa ∷ [])) ∷ replicate 25 (Mob Ticks))
+    ≡ sent (0x01 ∷ 0x00 ∷ 0x05 ∷ 0xaa ∷ []) 19 ∷ replicate 23 (sent (0x01 ∷ 0x10 ∷ 0x05 ∷ 0xaa ∷ []) 19)
+    ++ Ok (N.Closed R.Failed ∷ [], []) ∷ Err No.NotRunning ∷ []
+unanswered_message = refl
+
+-- what is not acknowledged is given up at a release
+release : session open_pair
+    (Mob (Sends (0xaa ∷ [])) ∷ Mob (Sends (0xbb ∷ [])) ∷ Mob (Sends (0xcc ∷ [])) ∷ Mob Closes ∷ Up ∷ Up ∷ Down ∷ Down ∷ Mob Closes ∷ [])
+    ≡ sent (0x01 ∷ 0x00 ∷ 0x05 ∷ 0xaa ∷ []) 19 ∷ nothing ∷ nothing ∷ sent (0x01 ∷ 0x53 ∷ 0x01 ∷ []) 20
+    ∷ Ok (N.Got (0xaa ∷ []) ∷ [], block (0x01 ∷ 0x21 ∷ 0x01 ∷ []) 20 ∷ [])
+    ∷ Ok (N.Closed R.Released ∷ [], block (0x01 ∷ 0x73 ∷ 0x01 ∷ []) 20 ∷ []) ∷ nothing ∷ Ok (N.Closed R.Released ∷ [], []) ∷ Err No.NotOpen ∷ []
+release = refl
+
+-- both ends release the link at once
+release_at_once : session open_pair (Mob Closes ∷ Net Closes ∷ Up ∷ Down ∷ Down ∷ Up ∷ [])
+    ≡ sent (0x01 ∷ 0x53 ∷ 0x01 ∷ []) 20 ∷ sent (0x03 ∷ 0x53 ∷ 0x01 ∷ []) 20 ∷ sent (0x01 ∷ 0x73 ∷ 0x01 ∷ []) 20 ∷ sent (0x03 ∷ 0x73 ∷ 0x01 ∷ []) 20
+    ∷ Ok (N.Closed R.Released ∷ [], []) ∷ Ok (N.Closed R.Released ∷ [], []) ∷ []
+release_at_once = refl
+
+-- eight messages are taken, and the ninth is refused
+eight_messages : session open_pair (replicate 9 (Mob (Sends (0xaa ∷ []))))
+    ≡ sent (0x01 ∷ 0x00 ∷ 0x05 ∷ 0xaa ∷ []) 19 ∷ replicate 7 nothing ++ Err No.Full ∷ []
+eight_messages = refl
+
+-- a message of two pieces on SACCH
+abbrev nineteen : Message
+nineteen = 0 ∷ 1 ∷ 2 ∷ 3 ∷ 4 ∷ 5 ∷ 6 ∷ 7 ∷ 8 ∷ 9 ∷ 10 ∷ 11 ∷ 12 ∷ 13 ∷ 14 ∷ 15 ∷ 16 ∷ 17 ∷ 18 ∷ []
+
+two_pieces_on_sacch : session (idle_on Sacch)
+    (Mob (Opens (replicate 19 0)) ∷ Mob (Opens (0x01 ∷ [])) ∷ Up ∷ Down ∷ Mob (Sends nineteen) ∷ Up ∷ Down ∷ Up ∷ Down ∷ [])
+    ≡ Err No.TooLong ∷ sent (0x00 ∷ 0x00 ∷ 0x01 ∷ 0x3f ∷ 0x05 ∷ 0x01 ∷ []) 17
+    ∷ Ok (N.Opened (0x01 ∷ []) ∷ [], block (0x00 ∷ 0x00 ∷ 0x01 ∷ 0x73 ∷ 0x05 ∷ 0x01 ∷ []) 17 ∷ []) ∷ Ok (N.Opened (0x01 ∷ []) ∷ [], [])
+    ∷ sent (0x00 ∷ 0x00 ∷ 0x01 ∷ 0x00 ∷ 0x4b ∷ 0 ∷ 1 ∷ 2 ∷ 3 ∷ 4 ∷ 5 ∷ 6 ∷ 7 ∷ 8 ∷ 9 ∷ 10 ∷ 11 ∷ 12 ∷ 13 ∷ 14 ∷ 15 ∷ 16 ∷ 17 ∷ []) 0
+    ∷ sent (0x00 ∷ 0x00 ∷ 0x01 ∷ 0x21 ∷ 0x01 ∷ []) 18 ∷ sent (0x00 ∷ 0x00 ∷ 0x01 ∷ 0x02 ∷ 0x05 ∷ 0x12 ∷ []) 17
+    ∷ Ok (N.Got nineteen ∷ [], block (0x00 ∷ 0x00 ∷ 0x01 ∷ 0x41 ∷ 0x01 ∷ []) 18 ∷ []) ∷ Ok (N.Acked 1 ∷ [], []) ∷ []
+two_pieces_on_sacch = refl

@@ -1,0 +1,23 @@
+use Rattle.std.proofs.Common.{refl, sym, ◌∙◌, ap, ◌%◌, [], ◌∷◌, length}
+use Rattle.std.proofs.lemmas.List.{length-append}
+use Rattle.segmenting.specs.Pieces.{Piece}
+use Rattle.lapdm_window.proofs.Numbers.{next_number}
+use Rattle.lapdm_window.proofs.window.Window.on_info.Goals as goal
+
+pub returns-clause-taken : goal.returns-clause-taken
+returns-clause-taken c e h =
+    let p : Piece = (c.args.piece.now, c.args.more) in
+    record {
+      end = record { messages = h.end.messages; sent = h.end.sent; behind = h.end.behind; window = h.end.window };
+      tracks = record {
+        channel = h.tracks.channel;
+        vs = h.tracks.vs;
+        va = h.tracks.va;
+        vr = next_number (length e.accepted) c.args.self.now.vr h.tracks.vr ∙ ap (λ n. n % 8) (sym (length-append e.accepted (p ∷ [])));
+        done = h.tracks.done;
+        rejecting = refl;
+        joined = c.take.ensures.after e.accepted h.tracks.joined;
+      };
+      holds = record { messages = h.holds.messages; next = h.holds.next };
+      retries = h.retries;
+    }

@@ -1,0 +1,39 @@
+//! A message.
+ghost use Rattle.std.specs.Prelude.{◌≡◌, ◌≤◌, length};
+
+use arrayvec::ArrayVec;
+use std::marker::Model;
+
+/// A message of at most 251 octets, which lie in the value itself.
+#[derive(Debug, Default, Drop)]
+pub struct Message {
+    octets: ArrayVec<u8, 251>,
+}
+
+// Clauses see the list of octets.
+impl Model for Message {
+    ghost use Rattle.std.specs.Prelude.{List, ℕ};
+
+    ghost Value = { List ℕ };
+
+    ghost view = { λ m. m.octets.items };
+}
+
+impl Message {
+    pub fn new(octets: &[u8]) -> Message
+        requires { length octets.now ≤ 251 }
+        ensures { result ≡ octets.now }
+    {
+        let mut held = ArrayVec::new();
+        // There is room for as many octets as the condition allows.
+        let _ = held.try_extend_from_slice(octets);
+        Message { octets: held }
+    }
+
+    pub fn octets(&self) -> &[u8]
+        ensures value { result.now ≡ self.now }
+        ensures most { length result.now ≤ 251 }
+    {
+        self.octets.as_slice()
+    }
+}

@@ -1,0 +1,137 @@
+use super::*;
+use lapdm_frame::Channel;
+use std::process::Abort;
+
+fn on_ack(rt: &impl Abort, window: &mut Window, nr: u8) -> Acked {
+    assert!(rt; nr <= 7);
+    window.on_ack(nr)
+}
+
+fn on_info(
+    rt: &impl Abort,
+    window: &mut Window,
+    ns: u8,
+    p: bool,
+    piece: &[u8],
+    more: bool,
+) -> Info {
+    assert!(rt; ns <= 7 && !piece.is_empty() && piece.len() <= 20);
+    window.on_info(ns, p, piece, more)
+}
+
+fn fill_up(rt: &impl Abort, window: &mut Window) {
+    for i in 0..8 {
+        assert_eq!(rt; window.put(&[i]), Ok(()));
+    }
+    assert_eq!(rt; window.put(&[8]), Err(Refused::Full));
+}
+
+fn runs_out_after(rt: &impl Abort, window: &mut Window, retries: u32) {
+    for _ in 0..retries {
+        assert_eq!(rt; window.on_timer(), Timer::Again);
+    }
+    assert_eq!(rt; window.on_timer(), Timer::Spent);
+}
+
+#[test]
+fn sends_by_a_worked_session(rt: HostRuntime) {
+    let mut window = Window::new();
+    assert_eq!(rt; window.put(&[]), Err(Refused::Empty));
+    assert_eq!(rt; window.put(&[0; 252]), Err(Refused::TooLong));
+    fill_up(&rt, &mut window);
+    assert_eq!(rt; window.on_timer(), Timer::NotRunning);
+    assert!(rt; window.send_next());
+    assert!(rt; !window.send_next());
+    assert_eq!(rt; on_ack(&rt, &mut window, 0), Acked::Nothing);
+    assert_eq!(rt; on_ack(&rt, &mut window, 1), Acked::Message(1));
+    assert_eq!(rt; window.put(&[9]), Ok(()));
+    assert!(rt; window.send_next());
+    runs_out_after(&rt, &mut window, 23);
+}
+
+#[test]
+fn gives_up_after_five_times_on_sacch(rt: HostRuntime) {
+    let mut window = Window::new_on(Channel::Sacch);
+    assert_eq!(rt; window.put(&[1]), Ok(()));
+    assert!(rt; window.send_next());
+    runs_out_after(&rt, &mut window, 5);
+}
+
+#[test]
+fn receives_by_a_worked_session(rt: HostRuntime) {
+    let mut window = Window::new();
+    for (p, reject) in [(false, true), (false, false), (true, true)] {
+        let info = on_info(&rt, &mut window, 1, p, &[0xaa], false);
+        assert_eq!(rt; info, Info::OutOfSequence { reject });
+    }
+    let info = on_info(&rt, &mut window, 0, false, &[0xaa], false);
+    assert_eq!(rt; info, Info::Accepted(Joined::Whole));
+    assert_eq!(rt; window.message(), [0xaa].as_slice());
+    assert_eq!(rt; window.vr(), 1);
+}
+
+// The next piece goes over, and its acknowledgement comes back.
+fn carry(rt: &impl Abort, from: &mut Window, to: &mut Window) -> (Info, Acked) {
+    assert!(rt; !from.on_reject());
+    assert!(rt; from.send_next());
+    assert!(rt; from.on_reject());
+    let ns = from.va();
+    let Some(piece) = from.waiting() else {
+        panic!(rt; "nothing waits")
+    };
+    let info = on_info(rt, to, ns, false, piece.octets, piece.more);
+    assert_eq!(rt; from.vs(), to.vr());
+    (info, on_ack(rt, from, to.vr()))
+}
+
+#[test]
+fn carries_251_octets_on_either_channel(rt: HostRuntime) {
+    let mut octets = [0u8; 251];
+    for (i, octet) in octets.iter_mut().enumerate() {
+        *octet = i as u8;
+    }
+    for (channel, pieces) in [(Channel::Sdcch, 13), (Channel::Sacch, 14)] {
+        let mut from = Window::new_on(channel);
+        let mut to = Window::new_on(channel);
+        assert_eq!(rt; from.put(&octets), Ok(()));
+        for _ in 1..pieces {
+            let on_the_way = (Info::Accepted(Joined::More), Acked::Piece);
+            assert_eq!(rt; carry(&rt, &mut from, &mut to), on_the_way);
+        }
+        let there = (Info::Accepted(Joined::Whole), Acked::Message(1));
+        assert_eq!(rt; carry(&rt, &mut from, &mut to), there);
+        assert_eq!(rt; to.message(), octets.as_slice());
+    }
+}
+
+#[test]
+fn carries_eight_messages_three_times(rt: HostRuntime) {
+    let mut from = Window::new();
+    let mut to = Window::new();
+    for round in 0..3u64 {
+        fill_up(&rt, &mut from);
+        for i in 0..8u8 {
+            let there = (
+                Info::Accepted(Joined::Whole),
+                Acked::Message(8 * round + u64::from(i) + 1),
+            );
+            assert_eq!(rt; carry(&rt, &mut from, &mut to), there);
+            assert_eq!(rt; to.message(), [i].as_slice());
+        }
+        assert_eq!(rt; from.vs(), 0);
+    }
+}
+
+#[test]
+fn lists_effects_in_their_order(rt: HostRuntime) {
+    let mut frames = Frames::new();
+    frames.push([1; 23]);
+    frames.push([2; 23]);
+    assert_eq!(rt; frames.as_slice(), [[1; 23], [2; 23]].as_slice());
+    let mut notices = Notices::new();
+    notices.push(Notice::Got(Message::new(&[7, 8])));
+    notices.push(Notice::Acked(3));
+    assert!(rt;
+        matches!(notices.as_slice(), [Notice::Got(m), Notice::Acked(3)] if m.octets() == [7, 8].as_slice())
+    );
+}

@@ -1,0 +1,248 @@
+//! The window of one frame.
+
+ghost use Rattle.std.specs.Prelude.{◌≡◌, ◌≢◌, ◌+◌, ◌<◌, ◌≤◌, ◌↔◌, length, [], slice_index_or, All, IsTrue, IsSome, IfSome};
+ghost use Rattle.lapdm_frame.specs.Layout.{n201};
+ghost use Rattle.segmenting.specs.Pieces.{IsMessage, count_of};
+
+use crate::{Acked, Info, Message, Refused, Timer};
+use arrayvec::ArrayVec;
+use lapdm_frame::Channel;
+use segmenting::{Joiner, LONGEST, Piece, Pieces};
+
+/// The messages that are not wholly acknowledged, the piece that waits, and what came in.
+#[derive(Debug, Drop)]
+pub struct Window {
+    channel: Channel,
+    held: ArrayVec<Message, 8>,
+    // The next piece, or the one that waits, as a place among the pieces of the first message.
+    place: usize,
+    vs: u8,
+    va: u8,
+    vr: u8,
+    // How many messages are wholly acknowledged.
+    done: u64,
+    rejecting: bool,
+    retries: u8,
+    joiner: Joiner,
+    ghost messages: { All IsMessage held.items },
+    ghost within: { place < count_of (n201 channel) (slice_index_or held.items 0 []) },
+    ghost waiting: { vs ≢ va → 1 ≤ length held.items },
+    ghost vs_fits: { vs ≤ 7 },
+    ghost va_fits: { va ≤ 7 },
+    ghost vr_fits: { vr ≤ 7 },
+}
+
+impl Window {
+    ghost use Rattle.std.specs.Prelude.{OnOk, OnErr, if◌then◌else◌, Some, slice_get};
+    ghost use Rattle.std.specs.Option.{option_map};
+    ghost use Rattle.std.specs.Result.{result_err};
+    ghost use Rattle.segmenting.specs.Pieces.{pieces};
+    ghost use Rattle.segmenting.specs.Joining.{latest};
+    ghost use Rattle.lapdm_window.specs.declared.Sapi.{Sapi};
+    ghost use Rattle.lapdm_window.specs.declared.State.TheVariants as S;
+    ghost use Rattle.lapdm_window.specs.Ends.{EndState, Role, start, waits, vs, va, vr, n200};
+    ghost use Rattle.lapdm_window.specs.Rules.{has_piece, with_next, counts};
+    ghost use Rattle.lapdm_window.specs.Calls.{with_taken};
+    ghost use Rattle.lapdm_window.specs.Answers.{put_refusal, waiting_piece, acked_by, info_answer, after_info, timer_answer, after_timer};
+    ghost use Rattle.lapdm_window.specs.Standing.{Stands, IsWaiting, channel_of};
+
+    /// The window of an end on SDCCH, which has taken nothing.
+    pub fn new() -> Window
+        ensures stands { (role : Role) (sapi : Sapi) → Stands result (start role sapi Channel.Sdcch) }
+        ensures channel { channel_of result ≡ Channel.Sdcch }
+    {
+        Window::new_on(Channel::Sdcch)
+    }
+
+    /// The window of an end on the channel, which has taken nothing.
+    pub fn new_on(channel: Channel) -> Window
+        ensures stands { (role : Role) (sapi : Sapi) → Stands result (start role sapi channel) }
+        ensures channel { channel_of result ≡ channel }
+    {
+        Window {
+            channel,
+            held: ArrayVec::new(),
+            place: 0,
+            vs: 0,
+            va: 0,
+            vr: 0,
+            done: 0,
+            rejecting: false,
+            retries: 0,
+            joiner: Joiner::new(),
+        }
+    }
+
+    /// Takes a message.
+    pub fn put(&mut self, message: &[u8]) -> Result<(), Refused>
+        ensures answer { (e : EndState) → Stands self.old e
+            → result_err result ≡ put_refusal message.now e }
+        ensures taken { (e : EndState) → Stands self.old e
+            → OnOk result (Stands self.new (with_taken message.now e)) }
+        ensures refused { OnErr result (self.new ≡ self.old) }
+        ensures channel { channel_of self.new ≡ channel_of self.old }
+    {
+        if message.is_empty() {
+            return Err(Refused::Empty);
+        }
+        if message.len() > LONGEST {
+            return Err(Refused::TooLong);
+        }
+        if self.held.is_full() {
+            return Err(Refused::Full);
+        }
+        self.held.push(Message::new(message));
+        Ok(())
+    }
+
+    /// Lets the next piece wait, where none waits and one is left.
+    pub fn send_next(&mut self) -> bool
+        ensures answer { (e : EndState) → Stands self.old e → result ≡ has_piece e }
+        ensures sent { (e : EndState) → Stands self.old e
+            → Stands self.new (if result then with_next e else e) }
+        ensures waiting { IsTrue result → IsWaiting self.new }
+        ensures channel { channel_of self.new ≡ channel_of self.old }
+    {
+        if self.vs != self.va || self.held.is_empty() {
+            return false;
+        }
+        self.vs = (self.vs + 1) % 8;
+        self.retries = 0;
+        true
+    }
+
+    /// The piece that waits for its acknowledgement.
+    pub fn waiting(&self) -> Option<Piece<'_>>
+        ensures piece { (e : EndState) → Stands self.now e
+            → option_map (λ p. (p.octets.now, p.more)) result ≡ waiting_piece e }
+        ensures waiting { IsSome result ↔ IsWaiting self.now }
+        ensures size { IfSome result (λ p. (1 ≤ length p.octets.now)
+            × (length p.octets.now ≤ n201 (channel_of self.now))) }
+    {
+        if self.vs == self.va {
+            return None;
+        }
+        Some(self.next())
+    }
+
+    /// Counts an N(R): it acknowledges the piece that waits where it is V(S), and nothing else.
+    pub fn on_ack(&mut self, nr: u8) -> Acked
+        requires { nr ≤ 7 }
+        ensures answer { (e : EndState) → Stands self.old e → result ≡ acked_by nr e }
+        ensures counted { (e : EndState) → Stands self.old e → Stands self.new (counts nr e).after }
+        ensures channel { channel_of self.new ≡ channel_of self.old }
+    {
+        if self.vs == self.va || nr != self.vs {
+            return Acked::Nothing;
+        }
+        let more = self.next().more;
+        self.va = self.vs;
+        if more {
+            self.place += 1;
+            return Acked::Piece;
+        }
+        self.held.remove(0);
+        self.place = 0;
+        self.done = self.done.saturating_add(1);
+        Acked::Message(self.done)
+    }
+
+    /// Takes the piece of an I frame with this N(S) and P.
+    pub fn on_info(&mut self, ns: u8, p: bool, piece: &[u8], more: bool) -> Info
+        requires ns { ns ≤ 7 }
+        requires some { 1 ≤ length piece.now }
+        requires most { length piece.now ≤ 20 }
+        ensures answer { (e : EndState) → Stands self.old e
+            → result ≡ info_answer ns p (piece.now, more) e }
+        ensures taken { (e : EndState) → Stands self.old e
+            → Stands self.new (after_info result (piece.now, more) e) }
+        ensures channel { channel_of self.new ≡ channel_of self.old }
+    {
+        if ns != self.vr {
+            let reject = p || !self.rejecting;
+            self.rejecting = true;
+            return Info::OutOfSequence { reject };
+        }
+        self.vr = (self.vr + 1) % 8;
+        self.rejecting = false;
+        Info::Accepted(self.joiner.take(piece, more))
+    }
+
+    /// Whether a piece waits, which goes out again at a REJ.
+    pub fn on_reject(&self) -> bool
+        ensures answer { (e : EndState) → Stands self.now e → result ≡ waits e }
+        ensures waiting { IsTrue result ↔ IsWaiting self.now }
+    {
+        self.vs != self.va
+    }
+
+    /// The timer has run out.
+    pub fn on_timer(&mut self) -> Timer
+        ensures answer { (e : EndState) → Stands self.old e → result ≡ timer_answer e }
+        ensures counted { (e : EndState) → Stands self.old e
+            → Stands self.new (after_timer result e) }
+        ensures waiting { result ≡ Timer.Again → IsWaiting self.new }
+        ensures channel { channel_of self.new ≡ channel_of self.old }
+    {
+        if self.vs == self.va {
+            return Timer::NotRunning;
+        }
+        if self.retries >= self.most_retries() {
+            return Timer::Spent;
+        }
+        self.retries += 1;
+        Timer::Again
+    }
+
+    /// V(S), the number of the next piece that is sent.
+    pub fn vs(&self) -> u8
+        ensures number { (e : EndState) → Stands self.now e → result ≡ vs e }
+        ensures fits { result ≤ 7 }
+    {
+        self.vs
+    }
+
+    /// V(A), the number of the first piece that is not acknowledged.
+    pub fn va(&self) -> u8
+        ensures number { (e : EndState) → Stands self.now e → result ≡ va e }
+        ensures fits { result ≤ 7 }
+    {
+        self.va
+    }
+
+    /// V(R), the number of the next piece that is accepted.
+    pub fn vr(&self) -> u8
+        ensures number { (e : EndState) → Stands self.now e → result ≡ vr e }
+        ensures fits { result ≤ 7 }
+    {
+        self.vr
+    }
+
+    /// The message that the last piece accepted made whole, and no octets where it made none.
+    pub fn message(&self) -> &[u8]
+        ensures { (e : EndState) → Stands self.now e → result.now ≡ latest e.accepted }
+    {
+        self.joiner.message()
+    }
+
+    // The next piece of the first message, or the one that waits.
+    fn next(&self) -> Piece<'_>
+        requires { 1 ≤ length self.now.held.items }
+        ensures { let first = slice_index_or self.now.held.items 0 [] in
+            slice_get (pieces (n201 self.now.channel) first) self.now.place
+            ≡ Some (result.octets.now, result.more) }
+    {
+        let message = &self.held.as_slice()[0];
+        Pieces::new_on(message.octets(), self.channel).piece(self.place)
+    }
+
+    // How often a piece goes out again before the link is given up.
+    fn most_retries(&self) -> u8
+        ensures { result ≡ n200 self.now.channel S.Open }
+    {
+        match self.channel {
+            Channel::Sdcch => 23,
+            Channel::Sacch => 5,
+        }
+    }
+}
