@@ -57,7 +57,7 @@ const FRAMES: [([u8; 5], u8, &str); 24] = [
     (
         [0x01, 0x3f, 0x05, 0xe2, 0x2b],
         0x2b,
-        "frame sapi 0 cr 0 sabm p 1 info c2\n",
+        "frame sapi 0 cr 0 sabm p 1 info e2\n",
     ),
     (
         [0x01, 0x2f, 0x01, 0x2b, 0x2b],
