@@ -1,0 +1,15 @@
+use Rattle.std.proofs.Common.{refl}
+use Rattle.lapdm_window.specs.declared.State.TheVariants.{Closing}
+use Rattle.lapdm_end.proofs.Moves.{moved, both, link_moved, Tracks-moved, IsEnd-moved}
+use Rattle.lapdm_end.proofs.ends.End.close.Goals as goal
+
+pub returns-clause-follows : goal.returns-clause-follows
+returns-clause-follows c e h =
+    both (record {
+      end = IsEnd-moved Closing e.kept 0 e h.end;
+      link = link_moved Closing e.kept 0 e h.link;
+      state = refl;
+      kept = h.kept;
+      tracks = Tracks-moved Closing e.kept 0 e h.tracks;
+      now = refl;
+    }) (λ s. record { frames = c.disc.ensures.frames (moved Closing e.kept 0 e) s; notices = c.disc.ensures.notices })

@@ -1,0 +1,6 @@
+pub mod Links
+pub mod Windows
+pub mod Standing
+pub mod Following
+pub mod Replies
+pub mod Units

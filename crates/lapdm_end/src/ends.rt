@@ -1,0 +1,276 @@
+//! The calls of an end.
+
+ghost use Rattle.std.specs.Prelude.{◌≡◌, ◌≤◌, length};
+ghost use Rattle.lapdm_frame.specs.Layout.{n201};
+ghost use Rattle.lapdm_window.specs.Standing.{channel_of as window_channel};
+
+use crate::Role;
+use crate::link::{Link, no_effects};
+use lapdm_frame::{Body, Channel};
+use lapdm_window::{Effects, Message, Reason, Refused, Sapi, State, Timer, Window};
+
+// How often a SABM or a DISC goes out again before the link is given up.
+const MOST_RETRIES: u8 = 5;
+
+/// One end of a link.
+#[derive(Debug, Drop)]
+pub struct End {
+    pub(crate) link: Link,
+    pub(crate) window: Window,
+    pub(crate) state: State,
+    // The information of the SABM that it sent, or that it was opened by.
+    pub(crate) kept: Message,
+    // How often the SABM or the DISC that awaits an answer went out again.
+    pub(crate) retries: u8,
+    ghost one_channel: { window_channel window ≡ link.channel },
+    ghost kept_fits: { length kept ≤ n201 link.channel },
+}
+
+impl End {
+    ghost use Rattle.std.specs.Prelude.{[], ◌∷◌, OnErr, IfOk, IfNone};
+    ghost use Rattle.lapdm_frame.specs.Frames.{octets_of};
+    ghost use Rattle.lapdm_window.specs.declared.State.TheVariants as S;
+    ghost use Rattle.lapdm_window.specs.Ends.{EndState, start};
+    ghost use Rattle.lapdm_window.specs.Calls.{first_of, frame_refusals, after_call, begins, sabm, disc, ticks, Opens, OpensBare, Sends, SendsUnit, Closes, Ticks, Idles};
+    ghost use Rattle.lapdm_window.specs.Tables.{closes};
+    ghost use Rattle.lapdm_end.specs.Links.{role_of};
+    ghost use Rattle.lapdm_end.specs.Standing.{Stands, channel_of, sapi_of, state_of};
+    ghost use Rattle.lapdm_end.specs.Following.{Follows, IsRefusedAs};
+
+    /// An end in Idle.
+    pub fn new_on(role: Role, sapi: Sapi, channel: Channel) -> End
+        ensures stands { Stands result (start (role_of role) sapi channel) }
+        ensures sapi { sapi_of result ≡ sapi }
+        ensures channel { channel_of result ≡ channel }
+    {
+        End {
+            link: Link {
+                role,
+                sapi,
+                channel,
+            },
+            window: Window::new_on(channel),
+            state: State::Idle,
+            kept: Message::new(&[]),
+            retries: 0,
+        }
+    }
+
+    pub fn sapi(&self) -> Sapi
+        ensures sapi { result ≡ sapi_of self.now }
+        ensures stands { (e : EndState) → Stands self.now e → result ≡ e.sapi }
+    {
+        self.link.sapi
+    }
+
+    pub fn state(&self) -> State
+        ensures { (e : EndState) → Stands self.now e → result ≡ e.state }
+    {
+        self.state
+    }
+
+    /// Asks the other end to open the link, with this information.
+    pub fn open(&mut self, info: &[u8]) -> Result<Effects, Refused>
+        ensures refusal { IsRefusedAs (Opens info.now) self.old result }
+        ensures follows { IfOk result (λ effects. Follows (after_call (Opens info.now)) self.old effects self.new) }
+        ensures refused { OnErr result (self.new ≡ self.old) }
+        ensures sapi { sapi_of self.new ≡ sapi_of self.old }
+        ensures channel { channel_of self.new ≡ channel_of self.old }
+    {
+        if self.state != State::Idle {
+            return Err(Refused::NotIdle);
+        }
+        if let Some(refusal) = self.frame_refusal(info) {
+            return Err(refusal);
+        }
+        Ok(self.begin(info))
+    }
+
+    /// Asks the other end to open the link, with no information.
+    pub fn open_bare(&mut self) -> Result<Effects, Refused>
+        ensures refusal { IsRefusedAs OpensBare self.old result }
+        ensures follows { IfOk result (λ effects. Follows (after_call OpensBare) self.old effects self.new) }
+        ensures refused { OnErr result (self.new ≡ self.old) }
+        ensures sapi { sapi_of self.new ≡ sapi_of self.old }
+        ensures channel { channel_of self.new ≡ channel_of self.old }
+    {
+        if self.state != State::Idle {
+            return Err(Refused::NotIdle);
+        }
+        Ok(self.begin(&[]))
+    }
+
+    /// Sends a message over the link.
+    pub fn send(&mut self, message: &[u8]) -> Result<Effects, Refused>
+        ensures refusal { IsRefusedAs (Sends message.now) self.old result }
+        ensures follows { IfOk result (λ effects. Follows (after_call (Sends message.now)) self.old effects self.new) }
+        ensures refused { OnErr result (self.new ≡ self.old) }
+        ensures sapi { sapi_of self.new ≡ sapi_of self.old }
+        ensures channel { channel_of self.new ≡ channel_of self.old }
+    {
+        if self.state != State::Open {
+            return Err(Refused::NotOpen);
+        }
+        if let Err(refusal) = self.window.put(message) {
+            return Err(refusal);
+        }
+        let mut effects = no_effects();
+        self.link.send_next(&mut self.window, &mut effects);
+        Ok(effects)
+    }
+
+    /// Sends a message in one unnumbered frame, outside the link.
+    pub fn unit(&mut self, message: &[u8]) -> Result<Effects, Refused>
+        ensures refusal { IsRefusedAs (SendsUnit message.now) self.old result }
+        ensures follows { IfOk result (λ effects. Follows (after_call (SendsUnit message.now)) self.old effects self.new) }
+        ensures unchanged { self.new ≡ self.old }
+    {
+        if let Some(refusal) = self.frame_refusal(message) {
+            return Err(refusal);
+        }
+        let body = Body::Ui {
+            p: false,
+            info: message,
+        };
+        Ok(self.link.only_command(body))
+    }
+
+    /// Closes the link. What is not acknowledged is given up.
+    pub fn close(&mut self) -> Result<Effects, Refused>
+        ensures refusal { IsRefusedAs Closes self.old result }
+        ensures follows { IfOk result (λ effects. Follows (after_call Closes) self.old effects self.new) }
+        ensures refused { OnErr result (self.new ≡ self.old) }
+        ensures sapi { sapi_of self.new ≡ sapi_of self.old }
+        ensures channel { channel_of self.new ≡ channel_of self.old }
+    {
+        if self.state != State::Open {
+            return Err(Refused::NotOpen);
+        }
+        self.state = State::Closing;
+        self.retries = 0;
+        Ok(self.disc())
+    }
+
+    /// The timer T200 has run out.
+    pub fn timer(&mut self) -> Result<Effects, Refused>
+        ensures refusal { IsRefusedAs Ticks self.old result }
+        ensures follows { IfOk result (λ effects. Follows (after_call Ticks) self.old effects self.new) }
+        ensures refused { OnErr result (self.new ≡ self.old) }
+        ensures sapi { sapi_of self.new ≡ sapi_of self.old }
+        ensures channel { channel_of self.new ≡ channel_of self.old }
+    {
+        match self.state {
+            State::Idle | State::Closed => Err(Refused::NotRunning),
+            State::Opening => Ok(self.tick_opening()),
+            State::Closing => Ok(self.tick_closing()),
+            State::Open => self.tick_open(),
+        }
+    }
+
+    /// The fill frame, which is sent when there is nothing else to send.
+    pub fn idle(&self) -> Effects
+        ensures { Follows (after_call Idles) self.now result self.now }
+    {
+        self.link.fill()
+    }
+
+    // Why a frame has no room for this, or needs more.
+    fn frame_refusal(&self, message: &[u8]) -> Option<Refused>
+        ensures refusal { (e : EndState) → Stands self.now e → result ≡ first_of (frame_refusals message.now e) }
+        ensures fits { IfNone result (length message.now ≤ n201 (channel_of self.now)) }
+    {
+        if message.is_empty() {
+            return Some(Refused::Empty);
+        }
+        if message.len() > self.link.channel.n201() {
+            return Some(Refused::TooLong);
+        }
+        None
+    }
+
+    fn begin(&mut self, info: &[u8]) -> Effects
+        requires idle { state_of self.old ≡ S.Idle }
+        requires fits { length info.now ≤ n201 (channel_of self.old) }
+        ensures follows { Follows (begins info.now) self.old result self.new }
+        ensures sapi { sapi_of self.new ≡ sapi_of self.old }
+        ensures channel { channel_of self.new ≡ channel_of self.old }
+    {
+        self.state = State::Opening;
+        self.kept = Message::new(info);
+        self.retries = 0;
+        self.sabm()
+    }
+
+    fn sabm(&self) -> Effects
+        ensures frames { (e : EndState) → Stands self.now e → result.frames ≡ octets_of e.channel (sabm e) ∷ [] }
+        ensures notices { result.notices ≡ [] }
+    {
+        let body = Body::Sabm {
+            p: true,
+            info: self.kept.octets(),
+        };
+        self.link.only_command(body)
+    }
+
+    fn disc(&self) -> Effects
+        ensures frames { (e : EndState) → Stands self.now e → result.frames ≡ octets_of e.channel (disc e) ∷ [] }
+        ensures notices { result.notices ≡ [] }
+    {
+        self.link.only_command(Body::Disc { p: true })
+    }
+
+    fn close_with(&mut self, reason: Reason) -> Effects
+        ensures follows { Follows (closes reason) self.old result self.new }
+        ensures sapi { sapi_of self.new ≡ sapi_of self.old }
+        ensures channel { channel_of self.new ≡ channel_of self.old }
+    {
+        let mut effects = no_effects();
+        self.end_with(reason, &mut effects);
+        effects
+    }
+
+    fn tick_opening(&mut self) -> Effects
+        requires opening { state_of self.old ≡ S.Opening }
+        ensures follows { Follows ticks self.old result self.new }
+        ensures sapi { sapi_of self.new ≡ sapi_of self.old }
+        ensures channel { channel_of self.new ≡ channel_of self.old }
+    {
+        if self.retries >= MOST_RETRIES {
+            return self.close_with(Reason::Failed);
+        }
+        self.retries += 1;
+        self.sabm()
+    }
+
+    fn tick_closing(&mut self) -> Effects
+        requires closing { state_of self.old ≡ S.Closing }
+        ensures follows { Follows ticks self.old result self.new }
+        ensures sapi { sapi_of self.new ≡ sapi_of self.old }
+        ensures channel { channel_of self.new ≡ channel_of self.old }
+    {
+        if self.retries >= MOST_RETRIES {
+            return self.close_with(Reason::Failed);
+        }
+        self.retries += 1;
+        self.disc()
+    }
+
+    fn tick_open(&mut self) -> Result<Effects, Refused>
+        requires open { state_of self.old ≡ S.Open }
+        ensures refusal { IsRefusedAs Ticks self.old result }
+        ensures follows { IfOk result (λ effects. Follows ticks self.old effects self.new) }
+        ensures refused { OnErr result (self.new ≡ self.old) }
+        ensures sapi { sapi_of self.new ≡ sapi_of self.old }
+        ensures channel { channel_of self.new ≡ channel_of self.old }
+    {
+        if !self.window.on_reject() {
+            return Err(Refused::NotRunning);
+        }
+        if self.window.on_timer() != Timer::Again {
+            return Ok(self.close_with(Reason::Failed));
+        }
+        let mut effects = no_effects();
+        self.link.send_waiting(true, &self.window, &mut effects);
+        Ok(effects)
+    }
+}

@@ -1,0 +1,108 @@
+//! The frames of an end.
+
+ghost use Rattle.std.specs.Prelude.{◌≡◌, ◌<◌, ◌≤◌, [], ◌∷◌, ◌++◌, not, length};
+ghost use Rattle.lapdm_frame.specs.Content.{content_of, fill};
+ghost use Rattle.lapdm_frame.specs.Frames.{NumbersFit, InformationFits, octets_of};
+ghost use Rattle.lapdm_window.specs.Ends.{command_cr, sapi_number};
+
+use crate::Role;
+use lapdm_frame::{Body, Channel, FrameView, fill_on, write_on};
+use lapdm_window::{Effects, Frames, Notices, Sapi};
+
+/// What the frames of an end say of it, and the channel that they go over.
+#[derive(Clone, Copy, PartialEq, Eq, Debug)]
+pub(crate) struct Link {
+    pub(crate) role: Role,
+    pub(crate) sapi: Sapi,
+    pub(crate) channel: Channel,
+}
+
+pub(crate) fn no_effects() -> Effects
+    ensures frames { result.frames ≡ [] }
+    ensures notices { result.notices ≡ [] }
+{
+    Effects {
+        frames: Frames::new(),
+        notices: Notices::new(),
+    }
+}
+
+impl Link {
+    ghost use Rattle.lapdm_end.specs.Links.{role_of, framed, command_by, response_by};
+
+    pub(crate) fn command_cr(self) -> bool
+        ensures { result ≡ command_cr (role_of self.role) }
+    {
+        match self.role {
+            Role::Mobile => false,
+            Role::Network => true,
+        }
+    }
+
+    pub(crate) fn sapi_number(self) -> u8
+        ensures number { result ≡ sapi_number self.sapi }
+        ensures fits { result ≤ 7 }
+    {
+        match self.sapi {
+            Sapi::Zero => 0,
+            Sapi::Three => 3,
+        }
+    }
+
+    // Sends a frame with this C/R.
+    fn send(self, cr: bool, body: Body<'_>, effects: &mut Effects)
+        requires numbers { NumbersFit (content_of body) }
+        requires information { InformationFits self.channel (content_of body) }
+        requires room { length effects.old.frames < 2 }
+        ensures frames { effects.new.frames ≡ effects.old.frames ++ octets_of self.channel (framed self cr (content_of body.entry)) ∷ [] }
+        ensures notices { effects.new.notices ≡ effects.old.notices }
+    {
+        let sapi = self.sapi_number();
+        let block = write_on(&FrameView { sapi, cr, body }, self.channel);
+        effects.frames.push(block);
+    }
+
+    pub(crate) fn command(self, body: Body<'_>, effects: &mut Effects)
+        requires numbers { NumbersFit (content_of body) }
+        requires information { InformationFits self.channel (content_of body) }
+        requires room { length effects.old.frames < 2 }
+        ensures frames { effects.new.frames ≡ effects.old.frames ++ octets_of self.channel (command_by self (content_of body.entry)) ∷ [] }
+        ensures notices { effects.new.notices ≡ effects.old.notices }
+    {
+        self.send(self.command_cr(), body, effects);
+    }
+
+    pub(crate) fn respond(self, body: Body<'_>, effects: &mut Effects)
+        requires numbers { NumbersFit (content_of body) }
+        requires information { InformationFits self.channel (content_of body) }
+        requires room { length effects.old.frames < 2 }
+        ensures frames { effects.new.frames ≡ effects.old.frames ++ octets_of self.channel (response_by self (content_of body.entry)) ∷ [] }
+        ensures notices { effects.new.notices ≡ effects.old.notices }
+    {
+        self.send(!self.command_cr(), body, effects);
+    }
+
+    // One command and no more.
+    pub(crate) fn only_command(self, body: Body<'_>) -> Effects
+        requires numbers { NumbersFit (content_of body) }
+        requires information { InformationFits self.channel (content_of body) }
+        ensures frames { result.frames ≡ octets_of self.channel (command_by self (content_of body.entry)) ∷ [] }
+        ensures notices { result.notices ≡ [] }
+    {
+        let mut effects = no_effects();
+        self.command(body, &mut effects);
+        effects
+    }
+
+    // The fill frame.
+    pub(crate) fn fill(self) -> Effects
+        ensures frames { result.frames ≡ octets_of self.channel (fill (command_cr (role_of self.role))) ∷ [] }
+        ensures notices { result.notices ≡ [] }
+    {
+        let mut effects = no_effects();
+        effects
+            .frames
+            .push(fill_on(self.command_cr(), self.channel));
+        effects
+    }
+}

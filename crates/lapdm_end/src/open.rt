@@ -1,0 +1,244 @@
+//! The rules of Open, over the window and the effects.
+
+ghost use Rattle.std.specs.Prelude.{◌≡◌, ◌+◌, ◌≤◌, ◌++◌, Bool, length};
+ghost use Rattle.lapdm_frame.specs.Layout.{n201};
+ghost use Rattle.segmenting.specs.Joining.{latest};
+ghost use Rattle.lapdm_window.specs.Ends.{EndState};
+ghost use Rattle.lapdm_window.specs.Rules.{sends_next, counts, notices_of, says_rr, answers_piece, answers_poll, sends_again, takes_i, takes_rr, takes_rej};
+ghost use Rattle.lapdm_window.specs.Standing.{Stands, channel_of};
+
+use crate::link::Link;
+use lapdm_frame::Body;
+use lapdm_window::{Acked, Effects, Info, Message, Notice, Window};
+use segmenting::{Joined, LONGEST, Piece};
+
+// The octets as a message, without those that a message has no room for.
+fn message_of(octets: &[u8]) -> Message
+    ensures { length octets.now ≤ 251 → result ≡ octets.now }
+{
+    Message::new(&octets[..octets.len().min(LONGEST)])
+}
+
+// Reports the piece that was accepted last.
+fn report(joined: Joined, more: bool, window: &Window, effects: &mut Effects)
+    requires room { length effects.old.notices ≤ 2 }
+    ensures frames { effects.new.frames ≡ effects.old.frames }
+    ensures notices { (e : EndState) → Stands window.now e
+        → effects.new.notices ≡ effects.old.notices ++ notices_of joined more (latest e.accepted) }
+{
+    match joined {
+        Joined::Whole => effects
+            .notices
+            .push(Notice::Got(message_of(window.message()))),
+        Joined::Oversize => {
+            if !more {
+                effects.notices.push(Notice::Oversize);
+            }
+        }
+        Joined::More => {}
+    }
+}
+
+impl Link {
+    ghost use Rattle.lapdm_end.specs.Windows.{Obeys, sends_waiting, says_rej, refuses_piece, takes_piece};
+
+    // Sends the piece that waits, if one does.
+    pub(crate) fn send_waiting(self, p: bool, window: &Window, effects: &mut Effects)
+        requires channel { channel_of window.now ≡ self.channel }
+        requires room { length effects.old.frames ≤ 1 }
+        ensures most { length effects.new.frames ≤ length effects.old.frames + 1 }
+        ensures follows { Obeys (sends_waiting p) self window.now window.now effects.old effects.new }
+    {
+        let Some(piece) = window.waiting() else {
+            return;
+        };
+        let body = Body::I {
+            ns: window.va(),
+            nr: window.vr(),
+            p,
+            more: piece.more,
+            info: piece.octets,
+        };
+        self.command(body, effects);
+    }
+
+    pub(crate) fn send_next(self, window: &mut Window, effects: &mut Effects)
+        requires channel { channel_of window.old ≡ self.channel }
+        requires room { length effects.old.frames ≤ 1 }
+        ensures channel { channel_of window.new ≡ channel_of window.old }
+        ensures most { length effects.new.frames ≤ length effects.old.frames + 1 }
+        ensures follows { Obeys sends_next self window.old window.new effects.old effects.new }
+    {
+        if !window.send_next() {
+            return;
+        }
+        self.send_waiting(false, window, effects);
+    }
+
+    // Counts an N(R).
+    fn count(self, nr: u8, window: &mut Window, effects: &mut Effects)
+        requires number { nr ≤ 7 }
+        requires room { length effects.old.notices ≤ 2 }
+        ensures channel { channel_of window.new ≡ channel_of window.old }
+        ensures frames { effects.new.frames ≡ effects.old.frames }
+        ensures most { length effects.new.notices ≤ length effects.old.notices + 1 }
+        ensures follows { Obeys (counts nr) self window.old window.new effects.old effects.new }
+    {
+        match window.on_ack(nr) {
+            Acked::Nothing | Acked::Piece => {}
+            Acked::Message(number) => effects.notices.push(Notice::Acked(number)),
+        }
+    }
+
+    fn say_rr(self, f: bool, window: &Window, effects: &mut Effects)
+        requires room { length effects.old.frames ≤ 1 }
+        ensures most { length effects.new.frames ≤ length effects.old.frames + 1 }
+        ensures follows { Obeys (says_rr f) self window.now window.now effects.old effects.new }
+    {
+        let nr = window.vr();
+        self.respond(Body::Rr { nr, pf: f }, effects);
+    }
+
+    // Answers a piece that was accepted.
+    fn answer_piece(self, p: bool, window: &mut Window, effects: &mut Effects)
+        requires channel { channel_of window.old ≡ self.channel }
+        requires room { length effects.old.frames ≤ 0 }
+        ensures channel { channel_of window.new ≡ channel_of window.old }
+        ensures follows { Obeys (answers_piece p) self window.old window.new effects.old effects.new }
+    {
+        if p {
+            self.say_rr(true, window, effects);
+            self.send_next(window, effects);
+            return;
+        }
+        if window.send_next() {
+            self.send_waiting(false, window, effects);
+            return;
+        }
+        self.say_rr(false, window, effects);
+    }
+
+    fn say_rej(self, due: bool, p: bool, window: &Window, effects: &mut Effects)
+        requires room { length effects.old.frames ≤ 1 }
+        ensures most { length effects.new.frames ≤ length effects.old.frames + 1 }
+        ensures follows { Obeys (says_rej due p) self window.now window.now effects.old effects.new }
+    {
+        if !due {
+            return;
+        }
+        let nr = window.vr();
+        self.respond(Body::Rej { nr, pf: p }, effects);
+    }
+
+    // Answers a piece out of sequence.
+    fn refuse_piece(self, due: bool, p: bool, window: &mut Window, effects: &mut Effects)
+        requires channel { channel_of window.old ≡ self.channel }
+        requires room { length effects.old.frames ≤ 0 }
+        ensures channel { channel_of window.new ≡ channel_of window.old }
+        ensures follows { Obeys (refuses_piece due p) self window.old window.new effects.old effects.new }
+    {
+        self.say_rej(due, p, window, effects);
+        self.send_next(window, effects);
+    }
+
+    fn answer_poll(self, poll: bool, window: &Window, effects: &mut Effects)
+        requires room { length effects.old.frames ≤ 1 }
+        ensures most { length effects.new.frames ≤ length effects.old.frames + 1 }
+        ensures follows { Obeys (answers_poll poll) self window.now window.now effects.old effects.new }
+    {
+        if !poll {
+            return;
+        }
+        self.say_rr(true, window, effects);
+    }
+
+    // The piece that waits goes out again, or the next one.
+    fn send_again(self, window: &mut Window, effects: &mut Effects)
+        requires channel { channel_of window.old ≡ self.channel }
+        requires room { length effects.old.frames ≤ 1 }
+        ensures channel { channel_of window.new ≡ channel_of window.old }
+        ensures follows { Obeys sends_again self window.old window.new effects.old effects.new }
+    {
+        if window.on_reject() {
+            self.send_waiting(false, window, effects);
+            return;
+        }
+        self.send_next(window, effects);
+    }
+
+    pub(crate) fn take_rr(self, nr: u8, poll: bool, window: &mut Window, effects: &mut Effects)
+        requires number { nr ≤ 7 }
+        requires channel { channel_of window.old ≡ self.channel }
+        requires no_frames { length effects.old.frames ≤ 0 }
+        requires no_notices { length effects.old.notices ≤ 0 }
+        ensures channel { channel_of window.new ≡ channel_of window.old }
+        ensures follows { Obeys (takes_rr nr poll) self window.old window.new effects.old effects.new }
+    {
+        self.count(nr, window, effects);
+        self.answer_poll(poll, window, effects);
+        self.send_next(window, effects);
+    }
+
+    pub(crate) fn take_rej(self, nr: u8, poll: bool, window: &mut Window, effects: &mut Effects)
+        requires number { nr ≤ 7 }
+        requires channel { channel_of window.old ≡ self.channel }
+        requires no_frames { length effects.old.frames ≤ 0 }
+        requires no_notices { length effects.old.notices ≤ 0 }
+        ensures channel { channel_of window.new ≡ channel_of window.old }
+        ensures follows { Obeys (takes_rej nr poll) self window.old window.new effects.old effects.new }
+    {
+        self.count(nr, window, effects);
+        self.answer_poll(poll, window, effects);
+        self.send_again(window, effects);
+    }
+
+    // Takes the piece of an I frame whose N(R) is counted.
+    fn take_piece(
+        self,
+        ns: u8,
+        p: bool,
+        piece: Piece<'_>,
+        window: &mut Window,
+        effects: &mut Effects,
+    )
+        requires number { ns ≤ 7 }
+        requires some { 1 ≤ length piece.octets.now }
+        requires size { length piece.octets.now ≤ n201 self.channel }
+        requires channel { channel_of window.old ≡ self.channel }
+        requires no_frames { length effects.old.frames ≤ 0 }
+        requires room { length effects.old.notices ≤ 1 }
+        ensures channel { channel_of window.new ≡ channel_of window.old }
+        ensures follows { Obeys (takes_piece ns p (piece.entry.octets.now, piece.entry.more)) self window.old window.new effects.old effects.new }
+    {
+        match window.on_info(ns, p, piece.octets, piece.more) {
+            Info::Accepted(joined) => {
+                report(joined, piece.more, window, effects);
+                self.answer_piece(p, window, effects);
+            }
+            Info::OutOfSequence { reject } => self.refuse_piece(reject, p, window, effects),
+        }
+    }
+
+    pub(crate) fn take_i(
+        self,
+        ns: u8,
+        nr: u8,
+        p: bool,
+        piece: Piece<'_>,
+        window: &mut Window,
+        effects: &mut Effects,
+    )
+        requires ns { ns ≤ 7 }
+        requires nr { nr ≤ 7 }
+        requires some { 1 ≤ length piece.octets.now }
+        requires size { length piece.octets.now ≤ n201 self.channel }
+        requires channel { channel_of window.old ≡ self.channel }
+        requires no_frames { length effects.old.frames ≤ 0 }
+        requires no_notices { length effects.old.notices ≤ 0 }
+        ensures channel { channel_of window.new ≡ channel_of window.old }
+        ensures follows { Obeys (takes_i ns nr p (piece.entry.octets.now, piece.entry.more)) self window.old window.new effects.old effects.new }
+    {
+        self.count(nr, window, effects);
+        self.take_piece(ns, p, piece, window, effects);
+    }
+}

@@ -1,0 +1,222 @@
+//! The frames that an end takes.
+
+ghost use Rattle.std.specs.Prelude.{◌≡◌, ◌≤◌, [], ◌∷◌, ◌++◌, length};
+ghost use Rattle.lapdm_frame.specs.Layout.{n201};
+ghost use Rattle.lapdm_frame.specs.Content.{content_of, frame_of};
+ghost use Rattle.lapdm_frame.specs.Frames.{NumbersFit, InformationFits, Fits, octets_of};
+ghost use Rattle.lapdm_window.specs.declared.State.TheVariants as S;
+ghost use Rattle.lapdm_window.specs.Ends.{EndState, response};
+ghost use Rattle.lapdm_window.specs.Tables.{opens, closes, opened_by, in_open, in_state, after_content, after_frame};
+ghost use Rattle.lapdm_end.specs.Units.{unit_notices};
+
+use crate::ends::End;
+use crate::link::no_effects;
+use crate::replies::{Reply, is_poll, is_taken};
+use lapdm_frame::{Body, FrameView};
+use lapdm_window::{Effects, Message, Notice, Reason, State};
+use segmenting::Piece;
+
+// A unit with information is reported.
+fn take_unit(info: &[u8], effects: &mut Effects)
+    requires information { length info.now ≤ 20 }
+    requires no_notices { length effects.old.notices ≤ 0 }
+    ensures frames { effects.new.frames ≡ effects.old.frames }
+    ensures notices { effects.new.notices ≡ effects.old.notices ++ unit_notices info.now }
+{
+    if info.is_empty() {
+        return;
+    }
+    effects.notices.push(Notice::Unit(Message::new(info)));
+}
+
+impl End {
+    ghost use Rattle.lapdm_end.specs.declared.replies.Reply.TheVariants.{Released};
+    ghost use Rattle.lapdm_end.specs.Replies.{outcome_of, IsReady};
+    ghost use Rattle.lapdm_end.specs.Standing.{Stands, channel_of, sapi_of, state_of};
+    ghost use Rattle.lapdm_end.specs.Following.{Follows, Obeys};
+
+    /// Takes a frame that came in.
+    pub fn take(&mut self, frame: &FrameView<'_>) -> Effects
+        requires { Fits (channel_of self.old) (frame_of frame.now) }
+        ensures follows { Follows (after_frame (frame_of frame.now)) self.old result self.new }
+        ensures sapi { sapi_of self.new ≡ sapi_of self.old }
+        ensures channel { channel_of self.new ≡ channel_of self.old }
+    {
+        let mut effects = no_effects();
+        let command = frame.cr != self.link.command_cr();
+        if frame.sapi != self.link.sapi_number() || !is_taken(command, &frame.body) {
+            return effects;
+        }
+        self.take_content(command, &frame.body, &mut effects);
+        effects
+    }
+
+    fn take_content(&mut self, command: bool, body: &Body<'_>, effects: &mut Effects)
+        requires numbers { NumbersFit (content_of body.now) }
+        requires information { InformationFits (channel_of self.old) (content_of body.now) }
+        requires no_frames { length effects.old.frames ≤ 0 }
+        requires no_notices { length effects.old.notices ≤ 0 }
+        ensures follows { Obeys (after_content command (content_of body.now)) self.old self.new effects.old effects.new }
+        ensures sapi { sapi_of self.new ≡ sapi_of self.old }
+        ensures channel { channel_of self.new ≡ channel_of self.old }
+    {
+        if let Body::Ui { info, .. } = *body {
+            take_unit(info, effects);
+            return;
+        }
+        self.take_in_state(command, body, effects);
+    }
+
+    fn take_in_state(&mut self, command: bool, body: &Body<'_>, effects: &mut Effects)
+        requires numbers { NumbersFit (content_of body.now) }
+        requires information { InformationFits (channel_of self.old) (content_of body.now) }
+        requires no_frames { length effects.old.frames ≤ 0 }
+        requires no_notices { length effects.old.notices ≤ 0 }
+        ensures follows { Obeys (λ e. in_state e.state command (content_of body.now) e) self.old self.new effects.old effects.new }
+        ensures sapi { sapi_of self.new ≡ sapi_of self.old }
+        ensures channel { channel_of self.new ≡ channel_of self.old }
+    {
+        match self.state {
+            State::Idle => {
+                let reply = self.in_idle(is_poll(command, body), body);
+                self.carry_out(reply, effects);
+            }
+            State::Opening => {
+                let reply = self.in_opening(body);
+                self.carry_out(reply, effects);
+            }
+            State::Open => self.take_in_open(command, body, effects),
+            State::Closing => {
+                let reply = self.in_closing(body);
+                self.carry_out(reply, effects);
+            }
+            State::Closed => {
+                let reply = self.in_closed(is_poll(command, body), body);
+                self.carry_out(reply, effects);
+            }
+        }
+    }
+
+    fn take_in_open(&mut self, command: bool, body: &Body<'_>, effects: &mut Effects)
+        requires open { state_of self.old ≡ S.Open }
+        requires numbers { NumbersFit (content_of body.now) }
+        requires information { InformationFits (channel_of self.old) (content_of body.now) }
+        requires no_frames { length effects.old.frames ≤ 0 }
+        requires no_notices { length effects.old.notices ≤ 0 }
+        ensures follows { Obeys (in_open command (content_of body.now)) self.old self.new effects.old effects.new }
+        ensures sapi { sapi_of self.new ≡ sapi_of self.old }
+        ensures channel { channel_of self.new ≡ channel_of self.old }
+    {
+        match *body {
+            Body::I {
+                ns,
+                nr,
+                p,
+                more,
+                info,
+            } => {
+                let piece = Piece { octets: info, more };
+                self.link
+                    .take_i(ns, nr, p, piece, &mut self.window, effects);
+            }
+            Body::Rr { nr, .. } => {
+                let poll = is_poll(command, body);
+                self.link.take_rr(nr, poll, &mut self.window, effects);
+            }
+            Body::Rej { nr, .. } => {
+                let poll = is_poll(command, body);
+                self.link.take_rej(nr, poll, &mut self.window, effects);
+            }
+            Body::Sabm { info, .. } => {
+                let reply = self.to_sabm_in_open(info);
+                self.carry_out(reply, effects);
+            }
+            Body::Disc { .. } => self.carry_out(Reply::Released, effects),
+            Body::Dm { .. } => self.carry_out(Reply::Closed(Reason::Failed), effects),
+            Body::Rnr { .. } | Body::Ui { .. } | Body::Ua { .. } => {}
+        }
+    }
+
+    fn carry_out(&mut self, reply: Reply<'_>, effects: &mut Effects)
+        requires ready { IsReady (channel_of self.old) (state_of self.old) reply }
+        requires no_frames { length effects.old.frames ≤ 0 }
+        requires no_notices { length effects.old.notices ≤ 0 }
+        ensures follows { Obeys (outcome_of reply.entry) self.old self.new effects.old effects.new }
+        ensures sapi { sapi_of self.new ≡ sapi_of self.old }
+        ensures channel { channel_of self.new ≡ channel_of self.old }
+    {
+        match reply {
+            Reply::Nothing => {}
+            Reply::Dm => self.answer(Body::Dm { f: true }, effects),
+            Reply::Ua(info) => self.answer(Body::Ua { f: true, info }, effects),
+            Reply::OpenedBy(info) => self.be_opened(info, effects),
+            Reply::Opened(info) => self.go_open(info, effects),
+            Reply::Closed(reason) => self.end_with(reason, effects),
+            Reply::Released => self.be_released(effects),
+        }
+    }
+
+    // Sends a response.
+    fn answer(&self, body: Body<'_>, effects: &mut Effects)
+        requires numbers { NumbersFit (content_of body) }
+        requires information { InformationFits (channel_of self.now) (content_of body) }
+        requires no_frames { length effects.old.frames ≤ 0 }
+        ensures frames { (e : EndState) → Stands self.now e → effects.new.frames ≡ effects.old.frames ++ octets_of (channel_of self.now) (response e (content_of body.entry)) ∷ [] }
+        ensures notices { effects.new.notices ≡ effects.old.notices }
+    {
+        self.link.respond(body, effects);
+    }
+
+    // The other end opens the link.
+    fn be_opened(&mut self, info: &[u8], effects: &mut Effects)
+        requires idle { state_of self.old ≡ S.Idle }
+        requires information { length info.now ≤ n201 (channel_of self.old) }
+        requires no_frames { length effects.old.frames ≤ 0 }
+        requires no_notices { length effects.old.notices ≤ 0 }
+        ensures follows { Obeys (opened_by info.now) self.old self.new effects.old effects.new }
+        ensures sapi { sapi_of self.new ≡ sapi_of self.old }
+        ensures channel { channel_of self.new ≡ channel_of self.old }
+    {
+        self.state = State::Open;
+        self.kept = Message::new(info);
+        effects.notices.push(Notice::Opened(Message::new(info)));
+        self.answer(Body::Ua { f: true, info }, effects);
+    }
+
+    // The link that this end asked for is open.
+    fn go_open(&mut self, info: &[u8], effects: &mut Effects)
+        requires opening { state_of self.old ≡ S.Opening }
+        requires information { length info.now ≤ n201 (channel_of self.old) }
+        requires no_notices { length effects.old.notices ≤ 0 }
+        ensures follows { Obeys (opens info.now) self.old self.new effects.old effects.new }
+        ensures sapi { sapi_of self.new ≡ sapi_of self.old }
+        ensures channel { channel_of self.new ≡ channel_of self.old }
+    {
+        self.state = State::Open;
+        effects.notices.push(Notice::Opened(Message::new(info)));
+    }
+
+    pub(crate) fn end_with(&mut self, reason: Reason, effects: &mut Effects)
+        requires no_notices { length effects.old.notices ≤ 0 }
+        ensures frames { effects.new.frames ≡ effects.old.frames }
+        ensures follows { Obeys (closes reason) self.old self.new effects.old effects.new }
+        ensures sapi { sapi_of self.new ≡ sapi_of self.old }
+        ensures channel { channel_of self.new ≡ channel_of self.old }
+    {
+        self.state = State::Closed;
+        effects.notices.push(Notice::Closed(reason));
+    }
+
+    // The other end closes the link.
+    fn be_released(&mut self, effects: &mut Effects)
+        requires no_frames { length effects.old.frames ≤ 0 }
+        requires no_notices { length effects.old.notices ≤ 0 }
+        ensures follows { Obeys (outcome_of Released) self.old self.new effects.old effects.new }
+        ensures sapi { sapi_of self.new ≡ sapi_of self.old }
+        ensures channel { channel_of self.new ≡ channel_of self.old }
+    {
+        self.end_with(Reason::Released, effects);
+        let body = Body::Ua { f: true, info: &[] };
+        self.answer(body, effects);
+    }
+}
