@@ -1,0 +1,222 @@
+ghost use Rattle.std.specs.Prelude.{◌≡◌};
+ghost use Rattle.lapdm_end.specs.Standing.{channel_of};
+ghost use Rattle.lapdm_network.specs.Ends.{end_of};
+
+use super::*;
+use lapdm_frame::{Body, Channel, FrameView, fits_on};
+use lapdm_window::{Effects, Message, Notice, Refused, Sapi, State};
+use std::process::Abort;
+
+// An end on a channel, whose frames all go over it.
+#[derive(Drop)]
+struct Session {
+    end: Network,
+    channel: Channel,
+    ghost same: { channel_of (end_of end) ≡ channel },
+}
+
+impl Session {
+    fn new(sapi: Sapi, channel: Channel) -> Session {
+        Session {
+            end: Network::new_on(sapi, channel),
+            channel,
+        }
+    }
+
+    fn take(&mut self, rt: &impl Abort, frame: &FrameView<'_>) -> Effects {
+        assert!(rt; fits_on(frame, self.channel));
+        self.end.take(frame)
+    }
+
+    // A frame of SAPI 0 is answered so.
+    fn row(
+        &mut self,
+        rt: &impl Abort,
+        cr: bool,
+        body: Body<'_>,
+        sent: &[u8],
+        told: Option<Notice>,
+    ) {
+        let effects = self.take(rt, &FrameView { sapi: 0, cr, body });
+        assert!(rt; is_sent(&effects, sent));
+        assert!(rt; is_told(&effects, &told));
+    }
+}
+
+// No block, or this one, which is filled up.
+fn is_sent(effects: &Effects, octets: &[u8]) -> bool {
+    match effects.frames.as_slice() {
+        [] => octets.is_empty(),
+        [block] => {
+            !octets.is_empty()
+                && block.starts_with(octets)
+                && block.iter().skip(octets.len()).all(|octet| *octet == 0x2b)
+        }
+        _ => false,
+    }
+}
+
+fn is_told(effects: &Effects, told: &Option<Notice>) -> bool {
+    match (effects.notices.as_slice(), told) {
+        ([], None) => true,
+        ([one], Some(other)) => is_same(one, other),
+        _ => false,
+    }
+}
+
+fn is_same(one: &Notice, other: &Notice) -> bool {
+    match (one, other) {
+        (Notice::Opened(a), Notice::Opened(b))
+        | (Notice::Got(a), Notice::Got(b))
+        | (Notice::Unit(a), Notice::Unit(b)) => a.octets() == b.octets(),
+        (Notice::Acked(a), Notice::Acked(b)) => *a == *b,
+        (Notice::Oversize, Notice::Oversize) => true,
+        (Notice::Closed(a), Notice::Closed(b)) => *a == *b,
+        _ => false,
+    }
+}
+
+fn i_frame<'a>(ns: u8, nr: u8, more: bool, info: &'a [u8]) -> Body<'a> {
+    Body::I {
+        ns,
+        nr,
+        p: false,
+        more,
+        info,
+    }
+}
+
+fn opened(rt: &impl Abort) -> Session {
+    let mut session = Session::new(Sapi::Zero, Channel::Sdcch);
+    let sabm = Body::Sabm {
+        p: true,
+        info: &[1],
+    };
+    let told = Some(Notice::Opened(Message::new(&[1])));
+    session.row(rt, false, sabm, &[0x01, 0x73, 0x05, 0x01], told);
+    session
+}
+
+#[test]
+fn answers_a_repeated_sabm_and_rejects_a_repeated_piece_once(rt: HostRuntime) {
+    let mut session = opened(&rt);
+    let sabm = |info| Body::Sabm { p: true, info };
+    let got = Some(Notice::Got(Message::new(&[0xaa])));
+    session.row(
+        &rt,
+        false,
+        i_frame(0, 0, false, &[0xaa]),
+        &[0x01, 0x21, 0x01],
+        got,
+    );
+    session.row(&rt, false, sabm(&[1]), &[0x01, 0x73, 0x05, 0x01], None);
+    session.row(&rt, false, sabm(&[2]), &[], None);
+    session.row(&rt, false, sabm(&[1, 0]), &[], None);
+    session.row(&rt, false, sabm(&[]), &[], None);
+    session.row(
+        &rt,
+        false,
+        i_frame(0, 0, false, &[0xaa]),
+        &[0x01, 0x29, 0x01],
+        None,
+    );
+    session.row(&rt, false, i_frame(0, 0, false, &[0xaa]), &[], None);
+}
+
+#[test]
+fn drops_a_message_that_is_too_long_by_one_piece(rt: HostRuntime) {
+    let mut session = opened(&rt);
+    for i in 0..13u8 {
+        let ready = [0x01, 32 * ((i + 1) % 8) + 1, 0x01];
+        session.row(&rt, false, i_frame(i % 8, 0, true, &[7; 20]), &ready, None);
+    }
+    session.row(
+        &rt,
+        false,
+        i_frame(5, 0, false, &[7]),
+        &[0x01, 0xc1, 0x01],
+        Some(Notice::Oversize),
+    );
+    let got = Some(Notice::Got(Message::new(&[0xaa])));
+    session.row(
+        &rt,
+        false,
+        i_frame(6, 0, false, &[0xaa]),
+        &[0x01, 0xe1, 0x01],
+        got,
+    );
+}
+
+#[test]
+fn ignores_what_the_mobile_does_not_send(rt: HostRuntime) {
+    let mut session = opened(&rt);
+    session.row(&rt, true, i_frame(0, 0, false, &[0xaa]), &[], None);
+    let other = FrameView {
+        sapi: 5,
+        cr: false,
+        body: i_frame(0, 0, false, &[0xaa]),
+    };
+    let effects = session.take(&rt, &other);
+    assert!(rt; is_sent(&effects, &[]) && is_told(&effects, &None));
+    session.row(&rt, false, Body::Rnr { nr: 0, pf: true }, &[], None);
+    session.row(&rt, false, Body::Ua { f: true, info: &[] }, &[], None);
+    assert_eq!(rt; session.end.state(), State::Open);
+    let got = Some(Notice::Got(Message::new(&[0xaa])));
+    session.row(
+        &rt,
+        false,
+        i_frame(0, 0, false, &[0xaa]),
+        &[0x01, 0x21, 0x01],
+        got,
+    );
+}
+
+// An N(R) other than this one acknowledges nothing.
+fn only_counts(rt: &impl Abort, session: &mut Session, number: u8) {
+    for nr in 0..8u8 {
+        if nr != number {
+            session.row(rt, true, Body::Rr { nr, pf: false }, &[], None);
+        }
+    }
+}
+
+#[test]
+fn counts_no_wrong_number_in_any_state_of_the_window(rt: HostRuntime) {
+    let mut session = opened(&rt);
+    for round in 0..9u8 {
+        let va = round % 8;
+        only_counts(&rt, &mut session, 8);
+        let sent = session.end.send(&[round]);
+        assert!(rt; matches!(&sent, Ok(effects) if is_sent(effects, &[0x03, 2 * va, 0x05, round])));
+        let next = (va + 1) % 8;
+        only_counts(&rt, &mut session, next);
+        let acked = Some(Notice::Acked(u64::from(round) + 1));
+        session.row(
+            &rt,
+            true,
+            Body::Rr {
+                nr: next,
+                pf: false,
+            },
+            &[],
+            acked,
+        );
+    }
+}
+
+#[test]
+fn makes_each_end(rt: HostRuntime) {
+    assert_eq!(rt; Network::new().sapi(), Sapi::Zero);
+    let mut network = Network::with_sapi(Sapi::Three);
+    assert_eq!(rt; network.sapi(), Sapi::Three);
+    assert!(rt; is_sent(&network.idle(), &[0x03, 0x03, 0x01]));
+    assert!(rt;
+        matches!(&network.unit(&[9]), Ok(effects) if is_sent(effects, &[0x0f, 0x03, 0x05, 9]))
+    );
+    assert!(rt; matches!(network.close(), Err(Refused::NotOpen)));
+    assert!(rt; matches!(network.timer(), Err(Refused::NotRunning)));
+    assert!(rt;
+        matches!(&network.open_bare(), Ok(effects) if is_sent(effects, &[0x0f, 0x3f, 0x01]))
+    );
+    assert_eq!(rt; network.state(), State::Opening);
+}
