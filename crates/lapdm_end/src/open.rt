@@ -10,14 +10,7 @@ ghost use Rattle.lapdm_window.specs.Standing.{Stands, channel_of};
 use crate::link::Link;
 use lapdm_frame::Body;
 use lapdm_window::{Acked, Effects, Info, Message, Notice, Window};
-use segmenting::{Joined, LONGEST, Piece};
-
-// The octets as a message, without those that a message has no room for.
-fn message_of(octets: &[u8]) -> Message
-    ensures { length octets.now ≤ 251 → result ≡ octets.now }
-{
-    Message::new(&octets[..octets.len().min(LONGEST)])
-}
+use segmenting::{Joined, Piece};
 
 // Reports the piece that was accepted last.
 fn report(joined: Joined, more: bool, window: &Window, effects: &mut Effects)
@@ -29,7 +22,7 @@ fn report(joined: Joined, more: bool, window: &Window, effects: &mut Effects)
     match joined {
         Joined::Whole => effects
             .notices
-            .push(Notice::Got(message_of(window.message()))),
+            .push(Notice::Got(Message::new(window.message()))),
         Joined::Oversize => {
             if !more {
                 effects.notices.push(Notice::Oversize);

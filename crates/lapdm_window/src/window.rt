@@ -220,7 +220,8 @@ impl Window {
 
     /// The message that the last piece accepted made whole, and no octets where it made none.
     pub fn message(&self) -> &[u8]
-        ensures { (e : EndState) → Stands self.now e → result.now ≡ latest e.accepted }
+        ensures latest { (e : EndState) → Stands self.now e → result.now ≡ latest e.accepted }
+        ensures most { length result.now ≤ 251 }
     {
         self.joiner.message()
     }

@@ -80,7 +80,8 @@ impl Joiner {
 
     /// The message, where the last piece taken completed one, and no octets otherwise.
     pub fn message(&self) -> &[u8]
-        ensures { (taken : List Piece) → HasTaken self.now taken → result.now ≡ latest taken }
+        ensures latest { (taken : List Piece) → HasTaken self.now taken → result.now ≡ latest taken }
+        ensures most { length result.now ≤ 251 }
     {
         match self.part {
             Part::Whole => &self.octets[..self.len],
