@@ -1,5 +1,5 @@
 //! What an end sends and reports.
-ghost use Rattle.std.specs.Prelude.{◌≡◌, ◌<◌, [], ◌∷◌, ◌++◌, length};
+ghost use Rattle.std.specs.Prelude.{◌≡◌, ◌<◌, ◌≤◌, [], ◌∷◌, ◌++◌, length};
 
 use crate::Notice;
 use arrayvec::ArrayVec;
@@ -45,7 +45,8 @@ impl Frames {
     }
 
     pub fn as_slice(&self) -> &[[u8; 23]]
-        ensures { result.now ≡ self.now }
+        ensures value { result.now ≡ self.now }
+        ensures fits { length result.now ≤ 2 }
     {
         self.blocks.as_slice()
     }

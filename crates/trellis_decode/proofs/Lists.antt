@@ -11,10 +11,10 @@ use Rattle.conv_code.proofs.Coding.{delayed-more, delayed-none, delayed-at_most_
 use Rattle.trellis_decode.specs.Trellis.{next, first_bit, second_bit, coded_from, gain, Ends, IsNotAfter, Less, Later, IsBest}
 
 -- the state in which place k finds the coder
-state_at : List ℕ → ℕ → ℕ
+pub state_at : List ℕ → ℕ → ℕ
 state_at u k = delayed u k 1 + 2 * delayed u k 2 + 4 * delayed u k 3 + 8 * delayed u k 4
 
-next_state : (u : List ℕ) (k : ℕ) → AllBits u → next (state_at u k) (get_or u k 0) ≡ state_at u (k + 1)
+pub next_state : (u : List ℕ) (k : ℕ) → AllBits u → next (state_at u k) (get_or u k 0) ≡ state_at u (k + 1)
 unfolding state_at
 next_state u k bits =
     let x = bit_at-most_1 u k bits in
@@ -61,11 +61,11 @@ pub coded_from_start : (u : List ℕ) → AllBits u → coded u ≡ coded_from 0
 unfolding state_at
 coded_from_start u bits = coded_from_place u 0 (length u) bits (omega arith)
 
-gain-start : (soft : List ℤ) (u : List ℕ) → AllBits u → gain 0 u soft ≡ likelihood soft (coded u)
+pub gain-start : (soft : List ℤ) (u : List ℕ) → AllBits u → gain 0 u soft ≡ likelihood soft (coded u)
 unfolding gain
 gain-start soft u bits = ap (likelihood soft) (sym (coded_from_start u bits))
 
-Ends-from_tail : (u : List ℕ) → AllBits u → All (λ bit. bit ≡ 0) (drop (length u - 4) u) → Ends u
+pub Ends-from_tail : (u : List ℕ) → AllBits u → All (λ bit. bit ≡ 0) (drop (length u - 4) u) → Ends u
 Ends-from_tail [] bits tail = tt
 Ends-from_tail (x ∷ u) bits tail = (
   All-head (λ bit. bit ≤ 1) x u bits,
@@ -79,7 +79,7 @@ Ends-from_tail (x ∷ u) bits tail = (
   ]),
 )
 
-Ends-bits : (u : List ℕ) → Ends u → AllBits u
+pub Ends-bits : (u : List ℕ) → Ends u → AllBits u
 Ends-bits [] ends = All-nil (λ bit. bit ≤ 1)
 Ends-bits (x ∷ u) ends = All-cons (λ bit. bit ≤ 1) x u ends.0 (Ends-bits u ends.2)
 
@@ -95,10 +95,10 @@ Ends-tail (x ∷ u) ends =
       | inr long ↦ let one_more : suc (length u) - 4 ≡ suc (length u - 4) = omega arith in rw one_more rest
     ]
 
-IsInformation-ends : (u : List ℕ) → 5 ≤ length u → Ends u → IsInformation u
+pub IsInformation-ends : (u : List ℕ) → 5 ≤ length u → Ends u → IsInformation u
 IsInformation-ends u count ends = record { count = count; bits = Ends-bits u ends; tail = Ends-tail u ends }
 
-IsBefore-not_after : (u v : List ℕ) → AllBits v → length v ≡ length u → IsNotAfter u v → v ≢ u → IsBefore u v
+pub IsBefore-not_after : (u v : List ℕ) → AllBits v → length v ≡ length u → IsNotAfter u v → v ≢ u → IsBefore u v
 IsBefore-not_after [] [] bits count h ne = absurd (ne refl)
 IsBefore-not_after [] (y ∷ v) bits count h ne = absurd (omega arith)
 IsBefore-not_after (x ∷ u) [] bits count h ne = absurd h

@@ -4,7 +4,7 @@ use Rattle.std.proofs.lemmas.Bool.{cases_lt}
 use Rattle.std.proofs.lemmas.Int.{ints}
 use Rattle.conv_code.specs.Likelihood.{IsBefore, FallsBehind, IsMostLikely}
 
-same_number : (x y : ℕ) → (x ≡ y) ⊎ (x ≢ y)
+pub same_number : (x y : ℕ) → (x ≡ y) ⊎ (x ≢ y)
 same_number x y = elim (cases_lt x y) [
   | inl less ↦ inr (λ e. omega arith)
   | inr not_less ↦ elim (cases_lt y x) [ inl greater ↦ inr (λ e. omega arith) | inr not_greater ↦ inl (omega arith) ]
@@ -29,7 +29,7 @@ IsBefore-one_way u v h g = elim (cases_lt h.place g.place) [
   ]
 ]
 
-FallsBehind-one_way : (s : List ℤ) (u v : List ℕ) → FallsBehind s v u → FallsBehind s u v → ⊥
+pub FallsBehind-one_way : (s : List ℤ) (u v : List ℕ) → FallsBehind s v u → FallsBehind s u v → ⊥
 FallsBehind-one_way s u v (inl less) (inl more) = omega (arith, ints)
 FallsBehind-one_way s u v (inl less) (inr same) = let e = same.0 in omega (arith, ints)
 FallsBehind-one_way s u v (inr same) (inl more) = let e = same.0 in omega (arith, ints)

@@ -22,7 +22,7 @@ gain-cons state x u (p ∷ []) soft e = absurd (omega arith)
 gain-cons state x u (p ∷ q ∷ []) soft e = omega (arith, ints)
 gain-cons state x u (p ∷ q ∷ r ∷ pair) soft e = absurd (omega arith)
 
-length-read_out : (rows : List ℕ) (state : ℕ) → length (read_out rows state) ≡ length rows
+pub length-read_out : (rows : List ℕ) (state : ℕ) → length (read_out rows state) ≡ length rows
 length-read_out [] state = refl
 length-read_out (row ∷ rows) state = ap suc (length-read_out rows (next state (row / 2 ^ state % 2)))
 
@@ -31,7 +31,7 @@ IsNotAfter-refl [] = tt
 IsNotAfter-refl (x ∷ u) = inr (refl, IsNotAfter-refl u)
 
 -- the first bit of both is the same
-Loses-same : (state x : ℕ) (v u : List ℕ) (pair soft : List ℤ) → length pair ≡ 2 →
+pub Loses-same : (state x : ℕ) (v u : List ℕ) (pair soft : List ℤ) → length pair ≡ 2 →
     Loses (next state x) soft v u → Loses state (pair ++ soft) (x ∷ v) (x ∷ u)
 Loses-same state x v u pair soft e (Less h) =
     let gv = gain-cons state x v pair soft e in
@@ -145,7 +145,7 @@ IsBest-none state = record { gained = refl; ends = tt; wins = none } where
 
 -- ---- soft values are octets, so that what a list is worth stays small
 
-likelihood_bound : (soft : List ℤ) (c : List ℕ) → AreOctets soft → AllBits c →
+pub likelihood_bound : (soft : List ℤ) (c : List ℕ) → AreOctets soft → AllBits c →
     ((pos 0 -ℤ pos (128 * length soft)) ≤ℤ likelihood soft c) × (likelihood soft c ≤ℤ pos (128 * length soft))
 likelihood_bound [] c octets bits = (omega (arith, ints), omega (arith, ints))
 likelihood_bound (p ∷ s) [] octets bits = (omega (arith, ints), omega (arith, ints))

@@ -3,10 +3,10 @@
 
 mod exhaustive;
 mod lanes;
-mod step;
+pub mod step;
 #[cfg(test)]
 mod tests;
-mod trellis;
+pub mod trellis;
 
 ghost use Rattle.std.specs.Prelude.{◌≡◌, ℕ, ◌*◌, ◌≤◌, List, length};
 ghost use Rattle.conv_code.specs.Code.{coded};

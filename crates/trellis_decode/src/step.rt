@@ -7,14 +7,14 @@ use std::simd::prelude::*;
 
 /// What a bit 0 and a bit 1 count in each of the sixteen states.
 #[derive(Clone, Copy)]
-pub(crate) struct Edges {
-    pub(crate) zero: i32x16,
-    pub(crate) one: i32x16,
+pub struct Edges {
+    pub zero: i32x16,
+    pub one: i32x16,
 }
 
 impl Edges {
     /// The edges of a place with these two soft values.
-    pub(crate) fn new(pair: &[i8]) -> Edges
+    pub fn new(pair: &[i8]) -> Edges
         requires { length pair.now ≡ 2 }
         ensures zero { (s : ℕ) → s < 16 → lane result.zero s ≡ edge s 0 pair.now }
         ensures one { (s : ℕ) → s < 16 → lane result.one s ≡ edge s 1 pair.now }
@@ -37,16 +37,16 @@ impl Edges {
 
 /// A step of the trellis, from a place to the one before it.
 #[derive(Clone, Copy)]
-pub(crate) struct Step {
+pub struct Step {
     /// What the best list is worth that begins in each state.
-    pub(crate) values: i32x16,
+    pub values: i32x16,
     /// Bit `s` is the first bit of the best list that begins in state `s`.
-    pub(crate) row: u16,
+    pub row: u16,
 }
 
 impl Step {
     /// The step at a place with these two soft values; `after` is what each state is worth at the next place.
-    pub(crate) fn new(after: i32x16, pair: &[i8]) -> Step
+    pub fn new(after: i32x16, pair: &[i8]) -> Step
         requires count { length pair.now ≡ 2 }
         requires modest { AreModest after }
         ensures each { (s : ℕ) → s < 16 → Chooses after pair.now s (lane result.values s) (result.row / 2 ^ s % 2) }
@@ -64,7 +64,7 @@ impl Step {
 }
 
 /// What each state is worth at a place whose bit is 0 in any case.
-pub(crate) fn closing_step(after: i32x16, pair: &[i8]) -> i32x16
+pub fn closing_step(after: i32x16, pair: &[i8]) -> i32x16
     requires count { length pair.now ≡ 2 }
     requires modest { AreModest after }
     ensures each { (s : ℕ) → s < 16 → lane result s ≡ way after pair.now s 0 }

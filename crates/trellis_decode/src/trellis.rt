@@ -7,7 +7,7 @@ use crate::step::{Step, closing_step};
 use std::simd::prelude::*;
 
 /// Fills the rows of choices from the last place to the first, and answers what the best list from state 0 is worth.
-pub(crate) fn choose(soft: &[i8], rows: &mut [u16]) -> i32
+pub fn choose(soft: &[i8], rows: &mut [u16]) -> i32
     requires count { length soft.now ≡ 2 * length rows.old }
     requires at_least { 4 ≤ length rows.old }
     requires at_most { length rows.old ≤ 228 }
@@ -25,7 +25,7 @@ pub(crate) fn choose(soft: &[i8], rows: &mut [u16]) -> i32
 }
 
 /// What each state is worth before the last four places, whose bits are 0.
-fn closing_values(soft: &[i8]) -> i32x16
+pub fn closing_values(soft: &[i8]) -> i32x16
     requires { length soft.now ≡ 8 }
     ensures each { (s : ℕ) → s < 16 → IsBest s (replicate 4 0) soft.now (lane result s) }
     ensures lanes { AreLanes result }
@@ -39,7 +39,7 @@ fn closing_values(soft: &[i8]) -> i32x16
 }
 
 /// Follows the choices from state 0 on.
-pub(crate) fn read_list(rows: &[u16], u: &mut [u8])
+pub fn read_list(rows: &[u16], u: &mut [u8])
     requires { length u.old ≡ length rows.now }
     ensures { u.new ≡ read_out rows.now 0 }
 {

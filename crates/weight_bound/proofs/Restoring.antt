@@ -66,7 +66,7 @@ one_place p zero (suc (suc y)) lo hi between hx hy = absurd (omega arith)
 one_place p (suc zero) (suc (suc y)) lo hi between hx hy = absurd (omega arith)
 
 -- the same, summed over all places
-all_places : (s : List ℤ) (c d : List ℕ) (lo hi : ℕ) → length s ≡ length c → length s ≡ length d → AllBits c → AllBits d →
+pub all_places : (s : List ℤ) (c d : List ℕ) (lo hi : ℕ) → length s ≡ length c → length s ≡ length d → AllBits c → AllBits d →
     All (Between lo hi) s → IsOutweighed (likelihood s c) (likelihood s d) lo hi (distance c d) (wrong_bits s c)
 all_places [] [] [] lo hi ec ed bits_c bits_d between = omega (arith, ints)
 all_places [] (x ∷ c) d lo hi ec ed bits_c bits_d between = absurd (omega arith)

@@ -1,0 +1,124 @@
+-- Each event is refused, or is of one of five kinds.
+use Rattle.std.proofs.Common.{◌≡◌, refl, sym, ap, subst, Bool, true, false, List, [], ◌∷◌, map, nat_eq, Option, Some, None, if◌then◌else◌}
+use Rattle.std.proofs.lemmas.List.{append-nil}
+use Rattle.lapdm_frame.specs.Content.{Frame}
+use Rattle.segmenting.specs.Pieces.{Message}
+use Rattle.lapdm_window.specs.declared.Sapi.{Sapi}
+use Rattle.lapdm_window.specs.declared.Sapi.TheVariants.{Zero, Three}
+use Rattle.lapdm_window.specs.declared.Refused.{Refused}
+use Rattle.lapdm_window.specs.Ends.{Role, Mobile, Network}
+use Rattle.lapdm_window.specs.Calls.{Call, Opens, OpensBare, refusal_of, after_call}
+use Rattle.lapdm_window.specs.Tables.{after_frame}
+use Rattle.lapdm_link.specs.Events.{Request, Send, SendUnit, Close, Tick, Idle, Event, Open, OpenBare, Ask, Deliver, Lose, Rival, other, rival_frame, Deed, does, does_nothing, deed, End, Why, AirFull, because, unless, rival_refusal, call_of, answer_by}
+use Rattle.lapdm_link.specs.Worlds.{World, end_of, without_first, with_frames, next, refusal, after_by, answer, after}
+use Rattle.lapdm_link.proofs.Views.{acted}
+use Rattle.lapdm_link.specs.Claims.{Line, Asked, Rivals, Told, notice_lines, answer_lines}
+
+-- a mobile alone opens the link of SAPI 0, and by some information; that of SAPI 3 is opened bare
+abbrev pub IsPlaced : Role → Sapi → Call → Type 0
+IsPlaced Mobile Zero (Opens info) = Unit {0}
+IsPlaced Network Zero (Opens info) = ⊥
+IsPlaced r Three (Opens info) = ⊥
+IsPlaced r Zero OpensBare = ⊥
+IsPlaced r s call = Unit {0}
+
+placed-request : (r : Role) (s : Sapi) (request : Request) → IsPlaced r s (call_of request)
+placed-request Mobile Zero (Send m) = tt
+placed-request Mobile Zero (SendUnit m) = tt
+placed-request Mobile Zero Close = tt
+placed-request Mobile Zero Tick = tt
+placed-request Mobile Zero Idle = tt
+placed-request Mobile Three (Send m) = tt
+placed-request Mobile Three (SendUnit m) = tt
+placed-request Mobile Three Close = tt
+placed-request Mobile Three Tick = tt
+placed-request Mobile Three Idle = tt
+placed-request Network Zero (Send m) = tt
+placed-request Network Zero (SendUnit m) = tt
+placed-request Network Zero Close = tt
+placed-request Network Zero Tick = tt
+placed-request Network Zero Idle = tt
+placed-request Network Three (Send m) = tt
+placed-request Network Three (SendUnit m) = tt
+placed-request Network Three Close = tt
+placed-request Network Three Tick = tt
+placed-request Network Three Idle = tt
+
+placed-bare : (r : Role) → IsPlaced r Three OpensBare
+placed-bare Mobile = tt
+placed-bare Network = tt
+
+-- what is known of the frames that are read
+abbrev pub Knows : (Role → Frame → Type 0) → Event → Type 0
+Knows Known (Deliver sender (Some f)) = Known sender f
+Knows Known event = Unit {0}
+
+abbrev pub KnowsBy : Option Why → (Role → Frame → Type 0) → Event → Type 0
+KnowsBy (Some why) Known event = Unit {0}
+KnowsBy None Known event = Knows Known event
+
+no_refusal : (b : Bool) (o : Option Refused) → unless b AirFull (because o) ≡ None → o ≡ None
+no_refusal true o h = cc
+no_refusal false None h = refl
+no_refusal false (Some refused) h = cc
+
+none_sent : (r : Role) (w : World) → with_frames r [] w ≡ w
+none_sent Mobile w = ap (λ (fs : List Frame). record w { up = fs }) (append-nil w.up)
+none_sent Network w = ap (λ (fs : List Frame). record w { down = fs }) (append-nil w.down)
+
+module _ (w : World) (P : World → List Line → Type 0) (Known : Role → Frame → Type 0)
+    (refused : P w [])
+    (called : (r : Role) (s : Sapi) (call : Call) → IsPlaced r s call → refusal_of call (end_of r s w) ≡ None →
+    P (acted r s (after_call call (end_of r s w)) w) (Asked r s call ∷ map (Told r s) (after_call call (end_of r s w)).notices))
+    (taken : (r : Role) (s : Sapi) (f : Frame) → Known (other r) f →
+    P (acted r s (after_frame f (end_of r s (without_first (other r) w))) (without_first (other r) w)) (map (Told r s) (after_frame f (end_of r s (without_first (other r) w))).notices))
+    (lost : (sender : Role) → P (without_first sender w) [])
+    (rival : (info : Message) → rival_refusal w.channel info ≡ None → P (with_frames Mobile (rival_frame info ∷ []) w) (Rivals info ∷ [])) where
+  opened : (o : Option Why) (info : Message) → refusal (Open info) w ≡ o → P (after_by o (Open info) w) (answer_lines (Open info) (answer_by o (deed (Open info) w.ends)))
+  opened (Some why) info h = refused
+  opened None info h = called Mobile Zero (Opens info) tt (no_refusal _ _ h)
+
+  opened_bare : (o : Option Why) (r : Role) → refusal (OpenBare r) w ≡ o → P (after_by o (OpenBare r) w) (answer_lines (OpenBare r) (answer_by o (deed (OpenBare r) w.ends)))
+  opened_bare (Some why) r h = refused
+  opened_bare None r h = called r Three OpensBare (placed-bare r) (no_refusal _ _ h)
+
+  asked : (o : Option Why) (r : Role) (s : Sapi) (request : Request) → refusal (Ask r s request) w ≡ o → P (after_by o (Ask r s request) w) (answer_lines (Ask r s request) (answer_by o (deed (Ask r s request) w.ends)))
+  asked (Some why) r s request h = refused
+  asked None r s request h = called r s (call_of request) (placed-request r s request) (no_refusal _ _ h)
+
+  -- nothing is sent
+  quietly : (sender r : Role) → P (with_frames r [] (without_first sender w)) []
+  quietly sender r = subst (λ (z : World). P z []) (sym (none_sent r (without_first sender w))) (lost sender)
+
+  taken_by : (r : Role) (f : Frame) → Known (other r) f → (zero three : Bool) →
+      (let d : Deed = (if zero then does r Zero (after_frame f (end_of r Zero w)) w.ends else (if three then does r Three (after_frame f (end_of r Three w)) w.ends else does_nothing (End r) w.ends)) in P (next d (without_first (other r) w)) (notice_lines d.who d.sapi d.notices))
+  taken_by Mobile f known true three = taken Mobile Zero f known
+  taken_by Network f known true three = taken Network Zero f known
+  taken_by Mobile f known false true = taken Mobile Three f known
+  taken_by Network f known false true = taken Network Three f known
+  taken_by Mobile f known false false = quietly Network Mobile
+  taken_by Network f known false false = quietly Mobile Network
+
+  delivered : (o : Option Why) (sender : Role) (read : Option Frame) → KnowsBy o Known (Deliver sender read) → P (after_by o (Deliver sender read) w) (answer_lines (Deliver sender read) (answer_by o (deed (Deliver sender read) w.ends)))
+  delivered (Some why) sender read known = refused
+  delivered None Mobile (Some f) known = taken_by Network f known (nat_eq f.sapi 0) (nat_eq f.sapi 3)
+  delivered None Network (Some f) known = taken_by Mobile f known (nat_eq f.sapi 0) (nat_eq f.sapi 3)
+  delivered None Mobile None known = quietly Mobile Network
+  delivered None Network None known = quietly Network Mobile
+
+  lost_by : (o : Option Why) (sender : Role) → P (after_by o (Lose sender) w) (answer_lines (Lose sender) (answer_by o (deed (Lose sender) w.ends)))
+  lost_by (Some why) sender = refused
+  lost_by None Mobile = quietly Mobile Mobile
+  lost_by None Network = quietly Network Mobile
+
+  rival_by : (o : Option Why) (info : Message) → refusal (Rival info) w ≡ o → P (after_by o (Rival info) w) (answer_lines (Rival info) (answer_by o (deed (Rival info) w.ends)))
+  rival_by (Some why) info h = refused
+  rival_by None info h = rival info (no_refusal _ _ h)
+
+  pub by_kind : (event : Event) → KnowsBy (refusal event w) Known event → P (after event w) (answer_lines event (answer event w))
+  by_kind (Open info) known = opened (refusal (Open info) w) info refl
+  by_kind (OpenBare r) known = opened_bare (refusal (OpenBare r) w) r refl
+  by_kind (Ask r s request) known = asked (refusal (Ask r s request) w) r s request refl
+  by_kind (Deliver sender read) known = delivered (refusal (Deliver sender read) w) sender read known
+  by_kind (Lose sender) known = lost_by (refusal (Lose sender) w) sender
+  by_kind (Rival info) known = rival_by (refusal (Rival info) w) info refl

@@ -1,0 +1,5 @@
+use Rattle.um_air.proofs.Kind.{kind_is_harmless}
+use Rattle.um_air.proofs.law_kind.Goals as goal
+
+pub returns : goal.returns
+returns c = kind_is_harmless

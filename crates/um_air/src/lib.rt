@@ -1,0 +1,38 @@
+//! Both ends of both links over blocks of bits that are turned over or lost. A law does nothing: it is called for its
+//! contract.
+#![tactic(auto)]
+
+ghost use Rattle.std.specs.Prelude.{◌≡◌, ℕ, ◌<◌, ◌≤◌, List, ◌∷◌, [], ◌++◌, map, length, All, Some};
+ghost use Rattle.lapdm_frame.specs.declared.Channel.{Channel};
+ghost use Rattle.um_block.specs.Sent.{IsSentBlock};
+ghost use Rattle.um_block.specs.Received.{softened, IsReceivedBlock};
+ghost use Rattle.um_block.specs.declared.received.Received.{Received};
+ghost use Rattle.lapdm_link.specs.Claims.{Claims, OrderClaims};
+ghost use Rattle.um_air.specs.Air.{Event, Answer, AirState, start_on, AirStep, AirRun, Block, turned};
+ghost use Rattle.um_air.specs.Sessions.{lines, IsHarmless, IsKind};
+
+/// Law: where each block is accepted with the octets that were sent, or not at all, the claims on delivery hold after
+/// any step of a session.
+pub fn law_delivery()
+    ensures { (tsc : ℕ) (channel : Channel) (events : List Event) (answers : List Answer) (a : AirState) (event : Event) (answer : Answer) (b : AirState) →
+        AirRun (start_on tsc channel) events answers a → AirStep a event b answer → IsHarmless (events ++ event ∷ []) (answers ++ answer ∷ []) →
+        Claims (lines (events ++ event ∷ []) (answers ++ answer ∷ [])) }
+{}
+
+/// Law: whatever blocks are accepted, the claims on order hold after any step of a session.
+pub fn law_order()
+    ensures { (tsc : ℕ) (channel : Channel) (events : List Event) (answers : List Answer) (a : AirState) (event : Event) (answer : Answer) (b : AirState) →
+        AirRun (start_on tsc channel) events answers a → AirStep a event b answer → OrderClaims (lines (events ++ event ∷ []) (answers ++ answer ∷ [])) }
+{}
+
+/// Law: a block of which at most three bits were turned over is accepted with the octets that were sent.
+pub fn law_three_turned()
+    ensures { (octets : List ℕ) (tsc : ℕ) (block : Block) (places : List ℕ) (r : Received) → All (λ octet. octet < 256) octets →
+        IsSentBlock octets tsc block → length places ≤ 3 → IsReceivedBlock (map softened (turned places block)) r → r.accepted ≡ Some octets }
+{}
+
+/// Law: where at most three bits of each block are turned over, each block is accepted with the octets that were sent.
+pub fn law_kind()
+    ensures { (tsc : ℕ) (channel : Channel) (events : List Event) (answers : List Answer) (b : AirState) → AirRun (start_on tsc channel) events answers b →
+        IsKind events → IsHarmless events answers }
+{}

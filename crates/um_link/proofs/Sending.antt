@@ -1,0 +1,32 @@
+-- One more block sent by a radio.
+use Rattle.std.proofs.Common.{◌≡◌, sym, ◌∙◌, ap, subst, arith, ℕ, suc, ◌+◌, ◌-◌, ◌<◌, ◌≤◌, List, [], ◌∷◌, ◌++◌, length, drop, get_or}
+use Rattle.std.specs.List.{All}
+use Rattle.std.proofs.lemmas.List.Elements.{All-nil, All-cons, All-append, All-drop}
+use Rattle.bit_blocks.specs.Bits.{AllBits}
+use Rattle.circular_buffer.specs.Buffer.{Buffer, buffer}
+use Rattle.um_block.specs.Sent.{IsSentBlock}
+use Rattle.um_air.specs.Air.{Octets, Block}
+use Rattle.air_queue.proofs.Adding.{AreOnTheirWay}
+use Rattle.air_queue.proofs.Adding as Q
+use Rattle.um_link.specs.Tallies.{raised, raised_by}
+use Rattle.um_link.specs.Ways.{IsWay}
+
+pub record AreSentSoFar (tsc : ℕ) (octets : List Octets) (i : ℕ) (old new : Buffer Block) (sent sent' heard heard' : ℕ) : Type 0 where
+  pub on_way : AreOnTheirWay tsc octets i old.items new.items old.capacity new.capacity
+  pub bits : All (All AllBits) new.items
+  pub tally : sent' ≡ raised_by i sent
+  pub other : heard' ≡ heard
+
+pub one_more : (tsc : ℕ) (octets : List Octets) (i : ℕ) (old mid new : Buffer Block) (sent sent' sent'' heard heard' heard'' : ℕ) (b : Block) → AreSentSoFar tsc octets i old mid sent sent' heard heard' → i < length octets → IsSentBlock (get_or octets i []) tsc b → All AllBits b →
+    length old.items + length octets ≤ old.capacity → new.items ≡ drop (length (mid.items ++ b ∷ []) - mid.capacity) (mid.items ++ b ∷ []) → new.capacity ≡ mid.capacity → sent'' ≡ raised sent' → heard'' ≡ heard' → AreSentSoFar tsc octets (i + 1) old new sent sent'' heard heard''
+one_more tsc octets i old mid new sent sent' sent'' heard heard' heard'' b h within is_sent bits room is capacity tally other =
+    let next : i + 1 ≡ suc i = omega arith in
+    record {
+      on_way = Q.one_more tsc octets i old.items mid.items new.items old.capacity mid.capacity new.capacity b h.on_way within is_sent room is capacity;
+      bits = subst (All (All AllBits)) (sym is) (All-drop (All AllBits) (length (mid.items ++ b ∷ []) - mid.capacity) (mid.items ++ b ∷ []) (All-append (All AllBits) mid.items (b ∷ []) h.bits (All-cons (All AllBits) b [] bits (All-nil (All AllBits)))));
+      tally = tally ∙ ap raised h.tally ∙ sym (ap (λ k. raised_by k sent) next);
+      other = other ∙ h.other;
+    }
+
+pub first_gone : (old new : Buffer Block) → IsWay old → new ≡ buffer (drop 1 old.items) old.capacity → IsWay new
+first_gone old new h e = subst IsWay (sym e) (record { capacity = h.capacity; bits = All-drop (All AllBits) 1 old.items h.bits })

@@ -1,0 +1,256 @@
+-- From what the calls do to a step of the definition.
+use Rattle.std.proofs.Common.{◌≡◌, refl, sym, ◌∙◌, ap, subst, ℕ, Bool, true, false, List, [], ◌∷◌, ◌++◌, length, map, Option, Some, None}
+use Rattle.std.proofs.lemmas.Bool.{false≢true}
+use Rattle.std.proofs.lemmas.Bool.Decides.{nat_tests}
+use Rattle.air_queue.proofs.Adding.{adds-none}
+use Rattle.lapdm_frame.specs.Layout.{n201}
+use Rattle.lapdm_window.specs.Tables.{after_frame}
+use Rattle.lapdm_window.specs.declared.Sapi.TheVariants.{Zero, Three}
+use Rattle.lapdm_window.specs.declared.Refused.TheVariants as Q
+use Rattle.lapdm_window.specs.Calls.{first_of}
+use Rattle.segmenting.specs.Pieces.{Message}
+use Rattle.um_air.specs.Air.{Reads}
+use Rattle.std.proofs.Common.{arith, ◌≤◌, if◌then◌else◌, nat_eq, nat_lt, Result}
+use Rattle.um_link.specs.declared.No.{No}
+use Rattle.um_link.specs.declared.Step.{Step}
+use Rattle.um_link.specs.Standing.{Follows}
+use Rattle.lapdm_frame.specs.declared.Channel.{Channel}
+use Rattle.lapdm_frame.specs.Content.{Frame}
+use Rattle.lapdm_frame.specs.Frames.{octets_of}
+use Rattle.lapdm_window.specs.declared.Sapi.{Sapi}
+use Rattle.lapdm_window.specs.declared.Refused.{Refused}
+use Rattle.lapdm_window.specs.declared.effects.Effects.{Effects}
+use Rattle.lapdm_window.specs.Ends.{Role, Mobile, Network}
+use Rattle.lapdm_window.specs.Calls.{Call, refusal_of}
+use Rattle.um_block.specs.declared.received.Received.{Received}
+use Rattle.lapdm_link.specs.Events as E
+use Rattle.lapdm_link.specs.Worlds.{sender_of}
+use Rattle.um_air.specs.Air as A
+use Rattle.um_air.specs.Air.{Octets, Block, AirState, way, with_way, as_read, AreSent, Takes, Happens, AirStep, refusal, count}
+use Rattle.air_queue.specs.Coded.{AreCoded, Adds}
+use Rattle.four_ends.specs.declared.Ends.{Ends}
+use Rattle.four_ends.specs.Standing as F
+use Rattle.um_link.specs.declared.world.World.{World}
+use Rattle.um_link.specs.Naming.{request_of}
+use Rattle.four_ends.specs.declared.Call.{Call as Asked}
+use Rattle.four_ends.specs.declared.Call.TheVariants as C
+use Rattle.four_ends.specs.Naming as N
+use Rattle.um_link.specs.Hearing.{Hears}
+use Rattle.um_link.specs.Hearing as H
+use Rattle.um_link.specs.Standing.{IsSound, Stands, Sends, blocks_from, IsSameBut, ReceivesFrom, LosesFrom}
+
+coded-sent : (channel : Channel) (tsc : ℕ) (fs : List Frame) (bs : List Block) → AreCoded tsc (map (octets_of channel) fs) bs → AreSent channel tsc fs bs
+coded-sent channel tsc [] [] h = tt
+coded-sent channel tsc [] (b ∷ bs) h = absurd h
+coded-sent channel tsc (f ∷ fs) [] h = absurd h
+coded-sent channel tsc (f ∷ fs) (b ∷ bs) h = (h.0, coded-sent channel tsc fs bs h.1)
+
+-- before its frames go out the world stands for the air after the event, with the ends after the deed
+pub record IsReady (a between : AirState) (m : World) (effects : Effects) (d : E.Deed) : Type 0 where
+  pub tsc : m.tsc ≡ a.tsc
+  pub channel : m.channel ≡ a.channel
+  pub same_tsc : between.tsc ≡ a.tsc
+  pub same_channel : between.channel ≡ a.channel
+  pub ends : F.Stands m.ends d.after
+  pub does : F.Does effects a.channel d
+  pub up : m.up.items ≡ between.up
+  pub down : m.down.items ≡ between.down
+
+record IsSent (role : Role) (a between : AirState) (w : World) (d : E.Deed) : Type 0 where
+  blocks : List Block
+  sent : AreSent a.channel a.tsc d.frames blocks
+  stands : Stands w (with_way role (way role between ++ blocks) (record between { ends = d.after }))
+
+sent-frames : (a between : AirState) (m : World) (effects : Effects) (d : E.Deed) (blocks : List Block) → IsReady a between m effects d → AreCoded m.tsc effects.frames blocks → AreSent a.channel a.tsc d.frames blocks
+sent-frames a between m effects d blocks r h =
+    coded-sent a.channel a.tsc d.frames blocks (subst (λ (t : ℕ). AreCoded t (map (octets_of a.channel) d.frames) blocks) r.tsc (subst (λ (os : List Octets). AreCoded m.tsc os blocks) r.does.frames h))
+
+sent-state : (role : Role) (a between : AirState) (m w : World) (effects : Effects) (d : E.Deed) → IsReady a between m effects d → Sends role effects.frames m w → IsSent role a between w d
+sent-state Mobile a between m w effects d r h = record {
+  blocks = h.added.blocks;
+  sent = sent-frames a between m effects d h.added.blocks r h.added.coded;
+  stands = record {
+    tsc = h.same.tsc ∙ r.tsc ∙ sym r.same_tsc;
+    channel = h.same.channel ∙ r.channel ∙ sym r.same_channel;
+    ends = subst (λ (p : Ends). F.Stands p d.after) (sym h.same.ends) r.ends;
+    up = h.added.behind ∙ ap (λ bs. bs ++ h.added.blocks) r.up;
+    down = h.same.kept ∙ r.down;
+  };
+}
+sent-state Network a between m w effects d r h = record {
+  blocks = h.added.blocks;
+  sent = sent-frames a between m effects d h.added.blocks r h.added.coded;
+  stands = record {
+    tsc = h.same.tsc ∙ r.tsc ∙ sym r.same_tsc;
+    channel = h.same.channel ∙ r.channel ∙ sym r.same_channel;
+    ends = subst (λ (p : Ends). F.Stands p d.after) (sym h.same.ends) r.ends;
+    up = h.same.kept ∙ r.up;
+    down = h.added.behind ∙ ap (λ bs. bs ++ h.added.blocks) r.down;
+  };
+}
+
+-- the answer of a deed of an end
+abbrev pub step_by : E.Who → Sapi → Option Received → Effects → A.Step
+step_by who sapi received effects = record { who = who; sapi = sapi; received = received; frames = effects.frames; notices = effects.notices }
+
+pub finish : (event : A.Event) (a between : AirState) (m w : World) (read : Option Frame) (effects : Effects) (who : E.Who) (sapi : Sapi) (received : Option Received) (role : Role) →
+    IsReady a between m effects (E.deed (as_read read event) a.ends) → Sends role effects.frames m w → Takes a event received read between → sender_of who ≡ role → who ≡ (E.deed (as_read read event) a.ends).who → sapi ≡ (E.deed (as_read read event) a.ends).sapi →
+    (b : AirState) × Stands w b × Happens a event b (step_by who sapi received effects)
+finish event a between m w read effects who sapi received role r h takes sender same_who same_sapi =
+    let d = E.deed (as_read read event) a.ends in
+    let s : IsSent (sender_of d.who) a between w d = sent-state (sender_of d.who) a between m w effects d r (subst (λ (x : Role). Sends x effects.frames m w) (sym sender ∙ ap sender_of same_who) h) in (
+      with_way (sender_of d.who) (way (sender_of d.who) between ++ s.blocks) (record between { ends = d.after }),
+      s.stands,
+      record {
+        read = read;
+        between = between;
+        blocks = s.blocks;
+        takes = takes;
+        sent = s.sent;
+        after = refl;
+        who = same_who;
+        sapi = same_sapi;
+        frames = r.does.frames;
+        notices = r.does.notices;
+      },
+    )
+
+-- an end that is asked does something
+pub called : (event : A.Event) (role : Role) (w w' : World) (ends' : Ends) (effects : Effects) (who : E.Who) (sapi : Sapi) (step : A.Step) → step ≡ step_by who sapi None effects → F.Follows w.channel (E.deed (as_read None event)) w.ends effects ends' → ((a : AirState) → Stands w a → refusal event a ≡ None) → ((a : AirState) → Takes a event None None a) →
+    sender_of who ≡ role → ((es : E.Ends) → who ≡ (E.deed (as_read None event) es).who) → ((es : E.Ends) → sapi ≡ (E.deed (as_read None event) es).sapi) → Sends role effects.frames (record w { ends = ends' }) w' →
+    (a : AirState) → Stands w a → (b : AirState) × Stands w' b × AirStep a event b (A.Does step)
+called event role w w' ends' effects who sapi step is follows unrefused takes sender same_who same_sapi sends a st =
+    let g = follows a.ends st.ends in
+    let f = finish event a a (record w { ends = ends' }) w' None effects who sapi None role
+    (record { tsc = st.tsc; channel = st.channel; same_tsc = refl; same_channel = refl; ends = g.0; does = subst (λ (c : Channel). F.Does effects c (E.deed (as_read None event) a.ends)) st.channel g.1; up = st.up; down = st.down })
+    sends (takes a) sender (same_who a.ends) (same_sapi a.ends) in
+    (f.0, f.1, (unrefused a st, subst (λ (s : A.Step). Happens a event f.0 s) (sym is) f.2))
+
+-- refusals
+same-way : (role : Role) (w : World) (a : AirState) → Stands w a → blocks_from role w ≡ way role a
+same-way Mobile w a st = st.up
+same-way Network w a st = st.down
+
+unless-false : (b : Bool) (why : E.Why) (others : Option E.Why) → b ≡ false → E.unless b why others ≡ others
+unless-false false why others h = refl
+unless-false true why others h = absurd (false≢true (sym h))
+
+unless-true : (b : Bool) (why : E.Why) (others : Option E.Why) → b ≡ true → E.unless b why others ≡ Some why
+unless-true true why others h = refl
+unless-true false why others h = absurd (false≢true h)
+
+on-way : (test : ℕ → Bool) (b : Bool) (role : Role) (w : World) (a : AirState) → Stands w a → test (length (blocks_from role w)) ≡ b → test (count a role) ≡ b
+on-way test b role w a st h = sym (ap (λ bs. test (length bs)) (same-way role w a st)) ∙ h
+
+pub asked-full : (role : Role) (sapi : Sapi) (call : Call) (w : World) → E.is_full (length (blocks_from role w)) ≡ true → (a : AirState) → Stands w a → E.asked_refusal (count a) role sapi call a.ends ≡ Some E.AirFull
+asked-full role sapi call w h a st = unless-true _ E.AirFull _ (on-way E.is_full true role w a st h)
+
+pub asked-none : (role : Role) (sapi : Sapi) (call : Call) (w : World) → E.is_full (length (blocks_from role w)) ≡ false → ((es : E.Ends) → F.Stands w.ends es → None ≡ refusal_of call (E.end_in role sapi es)) → (a : AirState) → Stands w a → E.asked_refusal (count a) role sapi call a.ends ≡ None
+asked-none role sapi call w h n a st = unless-false _ E.AirFull _ (on-way E.is_full false role w a st h) ∙ ap E.because (sym (n a.ends st.ends))
+
+pub asked-because : (role : Role) (sapi : Sapi) (call : Call) (w : World) (refused : Refused) → E.is_full (length (blocks_from role w)) ≡ false → ((es : E.Ends) → F.Stands w.ends es → Some refused ≡ refusal_of call (E.end_in role sapi es)) → (a : AirState) → Stands w a → E.asked_refusal (count a) role sapi call a.ends ≡ Some (E.Because refused)
+asked-because role sapi call w refused h n a st = unless-false _ E.AirFull _ (on-way E.is_full false role w a st h) ∙ ap E.because (sym (n a.ends st.ends))
+
+-- a refused event
+pub stays : (event : A.Event) (why : E.Why) (w : World) → ((a : AirState) → Stands w a → refusal event a ≡ Some why) → (a : AirState) → Stands w a → (b : AirState) × Stands w b × AirStep a event b (A.Refuses why)
+stays event why w h a st = (a, st, (h a st, refl))
+
+pub stays-ends : (event : A.Event) (why : E.Why) (w : World) (ends' : Ends) → ends' ≡ w.ends → ((a : AirState) → Stands w a → refusal event a ≡ Some why) → (a : AirState) → Stands w a → (b : AirState) × Stands (record w { ends = ends' }) b × AirStep a event b (A.Refuses why)
+stays-ends event why w ends' e h a st = (a, record { tsc = st.tsc; channel = st.channel; ends = subst (λ (p : Ends). F.Stands p a.ends) (sym e) st.ends; up = st.up; down = st.down }, (h a st, refl))
+
+-- what the world keeps to
+pub sound-ends : (w : World) (ends' : Ends) → IsSound w → F.IsOn (F.ends_channel w.ends) ends' → IsSound (record w { ends = ends' })
+sound-ends w ends' s on = record { tsc = s.tsc; channel = s.channel ∙ sym on.mobile; ends = subst (λ (c : Channel). F.IsOn c ends') (sym on.mobile) on; up = s.up; down = s.down }
+
+-- the calls' names
+pub same-call : (call : Asked) → N.call_of call ≡ E.call_of (request_of call)
+same-call (C.Send m) = refl
+same-call (C.Unit m) = refl
+same-call C.Close = refl
+same-call C.Timer = refl
+same-call C.Idle = refl
+
+pub ask-follows : (w : World) (ends' : Ends) (effects : Effects) (role : Role) (sapi : Sapi) (call : Asked) → IsSound w → ((channel : Channel) → F.IsOn channel w.ends → F.Follows channel (E.asks role sapi (N.call_of call)) w.ends effects ends') → F.Follows w.channel (E.asks role sapi (E.call_of (request_of call))) w.ends effects ends'
+ask-follows w ends' effects role sapi call s h =
+    subst (λ (k : Call). F.Follows w.channel (E.asks role sapi k) w.ends effects ends') (same-call call) (h w.channel (subst (λ (c : Channel). F.IsOn c w.ends) (sym s.channel) s.ends))
+
+pub on-channel : (w : World) (ends' : Ends) (effects : Effects) (deed : E.Ends → E.Deed) → IsSound w → F.Follows (F.ends_channel w.ends) deed w.ends effects ends' → F.Follows w.channel deed w.ends effects ends'
+on-channel w ends' effects deed s h = subst (λ (c : Channel). F.Follows c deed w.ends effects ends') (sym s.channel) h
+
+pub ask-refusal : (w : World) (role : Role) (sapi : Sapi) (call : Asked) (why : Option Refused) → ((es : E.Ends) → F.Stands w.ends es → why ≡ refusal_of (N.call_of call) (E.end_in role sapi es)) → (es : E.Ends) → F.Stands w.ends es → why ≡ refusal_of (E.call_of (request_of call)) (E.end_in role sapi es)
+ask-refusal w role sapi call why h es st = h es st ∙ ap (λ k. refusal_of k (E.end_in role sapi es)) (same-call call)
+
+-- a block is gone from the way of an end
+record IsBetween (a between : AirState) (m : World) : Type 0 where
+  tsc : m.tsc ≡ a.tsc
+  channel : m.channel ≡ a.channel
+  same_tsc : between.tsc ≡ a.tsc
+  same_channel : between.channel ≡ a.channel
+  ends : F.Stands m.ends a.ends
+  up : m.up.items ≡ between.up
+  down : m.down.items ≡ between.down
+
+is-between : (sender : Role) (w m : World) (a : AirState) → IsSameBut sender w m → Stands w a → IsBetween a (with_way sender (blocks_from sender m) a) m
+is-between Mobile w m a s st = record { tsc = s.tsc ∙ st.tsc; channel = s.channel ∙ st.channel; same_tsc = refl; same_channel = refl; ends = subst (λ (p : Ends). F.Stands p a.ends) (sym s.ends) st.ends; up = refl; down = s.kept ∙ st.down }
+is-between Network w m a s st = record { tsc = s.tsc ∙ st.tsc; channel = s.channel ∙ st.channel; same_tsc = refl; same_channel = refl; ends = subst (λ (p : Ends). F.Stands p a.ends) (sym s.ends) st.ends; up = s.kept ∙ st.up; down = refl }
+
+sends-none : (w : World) (effects : Effects) → effects.frames ≡ [] → Sends Mobile effects.frames w w
+sends-none w effects none = record { added = subst (λ (os : List Octets). Adds w.tsc os (blocks_from Mobile w) (blocks_from Mobile w)) (sym none) (adds-none w.tsc (blocks_from Mobile w)); same = record { kept = refl; tsc = refl; channel = refl; ends = refl } }
+
+pub lost : (sender : Role) (w m : World) (effects : Effects) → LosesFrom sender w m → E.is_empty (length (blocks_from sender w)) ≡ false → effects.frames ≡ [] → effects.notices ≡ [] → (a : AirState) → Stands w a → (b : AirState) × Stands m b × AirStep a (A.Lose sender) b (A.Does (step_by E.Nobody Zero None effects))
+lost sender w m effects h some no_frames no_notices a st =
+    let i : IsBetween a (with_way sender (blocks_from sender m) a) m = is-between sender w m a h.same st in
+    let f = finish (A.Lose sender) a (with_way sender (blocks_from sender m) a) m m None effects E.Nobody Zero None Mobile
+    (record { tsc = i.tsc; channel = i.channel; same_tsc = i.same_tsc; same_channel = i.same_channel; ends = i.ends; does = record { frames = no_frames; notices = no_notices }; up = i.up; down = i.down })
+    (sends-none m effects no_frames) (blocks_from sender m, record { block = h.block; first = sym (same-way sender w a st) ∙ h.first }, refl) refl refl refl in
+    (f.0, f.1, (unless-false _ E.Nothing None (on-way E.is_empty false sender w a st some), f.2))
+
+who-takes : (role : Role) (read : Option Frame) (es : E.Ends) → E.End role ≡ (E.takes_read role read es).who
+who-takes role None es = refl
+who-takes role (Some f) es = by_test (nat_eq f.sapi 0) (nat_eq f.sapi 3)
+  where
+    by_test : (b c : Bool) → E.End role ≡ (let d : E.Deed = (if b then E.does role Zero (after_frame f (E.end_in role Zero es)) es else (if c then E.does role Three (after_frame f (E.end_in role Three es)) es else E.does_nothing (E.End role) es)) in d.who)
+    by_test true c = refl
+    by_test false true = refl
+    by_test false false = refl
+
+arrived-at : (sender : Role) (places : List ℕ) (w m w' : World) (ends' : Ends) (report : Received) (sapi : Sapi) (effects : Effects) (step : A.Step) → ReceivesFrom sender places w report m → Hears (E.other sender) m.channel report.accepted m.ends sapi effects ends' → E.is_empty (length (blocks_from sender w)) ≡ false → E.is_full (length (blocks_from (E.other sender) w)) ≡ false →
+    Sends (E.other sender) effects.frames (record m { ends = ends' }) w' → step ≡ step_by (E.End (E.other sender)) sapi (Some report) effects → (a : AirState) → Stands w a → (b : AirState) × Stands w' b × AirStep a (A.Deliver sender places) b (A.Does step)
+arrived-at sender places w m w' ends' report sapi effects step h hears some room sends is a st =
+    let i : IsBetween a (with_way sender (blocks_from sender m) a) m = is-between sender w m a h.same st in
+    let t : H.Takes (E.other sender) m.channel report.accepted a.ends sapi effects ends' = hears a.ends i.ends in
+    let f = finish (A.Deliver sender places) a (with_way sender (blocks_from sender m) a) (record m { ends = ends' }) w' t.read effects (E.End (E.other sender)) sapi (Some report) (E.other sender)
+    (record { tsc = i.tsc; channel = i.channel; same_tsc = i.same_tsc; same_channel = i.same_channel; ends = t.stands; does = subst (λ (c : Channel). F.Does effects c (E.takes_read (E.other sender) t.read a.ends)) i.channel t.does; up = i.up; down = i.down })
+    sends
+    (blocks_from sender m, record { block = h.received.block; first = sym (same-way sender w a st) ∙ h.received.first; received = h.received.received; reads = subst (λ (c : Channel). Reads c report.accepted t.read) i.channel t.reads }, refl)
+    refl (who-takes (E.other sender) t.read a.ends) t.sapi in
+    (f.0, f.1, (unless-false _ E.Nothing _ (on-way E.is_empty false sender w a st some) ∙ unless-false _ E.AirFull None (on-way E.is_full false (E.other sender) w a st room), subst (λ (s : A.Step). Happens a (A.Deliver sender places) f.0 s) (sym is) f.2))
+
+pub arrived : (sender end : Role) (places : List ℕ) (w m w' : World) (ends' : Ends) (report : Received) (sapi : Sapi) (effects : Effects) (step : A.Step) → end ≡ E.other sender → ReceivesFrom sender places w report m → Hears end m.channel report.accepted m.ends sapi effects ends' → E.is_empty (length (blocks_from sender w)) ≡ false → E.is_full (length (blocks_from end w)) ≡ false →
+    Sends end effects.frames (record m { ends = ends' }) w' → step ≡ step_by (E.End end) sapi (Some report) effects → (a : AirState) → Stands w a → (b : AirState) × Stands w' b × AirStep a (A.Deliver sender places) b (A.Does step)
+arrived sender end places w m w' ends' report sapi effects step e h hears some room sends is =
+    arrived-at sender places w m w' ends' report sapi effects step h (subst (λ (r : Role). Hears r m.channel report.accepted m.ends sapi effects ends') e hears) some (subst (λ (r : Role). E.is_full (length (blocks_from r w)) ≡ false) e room)
+    (subst (λ (r : Role). Sends r effects.frames (record m { ends = ends' }) w') e sends) (subst (λ (r : Role). step ≡ step_by (E.End r) sapi (Some report) effects) e is)
+
+room-bound : (n m : ℕ) → nat_lt 62 n ≡ false → m ≡ n → m ≤ 62
+room-bound n m h e = grind (arith, nat_tests)
+
+room-at : (sender : Role) (w m : World) (ends' : Ends) → IsSameBut sender w m → E.is_full (length (blocks_from (E.other sender) w)) ≡ false → length (blocks_from (E.other sender) (record m { ends = ends' })) ≤ 62
+room-at Mobile w m ends' s h = room-bound (length w.down.items) (length m.down.items) h (ap length s.kept)
+room-at Network w m ends' s h = room-bound (length w.up.items) (length m.up.items) h (ap length s.kept)
+
+pub room-other : (sender end : Role) (w m : World) (ends' : Ends) → end ≡ E.other sender → IsSameBut sender w m → E.is_full (length (blocks_from end w)) ≡ false → length (blocks_from end (record m { ends = ends' })) ≤ 62
+room-other sender end w m ends' e s h =
+    subst (λ (r : Role). length (blocks_from r (record m { ends = ends' })) ≤ 62) (sym e) (room-at sender w m ends' s (subst (λ (r : Role). E.is_full (length (blocks_from r w)) ≡ false) e h))
+
+rival-by : (b c : Bool) → b ≡ false → c ≡ false → first_of ((b, Q.Empty) ∷ (c, Q.TooLong) ∷ []) ≡ None
+rival-by false false h g = refl
+rival-by true c h g = absurd (false≢true (sym h))
+rival-by false true h g = absurd (false≢true (sym g))
+
+pub rival-none : (info : Message) (w : World) → E.is_full (length (blocks_from Mobile w)) ≡ false → nat_eq (length info) 0 ≡ false → nat_lt (n201 w.channel) (length info) ≡ false → (a : AirState) → Stands w a → refusal (A.Rival info) a ≡ None
+rival-none info w full some short a st =
+    unless-false _ E.AirFull _ (on-way E.is_full false Mobile w a st full) ∙ ap E.because (rival-by _ _ some (subst (λ (c : Channel). nat_lt (n201 c) (length info) ≡ false) st.channel short))
+
+pub at-event : (e e' : A.Event) (old new : World) (result : Result Step No) → e ≡ e' → Follows e' old result new → Follows e old result new
+at-event e e' old new result same h = subst (λ (x : A.Event). Follows x old result new) (sym same) h

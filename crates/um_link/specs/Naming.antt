@@ -1,0 +1,73 @@
+-- What the program's names for events and answers mean.
+use Rattle.std.specs.Prelude.{[], Result, Ok, Err}
+use Rattle.lapdm_window.specs.Ends as R
+use Rattle.lapdm_window.specs.declared.Refused.TheVariants as Q
+use Rattle.lapdm_link.specs.Events as E
+use Rattle.um_air.specs.Air as A
+use Rattle.four_ends.specs.declared.Call.{Call}
+use Rattle.four_ends.specs.declared.Call.TheVariants as C
+use Rattle.four_ends.specs.Naming.{role_of}
+use Rattle.um_link.specs.declared.Way.{Way}
+use Rattle.um_link.specs.declared.Way.TheVariants.{Up, Down}
+use Rattle.um_link.specs.declared.Air.{Air}
+use Rattle.um_link.specs.declared.Air.TheVariants as V
+use Rattle.um_link.specs.declared.Event.{Event}
+use Rattle.um_link.specs.declared.Event.TheVariants as T
+use Rattle.um_link.specs.declared.Who.{Who}
+use Rattle.um_link.specs.declared.Who.TheVariants as W
+use Rattle.um_link.specs.declared.No.{No}
+use Rattle.um_link.specs.declared.No.TheVariants as N
+use Rattle.um_link.specs.declared.Step.{Step}
+
+-- a way goes by the end that sends into it
+abbrev pub sender_of : Way → R.Role
+sender_of Up = R.Mobile
+sender_of Down = R.Network
+
+abbrev pub request_of : Call → E.Request
+request_of (C.Send m) = E.Send m.now
+request_of (C.Unit m) = E.SendUnit m.now
+request_of C.Close = E.Close
+request_of C.Timer = E.Tick
+request_of C.Idle = E.Idle
+
+abbrev pub air_event : R.Role → Air → A.Event
+air_event sender V.Deliver = A.Deliver sender []
+air_event sender V.Lose = A.Lose sender
+air_event sender (V.Flip places) = A.Deliver sender places.now
+
+abbrev pub event_of : Event → A.Event
+event_of (T.Open info) = A.Open info.now
+event_of (T.OpenBare end) = A.OpenBare (role_of end)
+event_of (T.End end sapi call) = A.Ask (role_of end) sapi (request_of call)
+event_of (T.Air way air) = air_event (sender_of way) air
+event_of (T.Rival info) = A.Rival info.now
+
+abbrev pub who_of : Who → E.Who
+who_of W.Mobile = E.End R.Mobile
+who_of W.Network = E.End R.Network
+who_of W.Rival = E.Other
+who_of W.Nobody = E.Nobody
+
+abbrev pub why_of : No → E.Why
+why_of N.NotIdle = E.Because Q.NotIdle
+why_of N.NotOpen = E.Because Q.NotOpen
+why_of N.NotRunning = E.Because Q.NotRunning
+why_of N.Empty = E.Because Q.Empty
+why_of N.TooLong = E.Because Q.TooLong
+why_of N.Full = E.Because Q.Full
+why_of N.Nothing = E.Nothing
+why_of N.AirFull = E.AirFull
+
+abbrev pub step_of : Step → A.Step
+step_of s = record {
+  who = who_of s.who;
+  sapi = s.sapi;
+  received = s.received;
+  frames = s.effects.frames;
+  notices = s.effects.notices;
+}
+
+abbrev pub answer_of : Result Step No → A.Answer
+answer_of (Ok s) = A.Does (step_of s)
+answer_of (Err reason) = A.Refuses (why_of reason)
