@@ -3,3 +3,4 @@ pub mod Packed
 pub mod Received
 pub mod Restored
 pub mod Sent
+pub mod Tallies

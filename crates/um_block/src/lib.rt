@@ -2,6 +2,7 @@
 //! bursts, and from the soft values of bursts to what is received.
 #![tactic(auto)]
 
+mod radio;
 mod received;
 mod receiving;
 mod sending;
@@ -9,6 +10,7 @@ mod sending;
 mod tests;
 mod training;
 
+pub use radio::{PlainRadio, Radio};
 pub use received::{Received, ReceivedAccess, ReceivedSync};
 pub use receiving::{receive_access, receive_block, receive_sync, soften};
 pub use sending::{send_access, send_block, send_sync};

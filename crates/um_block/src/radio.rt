@@ -1,0 +1,89 @@
+//! A radio: what codes and receives blocks, and counts both.
+ghost use Rattle.std.specs.Prelude.{◌≡◌, ℕ, ◌<◌, ◌≤◌, ℤ, List, Some, map, All};
+ghost use Rattle.bit_blocks.specs.Bits.{AllBits};
+ghost use Rattle.conv_code.specs.Likelihood.{AllSoft};
+ghost use Rattle.interleave.specs.Bursts.{IsInterleaved};
+ghost use Rattle.weight_bound.specs.Restoring.{IsHardlyDamaged};
+ghost use Rattle.um_block.specs.Sent.{IsCodedBlock, IsSentBlock};
+ghost use Rattle.um_block.specs.Restored.{IsCleanBlock};
+ghost use Rattle.um_block.specs.Received.{coded_places, softened, IsReceivedBlock};
+ghost use Rattle.um_block.specs.Tallies.{raised};
+
+use crate::{Received, receive_block, send_block};
+
+/// Sends and receives blocks as `send_block` and `receive_block` do, and keeps a tally of each. A
+/// tally that is the greatest u64 stays there.
+pub trait Radio {
+    /// How many blocks were sent.
+    ghost sent: { Self → ℕ };
+
+    /// How many blocks were received.
+    ghost heard: { Self → ℕ };
+
+    /// The four normal bursts of a block of 23 octets, with a training sequence 0 to 7.
+    fn send(&mut self, octets: &[u8; 23], tsc: u8) -> [[u8; 148]; 4]
+        requires { tsc ≤ 7 }
+        ensures sent { IsSentBlock octets.now tsc result }
+        ensures bits { All AllBits result }
+        ensures raised { sent self.new ≡ raised (sent self.old) }
+        ensures kept { heard self.new ≡ heard self.old };
+
+    /// What the four bursts of a block are received as.
+    fn receive(&mut self, bursts: &[[i8; 148]; 4]) -> Received
+        requires { All AllSoft bursts.now }
+        ensures received { IsReceivedBlock bursts.now result }
+        ensures only { (other : Received) → IsReceivedBlock bursts.now other → other ≡ result }
+        ensures clean { (octets : List ℕ) (tsc : ℕ) (sent : List (List ℕ)) → All (λ octet. octet < 256) octets →
+            IsSentBlock octets tsc sent → bursts.now ≡ map softened sent → IsCleanBlock octets tsc result }
+        ensures restores { (octets c : List ℕ) (soft : List ℤ) → All (λ octet. octet < 256) octets → IsCodedBlock octets c →
+            IsInterleaved soft (map coded_places bursts.now) → IsHardlyDamaged soft c → result.accepted ≡ Some octets }
+        ensures raised { heard self.new ≡ raised (heard self.old) }
+        ensures kept { sent self.new ≡ sent self.old };
+}
+
+/// A radio that codes and receives at once, and keeps nothing but its tallies.
+#[derive(Debug, Drop)]
+pub struct PlainRadio {
+    sent: u64,
+    heard: u64,
+}
+
+impl PlainRadio {
+    /// A radio that has neither sent nor received.
+    pub fn new() -> PlainRadio
+        ensures sent { ⟦<PlainRadio as Radio>⟧.sent result ≡ 0 }
+        ensures heard { ⟦<PlainRadio as Radio>⟧.heard result ≡ 0 }
+    {
+        PlainRadio { sent: 0, heard: 0 }
+    }
+
+    /// How many blocks were sent.
+    pub fn sent(&self) -> u64
+        ensures { result ≡ ⟦<PlainRadio as Radio>⟧.sent self.now }
+    {
+        self.sent
+    }
+
+    /// How many blocks were received.
+    pub fn heard(&self) -> u64
+        ensures { result ≡ ⟦<PlainRadio as Radio>⟧.heard self.now }
+    {
+        self.heard
+    }
+}
+
+impl Radio for PlainRadio {
+    ghost sent = { λ radio. radio.sent };
+
+    ghost heard = { λ radio. radio.heard };
+
+    fn send(&mut self, octets: &[u8; 23], tsc: u8) -> [[u8; 148]; 4] {
+        self.sent = self.sent.saturating_add(1);
+        send_block(octets, tsc)
+    }
+
+    fn receive(&mut self, bursts: &[[i8; 148]; 4]) -> Received {
+        self.heard = self.heard.saturating_add(1);
+        receive_block(bursts)
+    }
+}
