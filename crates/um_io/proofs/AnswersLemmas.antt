@@ -1,14 +1,15 @@
 -- The lines answered are those of the octets that came.
-use Rattle.std.proofs.Common.{◌≡◌, ◌<◌, ℕ, Bool, true, false, List, [], ◌∷◌, ◌++◌, length, Option, None, Some, refl, sym, ap, subst, ◌∙◌, arith, inl, inr, ⊎_elim}
+use Rattle.std.proofs.Common.{◌≡◌, ◌<◌, ◌+◌, ◌⊎◌, ℕ, Bool, true, false, List, [], ◌∷◌, ◌++◌, length, Option, None, Some, refl, sym, ap, subst, ◌∙◌, arith, inl, inr, ⊎_elim}
 use Rattle.std.proofs.lemmas.List.{append-nil, append_assoc, length-append, nil_from_length}
 use Rattle.std.proofs.lemmas.Bool.{false≢true, cases_Bool}
+use Rattle.std.specs.List.{All}
 use Rattle.std.proofs.lemmas.List.Elements.{All-nil, All-cons}
-use Rattle.um_io.specs.declared.lines.Next.TheVariants.{Line, End}
+use Rattle.um_io.specs.declared.lines.Next.TheVariants.{Line, End, Long, TooMany, Failed}
 use Rattle.um_io.specs.declared.lines.Next.{Next}
 use Rattle.um_io.specs.Lines.{IsLine, text_of, IsCutOff, IsDivided, lines_of}
-use Rattle.um_io.specs.Reading.{Reading, at_start}
-use Rattle.um_io.specs.Next.{IsAnswered, IsStep}
-use Rattle.um_io.specs.Answers.{AnswersLines}
+use Rattle.um_io.specs.Reading.{Reading, IsReading, at_start}
+use Rattle.um_io.specs.Next.{IsAnswered, IsHeld, IsStep}
+use Rattle.um_io.specs.Answers.{AnswersLines, AreCut, EndsWith}
 use Rattle.um_io.proofs.DivisionLemmas.{lines_of-only}
 
 -- a line and its line feed before the octets is a line before their lines
@@ -130,7 +131,7 @@ IsLeft-answers (line ∷ lines) r r' octets came left' known answers =
     }
 
 -- the lines answered until the end are the lines of all that the source had
-pub lines_of-answers : (octets : List ℕ) (lines : List (List ℕ)) (came last : List ℕ) (r r' : Reading) (left left' : Option (List ℕ))
+lines_of-answers : (octets : List ℕ) (lines : List (List ℕ)) (came last : List ℕ) (r r' : Reading) (left left' : Option (List ℕ))
     → AnswersLines at_start (Some octets) lines came r left → IsStep r r' left left' End last → lines ≡ lines_of octets
 lines_of-answers octets lines came last r r' left left' answers step =
     let none : (r.held ++ r.past ≡ []) × (last ≡ []) = nothing_came (r.held ++ r.past) last step.gives.1 in
@@ -139,3 +140,101 @@ lines_of-answers octets lines came last r r' left left' answers step =
     let nothing : had.rest ≡ [] = ends.whole ∙ ap (λ l. l ++ ends.rest) none.1 ∙ ends.end step.gives.2 in
     let all : octets ≡ came = had.whole ∙ ap (λ l. came ++ l) nothing ∙ append-nil came in
     lines_of-only octets lines (subst (λ l. IsDivided l lines) (sym all) (IsDivided-answers lines at_start r (Some octets) left came answers none.0))
+
+-- the octets held and those that came are the lines answered, each with its line feed, and what is held in the end
+record AreWhole (r r' : Reading) (lines : List (List ℕ)) (came : List ℕ) : Type 0 where
+  octets : r.held ++ r.past ++ came ≡ text_of lines ++ (r'.held ++ r'.past)
+  answered : r'.answered ≡ r.answered + length (text_of lines)
+  plain : All IsLine lines
+
+-- so it is, or the last line was what was left over at the end of the source
+AreWhole-answers : (lines : List (List ℕ)) (r r' : Reading) (left left' : Option (List ℕ)) (came : List ℕ) → AnswersLines r left lines came r' left'
+    → AreWhole r r' lines came ⊎ ((r'.held ++ r'.past ≡ []) × (r'.ended ≡ true))
+AreWhole-answers [] r r' left left' came (none, same, _) =
+    inl record {
+      octets = ap (λ l. r.held ++ r.past ++ l) none ∙ append-nil (r.held ++ r.past) ∙ ap (λ (s : Reading). s.held ++ s.past) (sym same);
+      answered = omega (arith, ap (λ (s : Reading). s.answered) same);
+      plain = All-nil IsLine;
+    }
+AreWhole-answers (line ∷ lines) r r' left left' came (first, rest, mid, between, shown, shown_is, came_is, step, later) = ⊎_elim
+    (λ (whole : IsAnswered r mid (r.held ++ r.past ++ first) shown.now (10 ∷ [])). ⊎_elim
+    (λ (then : AreWhole mid r' lines rest).
+    let behind = mid.held ++ mid.past in
+    let count = length-append (shown.now ++ 10 ∷ []) (text_of lines) in
+    let text : text_of (line ∷ lines) ≡ (shown.now ++ 10 ∷ []) ++ text_of lines =
+    ap (λ l. l ++ 10 ∷ text_of lines) (sym shown_is) ∙ sym (append_assoc shown.now (10 ∷ []) (text_of lines)) in
+    inl record {
+      octets = ap (λ l. r.held ++ r.past ++ l) came_is ∙ sym (append_assoc (r.held ++ r.past) first rest) ∙ ap (λ l. l ++ rest) whole.octets
+          ∙ append_assoc (shown.now ++ 10 ∷ []) behind rest ∙ ap (λ l. (shown.now ++ 10 ∷ []) ++ l) then.octets
+          ∙ sym (append_assoc (shown.now ++ 10 ∷ []) (text_of lines) (r'.held ++ r'.past)) ∙ ap (λ l. l ++ (r'.held ++ r'.past)) (sym text);
+      answered = omega (arith, then.answered, whole.answered, count, ap length text);
+      plain = All-cons IsLine line lines (subst IsLine shown_is whole.plain) then.plain;
+    })
+    (λ (over : (r'.held ++ r'.past ≡ []) × (r'.ended ≡ true)). inr over)
+    (AreWhole-answers lines mid r' between left' rest later))
+    (λ (last : IsAnswered r mid (r.held ++ r.past ++ first) shown.now [] × (mid.held ++ mid.past ≡ []) × (mid.ended ≡ true)).
+    let ends = no_more mid r' between left' lines rest last.1 last.2 later in
+    inr (after_end lines mid r' between left' rest last.1 last.2 ends.0 later))
+    step.gives
+  where
+    after_end : (lines : List (List ℕ)) (mid r' : Reading) (between left' : Option (List ℕ)) (rest : List ℕ) → mid.held ++ mid.past ≡ [] → mid.ended ≡ true → lines ≡ []
+        → AnswersLines mid between lines rest r' left' → (r'.held ++ r'.past ≡ []) × (r'.ended ≡ true)
+    after_end [] mid r' between left' rest none ended same (_, is, _) =
+        (ap (λ (s : Reading). s.held ++ s.past) is ∙ none, ap (λ (s : Reading). s.ended) is ∙ ended)
+    after_end (line ∷ lines) mid r' between left' rest none ended same later = absurd (cc same)
+
+-- where a reader stops with something held, or was not at the end, the octets that came are whole lines and what is held
+AreCut-answers : (octets : List ℕ) (lines : List (List ℕ)) (came last : List ℕ) (r r' : Reading) (left left' : Option (List ℕ)) (next : Next)
+    → AnswersLines at_start (Some octets) lines came r left → IsStep r r' left left' next last → IsReading r' → IsHeld r r' (r.held ++ r.past ++ last) true
+    → ((r.held ++ r.past ++ last ≡ []) → (r'.ended ≡ true) → ⊥) → AreCut octets (came ++ last) lines r'.held r'.past
+AreCut-answers octets lines came last r r' left left' next answers step valid held open_ = ⊎_elim
+    (λ (whole : AreWhole at_start r lines came).
+    let had = IsLeft-answers lines at_start r octets came left (λ yes. absurd (false≢true yes)) answers in
+    let then = IsLeft-step r r' had.rest left' next last had.end (subst (λ l. IsStep r r' l left' next last) had.left_is step) in
+    let size = length-append (text_of lines) r'.held in
+    record {
+      rest = then.rest;
+      octets_are = had.whole ∙ ap (λ l. came ++ l) then.whole ∙ sym (append_assoc came last then.rest);
+      came_are = ap (λ l. l ++ last) whole.octets ∙ append_assoc (text_of lines) (r.held ++ r.past) last ∙ ap (λ l. text_of lines ++ l) held.octets;
+      plain = whole.plain;
+      line_plain = held.plain;
+      limit = omega (arith, valid.limit, held.answered, whole.answered, size);
+      past_limit = λ some. omega (arith, valid.past some, held.answered, whole.answered, size);
+    })
+    (λ (over : (r.held ++ r.past ≡ []) × (r.ended ≡ true)).
+    let none = (step.still over.1).0 in
+    absurd (open_ (ap (λ l. r.held ++ r.past ++ l) none ∙ append-nil (r.held ++ r.past) ∙ over.0) (step.still over.1).1))
+    (AreWhole-answers lines at_start r (Some octets) left came answers)
+
+-- however a reader ends
+pub ends_with : (octets : List ℕ) (lines : List (List ℕ)) (came last : List ℕ) (r r' : Reading) (left left' : Option (List ℕ)) (next : Next)
+    → AnswersLines at_start (Some octets) lines came r left → IsStep r r' left left' next last → IsReading r' → EndsWith next octets (came ++ last) lines
+ends_with octets lines came last r r' left left' (Line line) answers step valid = tt
+ends_with octets lines came last r r' left left' End answers step valid = lines_of-answers octets lines came last r r' left left' answers step
+ends_with octets lines came last r r' left left' Long answers step valid =
+    let held = step.gives.0 in
+    let long = step.gives.1 in (
+      r'.held,
+      r'.past,
+      AreCut-answers octets lines came last r r' left left' Long answers step valid held
+      (λ none ended. omega (arith, long, ap length held.octets, ap length none, length-append r'.held r'.past)),
+      long,
+    )
+ends_with octets lines came last r r' left left' TooMany answers step valid =
+    let held = step.gives.0 in
+    let some = step.gives.2 in (
+      r'.held,
+      r'.past,
+      AreCut-answers octets lines came last r r' left left' TooMany answers step valid held
+      (λ none ended. omega (arith, some, ap length held.octets, ap length none, length-append r'.held r'.past)),
+      step.gives.1,
+      some,
+    )
+ends_with octets lines came last r r' left left' Failed answers step valid =
+    let held = step.gives.0 in
+    let needs = step.gives.1 in (
+      r'.held,
+      subst (λ p. AreCut octets (came ++ last) lines r'.held p) needs.past
+      (AreCut-answers octets lines came last r r' left left' Failed answers step valid held (λ none ended. let open_ = needs.ended in cc (ended, open_))),
+      needs.short,
+    )

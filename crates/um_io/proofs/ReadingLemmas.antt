@@ -4,7 +4,7 @@ use Rattle.std.proofs.lemmas.List.{take-append-drop, length-append, length-take}
 use Rattle.std.proofs.lemmas.Bool.{cases_Bool}
 use Rattle.um_io.specs.declared.buffer.Buffer.{Buffer}
 use Rattle.um_io.specs.Buffer.{octets_of}
-use Rattle.um_io.specs.Reading.{Reading, IsReading, NeedsMore, reading_of, input_limit, line_limit}
+use Rattle.um_io.specs.Reading.{Reading, IsReading, NeedsMore, reading_of, input_limit, line_limit, held_limit}
 use Rattle.um_io.specs.Found.{HasCome}
 
 -- all the octets held are those within the limit and those past it
@@ -12,7 +12,7 @@ pub length-cut : (octets : List ℕ) (m : ℕ) → length (take m octets) + leng
 length-cut octets m = omega (arith, length-append (take m octets) (drop m octets), ap length (take-append-drop m octets))
 
 -- a buffer has room for a longest line and its line feed
-pub length-octets_of : (b : Buffer) → length (octets_of b) ≤ 4097
+pub length-octets_of : (b : Buffer) → length (octets_of b) ≤ held_limit
 length-octets_of b = omega (arith, length-take (b.end - b.start) (drop b.start b.octets.items), b.within)
 
 -- what is true of every reader

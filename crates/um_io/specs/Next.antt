@@ -5,7 +5,7 @@ use Rattle.std.specs.Io.BufRead.{Rests}
 use Rattle.std.specs.Io.KnownBytes.{Consumes, Keeps, IsAtEnd}
 use Rattle.um_io.specs.Outside.{Rose}
 use Rattle.um_io.specs.Lines.{IsLine}
-use Rattle.um_io.specs.Reading.{Reading, IsReading, NeedsMore, line_limit}
+use Rattle.um_io.specs.Reading.{Reading, IsReading, NeedsMore, line_limit, held_limit}
 use Rattle.um_io.specs.declared.lines.Next.{Next}
 use Rattle.um_io.specs.declared.lines.Next.TheVariants.{Line, End, Long, TooMany, Failed}
 use Rattle.um_io.specs.contracts.lines.Lines.{the_row}
@@ -44,7 +44,7 @@ Gives r r' all Failed = IsHeld r r' all true × NeedsMore r'
 -- these octets came, only where they were needed, and never from a source that had come to its end
 pub record IsStep (r r' : Reading) (left left' : Option (List ℕ)) (next : Next) (came : List ℕ) : Type 0 where
   pub bytes : Consumes left left' came
-  pub room : length (r.held ++ r.past ++ came) ≤ line_limit + 1
+  pub room : length (r.held ++ r.past ++ came) ≤ held_limit
   pub needed : NeedsMore r ⊎ (came ≡ [])
   pub still : r.ended ≡ true → (came ≡ []) × (r'.ended ≡ true)
   pub ended : r'.ended ≡ true → r.ended ≡ false → IsAtEnd left'
@@ -65,7 +65,7 @@ pub record IsNext (r : Reading) (left left' : Option (List ℕ)) (next : Next) (
 abbrev pub EndsNext : MutBor Reading → Option (List ℕ) → Option (List ℕ) → Next → Fml
 EndsNext s left left' next = Rests the_row s (IsNext s.now left left' next)
 
--- the answer Failed comes only where the count rose, and the count never falls
+-- with the answer Failed the count rose, and with every other it is as before
 abbrev pub FailedOnly : ℕ → ℕ → Next → Type 0
 FailedOnly before now Failed = Rose before now × (before ≤ now)
-FailedOnly before now _ = before ≤ now
+FailedOnly before now _ = now ≡ before

@@ -11,6 +11,10 @@ input_limit = 67108864
 abbrev pub line_limit : ℕ
 line_limit = 4096
 
+-- how many octets a reader holds at most: a longest line and its line feed
+abbrev pub held_limit : ℕ
+held_limit = line_limit + 1
+
 -- octets that were read within the limit of the input and not yet answered, those that came past it, how many octets
 -- were answered, in how many lines, whether the source came to its end, and whether no line is answered any more
 pub record Reading : Type 0 where
@@ -29,7 +33,7 @@ at_start = record { held = []; past = []; answered = 0; number = 0; ended = fals
 pub record IsReading (r : Reading) : Type 0 where
   pub limit : r.answered + length r.held ≤ input_limit
   pub past : 0 < length r.past → r.answered + length r.held ≡ input_limit
-  pub room : length r.held + length r.past ≤ line_limit + 1
+  pub room : length r.held + length r.past ≤ held_limit
   pub number : r.number ≤ r.answered
 
 -- what is held gives no answer yet

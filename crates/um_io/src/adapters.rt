@@ -37,8 +37,6 @@ impl<R: Read> Source for ReadSource<R> {
         ensures later { let count = ⟦<ReadSource<R> as Source>⟧.faults in count self.old ≤ count self.new }
         ensures cause { let count = ⟦<ReadSource<R> as Source>⟧.faults in
             OnErr result (Rose (count self.old) (count self.new)) }
-
-        // The count changes only where the call fails.
         ensures kept { let count = ⟦<ReadSource<R> as Source>⟧.faults in
             OnOk result (count self.new ≡ count self.old) }
         ensures counted { let count = ⟦<ReadSource<R> as Source>⟧.faults in
@@ -83,8 +81,6 @@ impl<W: Write> Sink for WriteSink<W> {
         ensures later { let count = ⟦<WriteSink<W> as Sink>⟧.faults in count self.old ≤ count self.new }
         ensures cause { let count = ⟦<WriteSink<W> as Sink>⟧.faults in
             OnErr result (Rose (count self.old) (count self.new)) }
-
-        // The count changes only where the call fails.
         ensures kept { let count = ⟦<WriteSink<W> as Sink>⟧.faults in
             OnOk result (count self.new ≡ count self.old) }
         ensures counted { let count = ⟦<WriteSink<W> as Sink>⟧.faults in

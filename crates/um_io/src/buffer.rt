@@ -1,15 +1,19 @@
 //! The octets that a reader of lines holds.
-ghost use Rattle.std.specs.Prelude.{◌≡◌, ◌≤◌, ◌<◌, ◌+◌, ◌-◌, ℕ, List, [], ◌++◌, length, take, drop, slice_range, vec_len, MatchOption, IfOk, OnErr};
+ghost use Rattle.std.specs.Prelude.{◌≡◌, ◌≤◌, ◌<◌, ◌+◌, ◌-◌, ℕ, List, [], ◌++◌, length, take, drop, slice_range, vec_len, MatchOption, IfOk, OnOk, OnErr};
 ghost use Rattle.std.specs.Io.KnownBytes.{Consumes, Keeps, IsAtEnd};
 ghost use Rattle.um_io.specs.Lines.{IsLine, IsFirstFeed};
 ghost use Rattle.um_io.specs.Outside.{Rose};
+ghost use Rattle.um_io.specs.Reading.{held_limit};
 
 use crate::outside::{Failed, NoMemory, Source};
 use memchr::memchr;
 use std::alloc::Global;
 
+/// How many octets a line has at most before its line feed.
+pub(crate) const LINE_LIMIT: usize = 4096;
+
 /// How many octets are held at most: a longest line and its line feed.
-const ROOM: usize = 4097;
+const ROOM: usize = LINE_LIMIT + 1;
 
 /// What stands from `start` up to `end` is held, and up to `scanned` it has no line feed.
 #[derive(Debug, Drop)]
@@ -18,10 +22,10 @@ pub(crate) struct Buffer {
     start: usize,
     scanned: usize,
     end: usize,
-    ghost size: { vec_len octets ≡ 4097 },
+    ghost size: { vec_len octets ≡ held_limit },
     ghost begun: { start ≤ scanned },
     ghost seen: { scanned ≤ end },
-    ghost within: { end ≤ 4097 },
+    ghost within: { end ≤ held_limit },
     ghost plain: { IsLine (slice_range octets.items start scanned) },
 }
 
@@ -43,7 +47,7 @@ impl Buffer {
     /// How many octets are held.
     pub(crate) fn len(&self) -> usize
         ensures held { result ≡ length (octets_of self.now) }
-        ensures room { result ≤ 4097 }
+        ensures room { result ≤ held_limit }
     {
         self.end - self.start
     }
@@ -67,10 +71,11 @@ impl Buffer {
 
     /// Asks the source once, for all that there is room for, and answers how many octets came.
     pub(crate) fn read<S: Source>(&mut self, source: &mut S) -> Result<usize, Failed>
-        requires room { length (octets_of self.old) < 4097 }
+        requires room { length (octets_of self.old) < held_limit }
         ensures came { IfOk result (λ n. (came : List ℕ) × (octets_of self.new ≡ octets_of self.old ++ came) × (length came ≡ n) × Consumes (S.left source.old) (S.left source.new) came) }
         ensures end { IfOk result (λ n. n ≡ 0 → IsAtEnd (S.left source.new)) }
         ensures failed { OnErr result ((octets_of self.new ≡ octets_of self.old) × Keeps (S.left source.old) (S.left source.new)) }
+        ensures counted { OnOk result (S.faults source.new ≡ S.faults source.old) }
         ensures later { S.faults source.old ≤ S.faults source.new }
         ensures cause { OnErr result (Rose (S.faults source.old) (S.faults source.new)) }
     {
@@ -97,7 +102,7 @@ impl Buffer {
         requires { count ≤ length (octets_of self.old) }
         ensures rest { octets_of self.new ≡ drop count (octets_of self.old) }
         ensures skipped { slice_range self.new.octets.items result (result + count) ≡ take count (octets_of self.old) }
-        ensures within { result + count ≤ 4097 }
+        ensures within { result + count ≤ held_limit }
     {
         let from = self.start;
         self.start += count;
@@ -107,7 +112,7 @@ impl Buffer {
 
     pub(crate) fn part(&self, from: usize, to: usize) -> &[u8]
         requires ordered { from ≤ to }
-        requires within { to ≤ 4097 }
+        requires within { to ≤ held_limit }
         ensures { result.now ≡ slice_range self.now.octets.items from to }
     {
         &self.octets[from..to]
@@ -123,6 +128,7 @@ fn fill_from<S: Source>(source: &mut S, octets: &mut Vec<u8>, end: usize) -> Res
     ensures came { IfOk result (λ n. Consumes (S.left source.old) (S.left source.new) (slice_range octets.new.items end (end + n))) }
     ensures at_end { IfOk result (λ n. n ≡ 0 → IsAtEnd (S.left source.new)) }
     ensures failed { OnErr result (Keeps (S.left source.old) (S.left source.new)) }
+    ensures counted { OnOk result (S.faults source.new ≡ S.faults source.old) }
     ensures later { S.faults source.old ≤ S.faults source.new }
     ensures cause { OnErr result (Rose (S.faults source.old) (S.faults source.new)) }
 {

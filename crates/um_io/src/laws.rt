@@ -1,10 +1,10 @@
 //! What holds of the lines of octets, and of all the answers of a reader of lines.
-ghost use Rattle.std.specs.Prelude.{◌≡◌, ℕ, List, Option, Some};
+ghost use Rattle.std.specs.Prelude.{◌≡◌, ℕ, List, Option, Some, ◌++◌};
 ghost use Rattle.um_io.specs.Lines.{IsDivided, lines_of};
-ghost use Rattle.um_io.specs.Reading.{Reading, at_start};
+ghost use Rattle.um_io.specs.Reading.{Reading, IsReading, at_start};
 ghost use Rattle.um_io.specs.Next.{IsStep};
-ghost use Rattle.um_io.specs.Answers.{AnswersLines};
-ghost use Rattle.um_io.specs.declared.lines.Next.TheVariants.{End};
+ghost use Rattle.um_io.specs.Answers.{AnswersLines, EndsWith};
+ghost use Rattle.um_io.specs.declared.lines.Next.{Next};
 
 /// Each list of octets is divided into lines in exactly one way.
 pub fn law_lines()
@@ -12,8 +12,10 @@ pub fn law_lines()
     ensures only { (octets : List ℕ) (lines : List (List ℕ)) → IsDivided octets lines → lines ≡ lines_of octets }
 {}
 
-/// The lines that are answered until the end are the lines of all the octets that the source had.
+/// However a reader ends, the lines that it answered before are the first lines of what the source had: all of
+/// them at the end, and else those before the line that is too long or did not end.
 pub fn law_answers()
-    ensures { (octets : List ℕ) (lines : List (List ℕ)) (came last : List ℕ) (r r' : Reading) (left left' : Option (List ℕ)) →
-        AnswersLines at_start (Some octets) lines came r left → IsStep r r' left left' End last → lines ≡ lines_of octets }
+    ensures { (octets : List ℕ) (lines : List (List ℕ)) (came last : List ℕ) (r r' : Reading) (left left' : Option (List ℕ)) (next : Next) →
+        AnswersLines at_start (Some octets) lines came r left → IsStep r r' left left' next last → IsReading r' →
+        EndsWith next octets (came ++ last) lines }
 {}

@@ -1,19 +1,16 @@
 //! The lines of an input, one after another, over one buffer.
-ghost use Rattle.std.specs.Prelude.{◌≡◌, ◌≤◌, ◌<◌, ◌+◌, ◌-◌, ◌↔◌, ℕ, List, Bool, true, false, None, [], ◌++◌, length, MatchBool, MatchOption, IfOk, IfSome, OnErr, IsTrue, ◌⊎◌};
+ghost use Rattle.std.specs.Prelude.{◌≡◌, ◌≤◌, ◌<◌, ◌+◌, ◌-◌, ◌↔◌, ℕ, List, Bool, true, false, None, [], ◌++◌, length, MatchBool, MatchOption, IfOk, IfSome, OnOk, OnErr, IsTrue, ◌⊎◌};
 ghost use Rattle.std.specs.Borrow.{sem};
 ghost use Rattle.um_io.specs.Outside.{Rose};
 ghost use Rattle.um_io.specs.Found.{Shows, LacksAnswer};
 
-use crate::buffer::Buffer;
+use crate::buffer::{Buffer, LINE_LIMIT};
 use crate::outside::{Failed, NoMemory, Source};
 use std::alloc::Global;
 use std::marker::Model;
 
 /// How many octets of an input count.
 const INPUT_LIMIT: u64 = 67_108_864;
-
-/// How many octets a line has at most before its line feed.
-const LINE_LIMIT: usize = 4096;
 
 /// What a reader of lines answers.
 #[derive(Clone, Copy, Debug, PartialEq, Eq)]
@@ -67,7 +64,7 @@ impl Model for Lines {
 
 impl Lines {
     ghost use Rattle.um_io.specs.Lines.{IsLine, IsFirstFeed};
-    ghost use Rattle.um_io.specs.Reading.{at_start, IsReading, NeedsMore, IsReady, NeedsReading};
+    ghost use Rattle.um_io.specs.Reading.{at_start, IsReading, NeedsMore, IsReady, NeedsReading, held_limit};
     ghost use Rattle.um_io.specs.Found.{Looks, HasRead, Finds};
     ghost use Rattle.um_io.specs.Next.{EndsNext, FailedOnly};
 
@@ -102,7 +99,7 @@ impl Lines {
     /// How many of the octets held are within the limit.
     fn within(&self) -> usize
         ensures within { result ≡ length self.now.held }
-        ensures room { result ≤ 4097 }
+        ensures room { result ≤ held_limit }
     {
         let left = INPUT_LIMIT - self.answered;
         left.min(self.buffer.len() as u64) as usize
@@ -112,7 +109,7 @@ impl Lines {
     fn first_feed(&mut self) -> Option<usize>
         ensures kept { self.new ≡ self.old }
         ensures found { MatchOption result (IsLine self.old.held) (IsFirstFeed self.old.held) }
-        ensures room { IfSome result (λ at. at < 4097) }
+        ensures room { IfSome result (λ at. at < held_limit) }
     {
         let within = self.within();
         match self.buffer.first_feed() {
@@ -141,6 +138,7 @@ impl Lines {
         requires { NeedsMore self.old }
         ensures read { HasRead self.old self.new (S.left source.old) (S.left source.new) result }
         ensures valid { IsReading self.new }
+        ensures counted { OnOk result (S.faults source.new ≡ S.faults source.old) }
         ensures later { S.faults source.old ≤ S.faults source.new }
         ensures cause { OnErr result (Rose (S.faults source.old) (S.faults source.new)) }
     {
@@ -153,6 +151,7 @@ impl Lines {
     fn find<S: Source>(&mut self, source: &mut S) -> Result<Found, Failed>
         ensures found { Finds self.old self.new (S.left source.old) (S.left source.new) result }
         ensures unasked { NeedsMore self.old ⊎ (source.new ≡ source.old) }
+        ensures counted { OnOk result (S.faults source.new ≡ S.faults source.old) }
         ensures later { S.faults source.old ≤ S.faults source.new }
         ensures cause { OnErr result (Rose (S.faults source.old) (S.faults source.new)) }
     {

@@ -58,6 +58,8 @@ impl<'a> Source for PlainSource<'a> {
     fn take(&mut self, into: &mut [u8]) -> Result<usize, Failed>
         ensures bound { ReadsAtMost result into.new }
         ensures octets { ReadConsumes (Some self.old.left) (Some self.new.left) result into.new }
+        ensures kept { let count = ⟦<PlainSource<'a> as Source>⟧.faults in
+            OnOk result (count self.new ≡ count self.old) }
         ensures later { let count = ⟦<PlainSource<'a> as Source>⟧.faults in
             count self.old ≤ count self.new }
         ensures cause { let count = ⟦<PlainSource<'a> as Source>⟧.faults in
@@ -125,6 +127,7 @@ impl<'a> Source for MemorySource<'a> {
     fn take(&mut self, into: &mut [u8]) -> Result<usize, Failed>
         ensures bound { ReadsAtMost result into.new }
         ensures octets { ReadConsumes (Some self.old.left) (Some self.new.left) result into.new }
+        ensures kept { OnOk result (self.new.faults ≡ self.old.faults) }
         ensures later { self.old.faults ≤ self.new.faults }
         ensures cause { OnErr result (Rose self.old.faults self.new.faults) }
 
@@ -133,7 +136,7 @@ impl<'a> Source for MemorySource<'a> {
         ensures copied { IfOk result (λ n. into.new ≡ filled self.old.left n into.old) }
         ensures given { IfOk result (λ n. self.new ≡ after_giving self.old n) }
         ensures failed { OnErr result (self.new ≡ after_failing self.old) }
-        ensures kept { OnErr result (into.new ≡ into.old) }
+        ensures untouched { OnErr result (into.new ≡ into.old) }
     {
         self.calls = self.calls.saturating_add(1);
         if self.failing.contains(&self.calls) {
@@ -210,6 +213,7 @@ impl<'a> Sink for MemorySink<'a> {
         ensures bound { WritesAtMost result piece.now }
         ensures some { TakesSome result piece.now }
         ensures octets { WriteAppends (Some self.old.taken) (Some self.new.taken) result piece.now }
+        ensures kept { OnOk result (self.new.faults ≡ self.old.faults) }
         ensures later { self.old.faults ≤ self.new.faults }
         ensures cause { OnErr result (Rose self.old.faults self.new.faults) }
 

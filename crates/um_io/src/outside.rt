@@ -1,5 +1,5 @@
 //! What a source of octets and a sink of octets promise.
-ghost use Rattle.std.specs.Prelude.{◌≡◌, ℕ, ◌≤◌, List, Option, OnErr};
+ghost use Rattle.std.specs.Prelude.{◌≡◌, ℕ, ◌≤◌, List, Option, OnOk, OnErr};
 ghost use Rattle.std.specs.Io.{ReadsAtMost, WritesAtMost};
 ghost use Rattle.std.specs.Io.KnownBytes.{ReadConsumes, WriteAppends};
 ghost use Rattle.um_io.specs.Outside.{raised, Rose, TakesSome};
@@ -34,7 +34,8 @@ pub trait Source {
         // call that failed took nothing.
         ensures octets { ReadConsumes (left self.old) (left self.new) result into.new }
 
-        // The count never falls, and a call fails only where it rose.
+        // The count never falls. It stays in a call that succeeds, and rises in one that fails.
+        ensures kept { OnOk result (faults self.new ≡ faults self.old) }
         ensures later { faults self.old ≤ faults self.new }
         ensures cause { OnErr result (Rose (faults self.old) (faults self.new)) };
 }
@@ -58,7 +59,8 @@ pub trait Sink {
         // The octets taken stand after those taken before, and a call that failed took nothing.
         ensures octets { WriteAppends (taken self.old) (taken self.new) result piece.now }
 
-        // The count never falls, and a call fails only where it rose.
+        // The count never falls. It stays in a call that succeeds, and rises in one that fails.
+        ensures kept { OnOk result (faults self.new ≡ faults self.old) }
         ensures later { faults self.old ≤ faults self.new }
         ensures cause { OnErr result (Rose (faults self.old) (faults self.new)) };
 }
