@@ -217,7 +217,7 @@ ends_with octets lines came last r r' left left' Long answers step valid =
       r'.held,
       r'.past,
       AreCut-answers octets lines came last r r' left left' Long answers step valid held
-      (λ none ended. omega (arith, long, ap length held.octets, ap length none, length-append r'.held r'.past)),
+          (λ none ended. omega (arith, long, ap length held.octets, ap length none, length-append r'.held r'.past)),
       long,
     )
 ends_with octets lines came last r r' left left' TooMany answers step valid =
@@ -226,7 +226,7 @@ ends_with octets lines came last r r' left left' TooMany answers step valid =
       r'.held,
       r'.past,
       AreCut-answers octets lines came last r r' left left' TooMany answers step valid held
-      (λ none ended. omega (arith, some, ap length held.octets, ap length none, length-append r'.held r'.past)),
+          (λ none ended. omega (arith, some, ap length held.octets, ap length none, length-append r'.held r'.past)),
       step.gives.1,
       some,
     )
@@ -235,6 +235,6 @@ ends_with octets lines came last r r' left left' Failed answers step valid =
     let needs = step.gives.1 in (
       r'.held,
       subst (λ p. AreCut octets (came ++ last) lines r'.held p) needs.past
-      (AreCut-answers octets lines came last r r' left left' Failed answers step valid held (λ none ended. let open_ = needs.ended in cc (ended, open_))),
+          (AreCut-answers octets lines came last r r' left left' Failed answers step valid held (λ none ended. let open_ = needs.ended in cc (ended, open_))),
       needs.short,
     )
