@@ -1,0 +1,3 @@
+mod Worked
+pub mod KindEvents
+pub mod Courses

@@ -1,0 +1,11 @@
+//! The generated run: a session that is made from a number alone, stepped over the air and summed up.
+#![tactic(auto)]
+
+ghost use Rattle.std.specs.Prelude.{ℕ};
+ghost use Rattle.um_air.specs.Sessions.{IsKind};
+ghost use Rattle.um_make.specs.Generated.{generated};
+
+/// Law: of every generated run at most three bits of each block are turned over, and all messages are octets.
+pub fn law_generated_is_kind()
+    ensures { (n : ℕ) → IsKind (generated n) }
+{}
