@@ -86,7 +86,8 @@ impl Notices {
     }
 
     pub fn as_slice(&self) -> &[Notice]
-        ensures { result.now ≡ self.now }
+        ensures value { result.now ≡ self.now }
+        ensures fits { length result.now ≤ 3 }
     {
         self.items.as_slice()
     }
