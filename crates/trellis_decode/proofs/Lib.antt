@@ -1,4 +1,5 @@
 pub mod EdgeLanes
+pub mod Kept
 pub mod Likelihoods
 pub mod Lists
 pub mod MostLikely

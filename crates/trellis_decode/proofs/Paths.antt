@@ -26,7 +26,7 @@ pub length-read_out : (rows : List ℕ) (state : ℕ) → length (read_out rows 
 length-read_out [] state = refl
 length-read_out (row ∷ rows) state = ap suc (length-read_out rows (next state (row / 2 ^ state % 2)))
 
-IsNotAfter-refl : (u : List ℕ) → IsNotAfter u u
+pub IsNotAfter-refl : (u : List ℕ) → IsNotAfter u u
 IsNotAfter-refl [] = tt
 IsNotAfter-refl (x ∷ u) = inr (refl, IsNotAfter-refl u)
 
@@ -52,7 +52,7 @@ way_bounds after pair soft state bit u v e best ends count =
     let value = best.gained in
     elim (best.wins v ends count) [ Less h ↦ omega (arith, ints) | Later h later ↦ omega (arith, ints) ]
 
-way_reached : (after pair soft : List ℤ) (state bit : ℕ) (u : List ℕ) → length pair ≡ 2 →
+pub way_reached : (after pair soft : List ℤ) (state bit : ℕ) (u : List ℕ) → length pair ≡ 2 →
     IsBest (next state bit) u soft (get_or after (next state bit) (pos 0)) →
     way after pair state bit ≡ gain state (bit ∷ u) (pair ++ soft)
 unfolding way
@@ -245,7 +245,7 @@ IsBest-row after soft rows k j n s row value at free within two best choice =
     (best (next s 0) reached0) (best (next s 1) reached1) choice)
 
 -- rows of zeros choose zeros
-read_out-zeros : (rows : List ℕ) (state : ℕ) → All (λ row. row ≡ 0) rows → read_out rows state ≡ replicate (length rows) 0
+pub read_out-zeros : (rows : List ℕ) (state : ℕ) → All (λ row. row ≡ 0) rows → read_out rows state ≡ replicate (length rows) 0
 read_out-zeros [] state zeros = refl
 read_out-zeros (row ∷ rows) state zeros =
     let bit : row / 2 ^ state % 2 ≡ 0 = ap (λ row. row / 2 ^ state % 2) (All-head (λ row. row ≡ 0) row rows zeros) ∙ ap (λ x. x % 2) (zero-div (2 ^ state)) in

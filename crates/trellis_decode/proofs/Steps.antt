@@ -1,5 +1,5 @@
 -- A step of the trellis, from its lanes.
-use Rattle.std.proofs.Common.{◌≡◌, ℕ, true, false, if◌then◌else◌, ℤ, ◌+ℤ◌, List, ap, ◌∙◌, arith, int_lt, inl, inr}
+use Rattle.std.proofs.Common.{◌≡◌, ℕ, true, false, if◌then◌else◌, ℤ, ◌+ℤ◌, ◌-ℤ◌, ◌-◌, List, ap, ap₂, sym, subst, ◌∙◌, arith, int_lt, inl, inr}
 use Rattle.std.proofs.lemmas.Int.{ints, by_lt_z}
 use Rattle.trellis_decode.specs.Lanes.{lane, AreModest}
 use Rattle.trellis_decode.specs.Trellis.{next, edge, way, Chooses}
@@ -31,3 +31,25 @@ chosen after pair s zero one value bit z o v b =
     inr (b ∙ ap (λ t. if t then 1 else 0) t, v ∙ ap (λ t. if t then one else zero) t ∙ o, omega (arith, ints)))
     (λ not_less. let t : int_lt zero one ≡ false = grind (arith, ints) in
     inl (b ∙ ap (λ t. if t then 1 else 0) t, v ∙ ap (λ t. if t then one else zero) t ∙ z, omega (arith, ints)))
+
+-- the better way is worth more than the other by the larger of both differences
+pub lost : (after pair : List ℤ) (s : ℕ) (zero one value loss : ℤ) (bit : ℕ) →
+    zero ≡ way after pair s 0 → one ≡ way after pair s 1 → Chooses after pair s value bit →
+    loss ≡ (if int_lt (zero -ℤ one) (one -ℤ zero) then one -ℤ zero else zero -ℤ one) →
+    loss ≡ way after pair s bit -ℤ way after pair s (1 - bit)
+lost after pair s zero one value loss bit z o chooses l =
+    let Lost : ℕ → Type 0 = λ bit. loss ≡ way after pair s bit -ℤ way after pair s (1 - bit) in
+    elim chooses [
+      | inl h ↦ subst Lost (sym h.0) (
+          let order = h.2 in
+          by_lt_z (zero -ℤ one) (one -ℤ zero)
+          (λ less. absurd (omega (arith, ints)))
+          (λ not_less. let t : int_lt (zero -ℤ one) (one -ℤ zero) ≡ false = grind (arith, ints) in
+          l ∙ ap (λ t. if t then one -ℤ zero else zero -ℤ one) t ∙ ap₂ (λ a b. a -ℤ b) z o))
+      | inr h ↦ subst Lost (sym h.0) (
+          let order = h.2 in
+          by_lt_z (zero -ℤ one) (one -ℤ zero)
+          (λ less. let t : int_lt (zero -ℤ one) (one -ℤ zero) ≡ true = grind (arith, ints) in
+          l ∙ ap (λ t. if t then one -ℤ zero else zero -ℤ one) t ∙ ap₂ (λ a b. a -ℤ b) o z)
+          (λ not_less. absurd (omega (arith, ints))))
+    ]

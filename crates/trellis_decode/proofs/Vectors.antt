@@ -1,12 +1,12 @@
 -- The operations on vectors, lane by lane. A lane stands in them as its bits.
-use Rattle.std.proofs.Common.{◌≡◌, ℕ, zero, suc, ◌+◌, ◌/◌, ◌%◌, ◌^◌, ◌<◌, ◌≤◌, Bool, true, false, if◌then◌else◌, ℤ, pos, negsuc, ◌+ℤ◌, ◌≤ℤ◌, List, [], ◌∷◌, ◌++◌, map, length, get_or, replicate, refl, ap, ap₂, sym, ◌∙◌, subst, arith, int_lt, w32, FitsSigned}
+use Rattle.std.proofs.Common.{◌≡◌, ℕ, zero, suc, ◌+◌, ◌/◌, ◌%◌, ◌^◌, ◌<◌, ◌≤◌, Bool, true, false, if◌then◌else◌, ℤ, pos, negsuc, ◌+ℤ◌, ◌-ℤ◌, ◌-◌, ◌≤ℤ◌, List, [], ◌∷◌, ◌++◌, map, length, get_or, replicate, refl, ap, ap₂, sym, ◌∙◌, subst, arith, int_lt, w32, FitsSigned}
 use Rattle.std.specs.List.{range_with_len}
 use Rattle.std.specs.Int.{cast_signed, cast_unsigned}
-use Rattle.std.proofs.lemmas.Int.{ints, to_z-of_z, wrapping_add_is, int_wrap_fits}
+use Rattle.std.proofs.lemmas.Int.{ints, to_z-of_z, wrapping_add_is, wrapping_sub_is, int_wrap_fits}
 use Rattle.std.proofs.lemmas.List.{get_or-replicate}
 use Rattle.std.proofs.lemmas.Simd.{mask_l-lt, mask_l-mod, bit_mask_l}
 use lib.Lanes.{zip2, sel_l, mask_l, top}
-use Rattle.trellis_decode.specs.Lanes.{lane, AreLanes, AreModest}
+use Rattle.trellis_decode.specs.Lanes.{lane, AreLanes, AreModest, AreWide}
 
 lane-zip2 : (f : ℕ → ℕ → ℕ) (a b : List ℤ) (s : ℕ) → s < length a → s < length b →
     lane (map (cast_signed w32) (zip2 f (map (cast_unsigned w32) a) (map (cast_unsigned w32) b))) s
@@ -25,7 +25,7 @@ length-lanes-zip2 f [] b e = refl
 length-lanes-zip2 f (x ∷ a) [] e = absurd (omega arith)
 length-lanes-zip2 f (x ∷ a) (y ∷ b) e = let e' : length a ≡ length b = omega arith in ap suc (length-lanes-zip2 f a b e')
 
-fits_between : (x : ℤ) → negsuc 200000 ≤ℤ x → x ≤ℤ pos 200000 → FitsSigned w32 x
+fits_between : (x : ℤ) → negsuc 300000 ≤ℤ x → x ≤ℤ pos 300000 → FitsSigned w32 x
 fits_between (pos n) low high = record { sfits = omega (arith, ints) }
 fits_between (negsuc n) low high = record { sfits = omega (arith, ints) }
 
@@ -60,11 +60,49 @@ lane-sums a b ha hb s lt =
     let fb = (AreLanes-modest b hb).fits s lt in
     lane-zip2 (λ x y. (x + y) % 2 ^ 32) a b s sa sb ∙ sum-lane (lane a s) (lane b s) fa fb (sums_fit a b ha hb s lt)
 
-pub AreLanes-sums : (a b : List ℤ) → AreModest a → AreModest b →
-    AreLanes (map (cast_signed w32) (zip2 (λ x y. (x + y) % 2 ^ 32) (map (cast_unsigned w32) a) (map (cast_unsigned w32) b)))
-AreLanes-sums a b ha hb = record {
+pub AreWide-sums : (a b : List ℤ) → AreModest a → AreModest b →
+    AreWide (map (cast_signed w32) (zip2 (λ x y. (x + y) % 2 ^ 32) (map (cast_unsigned w32) a) (map (cast_unsigned w32) b)))
+AreWide-sums a b ha hb = record {
   count = length-lanes-zip2 (λ x y. (x + y) % 2 ^ 32) a b (ha.count ∙ sym hb.count) ∙ ha.count;
-  fits = λ s lt. subst (FitsSigned w32) (sym (lane-sums a b ha hb s lt)) (sums_fit a b ha hb s lt);
+  low = λ s lt. subst (λ x. negsuc 131071 ≤ℤ x) (sym (lane-sums a b ha hb s lt)) (let la = ha.low s lt in let lb = hb.low s lt in omega (arith, ints));
+  high = λ s lt. subst (λ x. x ≤ℤ pos 131072) (sym (lane-sums a b ha hb s lt)) (let ua = ha.high s lt in let ub = hb.high s lt in omega (arith, ints));
+}
+
+pub AreLanes-wide : (a : List ℤ) → AreWide a → AreLanes a
+AreLanes-wide a h = record { count = h.count; fits = fits } where
+  fits : (s : ℕ) → s < 16 → FitsSigned w32 (lane a s)
+  fits s lt =
+      let low = h.low s lt in
+      let high = h.high s lt in
+      fits_between (lane a s) (omega (arith, ints)) (omega (arith, ints))
+
+-- a difference that fits
+difference-lane : (x y : ℤ) → FitsSigned w32 x → FitsSigned w32 y → FitsSigned w32 (x -ℤ y) →
+    cast_signed w32 ((cast_unsigned w32 x + (2 ^ 32 - cast_unsigned w32 y)) % 2 ^ 32) ≡ x -ℤ y
+difference-lane x y hx hy h = wrapping_sub_is w32 x y hx hy ∙ int_wrap_fits w32 (x -ℤ y) h
+
+differences_fit : (a b : List ℤ) → AreWide a → AreWide b → (s : ℕ) → s < 16 → FitsSigned w32 (lane a s -ℤ lane b s)
+differences_fit a b ha hb s lt =
+    let la = ha.low s lt in
+    let lb = hb.low s lt in
+    let ua = ha.high s lt in
+    let ub = hb.high s lt in
+    fits_between (lane a s -ℤ lane b s) (omega (arith, ints)) (omega (arith, ints))
+
+pub lane-differences : (a b : List ℤ) → AreWide a → AreWide b → (s : ℕ) → s < 16 →
+    lane (map (cast_signed w32) (zip2 (λ x y. (x + (2 ^ 32 - y)) % 2 ^ 32) (map (cast_unsigned w32) a) (map (cast_unsigned w32) b))) s ≡ lane a s -ℤ lane b s
+lane-differences a b ha hb s lt =
+    let sa : s < length a = omega (arith, ha.count) in
+    let sb : s < length b = omega (arith, hb.count) in
+    let fa = (AreLanes-wide a ha).fits s lt in
+    let fb = (AreLanes-wide b hb).fits s lt in
+    lane-zip2 (λ x y. (x + (2 ^ 32 - y)) % 2 ^ 32) a b s sa sb ∙ difference-lane (lane a s) (lane b s) fa fb (differences_fit a b ha hb s lt)
+
+pub AreLanes-differences : (a b : List ℤ) → AreWide a → AreWide b →
+    AreLanes (map (cast_signed w32) (zip2 (λ x y. (x + (2 ^ 32 - y)) % 2 ^ 32) (map (cast_unsigned w32) a) (map (cast_unsigned w32) b)))
+AreLanes-differences a b ha hb = record {
+  count = length-lanes-zip2 (λ x y. (x + (2 ^ 32 - y)) % 2 ^ 32) a b (ha.count ∙ sym hb.count) ∙ ha.count;
+  fits = λ s lt. subst (FitsSigned w32) (sym (lane-differences a b ha hb s lt)) (differences_fit a b ha hb s lt);
 }
 
 -- one lane, as bits and back
@@ -217,3 +255,6 @@ lane-zeros s lt = get_or-replicate 16 s (pos 0) (pos 0) lt
 
 pub AreLanes-zeros : AreLanes (replicate 16 (pos 0))
 AreLanes-zeros = record { count = refl; fits = λ s lt. subst (FitsSigned w32) (sym (lane-zeros s lt)) (record { sfits = omega arith }) }
+
+pub AreWide-passed : (lanes : List ℤ) → AreWide lanes → AreWide (passed lanes)
+AreWide-passed lanes h = subst AreWide (sym (passed-lanes lanes (AreLanes-wide lanes h))) h

@@ -18,6 +18,12 @@ pub record AreModest (lanes : List ℤ) : Type 0 where
   pub low : (s : ℕ) → s < 16 → negsuc 65535 ≤ℤ lane lanes s
   pub high : (s : ℕ) → s < 16 → lane lanes s ≤ℤ pos 65536
 
+-- sixteen numbers so small that two of them have a difference of 32 bits
+pub record AreWide (lanes : List ℤ) : Type 0 where
+  pub count : length lanes ≡ 16
+  pub low : (s : ℕ) → s < 16 → negsuc 131071 ≤ℤ lane lanes s
+  pub high : (s : ℕ) → s < 16 → lane lanes s ≤ℤ pos 131072
+
 -- what an octet with a sign holds
 abbrev pub IsOctet : ℤ → Type 0
 IsOctet p = (negsuc 127 ≤ℤ p) × (p ≤ℤ pos 127)

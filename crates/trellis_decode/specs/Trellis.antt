@@ -1,5 +1,5 @@
 -- Paths through the sixteen states of the code, for the decoder's own proof. A state holds the last four bits, the newest as its bit of value 1.
-use Rattle.std.specs.Prelude.{ℕ, ◌≡◌, ◌+◌, ◌*◌, ◌/◌, ◌%◌, ◌^◌, ◌<◌, ◌≤◌, ◌⊎◌, ℤ, pos, ◌+ℤ◌, ◌<ℤ◌, ◌≤ℤ◌, List, [], ◌∷◌, length, slice_index_or}
+use Rattle.std.specs.Prelude.{ℕ, ◌≡◌, ◌+◌, ◌*◌, ◌/◌, ◌%◌, ◌^◌, ◌-◌, ◌<◌, ◌≤◌, ◌⊎◌, ℤ, pos, ◌+ℤ◌, ◌-ℤ◌, ◌<ℤ◌, ◌≤ℤ◌, List, [], ◌∷◌, length, slice_index_or, drop}
 use Rattle.conv_code.specs.Likelihood.{likelihood}
 
 -- the state after one more bit
@@ -62,3 +62,15 @@ abbrev pub Chooses : List ℤ → List ℤ → ℕ → ℤ → ℕ → Type 0
 Chooses after pair state value bit =
     ((bit ≡ 0) × (value ≡ way after pair state 0) × (way after pair state 1 ≤ℤ way after pair state 0)) ⊎
     ((bit ≡ 1) × (value ≡ way after pair state 1) × (way after pair state 0 <ℤ way after pair state 1))
+
+-- the first of these rows chooses the better bit in each state, and these are the losses where the other bit comes
+pub record IsKeptAt (row : ℕ) (rows : List ℕ) (losses : List ℤ) (soft : List ℤ) : Type 0 where
+  pub best : (s : ℕ) → s < 16 → IsBest s (read_out (row ∷ rows) s) soft (gain s (read_out (row ∷ rows) s) soft)
+  pub lost : (s : ℕ) → s < 16 → 4 ≤ length rows → slice_index_or losses s (pos 0) ≡
+      gain s (read_out (row ∷ rows) s) soft -ℤ gain s ((1 - row / 2 ^ s % 2) ∷ read_out rows (next s (1 - row / 2 ^ s % 2))) soft
+
+-- rows of choices and the losses of each place, with a pair of soft values for each row
+abbrev pub IsKept : List ℕ → List (List ℤ) → List ℤ → Type 0
+IsKept [] losses soft = length soft ≡ 0
+IsKept (row ∷ rows) [] soft = ⊥
+IsKept (row ∷ rows) (lost ∷ losses) soft = (2 ≤ length soft) × IsKeptAt row rows lost soft × IsKept rows losses (drop 2 soft)

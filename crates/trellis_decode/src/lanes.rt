@@ -1,5 +1,5 @@
-ghost use Rattle.std.specs.Prelude.{◌≡◌, ℕ, ◌*◌, ◌+◌, ◌/◌, ◌%◌, ◌^◌, ◌<◌, ◌+ℤ◌, if◌then◌else◌, int_lt};
-ghost use Rattle.trellis_decode.specs.Lanes.{AreLanes, AreModest, lane};
+ghost use Rattle.std.specs.Prelude.{◌≡◌, ℕ, ◌*◌, ◌+◌, ◌/◌, ◌%◌, ◌^◌, ◌<◌, ◌+ℤ◌, ◌-ℤ◌, if◌then◌else◌, int_lt};
+ghost use Rattle.trellis_decode.specs.Lanes.{AreLanes, AreModest, AreWide, lane};
 
 use std::simd::prelude::*;
 
@@ -25,9 +25,18 @@ pub(crate) fn sums(a: i32x16, b: i32x16) -> i32x16
     requires a_modest { AreModest a }
     requires b_modest { AreModest b }
     ensures each { (s : ℕ) → s < 16 → lane result s ≡ lane a s +ℤ lane b s }
-    ensures lanes { AreLanes result }
+    ensures wide { AreWide result }
 {
     a + b
+}
+
+pub(crate) fn differences(a: i32x16, b: i32x16) -> i32x16
+    requires a_wide { AreWide a }
+    requires b_wide { AreWide b }
+    ensures each { (s : ℕ) → s < 16 → lane result s ≡ lane a s -ℤ lane b s }
+    ensures lanes { AreLanes result }
+{
+    a - b
 }
 
 pub(crate) fn larger(a: i32x16, b: i32x16) -> i32x16

@@ -12,8 +12,9 @@ ghost use Rattle.std.specs.Prelude.{◌≡◌, ℕ, ◌*◌, ◌≤◌, List, le
 ghost use Rattle.conv_code.specs.Code.{coded};
 ghost use Rattle.conv_code.specs.Likelihood.{AllSoft, IsMostLikely, likelihood};
 
-use crate::trellis::{choose, read_list};
+use crate::trellis::choose;
 pub use exhaustive::search;
+pub use trellis::{keep, read_list};
 
 /// Writes the most likely information list for soft values, of equally likely ones the first in the order of words, and
 /// answers its likelihood.
@@ -31,6 +32,6 @@ pub fn decode(soft: &[i8], u: &mut [u8]) -> i32
     let mut choices = [0; 228];
     let rows = &mut choices[..u.len()];
     let value = choose(soft, rows);
-    read_list(rows, u);
+    read_list(rows, 0, u);
     value
 }

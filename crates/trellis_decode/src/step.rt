@@ -1,8 +1,8 @@
-ghost use Rattle.std.specs.Prelude.{◌≡◌, ℕ, ◌*◌, ◌+◌, ◌/◌, ◌%◌, ◌^◌, ◌<◌, length};
+ghost use Rattle.std.specs.Prelude.{◌≡◌, ℕ, ◌*◌, ◌+◌, ◌/◌, ◌%◌, ◌^◌, ◌-◌, ◌<◌, ◌-ℤ◌, length};
 ghost use Rattle.trellis_decode.specs.Lanes.{AreLanes, AreModest, AreOctets, lane};
 ghost use Rattle.trellis_decode.specs.Trellis.{Chooses, edge, way};
 
-use crate::lanes::{even_lanes, greater, larger, odd_lanes, sums};
+use crate::lanes::{differences, even_lanes, greater, larger, odd_lanes, sums};
 use std::simd::prelude::*;
 
 /// What a bit 0 and a bit 1 count in each of the sixteen states.
@@ -42,6 +42,8 @@ pub struct Step {
     pub values: i32x16,
     /// Bit `s` is the first bit of the best list that begins in state `s`.
     pub row: u16,
+    /// What the best list that begins in each state is worth more than the best with the other first bit.
+    pub losses: i32x16,
 }
 
 impl Step {
@@ -50,7 +52,10 @@ impl Step {
         requires count { length pair.now ≡ 2 }
         requires modest { AreModest after }
         ensures each { (s : ℕ) → s < 16 → Chooses after pair.now s (lane result.values s) (result.row / 2 ^ s % 2) }
+        ensures losses { (s : ℕ) → s < 16 → lane result.losses s ≡
+            way after pair.now s (result.row / 2 ^ s % 2) -ℤ way after pair.now s (1 - result.row / 2 ^ s % 2) }
         ensures lanes { AreLanes result.values }
+        ensures losses_lanes { AreLanes result.losses }
         ensures octets { AreOctets pair.now }
     {
         let edges = Edges::new(pair);
@@ -59,6 +64,7 @@ impl Step {
         Step {
             values: larger(zero, one),
             row: greater(zero, one),
+            losses: larger(differences(zero, one), differences(one, zero)),
         }
     }
 }

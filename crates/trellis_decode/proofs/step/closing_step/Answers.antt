@@ -1,7 +1,7 @@
 use Rattle.std.proofs.Common.{arith, ap, ◌∙◌}
 use Rattle.trellis_decode.specs.Lanes.{lane}
 use Rattle.trellis_decode.proofs.Steps.{way_by_lanes}
-use Rattle.trellis_decode.proofs.Vectors.{passed-lanes, AreLanes-passed, AreModest-passed}
+use Rattle.trellis_decode.proofs.Vectors.{passed-lanes, AreLanes-passed, AreLanes-wide, AreModest-passed}
 use Rattle.trellis_decode.proofs.step.closing_step.Goals as goal
 
 pub even_lanes-requires : goal.even_lanes-requires
@@ -15,10 +15,10 @@ sums-requires-clause-b_modest c = AreModest-passed c.new.result.zero c.new.ensur
 
 pub returns-clause-each : goal.returns-clause-each
 returns-clause-each c s lt =
-    ap (λ lanes. lane lanes s) (passed-lanes c.sums.result c.sums.ensures.lanes)
+    ap (λ lanes. lane lanes s) (passed-lanes c.sums.result (AreLanes-wide c.sums.result c.sums.ensures.wide))
     ∙ way_by_lanes c.args.after c.even_lanes.result c.new.result.zero c.sums.result c.args.pair.now s 0 _ (omega arith)
     c.requires.modest c.even_lanes.ensures.modest c.new.ensures.zero_modest
     (c.even_lanes.ensures.each s lt) (c.new.ensures.zero s lt) (c.sums.ensures.each s lt)
 
 pub returns-clause-lanes : goal.returns-clause-lanes
-returns-clause-lanes c = AreLanes-passed c.sums.result c.sums.ensures.lanes
+returns-clause-lanes c = AreLanes-passed c.sums.result (AreLanes-wide c.sums.result c.sums.ensures.wide)

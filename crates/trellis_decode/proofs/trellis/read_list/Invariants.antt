@@ -6,5 +6,5 @@ use Rattle.trellis_decode.proofs.trellis.read_list.Given as goal
 abbrev pub invariant-loop-k : goal.invariant-loop-k
 invariant-loop-k l = record {
   state : l.state < 16;
-  list : take l.k l.u ++ read_out (drop l.k l.rows) l.state ≡ read_out l.rows 0;
+  list : take l.k l.u ++ read_out (drop l.k l.rows) l.state ≡ read_out l.rows l.fn.state;
 }
