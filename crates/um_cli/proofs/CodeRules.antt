@@ -1,11 +1,11 @@
 -- The command `code` answers each good line in one way.
 use Rattle.std.proofs.Common.{◌≡◌, ℕ, zero, suc, ◌*◌, List, [], ◌∷◌, length, Option, None, Some, refl, sym, ap, ◌∙◌, subst, arith}
-use Rattle.um_text.specs.declared.fault.LineFault.{LineFault}
+use Rattle.um_lines.specs.declared.fault.LineFault.{LineFault}
 use Rattle.um_text.specs.declared.code.CodeLine.{CodeLine}
 use Rattle.um_text.specs.declared.code.CodeLine.TheVariants.{Skip, Block, Rach, Sch}
 use Rattle.um_text.specs.CodeLines.{code_fault, CodeMeans}
-use Rattle.um_text.specs.HexDigits.{hex_octets}
-use Rattle.um_text.specs.Meanings.{HasOneMeaningUnless}
+use Rattle.um_lines.specs.Fields.{hex_octets}
+use Rattle.um_lines.specs.Meanings.{HasOneMeaningUnless}
 use Rattle.um_text.specs.BurstTexts.{block_text, access_text, sync_text}
 use Rattle.um_text.proofs.CodeLaws.{one_meaning}
 use Rattle.um_block.proofs.SentOnce.{one_sent_block, one_access_burst, one_sync_burst}

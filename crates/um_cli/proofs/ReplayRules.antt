@@ -6,11 +6,11 @@ use Rattle.std.proofs.lemmas.List.Elements.{All-nil, All-cons, All-append}
 use Rattle.um_block.proofs.AcceptedOctets.{accepted_count}
 use Rattle.um_block.proofs.ReceivedOnce.{one_received_block, one_received_access, one_received_sync}
 use Rattle.um_block.proofs.ReceivedExists.{some_received_block, some_received_access, some_received_sync}
-use Rattle.um_text.specs.declared.fault.LineFault.{LineFault}
+use Rattle.um_lines.specs.declared.fault.LineFault.{LineFault}
 use Rattle.um_text.specs.declared.burst_lines.BurstLine.{BurstLine}
 use Rattle.um_text.specs.declared.burst_lines.BurstLine.TheVariants.{Skip, Normal, Access, Sync}
 use Rattle.um_text.specs.BurstLines.{burst_fault, BurstMeans}
-use Rattle.um_text.specs.Meanings.{HasOneMeaningUnless}
+use Rattle.um_lines.specs.Meanings.{HasOneMeaningUnless}
 use Rattle.um_text.specs.Reports.{IsBlockReport, access_report_text, sync_report_text}
 use Rattle.um_text.proofs.BurstLaws.{one_meaning, normal_burst, access_burst, sync_burst}
 use Rattle.um_text.proofs.ReportLaws.{one_block_report, some_block_report}

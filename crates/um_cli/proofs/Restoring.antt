@@ -12,7 +12,7 @@ use Rattle.um_block.proofs.SentShapes.{AreBits, sent_block_bits, sent_access_bit
 use Rattle.um_block.proofs.ReceivedExists.{some_received_block, some_received_access, some_received_sync}
 use Rattle.um_block.proofs.AcceptedOctets.{accepted_count}
 use Rattle.um_block.proofs.CleanRestoring.{clean_block, clean_access, clean_sync}
-use Rattle.um_text.specs.declared.fault.LineFault.{LineFault}
+use Rattle.um_lines.specs.declared.fault.LineFault.{LineFault}
 use Rattle.um_text.specs.declared.code.CodeLine.{CodeLine}
 use Rattle.um_text.specs.declared.code.CodeLine.TheVariants as C
 use Rattle.um_text.specs.declared.burst_lines.BurstLine.{BurstLine}
@@ -20,7 +20,7 @@ use Rattle.um_text.specs.declared.burst_lines.BurstLine.TheVariants.{Normal, Acc
 use Rattle.um_text.specs.BurstLines.{burst_fault, BurstMeans}
 use Rattle.um_text.specs.BurstTexts.{normal_text, block_text, access_text, sync_text}
 use Rattle.um_text.specs.CodeLines.{CodeMeans}
-use Rattle.um_text.specs.Meanings.{HasOneMeaningUnless}
+use Rattle.um_lines.specs.Meanings.{HasOneMeaningUnless}
 use Rattle.um_text.specs.Reports.{IsBlockReport, access_report_text, sync_report_text}
 use Rattle.um_text.proofs.BurstLaws.{one_meaning}
 use Rattle.um_text.proofs.WrittenBursts.{normal_line, access_line, sync_line, normal_restored, access_restored, sync_restored, normal_whole, access_whole, sync_whole}

@@ -1,10 +1,10 @@
 -- The command `show` answers each good line in one way.
 use Rattle.std.proofs.Common.{◌≡◌, ℕ, ◌/◌, List, [], length, Option, None, Some, refl, sym, ap, ◌∙◌, subst}
-use Rattle.um_text.specs.declared.fault.LineFault.{LineFault}
+use Rattle.um_lines.specs.declared.fault.LineFault.{LineFault}
 use Rattle.um_text.specs.declared.show.ShowLine.{ShowLine}
 use Rattle.um_text.specs.declared.show.ShowLine.TheVariants.{Skip, Octets, Frame}
 use Rattle.um_text.specs.ShowLines.{show_fault, ShowMeans}
-use Rattle.um_text.specs.Meanings.{HasOneMeaningUnless}
+use Rattle.um_lines.specs.Meanings.{HasOneMeaningUnless}
 use Rattle.um_text.specs.FrameTexts.{octets_text}
 use Rattle.um_text.proofs.ShowLaws.{length-hex_octets}
 use Rattle.um_text.proofs.ShowOnce.{one_meaning}

@@ -1,6 +1,6 @@
 -- Rules that say less: what a run meets, it meets by them too.
 use Rattle.std.proofs.Common.{◌≡◌, ℕ, List, [], ◌∷◌, Option, inl, inr, refl, ◌∙◌}
-use Rattle.um_text.specs.declared.fault.LineFault.{LineFault}
+use Rattle.um_lines.specs.declared.fault.LineFault.{LineFault}
 use Rattle.um_driver.specs.Rules.{Rules, IsGood, IsBad, Runs}
 use Rattle.um_driver.specs.Outputs.{IsGoodInput, IsBadEnd, IsRefused, IsPartialOutput}
 use Rattle.um_driver.specs.Table.{AreAnswered, IsDue, IsNear, IsServed, Row, IsRun}

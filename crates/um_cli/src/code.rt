@@ -4,7 +4,8 @@ ghost use Rattle.um_cli.specs.Code.{code_rules};
 
 use um_block::{send_access, send_block, send_sync};
 use um_driver::Command;
-use um_text::{CodeLine, LineFault, Text, access_line, block_lines, parse_code, sync_line};
+use um_lines::{LineFault, Text};
+use um_text::{CodeLine, access_line, block_lines, parse_code, sync_line};
 
 /// The command `code`.
 #[derive(Clone, Copy, Debug)]

@@ -3,7 +3,8 @@ ghost use Rattle.std.specs.Prelude.{◌≡◌, [], length};
 ghost use Rattle.um_cli.specs.Show.{show_rules};
 
 use um_driver::Command;
-use um_text::{LineFault, ShowLine, Text, frame_line, octets_line, parse_show};
+use um_lines::{LineFault, Text};
+use um_text::{ShowLine, frame_line, octets_line, parse_show};
 
 /// The command `show`.
 #[derive(Clone, Copy, Debug)]

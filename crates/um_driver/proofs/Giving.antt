@@ -1,7 +1,7 @@
 -- What comes of judged lines, one after another.
 use Rattle.std.proofs.Common.{◌≡◌, ℕ, suc, ◌<◌, ◌≤◌, ◌+◌, Bool, true, false, List, [], ◌∷◌, ◌++◌, length, Option, Some, None, ◌⊎◌, inl, inr, sym, refl, ap, ◌∙◌, subst, append_assoc, arith}
-use Rattle.um_text.specs.declared.fault.LineFault.{LineFault}
-use Rattle.um_text.specs.Refusals.{refused_text}
+use Rattle.um_lines.specs.declared.fault.LineFault.{LineFault}
+use Rattle.um_lines.specs.Refusals.{refused_text}
 use Rattle.um_driver.specs.Rules.{Rules, IsGood, IsBad, Runs, IsDetermined}
 use Rattle.um_driver.specs.declared.status.Status.{Status}
 use Rattle.um_driver.specs.declared.status.Status.TheVariants.{Done, BadInput, TooLong}

@@ -4,9 +4,9 @@ use Rattle.std.specs.List.{All}
 use Rattle.std.proofs.lemmas.Bool.{cases_lt}
 use Rattle.std.proofs.lemmas.List.Elements.{All-nil, All-cons, All-head, All-tail, All-append}
 use Rattle.um_io.specs.Lines.{IsLine, IsDivided, text_of}
-use Rattle.um_text.specs.declared.fault.LineFault.{LineFault}
-use Rattle.um_text.specs.declared.fault.LineFault.TheVariants.{Long}
-use Rattle.um_text.specs.Refusals.{refused_text}
+use Rattle.um_lines.specs.declared.fault.LineFault.{LineFault}
+use Rattle.um_lines.specs.declared.fault.LineFault.TheVariants.{Long}
+use Rattle.um_lines.specs.Refusals.{refused_text}
 use Rattle.um_driver.specs.Divided.{Begins}
 use Rattle.um_driver.specs.Rules.{Rules, IsGood, IsBad, Runs, IsTotal}
 use Rattle.um_driver.specs.Outputs.{IsGoodInput, IsJudged, IsBadEnd, IsRefused, IsPartialOutput, IsOver, IsOutput}

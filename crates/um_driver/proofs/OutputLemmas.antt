@@ -1,7 +1,7 @@
 -- The output of an input, by the lines of it that are judged.
 use Rattle.std.proofs.Common.{◌≡◌, ℕ, ◌<◌, ◌≤◌, ◌+◌, Bool, true, false, List, [], ◌∷◌, ◌++◌, length, ◌⊎◌, inl, inr, sym, refl, ap, ◌∙◌, subst, append_assoc, append-nil, arith}
-use Rattle.um_text.specs.declared.fault.LineFault.{LineFault}
-use Rattle.um_text.specs.Refusals.{refused_text}
+use Rattle.um_lines.specs.declared.fault.LineFault.{LineFault}
+use Rattle.um_lines.specs.Refusals.{refused_text}
 use Rattle.um_driver.specs.Rules.{Rules, IsGood, IsBad, Runs, IsDetermined}
 use Rattle.um_driver.specs.Outputs.{IsGoodInput, IsRefused, IsOutput, IsTooLong}
 use Rattle.um_driver.specs.Laws.{OutputIsUnique}

@@ -6,7 +6,7 @@ use Rattle.std.proofs.lemmas.List.Elements.{All-nil}
 use Rattle.um_io.specs.Lines.{IsLine, text_of}
 use Rattle.um_io.specs.Outside.{Rose}
 use Rattle.um_io.specs.Reading.{Reading, at_start}
-use Rattle.um_text.specs.Refusals.{refused_text}
+use Rattle.um_lines.specs.Refusals.{refused_text}
 use Rattle.um_driver.specs.Rules.{Rules}
 use Rattle.um_driver.specs.Table.{IsFront, AreFirst, AreAnswered, IsDue, IsServed, IsRun, TakesFront, HasCause}
 use Rattle.um_driver.specs.Course.{Holds, IsAt, IsUnderway, Closes, IsEnding, Comes, Concludes, Settles, WriteCause}

@@ -9,9 +9,9 @@ use Rattle.um_io.specs.Reading.{Reading, IsReading, NeedsMore, IsReady}
 use Rattle.um_io.specs.Next.{IsAnswered, IsHeld, Gives, IsStep, IsNext}
 use Rattle.um_io.specs.declared.lines.Next.{Next}
 use Rattle.um_io.specs.declared.lines.Next.TheVariants as next
-use Rattle.um_text.specs.declared.fault.LineFault.{LineFault}
-use Rattle.um_text.specs.declared.fault.LineFault.TheVariants.{Long}
-use Rattle.um_text.specs.Refusals.{refused_text}
+use Rattle.um_lines.specs.declared.fault.LineFault.{LineFault}
+use Rattle.um_lines.specs.declared.fault.LineFault.TheVariants.{Long}
+use Rattle.um_lines.specs.Refusals.{refused_text}
 use Rattle.um_driver.specs.Divided.{Begins}
 use Rattle.um_driver.specs.Rules.{Rules, IsGood, IsBad, Runs, Answers}
 use Rattle.um_driver.specs.Outputs.{IsJudged, IsRefused}

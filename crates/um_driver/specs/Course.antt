@@ -4,8 +4,8 @@ use Rattle.std.specs.Io.KnownBytes.{Appends, Consumes, Keeps, IsAtEnd}
 use Rattle.um_io.specs.Lines.{IsLine, IsCutOff, text_of}
 use Rattle.um_io.specs.Reading.{Reading, IsReading}
 use Rattle.um_io.specs.Outside.{Rose}
-use Rattle.um_text.specs.declared.fault.LineFault.{LineFault}
-use Rattle.um_text.specs.Refusals.{refused_text}
+use Rattle.um_lines.specs.declared.fault.LineFault.{LineFault}
+use Rattle.um_lines.specs.Refusals.{refused_text}
 use Rattle.um_driver.specs.Rules.{Rules, Runs}
 use Rattle.um_driver.specs.Outputs.{IsRefused}
 use Rattle.um_driver.specs.Table.{Reads, AreAnswered, IsNear, Row, TakesFront}

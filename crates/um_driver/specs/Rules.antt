@@ -1,8 +1,8 @@
 -- What a command says of the lines of its input: a machine over lines.
 use Rattle.std.specs.Prelude.{ℕ, ◌≡◌, ◌≤◌, ◌<◌, List, [], ◌∷◌, ◌++◌, length, Option, Some, None, Result, MatchResult, ◌⊎◌}
 use Rattle.um_io.specs.Lines.{IsLine}
-use Rattle.um_text.specs.declared.fault.LineFault.{LineFault}
-use Rattle.um_text.specs.declared.fault.LineFault.TheVariants.{Long}
+use Rattle.um_lines.specs.declared.fault.LineFault.{LineFault}
+use Rattle.um_lines.specs.declared.fault.LineFault.TheVariants.{Long}
 
 -- the command's first reason of a line in a state, if there is one; the reason of an input that ends in a state, if
 -- there is one; and what may answer a line in a state, and which state may come then

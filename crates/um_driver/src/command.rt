@@ -3,7 +3,7 @@ ghost use Rattle.std.specs.Prelude.{◌≡◌, ◌≤◌, [], length};
 ghost use Rattle.um_io.specs.Lines.{IsLine};
 ghost use Rattle.um_driver.specs.Rules.{Rules, Answers};
 
-use um_text::{LineFault, Text};
+use um_lines::{LineFault, Text};
 
 /// A command over the lines of its input.
 pub trait Command {

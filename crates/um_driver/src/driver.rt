@@ -2,7 +2,7 @@
 ghost use Rattle.std.specs.Prelude.{◌≡◌, ◌≢◌, ℕ, ◌≤◌, ◌<◌, List, Option, Some, None, [], ◌++◌, ◌⊎◌, OnOk, OnErr};
 ghost use Rattle.um_io.specs.Outside.{Rose};
 ghost use Rattle.um_io.specs.Reading.{at_start, IsReady};
-ghost use Rattle.um_text.specs.Refusals.{refused_text};
+ghost use Rattle.um_lines.specs.Refusals.{refused_text};
 ghost use Rattle.um_driver.specs.Table.{IsRun, HasCause, Completes};
 ghost use Rattle.um_driver.specs.Taking.{GathersAll};
 ghost use Rattle.um_driver.specs.Course.{IsUnderway, Comes, Concludes, Settles, WriteCause};
@@ -12,7 +12,7 @@ use crate::gathered::Gathered;
 use crate::status::Status;
 use std::alloc::Global;
 use um_io::{Failed, Lines, Next, Sink, Source};
-use um_text::{LineFault, Text, refused_line};
+use um_lines::{LineFault, Text, refused_line};
 
 /// What the next line of the input comes to.
 enum Turn {

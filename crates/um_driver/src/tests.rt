@@ -1,10 +1,10 @@
 ghost use Rattle.std.specs.Prelude.{◌≡◌, ◌==◌, ℕ, List, Bool, Some, None, [], length, nat_lt, not, if◌then◌else◌};
-ghost use Rattle.um_text.specs.Refusals.{refused_text};
+ghost use Rattle.um_lines.specs.Refusals.{refused_text};
 
 use super::*;
 use std::test::Fail;
 use um_io::{Failed, MemorySink, MemorySource, PlainSource, Source};
-use um_text::{LineFault, Text, refused_line};
+use um_lines::{LineFault, Text, refused_line};
 
 /// Answers lines by their lengths. One octet opens and closes, three octets are refused, and the
 /// input may not end while something is open.
@@ -14,7 +14,7 @@ struct Sizes {
 }
 
 impl Command for Sizes {
-    ghost use Rattle.um_text.specs.declared.fault.LineFault.TheVariants.{Word, Order, Twice};
+    ghost use Rattle.um_lines.specs.declared.fault.LineFault.TheVariants.{Word, Order, Twice};
 
     ghost State = { Bool };
 

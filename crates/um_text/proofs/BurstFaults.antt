@@ -7,10 +7,10 @@ use Rattle.std.specs.Str.{bytes_eq}
 use Rattle.std.proofs.lemmas.Bool.{cases_Bool, ne_eqb}
 use Rattle.std.proofs.lemmas.List.Splits.{length-slice_split}
 use Rattle.hex.specs.Hex.{is_hex_digit}
-use Rattle.um_text.specs.declared.fault.LineFault.TheVariants.{Word, Soft}
-use Rattle.um_text.specs.Words.{words}
-use Rattle.um_text.specs.Digits.{is_bit_digit}
-use Rattle.um_text.specs.HexDigits.{hex_octets}
+use Rattle.um_lines.specs.declared.fault.LineFault.TheVariants.{Word, Soft}
+use Rattle.um_lines.specs.Words.{words}
+use Rattle.um_lines.specs.Fields.{is_bit_digit}
+use Rattle.um_lines.specs.Fields.{hex_octets}
 use Rattle.um_text.specs.SoftWords.{signed_octets}
 use Rattle.um_text.specs.Forms.{may_stand, words_fault, words_fault_here}
 use Rattle.um_text.specs.BurstLines.{burst_forms, forms_elsewhere}

@@ -11,16 +11,17 @@ use Rattle.std.proofs.lemmas.Slice.Eq.{bytes_eq-Decides}
 use Rattle.bit_blocks.specs.Bits.{AllBits}
 use Rattle.conv_code.specs.Likelihood.{AllSoft}
 use Rattle.hex.specs.Hex.{is_hex_digit}
-use Rattle.um_text.specs.declared.fault.LineFault.{LineFault}
-use Rattle.um_text.specs.declared.fault.LineFault.TheVariants.{Long, Word, Order, Digits, Length, Soft}
+use Rattle.um_lines.specs.declared.fault.LineFault.{LineFault}
+use Rattle.um_lines.specs.declared.fault.LineFault.TheVariants.{Long, Word, Order, Digits, Length, Soft}
 use Rattle.um_text.specs.declared.burst_lines.BurstLine.{BurstLine}
 use Rattle.um_text.specs.declared.burst_lines.BurstLine.TheVariants.{Skip, Normal, Access, Sync}
-use Rattle.um_text.specs.Words.{is_long, is_skipped, words}
-use Rattle.um_text.specs.Digits.{is_bit_digit, SpellsBits}
-use Rattle.um_text.specs.HexDigits.{hex_octets}
+use Rattle.um_lines.specs.Words.{is_long, is_skipped, words}
+use Rattle.um_lines.specs.Fields.{is_bit_digit}
+use Rattle.um_text.specs.Digits.{SpellsBits}
+use Rattle.um_lines.specs.Fields.{hex_octets}
 use Rattle.um_text.specs.SoftWords.{SpellsHard}
 use Rattle.um_text.specs.Forms.{has_form, words_fault, words_fault_here}
-use Rattle.um_text.specs.Meanings.{HasOneMeaningUnless}
+use Rattle.um_lines.specs.Meanings.{HasOneMeaningUnless}
 use Rattle.um_text.specs.BurstLines.{burst_forms, single_forms, forms_elsewhere, burst_fault, SpellsBurst, BurstWordsMean, BurstMeans}
 use Rattle.um_text.specs.BurstReading.{IsBurstReadAs}
 use Rattle.um_text.proofs.CodeLaws.{is_skipped_by_words}

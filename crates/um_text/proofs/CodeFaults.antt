@@ -1,6 +1,6 @@
 -- When the words of a line of `code` fit no form.
 use Rattle.std.proofs.Common.{◌≡◌, ◌≢◌, ℕ, List, [], ◌∷◌, length, Some, codes, refl}
-use Rattle.um_text.specs.declared.fault.LineFault.TheVariants.{Word}
+use Rattle.um_lines.specs.declared.fault.LineFault.TheVariants.{Word}
 use Rattle.um_text.specs.Forms.{words_fault}
 use Rattle.um_text.specs.CodeLines.{code_forms}
 

@@ -7,15 +7,16 @@ use Rattle.std.proofs.lemmas.Bool.{cases_Bool, le-ltb, ltb-false}
 use Rattle.std.proofs.lemmas.List.Splits.{join_with_byte-slice_split}
 use Rattle.std.proofs.lemmas.Slice.Eq.{bytes_eq-Decides}
 use Rattle.hex.specs.Hex.{is_hex_digit}
-use Rattle.um_text.specs.declared.fault.LineFault.{LineFault}
-use Rattle.um_text.specs.declared.fault.LineFault.TheVariants.{Long, Word}
+use Rattle.um_lines.specs.declared.fault.LineFault.{LineFault}
+use Rattle.um_lines.specs.declared.fault.LineFault.TheVariants.{Long, Word}
 use Rattle.um_text.specs.declared.code.CodeLine.{CodeLine}
 use Rattle.um_text.specs.declared.code.CodeLine.TheVariants.{Skip, Block, Rach, Sch}
-use Rattle.um_text.specs.Words.{is_long, is_skipped, words}
-use Rattle.um_text.specs.Digits.{is_bit_digit, is_digit_to, SpellsBits, SpellsDigit}
-use Rattle.um_text.specs.HexDigits.{hex_octets}
+use Rattle.um_lines.specs.Words.{is_long, is_skipped, words}
+use Rattle.um_lines.specs.Fields.{is_bit_digit, is_digit_to}
+use Rattle.um_text.specs.Digits.{SpellsBits, SpellsDigit}
+use Rattle.um_lines.specs.Fields.{hex_octets}
 use Rattle.um_text.specs.Forms.{words_fault}
-use Rattle.um_text.specs.Meanings.{HasOneMeaningUnless}
+use Rattle.um_lines.specs.Meanings.{HasOneMeaningUnless}
 use Rattle.um_text.specs.CodeLines.{code_forms, code_fault, WordsMean, CodeMeans}
 use Rattle.um_text.specs.CodeReading.{IsReadAs}
 use Rattle.um_text.proofs.DigitWords.{SpellsBits-digits, SpellsBits-length, SpellsBits-unique, bits_of, spelled_bits, SpellsDigit-digit, SpellsDigit-unique, spelled_digit}

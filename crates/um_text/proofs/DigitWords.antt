@@ -5,7 +5,8 @@ use Rattle.std.proofs.lemmas.Bool.{and_parts}
 use Rattle.std.proofs.lemmas.List.{length-map}
 use Rattle.std.proofs.lemmas.List.Elements.{All-nil, All-cons, All-head, All-tail}
 use Rattle.bit_blocks.specs.Bits.{AllBits}
-use Rattle.um_text.specs.Digits.{bit_digits, is_bit_digit, is_digit_to, SpellsBits, SpellsDigit}
+use Rattle.um_lines.specs.Fields.{bit_digits, is_bit_digit, is_digit_to}
+use Rattle.um_text.specs.Digits.{SpellsBits, SpellsDigit}
 
 -- the digits of bits are digits
 list_all-bit_digits : (bits : List ℕ) → AllBits bits → list_all is_bit_digit (bit_digits bits) ≡ true

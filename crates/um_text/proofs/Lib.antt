@@ -3,7 +3,6 @@ pub mod BurstLaws
 pub mod CodeFaults
 pub mod CodeLaws
 pub mod DigitWords
-pub mod HexLists
 pub mod PackedOctets
 pub mod ReportLaws
 pub mod ShowFaults
@@ -13,7 +12,6 @@ pub mod ShowMeanings
 pub mod ShowOnce
 pub mod SmallOctets
 pub mod SoftLists
-pub mod WordLists
 pub mod WorkedBursts
 pub mod WorkedLines
 pub mod WorkedShow

@@ -1,7 +1,7 @@
 -- When the words of a line of `show` fit no form, and which form those of a frame have.
 use Rattle.std.proofs.Common.{◌≡◌, ℕ, true, false, ◌&&◌, Bool, List, [], ◌∷◌, Some, codes, refl, ◌∙◌, ap}
 use Rattle.std.specs.Str.{bytes_eq}
-use Rattle.um_text.specs.declared.fault.LineFault.TheVariants.{Digits, Length}
+use Rattle.um_lines.specs.declared.fault.LineFault.TheVariants.{Digits, Length}
 use Rattle.um_text.specs.declared.frame_words.FrameWords.{FrameWords}
 use Rattle.um_text.specs.declared.frame_words.Fields.{Fields}
 use Rattle.um_text.specs.declared.frame_words.Fields.TheVariants.{I, Rr, Rnr, Rej, Sabm, Dm, Ui, Disc, Ua}

@@ -3,8 +3,9 @@ use Rattle.std.proofs.Common.{◌≡◌, ℕ, ◌≤◌, Bool, true, false, not,
 use Rattle.std.proofs.lemmas.Bool.{and_parts, or_parts}
 use Rattle.um_text.specs.declared.frame_words.Fields.{Fields}
 use Rattle.um_text.specs.declared.frame_words.Fields.TheVariants.{I, Sabm, Ui, Ua}
-use Rattle.um_text.specs.Digits.{is_digit_to}
-use Rattle.um_text.specs.HexDigits.{is_octets_word, octet_count}
+use Rattle.um_lines.specs.Fields.{is_digit_to}
+use Rattle.um_lines.specs.Fields.{octet_count}
+use Rattle.um_text.specs.HexDigits.{is_octets_word}
 use Rattle.um_text.specs.Forms.{has_wrong_digits, has_wrong_length, some_word}
 use Rattle.um_text.specs.ShowReading.{kind_form, kind_of, field_words, info_word, least_info, are_octet_digits}
 

@@ -7,13 +7,14 @@ use Rattle.std.proofs.lemmas.List.Splits.{join_with_byte-slice_split}
 use Rattle.lapdm_frame.specs.declared.Channel.TheVariants.{Sdcch}
 use Rattle.lapdm_frame.specs.Content.{Content, I, Rr, Rnr, Rej, Sabm, Dm, Ui, Disc, Ua, information}
 use Rattle.lapdm_frame.specs.Frames.{NumbersFit, InformationFits}
-use Rattle.um_text.specs.declared.fault.LineFault.{LineFault}
+use Rattle.um_lines.specs.declared.fault.LineFault.{LineFault}
 use Rattle.um_text.specs.declared.show.ShowLine.{ShowLine}
 use Rattle.um_text.specs.declared.show.ShowLine.TheVariants.{Skip, Octets}
 use Rattle.um_text.specs.declared.show.ShowLine.TheVariants as S
-use Rattle.um_text.specs.Words.{is_skipped, words}
-use Rattle.um_text.specs.Digits.{is_digit_to}
-use Rattle.um_text.specs.HexDigits.{hex_octets, octet_count, SpellsAnyOctets}
+use Rattle.um_lines.specs.Words.{is_skipped, words}
+use Rattle.um_lines.specs.Fields.{is_digit_to}
+use Rattle.um_lines.specs.Fields.{hex_octets, octet_count}
+use Rattle.um_text.specs.HexDigits.{SpellsAnyOctets}
 use Rattle.um_text.specs.Forms.{words_fault}
 use Rattle.um_text.specs.FrameTexts.{digit, flag}
 use Rattle.um_text.specs.ShowLines.{show_forms, show_fault, frame_words, WordsMean, ShowMeans}

@@ -7,11 +7,12 @@ use Rattle.hex.specs.Hex.{is_hex_digit}
 use Rattle.lapdm_frame.specs.declared.Channel.TheVariants.{Sdcch}
 use Rattle.lapdm_frame.specs.Content.{Content, I, Rr, Rnr, Rej, Sabm, Dm, Ui, Disc, Ua, information}
 use Rattle.lapdm_frame.specs.Frames.{NumbersFit, InformationFits, octets_of}
-use Rattle.um_text.specs.declared.fault.LineFault.TheVariants.{Digits, Length}
+use Rattle.um_lines.specs.declared.fault.LineFault.TheVariants.{Digits, Length}
 use Rattle.um_text.specs.declared.show.ShowLine.{ShowLine}
 use Rattle.um_text.specs.declared.show.ShowLine.TheVariants as S
-use Rattle.um_text.specs.Digits.{is_digit_to}
-use Rattle.um_text.specs.HexDigits.{hex_octets, is_octets_word, octet_count, SpellsAnyOctets}
+use Rattle.um_lines.specs.Fields.{is_digit_to}
+use Rattle.um_lines.specs.Fields.{hex_octets, octet_count}
+use Rattle.um_text.specs.HexDigits.{is_octets_word, SpellsAnyOctets}
 use Rattle.um_text.specs.Forms.{Field, Form, Fixed, DigitTo, BitDigits, HexDigits, SoftDigits, Octets, may_stand, has_form, has_wrong_digits, has_wrong_length, some_word, form_fault, words_fault}
 use Rattle.um_text.specs.FrameTexts.{digit, flag}
 use Rattle.um_text.specs.ShowLines.{numbered, supervisory, informed, plain, frame_form, show_forms, content_words, WordsMean}

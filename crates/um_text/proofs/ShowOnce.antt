@@ -6,16 +6,17 @@ use Rattle.std.proofs.lemmas.Slice.Eq.{bytes_eq-Decides}
 use Rattle.lapdm_frame.specs.declared.Channel.TheVariants.{Sdcch}
 use Rattle.lapdm_frame.specs.Content.{Content, I, Rr, Rnr, Rej, Sabm, Dm, Ui, Disc, Ua, information}
 use Rattle.lapdm_frame.specs.Frames.{octets_of}
-use Rattle.um_text.specs.declared.fault.LineFault.{LineFault}
-use Rattle.um_text.specs.declared.fault.LineFault.TheVariants.{Long}
+use Rattle.um_lines.specs.declared.fault.LineFault.{LineFault}
+use Rattle.um_lines.specs.declared.fault.LineFault.TheVariants.{Long}
 use Rattle.um_text.specs.declared.show.ShowLine.{ShowLine}
 use Rattle.um_text.specs.declared.show.ShowLine.TheVariants.{Skip, Octets}
 use Rattle.um_text.specs.declared.show.ShowLine.TheVariants as S
-use Rattle.um_text.specs.Words.{is_long, is_skipped, words}
-use Rattle.um_text.specs.HexDigits.{hex_octets, SpellsAnyOctets}
+use Rattle.um_lines.specs.Words.{is_long, is_skipped, words}
+use Rattle.um_lines.specs.Fields.{hex_octets}
+use Rattle.um_text.specs.HexDigits.{SpellsAnyOctets}
 use Rattle.um_text.specs.Forms.{words_fault}
 use Rattle.um_text.specs.FrameTexts.{digit, flag}
-use Rattle.um_text.specs.Meanings.{HasOneMeaningUnless}
+use Rattle.um_lines.specs.Meanings.{HasOneMeaningUnless}
 use Rattle.um_text.specs.ShowLines.{show_forms, show_fault, content_words, frame_words, SpellsFrame, WordsMean, ShowMeans}
 use Rattle.um_text.proofs.ShowLaws.{not_skipped, line_without_fault}
 use Rattle.um_text.proofs.ShowMeanings.{words_mean}

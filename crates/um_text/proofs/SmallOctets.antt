@@ -2,7 +2,8 @@
 use Rattle.std.proofs.Common.{◌≡◌, ℕ, ◌+◌, ◌*◌, ◌<◌, List, [], ◌∷◌, refl, sym, subst, arith}
 use Rattle.std.specs.List.{All}
 use Rattle.std.proofs.lemmas.List.Elements.{All-nil, All-cons}
-use Rattle.um_text.specs.HexDigits.{digit_value, hex_octets, SpellsOctets}
+use Rattle.um_lines.specs.Fields.{digit_value, hex_octets}
+use Rattle.um_text.specs.HexDigits.{SpellsOctets}
 
 digit_value-small : (digit : ℕ) → digit_value digit < 16
 digit_value-small digit = grind arith

@@ -12,8 +12,8 @@ use Rattle.std.proofs.lemmas.List.Elements.{All-nil, All-cons, All-head, All-tai
 use Rattle.hex.specs.Hex.{is_hex_digit}
 use Rattle.conv_code.specs.Likelihood.{AllSoft}
 use Rattle.um_block.specs.Received.{soft_value, softened}
-use Rattle.um_text.specs.Digits.{is_bit_digit}
-use Rattle.um_text.specs.HexDigits.{digit_value, hex_octets}
+use Rattle.um_lines.specs.Fields.{is_bit_digit}
+use Rattle.um_lines.specs.Fields.{digit_value, hex_octets}
 use Rattle.um_text.specs.SoftWords.{SpellsHard, SpellsSoft, signed_octets}
 use Rattle.um_text.proofs.DigitWords.{bits_of, spelled_bits, SpellsBits-digits, SpellsBits-length, SpellsBits-unique}
 

@@ -1,8 +1,8 @@
 -- Lines of `replay` that were judged by hand, and what the definitions say of them.
 use Rattle.std.proofs.Common.{◌≡◌, ◌∷◌, [], ◌++◌, pos, negsuc, Some, None, refl, codes, replicate}
 use Rattle.um_block.specs.Received.{softened}
-use Rattle.um_text.specs.declared.fault.LineFault.TheVariants.{Long, Word, Order, Digits, Length, Soft}
-use Rattle.um_text.specs.HexDigits.{hex_octets}
+use Rattle.um_lines.specs.declared.fault.LineFault.TheVariants.{Long, Word, Order, Digits, Length, Soft}
+use Rattle.um_lines.specs.Fields.{hex_octets}
 use Rattle.um_text.specs.SoftWords.{signed_octets}
 use Rattle.um_text.specs.BurstLines.{burst_fault}
 

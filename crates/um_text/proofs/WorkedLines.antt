@@ -1,8 +1,8 @@
 -- Lines that were judged by hand, and what the definitions say of them.
 use Rattle.std.proofs.Common.{◌≡◌, ◌∷◌, [], Some, None, refl, codes, replicate}
-use Rattle.um_text.specs.declared.fault.LineFault.TheVariants.{Long, Word, Digits, Length}
-use Rattle.um_text.specs.Words.{words}
-use Rattle.um_text.specs.HexDigits.{hex_octets}
+use Rattle.um_lines.specs.declared.fault.LineFault.TheVariants.{Long, Word, Digits, Length}
+use Rattle.um_lines.specs.Words.{words}
+use Rattle.um_lines.specs.Fields.{hex_octets}
 use Rattle.um_text.specs.CodeLines.{code_fault}
 
 too_few_digits : code_fault (codes "rach 0000000 000000") ≡ Some Length

@@ -7,10 +7,10 @@ use Rattle.lapdm_frame.specs.declared.Refusal.TheVariants.{Lpd, Ea}
 use Rattle.lapdm_frame.specs.Content.{I, Rnr, Ui, Frame}
 use Rattle.lapdm_frame.specs.Refusals.{AppliesTo, place, IsRefused}
 use Rattle.um_block.specs.Packed.{octets_of}
-use Rattle.um_text.specs.declared.fault.LineFault.TheVariants.{Digits}
-use Rattle.um_text.specs.declared.fault.LineFault.TheVariants as F
-use Rattle.um_text.specs.Words.{words}
-use Rattle.um_text.specs.HexDigits.{hex_octets}
+use Rattle.um_lines.specs.declared.fault.LineFault.TheVariants.{Digits}
+use Rattle.um_lines.specs.declared.fault.LineFault.TheVariants as F
+use Rattle.um_lines.specs.Words.{words}
+use Rattle.um_lines.specs.Fields.{hex_octets}
 use Rattle.um_text.specs.FrameTexts.{frame_text, IsFrameText}
 use Rattle.um_text.specs.ShowLines.{show_fault, frame_words}
 

@@ -6,13 +6,14 @@ use Rattle.std.proofs.lemmas.List.Elements.{All-nil, All-cons, All-append}
 use Rattle.bit_blocks.specs.Bits.{AllBits}
 use Rattle.um_block.specs.Received.{softened}
 use Rattle.um_text.specs.declared.burst_lines.BurstLine.TheVariants.{Normal, Access, Sync}
-use Rattle.um_text.specs.Words.{IsNoSpace, words}
-use Rattle.um_text.specs.Digits.{bit_digits, SpellsBits}
+use Rattle.um_lines.specs.Words.{IsNoSpace, words}
+use Rattle.um_lines.specs.Fields.{bit_digits}
+use Rattle.um_text.specs.Digits.{SpellsBits}
 use Rattle.um_text.specs.SoftWords.{SpellsHard}
 use Rattle.um_text.specs.BurstTexts.{normal_text, access_text, sync_text}
 use Rattle.um_text.specs.BurstLines.{BurstMeans}
 use Rattle.um_text.specs.WrittenBursts.{IsWholeLine}
-use Rattle.um_text.proofs.WordLists.{words-join}
+use Rattle.um_lines.proofs.WordLists.{words-join}
 
 -- the lines without their line feeds
 abbrev pub normal_line : List ℕ → List ℕ

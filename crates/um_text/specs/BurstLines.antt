@@ -1,9 +1,9 @@
 -- The lines of the command `replay` (this project's own rule).
 use Rattle.std.specs.Prelude.{ℕ, ◌≡◌, ◌≤◌, ◌==◌, ◌⊎◌, ℤ, pos, List, [], ◌∷◌, ◌++◌, length, replicate, Option, IsTrue, if◌then◌else◌, codes}
-use Rattle.um_text.specs.declared.fault.LineFault.{LineFault}
+use Rattle.um_lines.specs.declared.fault.LineFault.{LineFault}
 use Rattle.um_text.specs.declared.burst_lines.BurstLine.{BurstLine}
 use Rattle.um_text.specs.declared.burst_lines.BurstLine.TheVariants.{Skip, Normal, Access, Sync}
-use Rattle.um_text.specs.Words.{is_skipped, words}
+use Rattle.um_lines.specs.Words.{is_skipped, words}
 use Rattle.um_text.specs.Digits.{SpellsBits}
 use Rattle.um_text.specs.SoftWords.{SpellsHard, SpellsSoft}
 use Rattle.um_text.specs.Forms.{Form, Fixed, BitDigits, SoftDigits, line_fault_here}

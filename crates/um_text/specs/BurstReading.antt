@@ -1,6 +1,6 @@
 -- What the parts of the reader of `replay` answer: only their own bodies need this.
 use Rattle.std.specs.Prelude.{ℕ, ◌≡◌, List, Some, Result, MatchResult}
-use Rattle.um_text.specs.declared.fault.LineFault.{LineFault}
+use Rattle.um_lines.specs.declared.fault.LineFault.{LineFault}
 use Rattle.um_text.specs.declared.burst_lines.BurstLine.{BurstLine}
 use Rattle.um_text.specs.Forms.{words_fault_here}
 use Rattle.um_text.specs.BurstLines.{burst_forms, forms_elsewhere, BurstWordsMean}

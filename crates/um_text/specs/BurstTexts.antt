@@ -1,7 +1,7 @@
 -- The lines that bursts are written as (this project's own rule).
 use Rattle.std.specs.Prelude.{ℕ, List, ◌++◌, codes}
 use Rattle.std.specs.List.{flat_map}
-use Rattle.um_text.specs.Digits.{bit_digits}
+use Rattle.um_lines.specs.Fields.{bit_digits}
 
 -- `n DIGITS148`, a normal burst
 abbrev pub normal_text : List ℕ → List ℕ

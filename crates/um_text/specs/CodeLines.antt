@@ -1,9 +1,9 @@
 -- The lines of the command `code` (this project's own rule).
 use Rattle.std.specs.Prelude.{ℕ, ◌≡◌, ◌≤◌, List, [], ◌∷◌, length, Option, IsTrue, codes}
-use Rattle.um_text.specs.declared.fault.LineFault.{LineFault}
+use Rattle.um_lines.specs.declared.fault.LineFault.{LineFault}
 use Rattle.um_text.specs.declared.code.CodeLine.{CodeLine}
 use Rattle.um_text.specs.declared.code.CodeLine.TheVariants.{Skip, Block, Rach, Sch}
-use Rattle.um_text.specs.Words.{is_skipped, words}
+use Rattle.um_lines.specs.Words.{is_skipped, words}
 use Rattle.um_text.specs.Digits.{SpellsBits, SpellsDigit}
 use Rattle.um_text.specs.HexDigits.{SpellsOctets}
 use Rattle.um_text.specs.Forms.{Form, Fixed, DigitTo, BitDigits, HexDigits, line_fault}

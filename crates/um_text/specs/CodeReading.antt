@@ -1,6 +1,6 @@
 -- What the parts of the reader of `code` answer: only their own bodies need this.
 use Rattle.std.specs.Prelude.{ℕ, ◌≡◌, List, Some, Result, MatchResult}
-use Rattle.um_text.specs.declared.fault.LineFault.{LineFault}
+use Rattle.um_lines.specs.declared.fault.LineFault.{LineFault}
 use Rattle.um_text.specs.declared.code.CodeLine.{CodeLine}
 use Rattle.um_text.specs.Forms.{words_fault}
 use Rattle.um_text.specs.CodeLines.{code_forms, WordsMean}

@@ -4,11 +4,12 @@ use Rattle.std.specs.Cmp.Lexicographic.{pointwise}
 use Rattle.std.specs.List.{list_all, list_any, zip}
 use Rattle.std.specs.Str.{bytes_eq}
 use Rattle.hex.specs.Hex.{is_hex_digit}
-use Rattle.um_text.specs.declared.fault.LineFault.{LineFault}
-use Rattle.um_text.specs.declared.fault.LineFault.TheVariants.{Long, Word, Order, Digits, Length, Soft}
-use Rattle.um_text.specs.Words.{is_long, is_skipped, words}
-use Rattle.um_text.specs.Digits.{is_bit_digit, is_digit_to}
-use Rattle.um_text.specs.HexDigits.{hex_octets, is_octets_word, octet_count}
+use Rattle.um_lines.specs.declared.fault.LineFault.{LineFault}
+use Rattle.um_lines.specs.declared.fault.LineFault.TheVariants.{Long, Word, Order, Digits, Length, Soft}
+use Rattle.um_lines.specs.Words.{is_long, is_skipped, words}
+use Rattle.um_lines.specs.Fields.{is_bit_digit, is_digit_to}
+use Rattle.um_lines.specs.Fields.{hex_octets, octet_count}
+use Rattle.um_text.specs.HexDigits.{is_octets_word}
 
 -- what a form has at the place of a word: this word and no other, one digit up to this, so many digits `0` and `1`, so many
 -- hexadecimal digits, so many of them that are soft values, or octets as many as may stand there

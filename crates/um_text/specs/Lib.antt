@@ -7,11 +7,8 @@ pub mod Digits
 pub mod Forms
 pub mod FrameTexts
 pub mod HexDigits
-pub mod Meanings
-pub mod Refusals
 pub mod Reports
 pub mod ShowLines
 pub mod ShowReading
 pub mod SoftWords
-pub mod Words
 pub mod WrittenBursts

@@ -6,7 +6,7 @@ use Rattle.um_block.specs.Packed.{octets_of}
 use Rattle.um_block.specs.declared.received.Received.{Received}
 use Rattle.um_block.specs.declared.received.ReceivedAccess.{ReceivedAccess}
 use Rattle.um_block.specs.declared.received.ReceivedSync.{ReceivedSync}
-use Rattle.um_text.specs.Digits.{bit_digits}
+use Rattle.um_lines.specs.Fields.{bit_digits}
 use Rattle.um_text.specs.FrameTexts.{IsFrameText}
 
 -- whether the parity holds, as a word

@@ -3,11 +3,11 @@ use Rattle.std.specs.Prelude.{ℕ, ◌≡◌, ◌≤◌, List, [], ◌∷◌, le
 use Rattle.lapdm_frame.specs.declared.Channel.TheVariants.{Sdcch}
 use Rattle.lapdm_frame.specs.Content.{Content, I, Rr, Rnr, Rej, Sabm, Dm, Ui, Disc, Ua, Frame, information}
 use Rattle.lapdm_frame.specs.Frames.{Fits, octets_of}
-use Rattle.um_text.specs.declared.fault.LineFault.{LineFault}
+use Rattle.um_lines.specs.declared.fault.LineFault.{LineFault}
 use Rattle.um_text.specs.declared.show.ShowLine.{ShowLine}
 use Rattle.um_text.specs.declared.show.ShowLine.TheVariants.{Skip, Octets}
 use Rattle.um_text.specs.declared.show.ShowLine.TheVariants as S
-use Rattle.um_text.specs.Words.{is_skipped, words}
+use Rattle.um_lines.specs.Words.{is_skipped, words}
 use Rattle.um_text.specs.HexDigits.{SpellsOctets, SpellsAnyOctets}
 use Rattle.um_text.specs.FrameTexts.{digit, flag}
 use Rattle.um_text.specs.Forms as F

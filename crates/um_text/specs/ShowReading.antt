@@ -3,7 +3,7 @@ use Rattle.std.specs.Prelude.{ℕ, ◌≡◌, Bool, false, ◌||◌, List, [], �
 use Rattle.std.specs.List.{list_all}
 use Rattle.std.specs.Str.{bytes_eq}
 use Rattle.hex.specs.Hex.{is_hex_digit}
-use Rattle.um_text.specs.declared.fault.LineFault.{LineFault}
+use Rattle.um_lines.specs.declared.fault.LineFault.{LineFault}
 use Rattle.um_text.specs.declared.show.ShowLine.{ShowLine}
 use Rattle.um_text.specs.declared.frame_words.FrameWords.{FrameWords}
 use Rattle.um_text.specs.declared.frame_words.Kind.{Kind}

@@ -6,7 +6,7 @@ use Rattle.hex.specs.Hex.{is_hex_digit}
 use Rattle.conv_code.specs.Likelihood.{AllSoft}
 use Rattle.um_block.specs.Received.{softened}
 use Rattle.um_text.specs.Digits.{SpellsBits}
-use Rattle.um_text.specs.HexDigits.{hex_octets}
+use Rattle.um_lines.specs.Fields.{hex_octets}
 
 -- octets as signed values in two's complement
 abbrev pub signed_octets : List ℕ → List ℤ

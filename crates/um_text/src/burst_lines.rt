@@ -3,19 +3,20 @@ ghost use Rattle.std.specs.Prelude.{◌≡◌, ◌≤◌, ℕ, List, [], ◌∷�
 ghost use Rattle.std.specs.Result.{result_err};
 ghost use Rattle.bit_blocks.specs.Bits.{AllBits};
 ghost use Rattle.um_block.specs.Received.{softened};
-ghost use Rattle.um_text.specs.Words.{words};
-ghost use Rattle.um_text.specs.Meanings.{HasOneMeaningUnless};
+ghost use Rattle.um_lines.specs.Words.{words};
+ghost use Rattle.um_lines.specs.Meanings.{HasOneMeaningUnless};
 ghost use Rattle.um_text.specs.BurstLines.{burst_fault, BurstMeans};
 ghost use Rattle.um_text.specs.BurstReading.{IsBurstReadAs};
 ghost use Rattle.um_text.specs.BurstTexts.{normal_text, access_text, sync_text};
 ghost use Rattle.um_text.specs.WrittenBursts.{IsWholeLine};
 
-use crate::digits::{are_bit_digits, bits_of};
-use crate::fault::LineFault;
-use crate::hex_digits::are_hex_digits;
+use crate::digits::bits_of;
 use crate::soft_digits::{hard_values, has_lowest, soft_values};
-use crate::words::{LINE_LIMIT, first_word, is_skipped, one_word, two_words};
 use bit_blocks::Bits;
+use um_lines::{
+    LINE_LIMIT, LineFault, are_bit_digits, are_hex_digits, first_word, is_skipped, one_word,
+    two_words,
+};
 
 /// What a line of the command `replay` brings: soft values, which are positive for a 0 and negative for a 1.
 #[derive(Clone, Copy, PartialEq, Eq, Debug)]

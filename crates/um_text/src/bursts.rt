@@ -4,8 +4,8 @@ ghost use Rattle.std.specs.List.{All};
 ghost use Rattle.bit_blocks.specs.Bits.{AllBits};
 ghost use Rattle.um_text.specs.BurstTexts.{normal_text, access_text, sync_text, block_text};
 
-use crate::text::Text;
 use bit_blocks::Bits;
+use um_lines::Text;
 
 /// Writes the line of a normal burst.
 pub fn normal_line(out: &mut Text, burst: &[u8; 148])

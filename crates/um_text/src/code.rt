@@ -1,16 +1,17 @@
 //! The lines of the command `code`.
 ghost use Rattle.std.specs.Prelude.{◌≡◌, ℕ, List, ◌∷◌, IfOk, codes};
 ghost use Rattle.std.specs.Result.{result_err};
-ghost use Rattle.um_text.specs.Words.{words};
-ghost use Rattle.um_text.specs.Meanings.{HasOneMeaningUnless};
+ghost use Rattle.um_lines.specs.Words.{words};
+ghost use Rattle.um_lines.specs.Meanings.{HasOneMeaningUnless};
 ghost use Rattle.um_text.specs.CodeLines.{code_fault, CodeMeans};
 ghost use Rattle.um_text.specs.CodeReading.{IsReadAs};
 
-use crate::digits::{are_bit_digits, bits_of, digit_to};
-use crate::fault::LineFault;
-use crate::hex_digits::{are_hex_digits, octets_of};
-use crate::words::{LINE_LIMIT, first_word, is_skipped, one_word, two_words};
+use crate::digits::{bits_of, digit_to};
 use bit_blocks::Bits;
+use um_lines::{
+    LINE_LIMIT, LineFault, are_bit_digits, are_hex_digits, first_word, is_skipped, octets_of,
+    one_word, two_words,
+};
 
 /// What a line of the command `code` asks for.
 #[derive(Clone, Copy, PartialEq, Eq, Debug)]

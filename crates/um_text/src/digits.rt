@@ -1,21 +1,11 @@
 //! Words of decimal digits.
 ghost use Rattle.std.specs.Prelude.{◌≡◌, ◌≤◌, false, length, IsTrue, MatchResult};
 ghost use Rattle.std.specs.List.{list_all};
-ghost use Rattle.um_text.specs.Digits.{is_bit_digit, is_digit_to, SpellsBits, SpellsDigit};
+ghost use Rattle.um_lines.specs.Fields.{is_bit_digit, is_digit_to};
+ghost use Rattle.um_text.specs.Digits.{SpellsBits, SpellsDigit};
 
-use crate::fault::LineFault;
 use bit_blocks::Bits;
-
-/// Whether a word has no other octets than the digits `0` and `1`.
-pub(crate) fn are_bit_digits(word: &[u8]) -> bool
-    ensures { result ≡ list_all is_bit_digit word.now }
-{
-    let mut all = true;
-    for octet in word {
-        all &= matches!(*octet, b'0' | b'1');
-    }
-    all
-}
+use um_lines::LineFault;
 
 /// The bits of `N` digits.
 pub(crate) fn bits_of<const N: usize>(digits: &[u8]) -> Bits<N>

@@ -5,18 +5,17 @@ ghost use Rattle.std.specs.Str.{bytes_eq};
 ghost use Rattle.lapdm_frame.specs.Content.{content_of, information};
 ghost use Rattle.lapdm_frame.specs.Frames.{NumbersFit, InformationFits};
 ghost use Rattle.um_text.specs.FrameTexts.{flag};
-ghost use Rattle.um_text.specs.Words.{words};
-ghost use Rattle.um_text.specs.Digits.{is_digit_to};
-ghost use Rattle.um_text.specs.HexDigits.{hex_octets};
+ghost use Rattle.um_lines.specs.Words.{words};
+ghost use Rattle.um_lines.specs.Fields.{is_digit_to};
+ghost use Rattle.um_lines.specs.Fields.{hex_octets};
 ghost use Rattle.um_text.specs.Forms.{has_form, has_wrong_digits, has_wrong_length, some_word, words_fault};
 ghost use Rattle.um_text.specs.ShowLines.{numbered, supervisory, informed, plain, show_forms, content_words, SpellsFrame};
 ghost use Rattle.um_text.specs.ShowReading.{begins_named, is_named, kind_word, kind_words, kind_form, kind_of, field_words, line_words, line_form, info_word, least_info};
 
 use crate::digits::{digit_of, is_digit_to};
-use crate::fault::LineFault;
 use crate::hex_digits::{are_octet_digits, is_octets_word, some_octets_of};
-use crate::words::{first_word, two_words};
 use lapdm_frame::{Body, Channel, FrameView};
+use um_lines::{LineFault, first_word, two_words};
 
 /// A kind of frame.
 #[derive(Clone, Copy)]

@@ -4,8 +4,8 @@ ghost use Rattle.lapdm_frame.specs.Content.{content_of, frame_of};
 ghost use Rattle.lapdm_frame.specs.Frames.{Fits, NumbersFit, InformationFits};
 ghost use Rattle.um_text.specs.FrameTexts.{digit, flag, octets_word, content_text, frame_text, refusal_word, unread_text, octets_text, IsFrameText};
 
-use crate::text::Text;
 use lapdm_frame::{Body, Channel, FrameView, Refusal};
+use um_lines::Text;
 
 /// Writes the line of the frame that octets are on SDCCH, or `unread` and the word of the reason why they are none.
 pub fn frame_line(out: &mut Text, octets: &[u8; 23])

@@ -3,37 +3,10 @@ ghost use Rattle.std.specs.Prelude.{◌≡◌, ◌*◌, ◌≤◌, ◌||◌, len
 ghost use Rattle.std.specs.List.{list_all};
 ghost use Rattle.std.specs.Str.{bytes_eq};
 ghost use Rattle.hex.specs.Hex.{is_hex_digit};
-ghost use Rattle.um_text.specs.HexDigits.{hex_octets, is_octets_word, octet_count};
+ghost use Rattle.um_lines.specs.Fields.{hex_octets, octet_count};
+ghost use Rattle.um_text.specs.HexDigits.{is_octets_word};
 
-/// Whether a word has no other octets than hexadecimal digits, in either case.
-pub(crate) fn are_hex_digits(word: &[u8]) -> bool
-    ensures { result ≡ list_all is_hex_digit word.now }
-{
-    let mut all = true;
-    for octet in word {
-        all &= is_hex_digit(*octet);
-    }
-    all
-}
-
-fn is_hex_digit(octet: u8) -> bool
-    ensures { result ≡ is_hex_digit octet }
-{
-    matches!(octet, b'0'..=b'9') | matches!(octet, b'A'..=b'F') | matches!(octet, b'a'..=b'f')
-}
-
-/// The octets of `2 * N` digits.
-pub(crate) fn octets_of<const N: usize>(digits: &[u8]) -> [u8; N]
-    requires each { IsTrue (list_all is_hex_digit digits.now) }
-    requires many { length digits.now ≡ 2 * N }
-    ensures { result ≡ hex_octets digits.now }
-{
-    let mut octets = [0; N];
-    match hex::decode_to_slice(digits, &mut octets) {
-        Ok(()) => octets,
-        Err(_) => unreachable!(),
-    }
-}
+use um_lines::are_hex_digits;
 
 /// Whether a word has no other characters than octets have: it is `-`, or has hexadecimal digits alone.
 pub(crate) fn are_octet_digits(word: &[u8]) -> bool

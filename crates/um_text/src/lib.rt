@@ -5,27 +5,20 @@ mod burst_lines;
 mod bursts;
 mod code;
 mod digits;
-mod fault;
 mod frame_words;
 mod frames;
 mod hex_digits;
-mod refusal;
 mod reports;
 mod show;
 mod soft_digits;
-mod text;
-mod words;
 
 pub use burst_lines::{BurstLine, law_burst, law_written_bursts, parse_burst};
 pub use bursts::{access_line, block_lines, normal_line, sync_line};
 pub use code::{CodeLine, law_code, parse_code};
-pub use fault::LineFault;
 pub use frames::{frame_line, octets_line};
-pub use refusal::refused_line;
 pub use reports::{access_report, block_report, sync_report};
 pub use show::{ShowLine, law_show, parse_show};
-pub use text::Text;
-pub use words::law_words;
+pub use um_lines::{LineFault, Text, law_words, refused_line};
 
 #[cfg(test)]
 mod report_tests;

@@ -5,13 +5,13 @@ ghost use Rattle.bit_blocks.specs.Bits.{AllBits};
 ghost use Rattle.bit_blocks.specs.Octets.{bits_of};
 ghost use Rattle.hex.specs.Hex.{encode_lower};
 ghost use Rattle.um_block.specs.Packed.{octets_of};
-ghost use Rattle.um_text.specs.Digits.{bit_digits};
+ghost use Rattle.um_lines.specs.Fields.{bit_digits};
 ghost use Rattle.um_text.specs.Reports.{parity_word, quality_text, data_text, block_line_text, IsBlockReport, access_report_text, sync_report_text};
 
 use crate::frames::push_frame;
-use crate::text::Text;
 use bit_blocks::{Bits, to_octets};
 use um_block::{Received, ReceivedAccess, ReceivedSync};
+use um_lines::Text;
 
 /// Writes what four bursts of a block were received as and, exactly where the parity holds, the line of the octets' frame.
 pub fn block_report(out: &mut Text, r: &Received)

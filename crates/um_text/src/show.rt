@@ -1,15 +1,15 @@
 //! The lines of the command `show`.
 ghost use Rattle.std.specs.Prelude.{◌≡◌, ℕ, List, ◌∷◌, IfOk, codes};
 ghost use Rattle.std.specs.Result.{result_err};
-ghost use Rattle.um_text.specs.Words.{words};
-ghost use Rattle.um_text.specs.Meanings.{HasOneMeaningUnless};
+ghost use Rattle.um_lines.specs.Words.{words};
+ghost use Rattle.um_lines.specs.Meanings.{HasOneMeaningUnless};
 ghost use Rattle.um_text.specs.ShowLines.{show_fault, ShowMeans};
 ghost use Rattle.um_text.specs.ShowReading.{IsReadAs};
 
-use crate::fault::LineFault;
 use crate::frame_words::frame_words;
-use crate::hex_digits::{are_hex_digits, octets_of};
-use crate::words::{LINE_LIMIT, first_word, is_skipped, one_word};
+use um_lines::{
+    LINE_LIMIT, LineFault, are_hex_digits, first_word, is_skipped, octets_of, one_word,
+};
 
 /// What a line of the command `show` asks for.
 #[derive(Clone, Copy, PartialEq, Eq, Debug)]

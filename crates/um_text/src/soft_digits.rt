@@ -3,8 +3,8 @@ ghost use Rattle.std.specs.Prelude.{◌≡◌, ◌+◌, ◌*◌, ◌≤◌, ◌=
 ghost use Rattle.std.specs.List.{list_all, list_any};
 ghost use Rattle.std.specs.Ordering.{int_eq};
 ghost use Rattle.hex.specs.Hex.{is_hex_digit};
-ghost use Rattle.um_text.specs.Digits.{is_bit_digit};
-ghost use Rattle.um_text.specs.HexDigits.{digit_value, hex_octets};
+ghost use Rattle.um_lines.specs.Fields.{is_bit_digit};
+ghost use Rattle.um_lines.specs.Fields.{digit_value, hex_octets};
 ghost use Rattle.um_text.specs.SoftWords.{SpellsHard, signed_octets};
 
 /// The bits of `N` digits as sure soft values.

@@ -1,7 +1,7 @@
 use Rattle.std.proofs.Common.{◌≡◌, true, negsuc, ap, ◌∙◌, sym}
 use Rattle.std.specs.List.{list_any}
 use Rattle.std.specs.Ordering.{int_eq}
-use Rattle.um_text.specs.HexDigits.{hex_octets}
+use Rattle.um_lines.specs.Fields.{hex_octets}
 use Rattle.um_text.specs.SoftWords.{signed_octets}
 use Rattle.um_text.proofs.BurstFaults.{soft_sync_fault}
 use Rattle.um_text.proofs.burst_lines.parse_soft_sync.Goals as goal

@@ -1,6 +1,6 @@
 use Rattle.std.proofs.Common.{◌≡◌, take, length}
 use Rattle.bit_blocks.specs.Bits.{AllBits}
-use Rattle.um_text.specs.Digits.{bit_digits}
+use Rattle.um_lines.specs.Fields.{bit_digits}
 use Rattle.um_text.proofs.digits.bits_of.Given as goal
 
 -- the digits so far are those of the bits so far

@@ -1,6 +1,6 @@
 use Rattle.std.proofs.Common.{◌≡◌, length, Ok, refl}
-use Rattle.um_text.specs.HexDigits.{hex_octets}
-use Rattle.um_text.proofs.HexLists.{decoded_sized, decoded_result}
+use Rattle.um_lines.specs.Fields.{hex_octets}
+use Rattle.um_lines.proofs.HexLists.{decoded_sized, decoded_result}
 use Rattle.um_text.proofs.hex_digits.decode.Goals as goal
 
 pub unreachable-requires : goal.unreachable-requires

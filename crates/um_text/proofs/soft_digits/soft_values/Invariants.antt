@@ -1,5 +1,5 @@
 use Rattle.std.proofs.Common.{◌≡◌, ◌*◌, take, length}
-use Rattle.um_text.specs.HexDigits.{hex_octets}
+use Rattle.um_lines.specs.Fields.{hex_octets}
 use Rattle.um_text.specs.SoftWords.{signed_octets}
 use Rattle.um_text.proofs.soft_digits.soft_values.Given as goal
 

@@ -2,8 +2,8 @@ use Rattle.std.proofs.Common.{◌≡◌, ◌≤◌, length, sym, ap, ◌∙◌, 
 use Rattle.std.proofs.lemmas.Bool.{or_parts}
 use Rattle.std.proofs.lemmas.List.{length-take-le}
 use Rattle.lapdm_frame.specs.Content.{content_of, information}
-use Rattle.um_text.specs.Digits.{is_digit_to}
-use Rattle.um_text.specs.HexDigits.{hex_octets, octet_count}
+use Rattle.um_lines.specs.Fields.{is_digit_to}
+use Rattle.um_lines.specs.Fields.{hex_octets, octet_count}
 use Rattle.um_text.specs.ShowReading.{info_word, least_info}
 use Rattle.um_text.proofs.ShowFields.{same_line, info_digits, info_length}
 use Rattle.um_text.proofs.frame_words.FrameWords.octets.Goals as goal

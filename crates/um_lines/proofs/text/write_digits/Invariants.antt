@@ -1,6 +1,6 @@
 use Rattle.std.proofs.Common.{◌≡◌, take}
-use Rattle.um_text.specs.Digits.{bit_digits}
-use Rattle.um_text.proofs.text.write_digits.Given as goal
+use Rattle.um_lines.specs.Fields.{bit_digits}
+use Rattle.um_lines.proofs.text.write_digits.Given as goal
 
 -- the digits so far are those of the bits so far
 abbrev pub invariant-loop-i : goal.invariant-loop-i

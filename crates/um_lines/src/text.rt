@@ -2,7 +2,7 @@
 ghost use Rattle.std.specs.Prelude.{◌≡◌, ◌+◌, ◌*◌, ◌≤◌, [], ◌++◌, length};
 ghost use Rattle.hex.specs.Hex.{encode_lower};
 ghost use Rattle.bit_blocks.specs.Bits.{AllBits};
-ghost use Rattle.um_text.specs.Digits.{bit_digits};
+ghost use Rattle.um_lines.specs.Fields.{bit_digits};
 
 use std::marker::Model;
 
@@ -51,7 +51,7 @@ impl Text {
     }
 
     /// Appends octets as they are.
-    pub(crate) fn push(&mut self, octets: &[u8])
+    pub fn push(&mut self, octets: &[u8])
         requires { length self.old + length octets.now ≤ 4096 }
         ensures { self.new ≡ self.old ++ octets.now }
     {
@@ -61,7 +61,7 @@ impl Text {
     }
 
     /// Appends a digit `0` or `1` for each bit.
-    pub(crate) fn push_digits(&mut self, bits: &[u8])
+    pub fn push_digits(&mut self, bits: &[u8])
         requires room { length self.old + length bits.now ≤ 4096 }
         requires bits { AllBits bits.now }
         ensures { self.new ≡ self.old ++ bit_digits bits.now }
@@ -72,7 +72,7 @@ impl Text {
     }
 
     /// Appends two hexadecimal digits for each octet, in lower case.
-    pub(crate) fn push_hex(&mut self, octets: &[u8])
+    pub fn push_hex(&mut self, octets: &[u8])
         requires { length self.old + 2 * length octets.now ≤ 4096 }
         ensures text { self.new ≡ self.old ++ encode_lower octets.now }
         ensures length { length self.new ≡ length self.old + 2 * length octets.now }

@@ -1,8 +1,8 @@
 -- The last line of output of an input that is refused (this project's own rule).
 use Rattle.std.specs.Prelude.{ℕ, List, ◌++◌, codes}
 use Rattle.std.specs.Fmt.{decimal}
-use Rattle.um_text.specs.declared.fault.LineFault.{LineFault}
-use Rattle.um_text.specs.declared.fault.LineFault.TheVariants.{Long, Word, Order, Digits, Length, Soft, Place, Twice}
+use Rattle.um_lines.specs.declared.fault.LineFault.{LineFault}
+use Rattle.um_lines.specs.declared.fault.LineFault.TheVariants.{Long, Word, Order, Digits, Length, Soft, Place, Twice}
 
 -- the word of a reason
 abbrev pub reason_word : LineFault → List ℕ

@@ -1,6 +1,6 @@
 //! The line that ends the output of an input that is refused.
 ghost use Rattle.std.specs.Prelude.{◌≡◌, ◌≤◌, [], length};
-ghost use Rattle.um_text.specs.Refusals.{reason_word, refused_text};
+ghost use Rattle.um_lines.specs.Refusals.{reason_word, refused_text};
 
 use crate::fault::LineFault;
 use crate::text::Text;

@@ -1,8 +1,0 @@
-use Rattle.std.proofs.Common.{◌≡◌, take}
-use Rattle.std.specs.List.{list_all}
-use Rattle.hex.specs.Hex.{is_hex_digit}
-use Rattle.um_text.proofs.hex_digits.are_hex_digits.Given as goal
-
--- whether the octets so far are digits
-abbrev pub invariant-loop-octet : goal.invariant-loop-octet
-invariant-loop-octet l = l.all ≡ list_all is_hex_digit (take l.octet-index l.word)
