@@ -12,8 +12,8 @@ use Rattle.lapdm_window.specs.Ends.{Role}
 use Rattle.lapdm_window.specs.Tables.{after_frame}
 use Rattle.lapdm_link.specs.Events as E
 use Rattle.um_air.specs.Air.{Octets, Reads}
-use Rattle.four_ends.specs.declared.Ends.{Ends}
-use Rattle.four_ends.specs.Standing as F
+use Rattle.um_link.specs.declared.ends.Ends.{Ends}
+use Rattle.um_link.specs.FourEnds as F
 use Rattle.um_link.specs.Hearing.{Hears}
 
 pub link_three : (role : Role) (f : Frame) (es : E.Ends) → f.sapi ≡ 3 → Three ≡ (E.takes role f es).sapi

@@ -6,9 +6,9 @@ use Rattle.bit_blocks.specs.Bits.{AllBits}
 use Rattle.circular_buffer.specs.Buffer.{Buffer, buffer}
 use Rattle.um_block.specs.Sent.{IsSentBlock}
 use Rattle.um_air.specs.Air.{Octets, Block}
-use Rattle.air_queue.proofs.Adding.{AreOnTheirWay}
-use Rattle.air_queue.proofs.Adding as Q
-use Rattle.um_link.specs.Tallies.{raised, raised_by}
+use Rattle.um_link.proofs.Adding.{AreOnTheirWay}
+use Rattle.um_link.proofs.Adding as Q
+use Rattle.um_block.specs.Tallies.{raised, raised_by}
 use Rattle.um_link.specs.Ways.{IsWay}
 
 pub record AreSentSoFar (tsc : ℕ) (octets : List Octets) (i : ℕ) (old new : Buffer Block) (sent sent' heard heard' : ℕ) : Type 0 where

@@ -2,7 +2,7 @@
 use Rattle.std.proofs.Common.{◌≡◌, refl, sym, ◌∙◌, ap, subst, ℕ, Bool, true, false, List, [], ◌∷◌, ◌++◌, length, map, Option, Some, None}
 use Rattle.std.proofs.lemmas.Bool.{false≢true}
 use Rattle.std.proofs.lemmas.Bool.Decides.{nat_tests}
-use Rattle.air_queue.proofs.Adding.{adds-none}
+use Rattle.um_link.proofs.Adding.{adds-none}
 use Rattle.lapdm_frame.specs.Layout.{n201}
 use Rattle.lapdm_window.specs.Tables.{after_frame}
 use Rattle.lapdm_window.specs.declared.Sapi.TheVariants.{Zero, Three}
@@ -11,8 +11,8 @@ use Rattle.lapdm_window.specs.Calls.{first_of}
 use Rattle.segmenting.specs.Pieces.{Message}
 use Rattle.um_air.specs.Air.{Reads}
 use Rattle.std.proofs.Common.{arith, ◌≤◌, if◌then◌else◌, nat_eq, nat_lt, Result}
-use Rattle.um_link.specs.declared.No.{No}
-use Rattle.um_link.specs.declared.Step.{Step}
+use Rattle.um_link.specs.declared.events.No.{No}
+use Rattle.um_link.specs.declared.events.Step.{Step}
 use Rattle.um_link.specs.Standing.{Follows}
 use Rattle.lapdm_frame.specs.declared.Channel.{Channel}
 use Rattle.lapdm_frame.specs.Content.{Frame}
@@ -27,17 +27,14 @@ use Rattle.lapdm_link.specs.Events as E
 use Rattle.lapdm_link.specs.Worlds.{sender_of}
 use Rattle.um_air.specs.Air as A
 use Rattle.um_air.specs.Air.{Octets, Block, AirState, way, with_way, as_read, AreSent, Takes, Happens, AirStep, refusal, count}
-use Rattle.air_queue.specs.Coded.{AreCoded, Adds}
-use Rattle.four_ends.specs.declared.Ends.{Ends}
-use Rattle.four_ends.specs.Standing as F
-use Rattle.um_link.specs.declared.world.World.{World}
-use Rattle.um_link.specs.Naming.{request_of}
-use Rattle.four_ends.specs.declared.Call.{Call as Asked}
-use Rattle.four_ends.specs.declared.Call.TheVariants as C
-use Rattle.four_ends.specs.Naming as N
+use Rattle.um_link.specs.Coded.{AreCoded, Adds}
+use Rattle.um_link.specs.declared.ends.Ends.{Ends}
+use Rattle.um_link.specs.FourEnds as F
+use Rattle.um_link.specs.declared.links.Links.{Links}
 use Rattle.um_link.specs.Hearing.{Hears}
 use Rattle.um_link.specs.Hearing as H
-use Rattle.um_link.specs.Standing.{IsSound, Stands, Sends, blocks_from, IsSameBut, ReceivesFrom, LosesFrom}
+use Rattle.um_link.specs.Standing.{IsSound, Stands, blocks_from}
+use Rattle.um_link.specs.Moves.{Sends, IsSameBut, ReceivesFrom, LosesFrom}
 
 coded-sent : (channel : Channel) (tsc : ℕ) (fs : List Frame) (bs : List Block) → AreCoded tsc (map (octets_of channel) fs) bs → AreSent channel tsc fs bs
 coded-sent channel tsc [] [] h = tt
@@ -46,7 +43,7 @@ coded-sent channel tsc (f ∷ fs) [] h = absurd h
 coded-sent channel tsc (f ∷ fs) (b ∷ bs) h = (h.0, coded-sent channel tsc fs bs h.1)
 
 -- before its frames go out the world stands for the air after the event, with the ends after the deed
-pub record IsReady (a between : AirState) (m : World) (effects : Effects) (d : E.Deed) : Type 0 where
+pub record IsReady (a between : AirState) (m : Links) (effects : Effects) (d : E.Deed) : Type 0 where
   pub tsc : m.tsc ≡ a.tsc
   pub channel : m.channel ≡ a.channel
   pub same_tsc : between.tsc ≡ a.tsc
@@ -56,16 +53,16 @@ pub record IsReady (a between : AirState) (m : World) (effects : Effects) (d : E
   pub up : m.up.items ≡ between.up
   pub down : m.down.items ≡ between.down
 
-record IsSent (role : Role) (a between : AirState) (w : World) (d : E.Deed) : Type 0 where
+record IsSent (role : Role) (a between : AirState) (w : Links) (d : E.Deed) : Type 0 where
   blocks : List Block
   sent : AreSent a.channel a.tsc d.frames blocks
   stands : Stands w (with_way role (way role between ++ blocks) (record between { ends = d.after }))
 
-sent-frames : (a between : AirState) (m : World) (effects : Effects) (d : E.Deed) (blocks : List Block) → IsReady a between m effects d → AreCoded m.tsc effects.frames blocks → AreSent a.channel a.tsc d.frames blocks
+sent-frames : (a between : AirState) (m : Links) (effects : Effects) (d : E.Deed) (blocks : List Block) → IsReady a between m effects d → AreCoded m.tsc effects.frames blocks → AreSent a.channel a.tsc d.frames blocks
 sent-frames a between m effects d blocks r h =
     coded-sent a.channel a.tsc d.frames blocks (subst (λ (t : ℕ). AreCoded t (map (octets_of a.channel) d.frames) blocks) r.tsc (subst (λ (os : List Octets). AreCoded m.tsc os blocks) r.does.frames h))
 
-sent-state : (role : Role) (a between : AirState) (m w : World) (effects : Effects) (d : E.Deed) → IsReady a between m effects d → Sends role effects.frames m w → IsSent role a between w d
+sent-state : (role : Role) (a between : AirState) (m w : Links) (effects : Effects) (d : E.Deed) → IsReady a between m effects d → Sends role effects.frames m w → IsSent role a between w d
 sent-state Mobile a between m w effects d r h = record {
   blocks = h.added.blocks;
   sent = sent-frames a between m effects d h.added.blocks r h.added.coded;
@@ -93,7 +90,7 @@ sent-state Network a between m w effects d r h = record {
 abbrev pub step_by : E.Who → Sapi → Option Received → Effects → A.Step
 step_by who sapi received effects = record { who = who; sapi = sapi; received = received; frames = effects.frames; notices = effects.notices }
 
-pub finish : (event : A.Event) (a between : AirState) (m w : World) (read : Option Frame) (effects : Effects) (who : E.Who) (sapi : Sapi) (received : Option Received) (role : Role) →
+pub finish : (event : A.Event) (a between : AirState) (m w : Links) (read : Option Frame) (effects : Effects) (who : E.Who) (sapi : Sapi) (received : Option Received) (role : Role) →
     IsReady a between m effects (E.deed (as_read read event) a.ends) → Sends role effects.frames m w → Takes a event received read between → sender_of who ≡ role → who ≡ (E.deed (as_read read event) a.ends).who → sapi ≡ (E.deed (as_read read event) a.ends).sapi →
     (b : AirState) × Stands w b × Happens a event b (step_by who sapi received effects)
 finish event a between m w read effects who sapi received role r h takes sender same_who same_sapi =
@@ -116,7 +113,7 @@ finish event a between m w read effects who sapi received role r h takes sender 
     )
 
 -- an end that is asked does something
-pub called : (event : A.Event) (role : Role) (w w' : World) (ends' : Ends) (effects : Effects) (who : E.Who) (sapi : Sapi) (step : A.Step) → step ≡ step_by who sapi None effects → F.Follows w.channel (E.deed (as_read None event)) w.ends effects ends' → ((a : AirState) → Stands w a → refusal event a ≡ None) → ((a : AirState) → Takes a event None None a) →
+pub called : (event : A.Event) (role : Role) (w w' : Links) (ends' : Ends) (effects : Effects) (who : E.Who) (sapi : Sapi) (step : A.Step) → step ≡ step_by who sapi None effects → F.Follows w.channel (E.deed (as_read None event)) w.ends effects ends' → ((a : AirState) → Stands w a → refusal event a ≡ None) → ((a : AirState) → Takes a event None None a) →
     sender_of who ≡ role → ((es : E.Ends) → who ≡ (E.deed (as_read None event) es).who) → ((es : E.Ends) → sapi ≡ (E.deed (as_read None event) es).sapi) → Sends role effects.frames (record w { ends = ends' }) w' →
     (a : AirState) → Stands w a → (b : AirState) × Stands w' b × AirStep a event b (A.Does step)
 called event role w w' ends' effects who sapi step is follows unrefused takes sender same_who same_sapi sends a st =
@@ -127,7 +124,7 @@ called event role w w' ends' effects who sapi step is follows unrefused takes se
     (f.0, f.1, (unrefused a st, subst (λ (s : A.Step). Happens a event f.0 s) (sym is) f.2))
 
 -- refusals
-same-way : (role : Role) (w : World) (a : AirState) → Stands w a → blocks_from role w ≡ way role a
+same-way : (role : Role) (w : Links) (a : AirState) → Stands w a → blocks_from role w ≡ way role a
 same-way Mobile w a st = st.up
 same-way Network w a st = st.down
 
@@ -139,49 +136,34 @@ unless-true : (b : Bool) (why : E.Why) (others : Option E.Why) → b ≡ true �
 unless-true true why others h = refl
 unless-true false why others h = absurd (false≢true h)
 
-on-way : (test : ℕ → Bool) (b : Bool) (role : Role) (w : World) (a : AirState) → Stands w a → test (length (blocks_from role w)) ≡ b → test (count a role) ≡ b
+on-way : (test : ℕ → Bool) (b : Bool) (role : Role) (w : Links) (a : AirState) → Stands w a → test (length (blocks_from role w)) ≡ b → test (count a role) ≡ b
 on-way test b role w a st h = sym (ap (λ bs. test (length bs)) (same-way role w a st)) ∙ h
 
-pub asked-full : (role : Role) (sapi : Sapi) (call : Call) (w : World) → E.is_full (length (blocks_from role w)) ≡ true → (a : AirState) → Stands w a → E.asked_refusal (count a) role sapi call a.ends ≡ Some E.AirFull
+pub asked-full : (role : Role) (sapi : Sapi) (call : Call) (w : Links) → E.is_full (length (blocks_from role w)) ≡ true → (a : AirState) → Stands w a → E.asked_refusal (count a) role sapi call a.ends ≡ Some E.AirFull
 asked-full role sapi call w h a st = unless-true _ E.AirFull _ (on-way E.is_full true role w a st h)
 
-pub asked-none : (role : Role) (sapi : Sapi) (call : Call) (w : World) → E.is_full (length (blocks_from role w)) ≡ false → ((es : E.Ends) → F.Stands w.ends es → None ≡ refusal_of call (E.end_in role sapi es)) → (a : AirState) → Stands w a → E.asked_refusal (count a) role sapi call a.ends ≡ None
+pub asked-none : (role : Role) (sapi : Sapi) (call : Call) (w : Links) → E.is_full (length (blocks_from role w)) ≡ false → ((es : E.Ends) → F.Stands w.ends es → None ≡ refusal_of call (E.end_in role sapi es)) → (a : AirState) → Stands w a → E.asked_refusal (count a) role sapi call a.ends ≡ None
 asked-none role sapi call w h n a st = unless-false _ E.AirFull _ (on-way E.is_full false role w a st h) ∙ ap E.because (sym (n a.ends st.ends))
 
-pub asked-because : (role : Role) (sapi : Sapi) (call : Call) (w : World) (refused : Refused) → E.is_full (length (blocks_from role w)) ≡ false → ((es : E.Ends) → F.Stands w.ends es → Some refused ≡ refusal_of call (E.end_in role sapi es)) → (a : AirState) → Stands w a → E.asked_refusal (count a) role sapi call a.ends ≡ Some (E.Because refused)
+pub asked-because : (role : Role) (sapi : Sapi) (call : Call) (w : Links) (refused : Refused) → E.is_full (length (blocks_from role w)) ≡ false → ((es : E.Ends) → F.Stands w.ends es → Some refused ≡ refusal_of call (E.end_in role sapi es)) → (a : AirState) → Stands w a → E.asked_refusal (count a) role sapi call a.ends ≡ Some (E.Because refused)
 asked-because role sapi call w refused h n a st = unless-false _ E.AirFull _ (on-way E.is_full false role w a st h) ∙ ap E.because (sym (n a.ends st.ends))
 
 -- a refused event
-pub stays : (event : A.Event) (why : E.Why) (w : World) → ((a : AirState) → Stands w a → refusal event a ≡ Some why) → (a : AirState) → Stands w a → (b : AirState) × Stands w b × AirStep a event b (A.Refuses why)
+pub stays : (event : A.Event) (why : E.Why) (w : Links) → ((a : AirState) → Stands w a → refusal event a ≡ Some why) → (a : AirState) → Stands w a → (b : AirState) × Stands w b × AirStep a event b (A.Refuses why)
 stays event why w h a st = (a, st, (h a st, refl))
 
-pub stays-ends : (event : A.Event) (why : E.Why) (w : World) (ends' : Ends) → ends' ≡ w.ends → ((a : AirState) → Stands w a → refusal event a ≡ Some why) → (a : AirState) → Stands w a → (b : AirState) × Stands (record w { ends = ends' }) b × AirStep a event b (A.Refuses why)
+pub stays-ends : (event : A.Event) (why : E.Why) (w : Links) (ends' : Ends) → ends' ≡ w.ends → ((a : AirState) → Stands w a → refusal event a ≡ Some why) → (a : AirState) → Stands w a → (b : AirState) × Stands (record w { ends = ends' }) b × AirStep a event b (A.Refuses why)
 stays-ends event why w ends' e h a st = (a, record { tsc = st.tsc; channel = st.channel; ends = subst (λ (p : Ends). F.Stands p a.ends) (sym e) st.ends; up = st.up; down = st.down }, (h a st, refl))
 
 -- what the world keeps to
-pub sound-ends : (w : World) (ends' : Ends) → IsSound w → F.IsOn (F.ends_channel w.ends) ends' → IsSound (record w { ends = ends' })
+pub sound-ends : (w : Links) (ends' : Ends) → IsSound w → F.IsOn (F.ends_channel w.ends) ends' → IsSound (record w { ends = ends' })
 sound-ends w ends' s on = record { tsc = s.tsc; channel = s.channel ∙ sym on.mobile; ends = subst (λ (c : Channel). F.IsOn c ends') (sym on.mobile) on; up = s.up; down = s.down }
 
--- the calls' names
-pub same-call : (call : Asked) → N.call_of call ≡ E.call_of (request_of call)
-same-call (C.Send m) = refl
-same-call (C.Unit m) = refl
-same-call C.Close = refl
-same-call C.Timer = refl
-same-call C.Idle = refl
-
-pub ask-follows : (w : World) (ends' : Ends) (effects : Effects) (role : Role) (sapi : Sapi) (call : Asked) → IsSound w → ((channel : Channel) → F.IsOn channel w.ends → F.Follows channel (E.asks role sapi (N.call_of call)) w.ends effects ends') → F.Follows w.channel (E.asks role sapi (E.call_of (request_of call))) w.ends effects ends'
-ask-follows w ends' effects role sapi call s h =
-    subst (λ (k : Call). F.Follows w.channel (E.asks role sapi k) w.ends effects ends') (same-call call) (h w.channel (subst (λ (c : Channel). F.IsOn c w.ends) (sym s.channel) s.ends))
-
-pub on-channel : (w : World) (ends' : Ends) (effects : Effects) (deed : E.Ends → E.Deed) → IsSound w → F.Follows (F.ends_channel w.ends) deed w.ends effects ends' → F.Follows w.channel deed w.ends effects ends'
+pub on-channel : (w : Links) (ends' : Ends) (effects : Effects) (deed : E.Ends → E.Deed) → IsSound w → F.Follows (F.ends_channel w.ends) deed w.ends effects ends' → F.Follows w.channel deed w.ends effects ends'
 on-channel w ends' effects deed s h = subst (λ (c : Channel). F.Follows c deed w.ends effects ends') (sym s.channel) h
 
-pub ask-refusal : (w : World) (role : Role) (sapi : Sapi) (call : Asked) (why : Option Refused) → ((es : E.Ends) → F.Stands w.ends es → why ≡ refusal_of (N.call_of call) (E.end_in role sapi es)) → (es : E.Ends) → F.Stands w.ends es → why ≡ refusal_of (E.call_of (request_of call)) (E.end_in role sapi es)
-ask-refusal w role sapi call why h es st = h es st ∙ ap (λ k. refusal_of k (E.end_in role sapi es)) (same-call call)
-
 -- a block is gone from the way of an end
-record IsBetween (a between : AirState) (m : World) : Type 0 where
+record IsBetween (a between : AirState) (m : Links) : Type 0 where
   tsc : m.tsc ≡ a.tsc
   channel : m.channel ≡ a.channel
   same_tsc : between.tsc ≡ a.tsc
@@ -190,14 +172,14 @@ record IsBetween (a between : AirState) (m : World) : Type 0 where
   up : m.up.items ≡ between.up
   down : m.down.items ≡ between.down
 
-is-between : (sender : Role) (w m : World) (a : AirState) → IsSameBut sender w m → Stands w a → IsBetween a (with_way sender (blocks_from sender m) a) m
+is-between : (sender : Role) (w m : Links) (a : AirState) → IsSameBut sender w m → Stands w a → IsBetween a (with_way sender (blocks_from sender m) a) m
 is-between Mobile w m a s st = record { tsc = s.tsc ∙ st.tsc; channel = s.channel ∙ st.channel; same_tsc = refl; same_channel = refl; ends = subst (λ (p : Ends). F.Stands p a.ends) (sym s.ends) st.ends; up = refl; down = s.kept ∙ st.down }
 is-between Network w m a s st = record { tsc = s.tsc ∙ st.tsc; channel = s.channel ∙ st.channel; same_tsc = refl; same_channel = refl; ends = subst (λ (p : Ends). F.Stands p a.ends) (sym s.ends) st.ends; up = s.kept ∙ st.up; down = refl }
 
-sends-none : (w : World) (effects : Effects) → effects.frames ≡ [] → Sends Mobile effects.frames w w
+sends-none : (w : Links) (effects : Effects) → effects.frames ≡ [] → Sends Mobile effects.frames w w
 sends-none w effects none = record { added = subst (λ (os : List Octets). Adds w.tsc os (blocks_from Mobile w) (blocks_from Mobile w)) (sym none) (adds-none w.tsc (blocks_from Mobile w)); same = record { kept = refl; tsc = refl; channel = refl; ends = refl } }
 
-pub lost : (sender : Role) (w m : World) (effects : Effects) → LosesFrom sender w m → E.is_empty (length (blocks_from sender w)) ≡ false → effects.frames ≡ [] → effects.notices ≡ [] → (a : AirState) → Stands w a → (b : AirState) × Stands m b × AirStep a (A.Lose sender) b (A.Does (step_by E.Nobody Zero None effects))
+pub lost : (sender : Role) (w m : Links) (effects : Effects) → LosesFrom sender w m → E.is_empty (length (blocks_from sender w)) ≡ false → effects.frames ≡ [] → effects.notices ≡ [] → (a : AirState) → Stands w a → (b : AirState) × Stands m b × AirStep a (A.Lose sender) b (A.Does (step_by E.Nobody Zero None effects))
 lost sender w m effects h some no_frames no_notices a st =
     let i : IsBetween a (with_way sender (blocks_from sender m) a) m = is-between sender w m a h.same st in
     let f = finish (A.Lose sender) a (with_way sender (blocks_from sender m) a) m m None effects E.Nobody Zero None Mobile
@@ -214,7 +196,7 @@ who-takes role (Some f) es = by_test (nat_eq f.sapi 0) (nat_eq f.sapi 3)
     by_test false true = refl
     by_test false false = refl
 
-arrived-at : (sender : Role) (places : List ℕ) (w m w' : World) (ends' : Ends) (report : Received) (sapi : Sapi) (effects : Effects) (step : A.Step) → ReceivesFrom sender places w report m → Hears (E.other sender) m.channel report.accepted m.ends sapi effects ends' → E.is_empty (length (blocks_from sender w)) ≡ false → E.is_full (length (blocks_from (E.other sender) w)) ≡ false →
+arrived-at : (sender : Role) (places : List ℕ) (w m w' : Links) (ends' : Ends) (report : Received) (sapi : Sapi) (effects : Effects) (step : A.Step) → ReceivesFrom sender places w report m → Hears (E.other sender) m.channel report.accepted m.ends sapi effects ends' → E.is_empty (length (blocks_from sender w)) ≡ false → E.is_full (length (blocks_from (E.other sender) w)) ≡ false →
     Sends (E.other sender) effects.frames (record m { ends = ends' }) w' → step ≡ step_by (E.End (E.other sender)) sapi (Some report) effects → (a : AirState) → Stands w a → (b : AirState) × Stands w' b × AirStep a (A.Deliver sender places) b (A.Does step)
 arrived-at sender places w m w' ends' report sapi effects step h hears some room sends is a st =
     let i : IsBetween a (with_way sender (blocks_from sender m) a) m = is-between sender w m a h.same st in
@@ -226,7 +208,7 @@ arrived-at sender places w m w' ends' report sapi effects step h hears some room
     refl (who-takes (E.other sender) t.read a.ends) t.sapi in
     (f.0, f.1, (unless-false _ E.Nothing _ (on-way E.is_empty false sender w a st some) ∙ unless-false _ E.AirFull None (on-way E.is_full false (E.other sender) w a st room), subst (λ (s : A.Step). Happens a (A.Deliver sender places) f.0 s) (sym is) f.2))
 
-pub arrived : (sender end : Role) (places : List ℕ) (w m w' : World) (ends' : Ends) (report : Received) (sapi : Sapi) (effects : Effects) (step : A.Step) → end ≡ E.other sender → ReceivesFrom sender places w report m → Hears end m.channel report.accepted m.ends sapi effects ends' → E.is_empty (length (blocks_from sender w)) ≡ false → E.is_full (length (blocks_from end w)) ≡ false →
+pub arrived : (sender end : Role) (places : List ℕ) (w m w' : Links) (ends' : Ends) (report : Received) (sapi : Sapi) (effects : Effects) (step : A.Step) → end ≡ E.other sender → ReceivesFrom sender places w report m → Hears end m.channel report.accepted m.ends sapi effects ends' → E.is_empty (length (blocks_from sender w)) ≡ false → E.is_full (length (blocks_from end w)) ≡ false →
     Sends end effects.frames (record m { ends = ends' }) w' → step ≡ step_by (E.End end) sapi (Some report) effects → (a : AirState) → Stands w a → (b : AirState) × Stands w' b × AirStep a (A.Deliver sender places) b (A.Does step)
 arrived sender end places w m w' ends' report sapi effects step e h hears some room sends is =
     arrived-at sender places w m w' ends' report sapi effects step h (subst (λ (r : Role). Hears r m.channel report.accepted m.ends sapi effects ends') e hears) some (subst (λ (r : Role). E.is_full (length (blocks_from r w)) ≡ false) e room)
@@ -235,11 +217,11 @@ arrived sender end places w m w' ends' report sapi effects step e h hears some r
 room-bound : (n m : ℕ) → nat_lt 62 n ≡ false → m ≡ n → m ≤ 62
 room-bound n m h e = grind (arith, nat_tests)
 
-room-at : (sender : Role) (w m : World) (ends' : Ends) → IsSameBut sender w m → E.is_full (length (blocks_from (E.other sender) w)) ≡ false → length (blocks_from (E.other sender) (record m { ends = ends' })) ≤ 62
+room-at : (sender : Role) (w m : Links) (ends' : Ends) → IsSameBut sender w m → E.is_full (length (blocks_from (E.other sender) w)) ≡ false → length (blocks_from (E.other sender) (record m { ends = ends' })) ≤ 62
 room-at Mobile w m ends' s h = room-bound (length w.down.items) (length m.down.items) h (ap length s.kept)
 room-at Network w m ends' s h = room-bound (length w.up.items) (length m.up.items) h (ap length s.kept)
 
-pub room-other : (sender end : Role) (w m : World) (ends' : Ends) → end ≡ E.other sender → IsSameBut sender w m → E.is_full (length (blocks_from end w)) ≡ false → length (blocks_from end (record m { ends = ends' })) ≤ 62
+pub room-other : (sender end : Role) (w m : Links) (ends' : Ends) → end ≡ E.other sender → IsSameBut sender w m → E.is_full (length (blocks_from end w)) ≡ false → length (blocks_from end (record m { ends = ends' })) ≤ 62
 room-other sender end w m ends' e s h =
     subst (λ (r : Role). length (blocks_from r (record m { ends = ends' })) ≤ 62) (sym e) (room-at sender w m ends' s (subst (λ (r : Role). E.is_full (length (blocks_from r w)) ≡ false) e h))
 
@@ -248,9 +230,9 @@ rival-by false false h g = refl
 rival-by true c h g = absurd (false≢true (sym h))
 rival-by false true h g = absurd (false≢true (sym g))
 
-pub rival-none : (info : Message) (w : World) → E.is_full (length (blocks_from Mobile w)) ≡ false → nat_eq (length info) 0 ≡ false → nat_lt (n201 w.channel) (length info) ≡ false → (a : AirState) → Stands w a → refusal (A.Rival info) a ≡ None
+pub rival-none : (info : Message) (w : Links) → E.is_full (length (blocks_from Mobile w)) ≡ false → nat_eq (length info) 0 ≡ false → nat_lt (n201 w.channel) (length info) ≡ false → (a : AirState) → Stands w a → refusal (A.Rival info) a ≡ None
 rival-none info w full some short a st =
     unless-false _ E.AirFull _ (on-way E.is_full false Mobile w a st full) ∙ ap E.because (rival-by _ _ some (subst (λ (c : Channel). nat_lt (n201 c) (length info) ≡ false) st.channel short))
 
-pub at-event : (e e' : A.Event) (old new : World) (result : Result Step No) → e ≡ e' → Follows e' old result new → Follows e old result new
+pub at-event : (e e' : A.Event) (old new : Links) (result : Result Step No) → e ≡ e' → Follows e' old result new → Follows e old result new
 at-event e e' old new result same h = subst (λ (x : A.Event). Follows x old result new) (sym same) h

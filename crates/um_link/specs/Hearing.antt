@@ -7,8 +7,8 @@ use Rattle.lapdm_window.specs.declared.effects.Effects.{Effects}
 use Rattle.lapdm_window.specs.Ends.{Role}
 use Rattle.lapdm_link.specs.Events as E
 use Rattle.um_air.specs.Air.{Octets, Reads}
-use Rattle.four_ends.specs.declared.Ends.{Ends}
-use Rattle.four_ends.specs.Standing as F
+use Rattle.um_link.specs.declared.ends.Ends.{Ends}
+use Rattle.um_link.specs.FourEnds as F
 
 pub record Takes (role : Role) (channel : Channel) (accepted : Option Octets) (es : E.Ends) (link : Sapi) (effects : Effects) (new : Ends) : Type 0 where
   pub read : Option Frame

@@ -1,23 +1,29 @@
 -- What the program's names for events and answers mean.
 use Rattle.std.specs.Prelude.{[], Result, Ok, Err}
 use Rattle.lapdm_window.specs.Ends as R
+use Rattle.lapdm_window.specs.Calls as K
 use Rattle.lapdm_window.specs.declared.Refused.TheVariants as Q
 use Rattle.lapdm_link.specs.Events as E
 use Rattle.um_air.specs.Air as A
-use Rattle.four_ends.specs.declared.Call.{Call}
-use Rattle.four_ends.specs.declared.Call.TheVariants as C
-use Rattle.four_ends.specs.Naming.{role_of}
-use Rattle.um_link.specs.declared.Way.{Way}
-use Rattle.um_link.specs.declared.Way.TheVariants.{Up, Down}
-use Rattle.um_link.specs.declared.Air.{Air}
-use Rattle.um_link.specs.declared.Air.TheVariants as V
-use Rattle.um_link.specs.declared.Event.{Event}
-use Rattle.um_link.specs.declared.Event.TheVariants as T
-use Rattle.um_link.specs.declared.Who.{Who}
-use Rattle.um_link.specs.declared.Who.TheVariants as W
-use Rattle.um_link.specs.declared.No.{No}
-use Rattle.um_link.specs.declared.No.TheVariants as N
-use Rattle.um_link.specs.declared.Step.{Step}
+use Rattle.um_link.specs.declared.events.End.{End}
+use Rattle.um_link.specs.declared.events.End.TheVariants as D
+use Rattle.um_link.specs.declared.events.Call.{Call}
+use Rattle.um_link.specs.declared.events.Call.TheVariants as C
+use Rattle.um_link.specs.declared.events.Way.{Way}
+use Rattle.um_link.specs.declared.events.Way.TheVariants.{Up, Down}
+use Rattle.um_link.specs.declared.events.Air.{Air}
+use Rattle.um_link.specs.declared.events.Air.TheVariants as V
+use Rattle.um_link.specs.declared.events.Event.{Event}
+use Rattle.um_link.specs.declared.events.Event.TheVariants as T
+use Rattle.um_link.specs.declared.events.Who.{Who}
+use Rattle.um_link.specs.declared.events.Who.TheVariants as W
+use Rattle.um_link.specs.declared.events.No.{No}
+use Rattle.um_link.specs.declared.events.No.TheVariants as N
+use Rattle.um_link.specs.declared.events.Step.{Step}
+
+abbrev pub role_of : End → R.Role
+role_of D.Mobile = R.Mobile
+role_of D.Network = R.Network
 
 -- a way goes by the end that sends into it
 abbrev pub sender_of : Way → R.Role
@@ -30,6 +36,9 @@ request_of (C.Unit m) = E.SendUnit m.now
 request_of C.Close = E.Close
 request_of C.Timer = E.Tick
 request_of C.Idle = E.Idle
+
+abbrev pub call_of : Call → K.Call
+call_of call = E.call_of (request_of call)
 
 abbrev pub air_event : R.Role → Air → A.Event
 air_event sender V.Deliver = A.Deliver sender []

@@ -1,411 +1,80 @@
-//! The ends of both links, and the blocks on their way between them.
-ghost use Rattle.std.specs.Prelude.{◌≡◌, ◌≤◌, ◌<◌, length, IfOk, OnErr, None, [], ◌∷◌};
+//! The world of one mobile and one network: a call for each event.
+ghost use Rattle.std.specs.Prelude.{◌≡◌, ◌≤◌, IfOk, OnErr};
 ghost use Rattle.lapdm_frame.specs.declared.Channel.TheVariants as C;
-ghost use Rattle.lapdm_window.specs.declared.Sapi.TheVariants as S;
-ghost use Rattle.lapdm_window.specs.Ends as R;
-ghost use Rattle.lapdm_frame.specs.Layout.{n201};
-ghost use Rattle.lapdm_frame.specs.Frames.{octets_of};
-ghost use Rattle.lapdm_link.specs.Events as E;
-ghost use Rattle.um_air.specs.Air as A;
 ghost use Rattle.um_air.specs.Air.{start_on};
-ghost use Rattle.four_ends.specs.Naming.{role_of};
-ghost use Rattle.um_link.specs.Tallies.{raised, raised_by};
-ghost use Rattle.um_link.specs.Ways.{ArePlaces};
+ghost use Rattle.um_block.specs.Tallies.{raised_by};
+ghost use Rattle.um_link.specs.Naming.{event_of, step_of};
+ghost use Rattle.um_link.specs.Standing.{Stands, Follows, FitsWho, frames_in, arrivals_in};
+ghost use Rattle.um_link.specs.Sessions.{GoesOn, KeepsOrder, KeepsDelivery, StaysHarmless};
+ghost use Rattle.um_link.specs.Possible.{IsPossible};
 
-use crate::blocks::{receive_first, send_all, take_first};
-use crate::hearing::{hear, nothing};
-use crate::radio::Radio;
-use crate::{Air, Event, No, Step, Way, Who};
-use circular_buffer::HeapCircularBuffer;
-use four_ends::{Call, End, Ends};
-use lapdm_frame::{Body, Channel, FrameView, write_on};
-use lapdm_window::{Effects, Frames, Notices, Refused, Sapi};
+use crate::events::{Event, No, Step};
+use crate::links::Links;
+use lapdm_frame::Channel;
 use std::alloc::Global;
-use um_air::{law_delivery, law_order};
-use um_block::Received;
+use std::marker::Model;
+use um_air::{law_delivery, law_kind, law_order};
+use um_block::Radio;
 use um_io::NoMemory;
 
-/// The world of one mobile and one network.
+/// One mobile and one network, both links between them, and the blocks on their way, at most 64 up and 64
+/// down. Each frame that an end sends is coded by a radio, and each block that arrives is received by it.
 #[derive(Drop)]
 pub struct World {
-    tsc: u8,
-    channel: Channel,
-    ends: Ends,
-    up: HeapCircularBuffer<[[u8; 148]; 4]>,
-    down: HeapCircularBuffer<[[u8; 148]; 4]>,
+    links: Links,
+}
+
+// Clauses see all that the value holds. What it stands for is a state of the air.
+impl Model for World {
+    ghost use Rattle.um_link.specs.declared.links.Links.{Links};
+
+    ghost Value = { Links };
+
+    ghost use Rattle.um_link.specs.Standing.{IsSound};
+
+    ghost view = { λ world. world.links };
+
+    ghost invariant = { λ world. IsSound world.links };
 }
 
 impl World {
-    ghost use Rattle.um_link.specs.Naming.{air_event, event_of, request_of, step_of};
-    ghost use Rattle.um_link.specs.Standing.{Stands, IsSound, IsPossible, IsPossibleAir, Follows, KeepsOrder, KeepsDelivery, frames_in, arrivals_in, count_of, blocks_from, Sends, ReceivesFrom, LosesFrom};
-
-    /// Idle ends on SDCCH, with nothing on its way.
+    /// Idle ends on SDCCH with a training sequence 0 to 7, and nothing on its way. All memory that a world
+    /// ever needs is taken here.
     pub fn new(alloc: Global, tsc: u8) -> Result<World, NoMemory>
         requires { tsc ≤ 7 }
-        ensures stands { IfOk result (λ w. Stands w (start_on tsc C.Sdcch)) }
-        ensures sound { IfOk result (λ w. IsSound w) }
+        ensures { IfOk result (λ world. Stands world (start_on tsc C.Sdcch)) }
     {
         World::new_on(alloc, tsc, Channel::Sdcch)
     }
 
-    /// Idle ends on a channel, with nothing on its way. All memory is taken here.
+    /// The same on either channel.
     pub fn new_on(alloc: Global, tsc: u8, channel: Channel) -> Result<World, NoMemory>
         requires { tsc ≤ 7 }
-        ensures stands { IfOk result (λ w. Stands w (start_on tsc channel)) }
-        ensures sound { IfOk result (λ w. IsSound w) }
+        ensures { IfOk result (λ world. Stands world (start_on tsc channel)) }
     {
-        let up = HeapCircularBuffer::with_capacity(alloc, 64).map_err(|_| NoMemory)?;
-        let down = HeapCircularBuffer::with_capacity(alloc, 64).map_err(|_| NoMemory)?;
-        Ok(World {
-            tsc,
-            channel,
-            ends: Ends::new_on(channel),
-            up,
-            down,
-        })
+        let links = Links::new_on(alloc, tsc, channel)?;
+        Ok(World { links })
     }
 
-    fn has_none(&self, sender: End) -> bool
-        ensures { result ≡ E.is_empty (length (blocks_from (role_of sender) self.now)) }
-    {
-        match sender {
-            End::Mobile => self.up.len() == 0,
-            End::Network => self.down.len() == 0,
-        }
-    }
-
-    /// Whether there is no room for what one more step may send.
-    fn is_full(&self, sender: End) -> bool
-        ensures { result ≡ E.is_full (length (blocks_from (role_of sender) self.now)) }
-    {
-        match sender {
-            End::Mobile => self.up.len() > 62,
-            End::Network => self.down.len() > 62,
-        }
-    }
-
-    /// Sends an end's frames.
-    fn send<R: Radio>(&mut self, radio: &mut R, sender: End, effects: &Effects)
-        requires sound { IsSound self.old }
-        requires room { length (blocks_from (role_of sender) self.old) ≤ 62 }
-        ensures sends { Sends (role_of sender) effects.now.frames self.old self.new }
-        ensures sound { IsSound self.new }
-        ensures sent { R.sent radio.new ≡ raised_by (length effects.now.frames) (R.sent radio.old) }
-        ensures heard { R.heard radio.new ≡ R.heard radio.old }
-    {
-        let frames = effects.frames.as_slice();
-        match sender {
-            End::Mobile => send_all(radio, &mut self.up, frames, self.tsc),
-            End::Network => send_all(radio, &mut self.down, frames, self.tsc),
-        }
-    }
-
-    /// Receives the first block that an end sent.
-    fn receive<R: Radio>(&mut self, radio: &mut R, sender: End, places: &[u16]) -> Received
-        requires sound { IsSound self.old }
-        requires some { 0 < length (blocks_from (role_of sender) self.old) }
-        requires places { ArePlaces places.now }
-        ensures receives { ReceivesFrom (role_of sender) places.now self.old result self.new }
-        ensures sound { IsSound self.new }
-        ensures heard { R.heard radio.new ≡ raised (R.heard radio.old) }
-        ensures sent { R.sent radio.new ≡ R.sent radio.old }
-    {
-        match sender {
-            End::Mobile => receive_first(radio, &mut self.up, places),
-            End::Network => receive_first(radio, &mut self.down, places),
-        }
-    }
-
-    /// What an end does at a call goes out.
-    fn goes_out<R: Radio>(
-        &mut self,
-        radio: &mut R,
-        end: End,
-        sapi: Sapi,
-        received: Option<Received>,
-        effects: Effects,
-    ) -> Step
-        requires sound { IsSound self.old }
-        requires room { length (blocks_from (role_of end) self.old) ≤ 62 }
-        ensures sends { Sends (role_of end) effects.frames self.old self.new }
-        ensures sound { IsSound self.new }
-        ensures step { step_of result ≡ record { who = E.End (role_of end); sapi = sapi; received = received; frames = effects.frames; notices = effects.notices } }
-        ensures effects { result.effects ≡ effects }
-        ensures received { result.received ≡ received }
-        ensures sent { R.sent radio.new ≡ raised_by (length effects.frames) (R.sent radio.old) }
-        ensures heard { R.heard radio.new ≡ R.heard radio.old }
-    {
-        self.send(radio, end, &effects);
-        let who = match end {
-            End::Mobile => Who::Mobile,
-            End::Network => Who::Network,
-        };
-        Step {
-            who,
-            sapi,
-            received,
-            effects,
-        }
-    }
-
-    /// An end of a link is asked.
-    fn ask<R: Radio>(
-        &mut self,
-        radio: &mut R,
-        end: End,
-        sapi: Sapi,
-        call: &Call<'_>,
-    ) -> Result<Step, No>
-        requires sound { IsSound self.old }
-        ensures follows { Follows (A.Ask (role_of end) sapi (request_of call.now)) self.old result self.new }
-        ensures sound { IsSound self.new }
-        ensures refused { OnErr result (self.new ≡ self.old) }
-        ensures silent { OnErr result (radio.new ≡ radio.old) }
-        ensures sent { R.sent radio.new ≡ raised_by (frames_in result) (R.sent radio.old) }
-        ensures heard { R.heard radio.new ≡ raised_by (arrivals_in result) (R.heard radio.old) }
-    {
-        if self.is_full(end) {
-            return Err(No::AirFull);
-        }
-        match self.ends.ask(end, sapi, call) {
-            Ok(effects) => Ok(self.goes_out(radio, end, sapi, None, effects)),
-            Err(refused) => Err(No::of(refused)),
-        }
-    }
-
-    /// The mobile asks for the link of SAPI 0.
-    fn open<R: Radio>(&mut self, radio: &mut R, info: &[u8]) -> Result<Step, No>
-        requires sound { IsSound self.old }
-        ensures follows { Follows (A.Open info.now) self.old result self.new }
-        ensures sound { IsSound self.new }
-        ensures refused { OnErr result (self.new ≡ self.old) }
-        ensures silent { OnErr result (radio.new ≡ radio.old) }
-        ensures sent { R.sent radio.new ≡ raised_by (frames_in result) (R.sent radio.old) }
-        ensures heard { R.heard radio.new ≡ raised_by (arrivals_in result) (R.heard radio.old) }
-    {
-        if self.is_full(End::Mobile) {
-            return Err(No::AirFull);
-        }
-        match self.ends.open(info) {
-            Ok(effects) => Ok(self.goes_out(radio, End::Mobile, Sapi::Zero, None, effects)),
-            Err(refused) => Err(No::of(refused)),
-        }
-    }
-
-    /// An end asks for the link of SAPI 3.
-    fn open_bare<R: Radio>(&mut self, radio: &mut R, end: End) -> Result<Step, No>
-        requires sound { IsSound self.old }
-        ensures follows { Follows (A.OpenBare (role_of end)) self.old result self.new }
-        ensures sound { IsSound self.new }
-        ensures refused { OnErr result (self.new ≡ self.old) }
-        ensures silent { OnErr result (radio.new ≡ radio.old) }
-        ensures sent { R.sent radio.new ≡ raised_by (frames_in result) (R.sent radio.old) }
-        ensures heard { R.heard radio.new ≡ raised_by (arrivals_in result) (R.heard radio.old) }
-    {
-        if self.is_full(end) {
-            return Err(No::AirFull);
-        }
-        match self.ends.open_bare(end) {
-            Ok(effects) => Ok(self.goes_out(radio, end, Sapi::Three, None, effects)),
-            Err(refused) => Err(No::of(refused)),
-        }
-    }
-
-    /// The first block that an end sent arrives at the other, with the bits at these places turned over.
-    fn deliver<R: Radio>(&mut self, radio: &mut R, sender: End, places: &[u16]) -> Result<Step, No>
-        requires sound { IsSound self.old }
-        requires places { ArePlaces places.now }
-        ensures follows { Follows (A.Deliver (role_of sender) places.now) self.old result self.new }
-        ensures sound { IsSound self.new }
-        ensures refused { OnErr result (self.new ≡ self.old) }
-        ensures silent { OnErr result (radio.new ≡ radio.old) }
-        ensures sent { R.sent radio.new ≡ raised_by (frames_in result) (R.sent radio.old) }
-        ensures heard { R.heard radio.new ≡ raised_by (arrivals_in result) (R.heard radio.old) }
-    {
-        let end = other_end(sender);
-        if self.has_none(sender) {
-            return Err(No::Nothing);
-        }
-        if self.is_full(end) {
-            return Err(No::AirFull);
-        }
-        let report = self.receive(radio, sender, places);
-        let (sapi, effects) = hear(&mut self.ends, self.channel, end, &report.accepted);
-        Ok(self.goes_out(radio, end, sapi, Some(report), effects))
-    }
-
-    /// The first block that an end sent is gone.
-    fn drop_first(&mut self, sender: End)
-        requires sound { IsSound self.old }
-        requires some { 0 < length (blocks_from (role_of sender) self.old) }
-        ensures loses { LosesFrom (role_of sender) self.old self.new }
-        ensures sound { IsSound self.new }
-    {
-        match sender {
-            End::Mobile => take_first(&mut self.up),
-            End::Network => take_first(&mut self.down),
-        };
-    }
-
-    /// The first block that an end sent is lost.
-    fn lose(&mut self, sender: End) -> Result<Step, No>
-        requires sound { IsSound self.old }
-        ensures follows { Follows (A.Lose (role_of sender)) self.old result self.new }
-        ensures sound { IsSound self.new }
-        ensures refused { OnErr result (self.new ≡ self.old) }
-        ensures silent { (frames_in result ≡ 0) × (arrivals_in result ≡ 0) }
-    {
-        if self.has_none(sender) {
-            return Err(No::Nothing);
-        }
-        self.drop_first(sender);
-        Ok(Step {
-            who: Who::Nobody,
-            sapi: Sapi::Zero,
-            received: None,
-            effects: nothing(),
-        })
-    }
-
-    /// Another mobile asks for the link of SAPI 0.
-    fn rival<R: Radio>(&mut self, radio: &mut R, info: &[u8]) -> Result<Step, No>
-        requires sound { IsSound self.old }
-        ensures follows { Follows (A.Rival info.now) self.old result self.new }
-        ensures sound { IsSound self.new }
-        ensures refused { OnErr result (self.new ≡ self.old) }
-        ensures silent { OnErr result (radio.new ≡ radio.old) }
-        ensures sent { R.sent radio.new ≡ raised_by (frames_in result) (R.sent radio.old) }
-        ensures heard { R.heard radio.new ≡ raised_by (arrivals_in result) (R.heard radio.old) }
-    {
-        if self.is_full(End::Mobile) {
-            return Err(No::AirFull);
-        }
-        if info.is_empty() {
-            return Err(No::Empty);
-        }
-        if info.len() > self.channel.n201() {
-            return Err(No::TooLong);
-        }
-        let effects = rival_effects(info, self.channel);
-        self.send(radio, End::Mobile, &effects);
-        Ok(Step {
-            who: Who::Rival,
-            sapi: Sapi::Zero,
-            received: None,
-            effects,
-        })
-    }
-
-    /// The air does something with the first block that an end sent.
-    fn on_air<R: Radio>(&mut self, radio: &mut R, sender: End, air: &Air<'_>) -> Result<Step, No>
-        requires sound { IsSound self.old }
-        requires possible { IsPossibleAir air.now }
-        ensures follows { Follows (air_event (role_of sender) air.now) self.old result self.new }
-        ensures sound { IsSound self.new }
-        ensures refused { OnErr result (self.new ≡ self.old) }
-        ensures silent { OnErr result (radio.new ≡ radio.old) }
-        ensures sent { R.sent radio.new ≡ raised_by (frames_in result) (R.sent radio.old) }
-        ensures heard { R.heard radio.new ≡ raised_by (arrivals_in result) (R.heard radio.old) }
-    {
-        match air {
-            Air::Deliver => self.deliver(radio, sender, &[]),
-            Air::Lose => self.lose(sender),
-            Air::Flip(places) => self.deliver(radio, sender, places),
-        }
-    }
-
-    fn happen<R: Radio>(&mut self, radio: &mut R, event: &Event<'_>) -> Result<Step, No>
-        requires sound { IsSound self.old }
-        requires possible { IsPossible event.now }
-        ensures follows { Follows (event_of event.now) self.old result self.new }
-        ensures sound { IsSound self.new }
-        ensures refused { OnErr result (self.new ≡ self.old) }
-        ensures silent { OnErr result (radio.new ≡ radio.old) }
-        ensures sent { R.sent radio.new ≡ raised_by (frames_in result) (R.sent radio.old) }
-        ensures heard { R.heard radio.new ≡ raised_by (arrivals_in result) (R.heard radio.old) }
-    {
-        match event {
-            Event::Open(info) => self.open(radio, info),
-            Event::OpenBare(end) => self.open_bare(radio, *end),
-            Event::End(end, sapi, call) => self.ask(radio, *end, *sapi, call),
-            Event::Air(way, air) => self.on_air(radio, way.sender(), air),
-            Event::Rival(info) => self.rival(radio, info),
-        }
-    }
-
-    /// What comes of an event. A refused one changes nothing.
+    /// What comes of an event. The first of these refuses it: no block is on the way (`Nothing`), more than
+    /// 62 are on the way into which frames would go (`AirFull`), the end's own refusal or that of the
+    /// rival's information, which has 1 octet to as many as a frame holds (`Empty`, `TooLong`).
     pub fn step<R: Radio>(&mut self, radio: &mut R, event: &Event<'_>) -> Result<Step, No>
-        requires sound { IsSound self.old }
-        requires possible { IsPossible event.now }
+        requires { IsPossible event.now }
         ensures follows { Follows (event_of event.now) self.old result self.new }
-        ensures sound { IsSound self.new }
+        ensures session { GoesOn (event_of event.now) self.old result self.new }
         ensures refused { OnErr result (self.new ≡ self.old) }
         ensures silent { OnErr result (radio.new ≡ radio.old) }
         ensures sent { R.sent radio.new ≡ raised_by (frames_in result) (R.sent radio.old) }
         ensures heard { R.heard radio.new ≡ raised_by (arrivals_in result) (R.heard radio.old) }
+        ensures who { IfOk result (λ step. FitsWho (step_of step)) }
         ensures order { KeepsOrder (event_of event.now) self.old result }
         ensures delivery { KeepsDelivery (event_of event.now) self.old result }
+        ensures harmless { StaysHarmless (event_of event.now) self.old result }
     {
         law_order();
         law_delivery();
-        self.happen(radio, event)
-    }
-}
-
-fn other_end(end: End) -> End
-    ensures { role_of result ≡ E.other (role_of end) }
-{
-    match end {
-        End::Mobile => End::Network,
-        End::Network => End::Mobile,
-    }
-}
-
-/// The SABM of another mobile.
-fn rival_effects(info: &[u8], channel: Channel) -> Effects
-    requires { length info.now ≤ n201 channel }
-    ensures frames { result.frames ≡ octets_of channel (E.rival_frame info.now) ∷ [] }
-    ensures notices { result.notices ≡ [] }
-{
-    let frame = FrameView {
-        sapi: 0,
-        cr: false,
-        body: Body::Sabm { p: true, info },
-    };
-    let mut frames = Frames::new();
-    frames.push(write_on(&frame, channel));
-    Effects {
-        frames,
-        notices: Notices::new(),
-    }
-}
-
-impl Way {
-    ghost use Rattle.um_link.specs.Naming.{sender_of};
-
-    fn sender(self) -> End
-        ensures { role_of result ≡ sender_of self }
-    {
-        match self {
-            Way::Up => End::Mobile,
-            Way::Down => End::Network,
-        }
-    }
-}
-
-impl No {
-    ghost use Rattle.um_link.specs.Naming.{why_of};
-
-    fn of(refused: Refused) -> No
-        ensures { why_of result ≡ E.Because refused }
-    {
-        match refused {
-            Refused::NotIdle => No::NotIdle,
-            Refused::NotOpen => No::NotOpen,
-            Refused::NotRunning => No::NotRunning,
-            Refused::Empty => No::Empty,
-            Refused::TooLong => No::TooLong,
-            Refused::Full => No::Full,
-        }
+        law_kind();
+        self.links.happen(radio, event)
     }
 }

@@ -1,0 +1,99 @@
+//! Blocks go into a queue and come out of it.
+ghost use Rattle.std.specs.Prelude.{◌≡◌, ◌+◌, ◌<◌, ◌≤◌, All, map, length, ◌∷◌};
+ghost use Rattle.bit_blocks.specs.Bits.{AllBits};
+ghost use Rattle.conv_code.specs.Likelihood.{AllSoft};
+ghost use Rattle.um_block.specs.Received.{softened};
+ghost use Rattle.um_air.specs.Air.{turned_at, turned};
+ghost use Rattle.um_link.specs.Coded.{Adds};
+ghost use Rattle.um_block.specs.Tallies.{raised, raised_by};
+ghost use Rattle.um_link.specs.Ways.{ArePlaces, IsWay, Receives};
+
+use circular_buffer::HeapCircularBuffer;
+use um_block::{Radio, Received, soften};
+
+/// Each frame goes out as a block, behind those that are on their way.
+pub(crate) fn send_all<R: Radio>(
+    radio: &mut R,
+    way: &mut HeapCircularBuffer<[[u8; 148]; 4]>,
+    frames: &[[u8; 23]],
+    tsc: u8,
+)
+    requires tsc { tsc ≤ 7 }
+    requires way { IsWay way.old }
+    requires room { length way.old.items + length frames.now ≤ 64 }
+    ensures added { Adds tsc frames.now way.old.items way.new.items }
+    ensures way { IsWay way.new }
+    ensures sent { R.sent radio.new ≡ raised_by (length frames.now) (R.sent radio.old) }
+    ensures heard { R.heard radio.new ≡ R.heard radio.old }
+{
+    for octets in frames {
+        way.push_back(radio.send(octets, tsc));
+    }
+}
+
+/// Receives the first block, with the bits at these places turned over.
+pub(crate) fn receive_first<R: Radio>(
+    radio: &mut R,
+    way: &mut HeapCircularBuffer<[[u8; 148]; 4]>,
+    places: &[u16],
+) -> Received
+    requires way { IsWay way.old }
+    requires some { 0 < length way.old.items }
+    requires places { ArePlaces places.now }
+    ensures received { Receives places.now way.old.items result way.new.items }
+    ensures way { IsWay way.new }
+    ensures heard { R.heard radio.new ≡ raised (R.heard radio.old) }
+    ensures sent { R.sent radio.new ≡ R.sent radio.old }
+{
+    let mut block = take_first(way);
+    turn_over(&mut block, places);
+    radio.receive(&soften_all(&block))
+}
+
+/// Takes the first block.
+pub(crate) fn take_first(way: &mut HeapCircularBuffer<[[u8; 148]; 4]>) -> [[u8; 148]; 4]
+    requires way { IsWay way.old }
+    requires some { 0 < length way.old.items }
+    ensures first { way.old.items ≡ result ∷ way.new.items }
+    ensures bits { All AllBits result }
+    ensures way { IsWay way.new }
+{
+    way.pop_front().unwrap()
+}
+
+/// Turns the bits at these places over.
+fn turn_over(block: &mut [[u8; 148]; 4], places: &[u16])
+    requires bits { All AllBits block.old }
+    requires places { ArePlaces places.now }
+    ensures turned { block.new ≡ turned places.now block.old }
+    ensures bits { All AllBits block.new }
+{
+    for place in places {
+        turn_over_at(block, *place);
+    }
+}
+
+fn turn_over_at(block: &mut [[u8; 148]; 4], place: u16)
+    requires bits { All AllBits block.old }
+    requires place { place < 592 }
+    ensures turned { block.new ≡ turned_at place block.old }
+    ensures bits { All AllBits block.new }
+{
+    let burst = usize::from(place / 148);
+    let bit = usize::from(place % 148);
+    block[burst][bit] = 1 - block[burst][bit];
+}
+
+/// The bits of a block as sure soft values.
+fn soften_all(block: &[[u8; 148]; 4]) -> [[i8; 148]; 4]
+    requires { All AllBits block.now }
+    ensures value { result ≡ map softened block.now }
+    ensures soft { All AllSoft result }
+{
+    [
+        soften(&block[0]),
+        soften(&block[1]),
+        soften(&block[2]),
+        soften(&block[3]),
+    ]
+}
