@@ -4,6 +4,10 @@ use Rattle.lapdm_window.specs.declared.Sapi.TheVariants.{Zero}
 use Rattle.lapdm_window.specs.Ends.{Role}
 use Rattle.lapdm_link.specs.Events.{Send, Tick, other}
 use Rattle.um_air.specs.Air.{Event, Ask, Deliver, Lose}
+use Rattle.segmenting.specs.Pieces.{Message}
+use Rattle.um_make.specs.declared.course.Stage.{Stage}
+use Rattle.um_make.specs.declared.course.Stage.TheVariants.{Turn}
+use Rattle.um_make.specs.Courses.{due}
 use Rattle.um_make.specs.Generated.{message, sender, is_lost, places, turns, turn_after, pieces_of, messages, left_of}
 
 -- after a turn that is lost comes one that is not
@@ -58,3 +62,7 @@ pub left-sent : (left number c : ℕ) → 0 < left →
 left-sent left number c some =
     by_one (λ l. left_of l number 0 c ≡ Ask (sender (number + 1)) Zero (Send (message (number + 1))) ∷ left_of (l - 1) (number + 1) (pieces_of (number + 1)) c) left some
     (λ k. let e : suc k - 1 ≡ k = omega arith in ap (λ (l : ℕ). Ask (sender (number + 1)) Zero (Send (message (number + 1))) ∷ left_of l (number + 1) (pieces_of (number + 1)) c) (sym e))
+
+pub sent : (stage : Stage) (left number pieces c : ℕ) (r : Role) (m : Message) (p : ℕ) → stage ≡ Turn → pieces ≡ 0 → 0 < left → r ≡ sender (number + 1) → m ≡ message (number + 1) → p ≡ pieces_of (number + 1) →
+    due stage (sender number) ++ left_of left number pieces c ≡ Ask r Zero (Send m) ∷ due stage (sender (number + 1)) ++ left_of (left - 1) (number + 1) p c
+sent stage left number pieces c r m p turn none some role octets count = rw (turn, none, role, octets, count) (left-sent left number c some)

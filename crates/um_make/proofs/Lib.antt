@@ -1,3 +1,4 @@
 mod Worked
 pub mod KindEvents
 pub mod Courses
+pub mod Counting

@@ -5,6 +5,15 @@ ghost use Rattle.std.specs.Prelude.{ℕ};
 ghost use Rattle.um_air.specs.Sessions.{IsKind};
 ghost use Rattle.um_make.specs.Generated.{generated};
 
+mod course;
+mod end_summary;
+mod room;
+mod script;
+
+pub use end_summary::EndSummary;
+pub use room::Room;
+pub use script::Script;
+
 /// Law: of every generated run at most three bits of each block are turned over, and all messages are octets.
 pub fn law_generated_is_kind()
     ensures { (n : ℕ) → IsKind (generated n) }
