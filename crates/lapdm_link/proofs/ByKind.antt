@@ -9,8 +9,9 @@ use Rattle.lapdm_window.specs.declared.Refused.{Refused}
 use Rattle.lapdm_window.specs.Ends.{Role, Mobile, Network}
 use Rattle.lapdm_window.specs.Calls.{Call, Opens, OpensBare, refusal_of, after_call}
 use Rattle.lapdm_window.specs.Tables.{after_frame}
-use Rattle.lapdm_link.specs.Events.{Request, Send, SendUnit, Close, Tick, Idle, Event, Open, OpenBare, Ask, Deliver, Lose, Rival, other, rival_frame, Deed, does, does_nothing, deed, End, Why, AirFull, because, unless, rival_refusal, call_of, answer_by}
-use Rattle.lapdm_link.specs.Worlds.{World, end_of, without_first, with_frames, next, refusal, after_by, answer, after}
+use Rattle.lapdm_link.specs.Events.{Request, Send, SendUnit, Close, Tick, Idle, Event, Open, OpenBare, Ask, Deliver, Lose, Rival, other, rival_frame, Deed, does, does_nothing, deed, End, Why, AirFull, because, unless, rival_refusal, call_of}
+use Rattle.lapdm_link.specs.Worlds.{World, next, refusal, after_by, answer_by, answer, after}
+use Rattle.lapdm_link.proofs.Views.{end_of, without_first, with_frames}
 use Rattle.lapdm_link.proofs.Views.{acted}
 use Rattle.lapdm_link.specs.Claims.{Line, Asked, Rivals, Told, notice_lines, answer_lines}
 
@@ -63,8 +64,8 @@ no_refusal false None h = refl
 no_refusal false (Some refused) h = cc
 
 none_sent : (r : Role) (w : World) → with_frames r [] w ≡ w
-none_sent Mobile w = ap (λ (fs : List Frame). record w { up = fs }) (append-nil w.up)
-none_sent Network w = ap (λ (fs : List Frame). record w { down = fs }) (append-nil w.down)
+none_sent Mobile w = ap (λ (fs : List Frame). record w { ways = record w.ways { up = fs } }) (append-nil w.ways.up)
+none_sent Network w = ap (λ (fs : List Frame). record w { ways = record w.ways { down = fs } }) (append-nil w.ways.down)
 
 module _ (w : World) (P : World → List Line → Type 0) (Known : Role → Frame → Type 0)
     (refused : P w [])
@@ -74,15 +75,15 @@ module _ (w : World) (P : World → List Line → Type 0) (Known : Role → Fram
     P (acted r s (after_frame f (end_of r s (without_first (other r) w))) (without_first (other r) w)) (map (Told r s) (after_frame f (end_of r s (without_first (other r) w))).notices))
     (lost : (sender : Role) → P (without_first sender w) [])
     (rival : (info : Message) → rival_refusal w.channel info ≡ None → P (with_frames Mobile (rival_frame info ∷ []) w) (Rivals info ∷ [])) where
-  opened : (o : Option Why) (info : Message) → refusal (Open info) w ≡ o → P (after_by o (Open info) w) (answer_lines (Open info) (answer_by o (deed (Open info) w.ends)))
+  opened : (o : Option Why) (info : Message) → refusal (Open info) w ≡ o → P (after_by o (Open info) w) (answer_lines {Manner = Option Frame} (Open info) (answer_by o (deed (Open info) w.ends)))
   opened (Some why) info h = refused
   opened None info h = called Mobile Zero (Opens info) tt (no_refusal _ _ h)
 
-  opened_bare : (o : Option Why) (r : Role) → refusal (OpenBare r) w ≡ o → P (after_by o (OpenBare r) w) (answer_lines (OpenBare r) (answer_by o (deed (OpenBare r) w.ends)))
+  opened_bare : (o : Option Why) (r : Role) → refusal (OpenBare r) w ≡ o → P (after_by o (OpenBare r) w) (answer_lines {Manner = Option Frame} (OpenBare r) (answer_by o (deed (OpenBare r) w.ends)))
   opened_bare (Some why) r h = refused
   opened_bare None r h = called r Three OpensBare (placed-bare r) (no_refusal _ _ h)
 
-  asked : (o : Option Why) (r : Role) (s : Sapi) (request : Request) → refusal (Ask r s request) w ≡ o → P (after_by o (Ask r s request) w) (answer_lines (Ask r s request) (answer_by o (deed (Ask r s request) w.ends)))
+  asked : (o : Option Why) (r : Role) (s : Sapi) (request : Request) → refusal (Ask r s request) w ≡ o → P (after_by o (Ask r s request) w) (answer_lines {Manner = Option Frame} (Ask r s request) (answer_by o (deed (Ask r s request) w.ends)))
   asked (Some why) r s request h = refused
   asked None r s request h = called r s (call_of request) (placed-request r s request) (no_refusal _ _ h)
 
@@ -106,12 +107,12 @@ module _ (w : World) (P : World → List Line → Type 0) (Known : Role → Fram
   delivered None Mobile None known = quietly Mobile Network
   delivered None Network None known = quietly Network Mobile
 
-  lost_by : (o : Option Why) (sender : Role) → P (after_by o (Lose sender) w) (answer_lines (Lose sender) (answer_by o (deed (Lose sender) w.ends)))
+  lost_by : (o : Option Why) (sender : Role) → P (after_by o (Lose sender) w) (answer_lines {Manner = Option Frame} (Lose sender) (answer_by o (deed (Lose sender) w.ends)))
   lost_by (Some why) sender = refused
   lost_by None Mobile = quietly Mobile Mobile
   lost_by None Network = quietly Network Mobile
 
-  rival_by : (o : Option Why) (info : Message) → refusal (Rival info) w ≡ o → P (after_by o (Rival info) w) (answer_lines (Rival info) (answer_by o (deed (Rival info) w.ends)))
+  rival_by : (o : Option Why) (info : Message) → refusal (Rival info) w ≡ o → P (after_by o (Rival info) w) (answer_lines {Manner = Option Frame} (Rival info) (answer_by o (deed (Rival info) w.ends)))
   rival_by (Some why) info h = refused
   rival_by None info h = rival info (no_refusal _ _ h)
 

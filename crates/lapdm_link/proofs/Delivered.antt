@@ -13,7 +13,9 @@ use Rattle.lapdm_window.specs.Ends.{Role, Mobile, Network, wholly_acked}
 use Rattle.lapdm_window.specs.Calls.{Call, refusal_of, after_call}
 use Rattle.lapdm_window.specs.Tables.{after_frame}
 use Rattle.lapdm_link.specs.Events.{Event, Deliver, Why, other}
-use Rattle.lapdm_link.specs.Worlds.{World, end_of, way, without_first, refusal, answer, after, IsAsSent, IsHarmlessBy}
+use Rattle.lapdm_link.specs.Worlds.{World, refusal, answer, after, IsHarmlessBy}
+use Rattle.lapdm_link.specs.Ways.{IsAsSent}
+use Rattle.lapdm_link.proofs.Views.{end_of, way, without_first}
 use Rattle.lapdm_link.proofs.Views.{acted}
 use Rattle.lapdm_link.specs.Claims.{Line, Asked, Told, answer_lines, notices, got_in, acked_in, sent, got, acked, IsPrefix, StandsAfter}
 use Rattle.lapdm_link.proofs.Climbs.{climbs-le}

@@ -12,7 +12,9 @@ use Rattle.lapdm_window.specs.Calls.{Call, refusal_of, after_call}
 use Rattle.lapdm_window.specs.Tables.{after_frame}
 use Rattle.lapdm_link.proofs.Queues.{piece_of, number_of, is_on, pieces_on, numbers_on}
 use Rattle.lapdm_link.specs.Events.{other, rival_frame}
-use Rattle.lapdm_link.specs.Worlds.{World, start_on, end_of, way, rest, with_way, without_first, with_frames, IsAsSent}
+use Rattle.lapdm_link.specs.Worlds.{World, start_on}
+use Rattle.lapdm_link.specs.Ways.{IsAsSent}
+use Rattle.lapdm_link.proofs.Views.{end_of, way, rest, with_way, without_first, with_frames}
 use Rattle.lapdm_link.proofs.Views.{acted}
 use Rattle.lapdm_link.specs.Claims.{is_sapi}
 use Rattle.lapdm_link.proofs.Directions.{IsDirection}
@@ -147,8 +149,8 @@ carried-frame w h r s f end known =
 
 pub carried-rival : (w : World) → AllCarried w → (info : Message) → AllCarried (with_frames Mobile (rival_frame info ∷ []) w)
 carried-rival w h info =
-    seen_by Mobile (with_frames Mobile (rival_frame info ∷ []) w) (λ s. carried-as (end_with_way Mobile s Mobile (w.up ++ rival_frame info ∷ []) w) (end_with_way Network s Mobile (w.up ++ rival_frame info ∷ []) w)
-    (pieces-more s w.up (rival_frame info ∷ []) ∙ append-nil (pieces_on s w.up)) (numbers-more s w.up (rival_frame info ∷ []) ∙ append-nil (numbers_on s w.up)) refl refl (h Mobile s))
+    seen_by Mobile (with_frames Mobile (rival_frame info ∷ []) w) (λ s. carried-as (end_with_way Mobile s Mobile (w.ways.up ++ rival_frame info ∷ []) w) (end_with_way Network s Mobile (w.ways.up ++ rival_frame info ∷ []) w)
+    (pieces-more s w.ways.up (rival_frame info ∷ []) ∙ append-nil (pieces_on s w.ways.up)) (numbers-more s w.ways.up (rival_frame info ∷ []) ∙ append-nil (numbers_on s w.ways.up)) refl refl (h Mobile s))
 
 start-direction : IsDirection [] 0 0 [] [] []
 start-direction = record { acknowledged = omega arith; carried = omega arith; window = omega arith; within = omega arith; in_order = refl }

@@ -24,7 +24,8 @@ use Rattle.lapdm_window.specs.Calls.{Call, Opens, OpensBare, Sends, SendsUnit, C
 use Rattle.lapdm_window.proofs.FirstPieces.{HasSize}
 use Rattle.lapdm_window.proofs.Moves.{IsEnd-taken}
 use Rattle.lapdm_link.specs.Events.{Event, other, rival_frame, rival_refusal}
-use Rattle.lapdm_link.specs.Worlds.{World, start_on, end_of, way, rest, without_first, with_frames, refusal, after}
+use Rattle.lapdm_link.specs.Worlds.{World, start_on, refusal, after}
+use Rattle.lapdm_link.proofs.Views.{end_of, way, rest, without_first, with_frames}
 use Rattle.lapdm_link.specs.Claims.{Line}
 use Rattle.lapdm_link.proofs.Reports.{step-frame}
 use Rattle.lapdm_link.proofs.Asked.{is_called}
@@ -224,8 +225,8 @@ fits-acted channel r s o w h same g = record {
 }
 
 fits-lost : (channel : Channel) (w : World) → IsFitting channel w → (sender : Role) → IsFitting channel (without_first sender w)
-fits-lost channel w h Mobile = record { on_channel = h.on_channel; ends = λ r s. subst (FitsEnd channel) (sym (end_with_way r s Mobile (rest w.up) w)) (h.ends r s); ways = each_way (λ r. AllFit channel (way r (without_first Mobile w))) Mobile (fit-rest channel w.up (h.ways Mobile)) (h.ways Network) }
-fits-lost channel w h Network = record { on_channel = h.on_channel; ends = λ r s. subst (FitsEnd channel) (sym (end_with_way r s Network (rest w.down) w)) (h.ends r s); ways = each_way (λ r. AllFit channel (way r (without_first Network w))) Network (fit-rest channel w.down (h.ways Network)) (h.ways Mobile) }
+fits-lost channel w h Mobile = record { on_channel = h.on_channel; ends = λ r s. subst (FitsEnd channel) (sym (end_with_way r s Mobile (rest w.ways.up) w)) (h.ends r s); ways = each_way (λ r. AllFit channel (way r (without_first Mobile w))) Mobile (fit-rest channel w.ways.up (h.ways Mobile)) (h.ways Network) }
+fits-lost channel w h Network = record { on_channel = h.on_channel; ends = λ r s. subst (FitsEnd channel) (sym (end_with_way r s Network (rest w.ways.down) w)) (h.ends r s); ways = each_way (λ r. AllFit channel (way r (without_first Network w))) Network (fit-rest channel w.ways.down (h.ways Network)) (h.ways Mobile) }
 
 rival_fits : (channel : Channel) (w : World) (info : Message) → w.channel ≡ channel → rival_refusal w.channel info ≡ None → Fits channel (rival_frame info)
 rival_fits channel w info same ok =
@@ -236,8 +237,8 @@ rival_fits channel w info same ok =
 fits-rival : (channel : Channel) (w : World) (info : Message) → IsFitting channel w → rival_refusal w.channel info ≡ None → IsFitting channel (with_frames Mobile (rival_frame info ∷ []) w)
 fits-rival channel w info h ok = record {
   on_channel = h.on_channel;
-  ends = λ r s. subst (FitsEnd channel) (sym (end_with_way r s Mobile (w.up ++ rival_frame info ∷ []) w)) (h.ends r s);
-  ways = each_way (λ r. AllFit channel (way r (with_frames Mobile (rival_frame info ∷ []) w))) Mobile (fit-append channel w.up (rival_frame info ∷ []) (h.ways Mobile) (rival_fits channel w info h.on_channel ok, tt)) (h.ways Network);
+  ends = λ r s. subst (FitsEnd channel) (sym (end_with_way r s Mobile (w.ways.up ++ rival_frame info ∷ []) w)) (h.ends r s);
+  ways = each_way (λ r. AllFit channel (way r (with_frames Mobile (rival_frame info ∷ []) w))) Mobile (fit-append channel w.ways.up (rival_frame info ∷ []) (h.ways Mobile) (rival_fits channel w info h.on_channel ok, tt)) (h.ways Network);
 }
 
 -- where each frame that is read can be written, so can each that is on its way

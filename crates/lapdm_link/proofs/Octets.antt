@@ -20,7 +20,9 @@ use Rattle.lapdm_window.specs.Tables.{after_frame, closes}
 use Rattle.lapdm_window.specs.Calls.{Call, Opens, OpensBare, Sends, SendsUnit, Closes, Ticks, Idles, refusal_of, put_refusals, with_taken, repeated, after_call}
 use Rattle.lapdm_window.proofs.Moves.{IsEnd-taken}
 use Rattle.lapdm_link.specs.Events.{Event, other, rival_frame}
-use Rattle.lapdm_link.specs.Worlds.{World, start_on, end_of, way, rest, without_first, with_frames, refusal, answer, after, IsAsSent, IsHarmlessBy}
+use Rattle.lapdm_link.specs.Worlds.{World, start_on, refusal, answer, after, IsHarmlessBy}
+use Rattle.lapdm_link.specs.Ways.{IsAsSent}
+use Rattle.lapdm_link.proofs.Views.{end_of, way, rest, without_first, with_frames}
 use Rattle.lapdm_link.specs.Claims.{Line, Asked, Rivals, Told, answer_lines}
 use Rattle.lapdm_link.proofs.Reports.{step-frame}
 use Rattle.lapdm_link.proofs.Arriving.{is_message, not_false, passes}
@@ -187,13 +189,13 @@ acted-octets r s o w h g = record {
 }
 
 lost-octets : (w : World) → WorldOctets w → (sender : Role) → WorldOctets (without_first sender w)
-lost-octets w h Mobile = record { ends = λ r s. subst EndOctets (sym (end_with_way r s Mobile (rest w.up) w)) (h.ends r s); ways = each_way (λ r. AllSay (way r (without_first Mobile w))) Mobile (say-rest w.up (h.ways Mobile)) (h.ways Network) }
-lost-octets w h Network = record { ends = λ r s. subst EndOctets (sym (end_with_way r s Network (rest w.down) w)) (h.ends r s); ways = each_way (λ r. AllSay (way r (without_first Network w))) Network (say-rest w.down (h.ways Network)) (h.ways Mobile) }
+lost-octets w h Mobile = record { ends = λ r s. subst EndOctets (sym (end_with_way r s Mobile (rest w.ways.up) w)) (h.ends r s); ways = each_way (λ r. AllSay (way r (without_first Mobile w))) Mobile (say-rest w.ways.up (h.ways Mobile)) (h.ways Network) }
+lost-octets w h Network = record { ends = λ r s. subst EndOctets (sym (end_with_way r s Network (rest w.ways.down) w)) (h.ends r s); ways = each_way (λ r. AllSay (way r (without_first Network w))) Network (say-rest w.ways.down (h.ways Network)) (h.ways Mobile) }
 
 rival-octets : (w : World) → WorldOctets w → (info : Message) → AreOctets info → WorldOctets (with_frames Mobile (rival_frame info ∷ []) w)
 rival-octets w h info g = record {
-  ends = λ r s. subst EndOctets (sym (end_with_way r s Mobile (w.up ++ rival_frame info ∷ []) w)) (h.ends r s);
-  ways = each_way (λ r. AllSay (way r (with_frames Mobile (rival_frame info ∷ []) w))) Mobile (say-append w.up (rival_frame info ∷ []) (h.ways Mobile) (g, tt)) (h.ways Network);
+  ends = λ r s. subst EndOctets (sym (end_with_way r s Mobile (w.ways.up ++ rival_frame info ∷ []) w)) (h.ends r s);
+  ways = each_way (λ r. AllSay (way r (with_frames Mobile (rival_frame info ∷ []) w))) Mobile (say-append w.ways.up (rival_frame info ∷ []) (h.ways Mobile) (g, tt)) (h.ways Network);
 }
 
 first-octets : (f : Frame) (fs : List Frame) → IsFirst f fs → AllSay fs → AreOctets (information f.content)

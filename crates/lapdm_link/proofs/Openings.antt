@@ -21,7 +21,9 @@ use Rattle.lapdm_window.specs.Calls.{Call, Opens, OpensBare, Sends, SendsUnit, C
 use Rattle.lapdm_window.specs.Rules.{is_open, has_next, sends_piece, sends_next}
 use Rattle.lapdm_link.proofs.Queues.{is_on}
 use Rattle.lapdm_link.specs.Events.{other, rival_frame}
-use Rattle.lapdm_link.specs.Worlds.{World, start_on, end_of, way, rest, without_first, with_frames, IsAsSent}
+use Rattle.lapdm_link.specs.Worlds.{World, start_on}
+use Rattle.lapdm_link.specs.Ways.{IsAsSent}
+use Rattle.lapdm_link.proofs.Views.{end_of, way, rest, without_first, with_frames}
 use Rattle.lapdm_link.proofs.Views.{acted}
 use Rattle.lapdm_link.specs.Claims.{Line, Asked, Rivals, Told, opened_in, HasCause, is_sapi}
 use Rattle.lapdm_link.proofs.Telling.{AllFrames, IsNumbered, InOpen, in-sends_next}
@@ -165,10 +167,10 @@ record IsActing (r : Role) (s : Sapi) (o : Outcome) (ls : List Line) : Type 0 wh
   reached : IsReached r s ls o.after.state o.after.kept
 
 way-caused : (r' r : Role) (s s' : Sapi) (o : Outcome) (w : World) (ls : List Line) → AllCaused r' s' ls (way r' w) → AllCaused r s' ls o.frames → AllCaused r' s' ls (way r' (acted r s o w))
-way-caused Mobile Mobile s s' o w ls h g = subst (AllCaused Mobile s' ls) (sym (way_does Mobile s o w)) (all-append Mobile s' w.up o.frames ls h g)
+way-caused Mobile Mobile s s' o w ls h g = subst (AllCaused Mobile s' ls) (sym (way_does Mobile s o w)) (all-append Mobile s' w.ways.up o.frames ls h g)
 way-caused Mobile Network s s' o w ls h g = subst (AllCaused Mobile s' ls) (sym (way_does-other Network s o w)) h
 way-caused Network Mobile s s' o w ls h g = subst (AllCaused Network s' ls) (sym (way_does-other Mobile s o w)) h
-way-caused Network Network s s' o w ls h g = subst (AllCaused Network s' ls) (sym (way_does Network s o w)) (all-append Network s' w.down o.frames ls h g)
+way-caused Network Network s s' o w ls h g = subst (AllCaused Network s' ls) (sym (way_does Network s o w)) (all-append Network s' w.ways.down o.frames ls h g)
 
 reached-at : (r : Role) (s : Sapi) (ls : List Line) (e e' : EndState) → e' ≡ e → IsReached r s ls e.state e.kept → IsReached r s ls e'.state e'.kept
 reached-at r s ls e e' same h = subst (λ (x : EndState). IsReached r s ls x.state x.kept) (sym same) h
@@ -352,10 +354,10 @@ caused-answer Network Three ls x z (Ua f info) a h g = three Network ls x z info
 caused-answer r s ls x z c a h g = tt
 
 pub openings-lost : (w : World) (ls : List Line) → AllOpenings w ls → (sender : Role) → AllOpenings (without_first sender w) ls
-openings-lost w ls h Mobile Mobile s = record { sent = all-rest Mobile s w.up ls (h Mobile s).sent; reached = reached-at Mobile s ls _ _ (end_with_way Mobile s Mobile (rest w.up) w) (h Mobile s).reached }
-openings-lost w ls h Mobile Network s = record { sent = (h Network s).sent; reached = reached-at Network s ls _ _ (end_with_way Network s Mobile (rest w.up) w) (h Network s).reached }
-openings-lost w ls h Network Mobile s = record { sent = (h Mobile s).sent; reached = reached-at Mobile s ls _ _ (end_with_way Mobile s Network (rest w.down) w) (h Mobile s).reached }
-openings-lost w ls h Network Network s = record { sent = all-rest Network s w.down ls (h Network s).sent; reached = reached-at Network s ls _ _ (end_with_way Network s Network (rest w.down) w) (h Network s).reached }
+openings-lost w ls h Mobile Mobile s = record { sent = all-rest Mobile s w.ways.up ls (h Mobile s).sent; reached = reached-at Mobile s ls _ _ (end_with_way Mobile s Mobile (rest w.ways.up) w) (h Mobile s).reached }
+openings-lost w ls h Mobile Network s = record { sent = (h Network s).sent; reached = reached-at Network s ls _ _ (end_with_way Network s Mobile (rest w.ways.up) w) (h Network s).reached }
+openings-lost w ls h Network Mobile s = record { sent = (h Mobile s).sent; reached = reached-at Mobile s ls _ _ (end_with_way Mobile s Network (rest w.ways.down) w) (h Mobile s).reached }
+openings-lost w ls h Network Network s = record { sent = all-rest Network s w.ways.down ls (h Network s).sent; reached = reached-at Network s ls _ _ (end_with_way Network s Network (rest w.ways.down) w) (h Network s).reached }
 
 -- what opens an end
 empty_kept : (k : Message) → k ≡ [] → 1 ≤ length k → ⊥
@@ -469,8 +471,8 @@ openings-frame w ls h r s f end role same known =
     (acting r s o w' (ls ++ more) (openings-more w' ls more h') act, a.after)
 
 pub openings-rival : (w : World) (ls : List Line) → AllOpenings w ls → (info : Message) → AllOpenings (with_frames Mobile (rival_frame info ∷ []) w) (ls ++ Rivals info ∷ [])
-openings-rival w ls h info Mobile Zero = (let g = openings-more w ls (Rivals info ∷ []) h Mobile Zero in record { sent = all-append Mobile Zero w.up (rival_frame info ∷ []) (ls ++ Rivals info ∷ []) g.sent (inr (Contains-push ls (Rivals info)), tt); reached = g.reached })
-openings-rival w ls h info Mobile Three = (let g = openings-more w ls (Rivals info ∷ []) h Mobile Three in record { sent = all-append Mobile Three w.up (rival_frame info ∷ []) (ls ++ Rivals info ∷ []) g.sent (tt, tt); reached = g.reached })
+openings-rival w ls h info Mobile Zero = (let g = openings-more w ls (Rivals info ∷ []) h Mobile Zero in record { sent = all-append Mobile Zero w.ways.up (rival_frame info ∷ []) (ls ++ Rivals info ∷ []) g.sent (inr (Contains-push ls (Rivals info)), tt); reached = g.reached })
+openings-rival w ls h info Mobile Three = (let g = openings-more w ls (Rivals info ∷ []) h Mobile Three in record { sent = all-append Mobile Three w.ways.up (rival_frame info ∷ []) (ls ++ Rivals info ∷ []) g.sent (tt, tt); reached = g.reached })
 openings-rival w ls h info Network Zero = (let g = openings-more w ls (Rivals info ∷ []) h Network Zero in record { sent = g.sent; reached = g.reached })
 openings-rival w ls h info Network Three = (let g = openings-more w ls (Rivals info ∷ []) h Network Three in record { sent = g.sent; reached = g.reached })
 

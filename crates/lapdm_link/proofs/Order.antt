@@ -15,7 +15,8 @@ use Rattle.lapdm_window.specs.Ends.{Role, Mobile, Network, EndState, Outcome, Is
 use Rattle.lapdm_window.specs.Calls.{Call, refusal_of, after_call}
 use Rattle.lapdm_window.specs.Tables.{after_frame}
 use Rattle.lapdm_link.specs.Events.{Event, Deliver, Why, other, rival_frame}
-use Rattle.lapdm_link.specs.Worlds.{World, start_on, end_of, way, rest, with_way, without_first, with_frames, refusal, answer, after, answers}
+use Rattle.lapdm_link.specs.Worlds.{World, start_on, refusal, answer, after, answers}
+use Rattle.lapdm_link.proofs.Views.{end_of, way, rest, with_way, without_first, with_frames}
 use Rattle.lapdm_link.proofs.Views.{acted}
 use Rattle.lapdm_link.specs.Claims.{Line, Asked, Rivals, Told, answer_lines, lines, calls, notices, IsOfOpenEnd, IsOpenEnd, OrderClaims}
 use Rattle.lapdm_link.proofs.Reports.{IsStep, step-frame}
@@ -89,7 +90,7 @@ taken w ls h r s f =
     )
 
 rival : (w : World) (ls : List Line) → AllReported w ls → (info : Message) → Follows ls (with_frames Mobile (rival_frame info ∷ []) w) (Rivals info ∷ [])
-rival w ls h info = (λ r s. reported-as r s _ _ _ _ _ _ (end_with_way r s Mobile (w.up ++ rival_frame info ∷ []) w) (calls-rival r s ls info) (notices-rival r s ls info) (h r s), (tt, tt))
+rival w ls h info = (λ r s. reported-as r s _ _ _ _ _ _ (end_with_way r s Mobile (w.ways.up ++ rival_frame info ∷ []) w) (calls-rival r s ls info) (notices-rival r s ls info) (h r s), (tt, tt))
 
 any_frame : (o : Option Why) (event : Event) → KnowsBy o (λ r f. Unit {0}) event
 any_frame (Some why) event = tt

@@ -9,7 +9,9 @@ use Rattle.lapdm_window.specs.Ends.{Role, Mobile, Network}
 use Rattle.lapdm_window.specs.Calls.{Call, refusal_of, after_call}
 use Rattle.lapdm_window.specs.Tables.{after_frame}
 use Rattle.lapdm_link.specs.Events.{Event, other}
-use Rattle.lapdm_link.specs.Worlds.{World, start_on, end_of, way, without_first, refusal, answer, after, answers, IsAsSent, IsHarmlessBy, IsHarmless}
+use Rattle.lapdm_link.specs.Worlds.{World, start_on, refusal, answer, after, answers, IsHarmlessBy, IsHarmless}
+use Rattle.lapdm_link.specs.Ways.{IsAsSent}
+use Rattle.lapdm_link.proofs.Views.{end_of, way, without_first}
 use Rattle.lapdm_link.proofs.Views.{acted}
 use Rattle.lapdm_link.specs.Claims.{Line, Asked, Told, answer_lines, lines, calls, notices, units_got, Claims, acked, got}
 use Rattle.lapdm_link.proofs.Told.{MaySay}

@@ -20,7 +20,9 @@ use Rattle.lapdm_window.specs.Tables.{after_frame, closes}
 use Rattle.lapdm_window.specs.Calls.{Call, Opens, OpensBare, Sends, SendsUnit, Closes, Ticks, Idles, refusal_of, with_taken, repeated, after_call}
 use Rattle.lapdm_link.proofs.Queues.{is_on}
 use Rattle.lapdm_link.specs.Events.{other, rival_frame}
-use Rattle.lapdm_link.specs.Worlds.{World, start_on, end_of, way, rest, without_first, with_frames, IsAsSent}
+use Rattle.lapdm_link.specs.Worlds.{World, start_on}
+use Rattle.lapdm_link.specs.Ways.{IsAsSent}
+use Rattle.lapdm_link.proofs.Views.{end_of, way, rest, without_first, with_frames}
 use Rattle.lapdm_link.proofs.Views.{acted}
 use Rattle.lapdm_link.specs.Claims.{Line, Asked, Rivals, Told, calls, notices, is_sapi, unit_sent_in, unit_got_in, units_got, units_sent, IsSubsequence}
 use Rattle.lapdm_link.proofs.Keeping.{is_here}
@@ -106,10 +108,10 @@ units-as a a' b b' c c' e f g h =
 
 -- what an end that sends no unit leaves of those on their way
 way-units : (r' r : Role) (s s' : Sapi) (o : Outcome) (w : World) → units_on s' o.frames ≡ [] → units_on s' (way r' (acted r s o w)) ≡ units_on s' (way r' w)
-way-units Mobile Mobile s s' o w h = ap (units_on s') (way_does Mobile s o w) ∙ units-more s' w.up o.frames ∙ ap (λ ms. units_on s' w.up ++ ms) h ∙ append-nil (units_on s' w.up)
+way-units Mobile Mobile s s' o w h = ap (units_on s') (way_does Mobile s o w) ∙ units-more s' w.ways.up o.frames ∙ ap (λ ms. units_on s' w.ways.up ++ ms) h ∙ append-nil (units_on s' w.ways.up)
 way-units Mobile Network s s' o w h = ap (units_on s') (way_does-other Network s o w)
 way-units Network Mobile s s' o w h = ap (units_on s') (way_does-other Mobile s o w)
-way-units Network Network s s' o w h = ap (units_on s') (way_does Network s o w) ∙ units-more s' w.down o.frames ∙ ap (λ ms. units_on s' w.down ++ ms) h ∙ append-nil (units_on s' w.down)
+way-units Network Network s s' o w h = ap (units_on s') (way_does Network s o w) ∙ units-more s' w.ways.down o.frames ∙ ap (λ ms. units_on s' w.ways.down ++ ms) h ∙ append-nil (units_on s' w.ways.down)
 
 other_way-units : (r' r : Role) (s s' : Sapi) (o : Outcome) (w : World) → is_end r' s' r s ≡ false → (is_sapi s' s ≡ false → units_on s' o.frames ≡ []) → units_on s' (way r' (acted r s o w)) ≡ units_on s' (way r' w)
 other_way-units Mobile Mobile s s' o w n h = way-units Mobile Mobile s s' o w (h n)
@@ -166,10 +168,10 @@ rest-units gs s [] ys h = h
 rest-units gs s (f ∷ fs) ys h = sub-gone gs (unit_of (is_on s f) f.content) (units_on s fs) ys h
 
 pub units-lost : (w : World) (ls : List Line) → AllUnits w ls → (sender : Role) → AllUnits (without_first sender w) ls
-units-lost w ls h Mobile Mobile s = rest-units (units_got Network s ls) s w.up _ (h Mobile s)
+units-lost w ls h Mobile Mobile s = rest-units (units_got Network s ls) s w.ways.up _ (h Mobile s)
 units-lost w ls h Mobile Network s = h Network s
 units-lost w ls h Network Mobile s = h Mobile s
-units-lost w ls h Network Network s = rest-units (units_got Mobile s ls) s w.down _ (h Network s)
+units-lost w ls h Network Network s = rest-units (units_got Mobile s ls) s w.ways.down _ (h Network s)
 
 -- a frame arrives
 unit_comes : (here : Bool) (c : Content) (ns : List Notice) (gs rest_of ys : List Message) → (here ≡ false → filter_map unit_got_in ns ≡ []) → ReportsUnit c ns → IsSubsequence (gs ++ cons_option (unit_of here c) rest_of) ys → IsSubsequence ((gs ++ filter_map unit_got_in ns) ++ rest_of) ys
@@ -213,8 +215,8 @@ units-frame w ls h r s f end same known =
     (units-lost w ls h (other r) r' s'))
 
 pub units-rival : (w : World) (ls : List Line) → AllUnits w ls → (info : Message) → AllUnits (with_frames Mobile (rival_frame info ∷ []) w) (ls ++ Rivals info ∷ [])
-units-rival w ls h info Mobile s = units-as (units_got Network s ls) _ (units_on s w.up) _ (units_sent Mobile s ls) _ (ap (filter_map unit_got_in) (notices-rival Network s ls info)) (units-more s w.up (rival_frame info ∷ []) ∙ append-nil (units_on s w.up)) (ap (filter_map unit_sent_in) (calls-rival Mobile s ls info)) (h Mobile s)
-units-rival w ls h info Network s = units-as (units_got Mobile s ls) _ (units_on s w.down) _ (units_sent Network s ls) _ (ap (filter_map unit_got_in) (notices-rival Mobile s ls info)) refl (ap (filter_map unit_sent_in) (calls-rival Network s ls info)) (h Network s)
+units-rival w ls h info Mobile s = units-as (units_got Network s ls) _ (units_on s w.ways.up) _ (units_sent Mobile s ls) _ (ap (filter_map unit_got_in) (notices-rival Network s ls info)) (units-more s w.ways.up (rival_frame info ∷ []) ∙ append-nil (units_on s w.ways.up)) (ap (filter_map unit_sent_in) (calls-rival Mobile s ls info)) (h Mobile s)
+units-rival w ls h info Network s = units-as (units_got Mobile s ls) _ (units_on s w.ways.down) _ (units_sent Network s ls) _ (ap (filter_map unit_got_in) (notices-rival Mobile s ls info)) refl (ap (filter_map unit_sent_in) (calls-rival Network s ls info)) (h Network s)
 
 pub start-units : (channel : Channel) → AllUnits (start_on channel) []
 start-units channel Mobile s = refl

@@ -1,5 +1,5 @@
 -- Parts of a world after one of them changed, and of lines after more of them.
-use Rattle.std.proofs.Common.{◌≡◌, refl, sym, ◌∙◌, ap, ℕ, Bool, true, false, ◌&&◌, List, [], ◌∷◌, ◌++◌, map, append_assoc}
+use Rattle.std.proofs.Common.{◌≡◌, refl, sym, ◌∙◌, ap, ℕ, Bool, true, false, ◌&&◌, List, [], ◌∷◌, ◌++◌, map, drop, append_assoc}
 use Rattle.std.proofs.lemmas.List.{append-nil}
 use Rattle.std.proofs.lemmas.List.Elements.{filter_map-append}
 use Rattle.std.proofs.lemmas.Bool.{false≢true}
@@ -9,9 +9,29 @@ use Rattle.lapdm_window.specs.declared.Sapi.TheVariants.{Zero, Three}
 use Rattle.lapdm_window.specs.declared.Notice.{Notice}
 use Rattle.lapdm_window.specs.Ends.{Role, Mobile, Network, EndState, Outcome}
 use Rattle.lapdm_window.specs.Calls.{Call}
-use Rattle.lapdm_link.specs.Events.{other, with_end_in}
-use Rattle.lapdm_link.specs.Worlds.{World, end_of, way, with_way, with_frames}
+use Rattle.lapdm_link.specs.Ways as W
+use Rattle.lapdm_link.specs.Events.{other, end_in, with_end_in}
+use Rattle.lapdm_link.specs.Worlds.{World}
 use Rattle.lapdm_link.specs.Claims.{Line, Asked, Rivals, Told, is_role, is_sapi, call_in, notice_in, calls, notices}
+
+-- the words on ways, of a whole session
+abbrev pub rest : {T : Type 0} → List T → List T
+rest xs = drop 1 xs
+
+abbrev pub end_of : Role → Sapi → World → EndState
+end_of r s w = end_in r s w.ends
+
+abbrev pub way : Role → World → List Frame
+way r w = W.way r w.ways
+
+abbrev pub with_way : Role → List Frame → World → World
+with_way r fs w = record w { ways = W.with_way r fs w.ways }
+
+abbrev pub without_first : Role → World → World
+without_first r w = record w { ways = W.without_first r w.ways }
+
+abbrev pub with_frames : Role → List Frame → World → World
+with_frames r fs w = record w { ways = W.with_more r fs w.ways }
 
 abbrev pub with_end : Role → Sapi → EndState → World → World
 with_end r s e w = record w { ends = with_end_in r s e w.ends }

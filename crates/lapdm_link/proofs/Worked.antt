@@ -8,7 +8,7 @@ use Rattle.lapdm_window.specs.Ends.{Mobile, Network}
 use Rattle.lapdm_window.specs.Calls.{Opens, Sends}
 use Rattle.lapdm_link.specs.Events.{Event, Send, Open, Ask, Deliver}
 use Rattle.lapdm_link.specs.Worlds.{start_on, answers, IsHarmless}
-use Rattle.lapdm_link.specs.Claims.{Line, Asked, Told, lines, InOrder}
+use Rattle.lapdm_link.specs.Claims.{Line, Asked, Told, lines, Claims}
 
 -- an I frame of the mobile
 abbrev piece : ℕ → Frame
@@ -36,8 +36,8 @@ forged_lines : lines forged (answers forged (start_on Sdcch)) ≡ opened_lines +
 forged_lines = refl
 
 -- and that one breaks the claim
-not_in_order : InOrder (lines forged (answers forged (start_on Sdcch))) → ⊥
-not_in_order h = other_message (h Mobile Zero).0 (h Mobile Zero).1
+not_in_order : Claims (lines forged (answers forged (start_on Sdcch))) → ⊥
+not_in_order h = other_message (h.in_order Mobile Zero).0 (h.in_order Mobile Zero).1
   where
     other_message : (more : List (List ℕ)) → (3 ∷ []) ∷ more ≡ (2 ∷ []) ∷ [] → ⊥
     other_message more e = cc e

@@ -1,4 +1,4 @@
--- What a session claims, read from its events and their answers alone.
+-- What a session claims, read from its events and their answers alone. One definition serves both ends of both links.
 use Rattle.std.specs.Prelude.{◌≡◌, ℕ, ◌+◌, ◌≤◌, Bool, true, false, ◌&&◌, if◌then◌else◌, List, [], ◌∷◌, ◌++◌, map, length, Option, Some, None, Contains, ◌⊎◌}
 use Rattle.std.specs.List.{filter_map}
 use Rattle.segmenting.specs.Pieces.{Message}
@@ -8,15 +8,15 @@ use Rattle.lapdm_window.specs.declared.Notice.{Notice}
 use Rattle.lapdm_window.specs.declared.Notice.TheVariants as N
 use Rattle.lapdm_window.specs.Ends.{Role, Mobile, Network, capped}
 use Rattle.lapdm_window.specs.Calls.{Call, Opens, OpensBare, Sends, SendsUnit, Closes}
-use Rattle.lapdm_link.specs.Events.{Event, Open, OpenBare, Ask, Rival, Answer, Refuses, Does, Who, End, call_of, other}
+use Rattle.lapdm_link.specs.Events.{EventBy, Open, OpenBare, Ask, Rival, Answer, Refuses, Does, Who, End, call_of, other}
 
--- a call that was not refused, the SABM of another mobile, or a notice
+-- what is read of a session: a call that was not refused, the SABM of another mobile, and a notice
 pub data Line : Type 0 where
   Asked : Role → Sapi → Call → Line
   Rivals : Message → Line
   Told : Role → Sapi → Notice → Line
 
-abbrev pub event_lines : Event → List Line
+abbrev pub event_lines : {Manner : Type 0} → EventBy Manner → List Line
 event_lines (Open info) = Asked Mobile Zero (Opens info) ∷ []
 event_lines (OpenBare role) = Asked role Three OpensBare ∷ []
 event_lines (Ask role sapi request) = Asked role sapi (call_of request) ∷ []
@@ -27,12 +27,12 @@ abbrev pub notice_lines : Who → Sapi → List Notice → List Line
 notice_lines (End role) sapi ns = map (Told role sapi) ns
 notice_lines who sapi ns = []
 
-abbrev pub answer_lines : Event → Answer → List Line
+-- an event stands before its answer
+abbrev pub answer_lines : {Manner : Type 0} → EventBy Manner → Answer → List Line
 answer_lines event (Refuses why) = []
 answer_lines event (Does who sapi frames notices) = event_lines event ++ notice_lines who sapi notices
 
--- an event stands before its answer
-abbrev pub lines : List Event → List Answer → List Line
+abbrev pub lines : {Manner : Type 0} → List (EventBy Manner) → List Answer → List Line
 lines [] answers = []
 lines (event ∷ events) [] = []
 lines (event ∷ events) (answer ∷ answers) = answer_lines event answer ++ lines events answers
@@ -133,36 +133,30 @@ IsSubsequence (x ∷ xs) (y ∷ ys) = ((x ≡ y) × IsSubsequence xs ys) ⊎ IsS
 abbrev pub StandsAfter : List Line → Line → List Line → Type 0
 StandsAfter before line ls = (more : List Line) × (before ++ line ∷ more ≡ ls)
 
--- each end hands up a beginning of what the other took
-abbrev pub InOrder : List Line → Type 0
-InOrder ls = (r : Role) (s : Sapi) → IsPrefix (got (other r) s ls) (sent r s ls)
-
--- whatever is told to be acknowledged was handed up before
-abbrev pub AcknowledgedAfterwards : List Line → Type 0
-AcknowledgedAfterwards ls = (r : Role) (s : Sapi) (n : ℕ) (before : List Line) → StandsAfter before (Told r s (N.Acked n)) ls →
-    (n ≡ capped (length (acked r s before) + 1)) × (length (acked r s before) + 1 ≤ length (got (other r) s before))
-
--- of units some may be lost
-abbrev pub UnitsInOrder : List Line → Type 0
-UnitsInOrder ls = (r : Role) (s : Sapi) → IsSubsequence (units_got (other r) s ls) (units_sent r s ls)
-
--- each opening has its cause before it
+-- what an opening needs before it: at the mobile on SAPI 0 its own request and the network's opening, with the same
+-- information (section 5.4.1.4); at the network that request or another mobile's; on SAPI 3 the other end's request, or
+-- the end's own and the other's opening
 abbrev pub HasCause : Role → Sapi → Message → List Line → Type 0
 HasCause Mobile Zero info before = Contains before (Told Network Zero (N.Opened info)) × Contains before (Asked Mobile Zero (Opens info))
 HasCause Network Zero info before = Contains before (Asked Mobile Zero (Opens info)) ⊎ Contains before (Rivals info)
 HasCause r Three info before =
     Contains before (Asked (other r) Three OpensBare) ⊎ (Contains before (Asked r Three OpensBare) × Contains before (Told (other r) Three (N.Opened [])))
 
-abbrev pub OpenedWithCause : List Line → Type 0
-OpenedWithCause ls = (r : Role) (s : Sapi) (info : Message) (before : List Line) → StandsAfter before (Told r s (N.Opened info)) ls → HasCause r s info before
+-- The claims on delivery, of every session in which frames arrive as they were sent or not at all, for each end r of
+-- each link s and the other end of that link. In turn: the other end hands up a beginning of the messages that r took;
+-- the number told with an acknowledgement counts the acknowledged messages, and the other end handed up as many before;
+-- of the units that r was asked to send some arrive, in order; each opening has its cause before it; there is at most
+-- one; no message was too long.
+pub record Claims (ls : List Line) : Type 0 where
+  pub in_order : (r : Role) (s : Sapi) → IsPrefix (got (other r) s ls) (sent r s ls)
+  pub acknowledged : (r : Role) (s : Sapi) (n : ℕ) (before : List Line) → StandsAfter before (Told r s (N.Acked n)) ls →
+      (n ≡ capped (length (acked r s before) + 1)) × (length (acked r s before) + 1 ≤ length (got (other r) s before))
+  pub units : (r : Role) (s : Sapi) → IsSubsequence (units_got (other r) s ls) (units_sent r s ls)
+  pub cause : (r : Role) (s : Sapi) (info : Message) (before : List Line) → StandsAfter before (Told r s (N.Opened info)) ls → HasCause r s info before
+  pub once : (r : Role) (s : Sapi) → length (opened r s ls) ≤ 1
+  pub no_oversize : (r : Role) (s : Sapi) (before : List Line) → ¬ StandsAfter before (Told r s N.Oversize) ls
 
-abbrev pub OpenedOnce : List Line → Type 0
-OpenedOnce ls = (r : Role) (s : Sapi) → length (opened r s ls) ≤ 1
-
-abbrev pub NoOversize : List Line → Type 0
-NoOversize ls = (r : Role) (s : Sapi) (before : List Line) → ¬ StandsAfter before (Told r s N.Oversize) ls
-
--- a notice that only an end of an open link has
+-- what only an end of an open link tells: a message, an acknowledgement, or that a message was too long
 abbrev pub IsOfOpenEnd : Notice → Type 0
 IsOfOpenEnd (N.Got m) = Unit {0}
 IsOfOpenEnd (N.Acked n) = Unit {0}
@@ -175,7 +169,9 @@ pub record IsOpenEnd (r : Role) (s : Sapi) (before : List Line) : Type 0 where
   pub closed : length (closed r s before) ≡ 0
   pub closes : length (closes r s before) ≡ 0
 
--- of every session, whatever arrives: one establishment, and what is acknowledged was sent before
+-- The claims on order, of every session, whatever arrives, for each end r of each link s: the number told with an
+-- acknowledgement counts the acknowledged messages, and r was asked to send as many before; it is opened and closed at
+-- most once; and what only an end of an open link tells comes from an open end.
 pub record OrderClaims (ls : List Line) : Type 0 where
   pub acknowledged : (r : Role) (s : Sapi) (n : ℕ) (before : List Line) → StandsAfter before (Told r s (N.Acked n)) ls →
       (n ≡ capped (length (acked r s before) + 1)) × (length (acked r s before) + 1 ≤ length (sent r s before))
@@ -183,11 +179,6 @@ pub record OrderClaims (ls : List Line) : Type 0 where
   pub closed_once : (r : Role) (s : Sapi) → length (closed r s ls) ≤ 1
   pub inside : (r : Role) (s : Sapi) (notice : Notice) (before : List Line) → IsOfOpenEnd notice → StandsAfter before (Told r s notice) ls → IsOpenEnd r s before
 
--- what holds of every session in which each frame arrives as it was sent, or not at all
-pub record Claims (ls : List Line) : Type 0 where
-  pub in_order : InOrder ls
-  pub acknowledged : AcknowledgedAfterwards ls
-  pub units : UnitsInOrder ls
-  pub cause : OpenedWithCause ls
-  pub once : OpenedOnce ls
-  pub no_oversize : NoOversize ls
+-- at each end at most as many messages are acknowledged as the other handed up
+abbrev pub CountsAgree : List Line → Type 0
+CountsAgree ls = (r : Role) (s : Sapi) → length (acked r s ls) ≤ length (got (other r) s ls)

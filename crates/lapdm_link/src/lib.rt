@@ -2,13 +2,11 @@
 //! of frames here: nothing is coded. A law does nothing: it is called for its contract.
 #![tactic(auto)]
 
-ghost use Rattle.std.specs.Prelude.{◌≤◌, List, length};
+ghost use Rattle.std.specs.Prelude.{List};
 ghost use Rattle.lapdm_frame.specs.declared.Channel.{Channel};
-ghost use Rattle.lapdm_window.specs.declared.Sapi.{Sapi};
-ghost use Rattle.lapdm_window.specs.Ends.{Role};
-ghost use Rattle.lapdm_link.specs.Events.{Event, other};
+ghost use Rattle.lapdm_link.specs.Events.{Event};
 ghost use Rattle.lapdm_link.specs.Worlds.{start_on, answers, IsHarmless};
-ghost use Rattle.lapdm_link.specs.Claims.{lines, acked, got, Claims, OrderClaims};
+ghost use Rattle.lapdm_link.specs.Claims.{lines, Claims, OrderClaims, CountsAgree};
 
 /// Law: where frames arrive in order as they were sent, or are lost, each end hands up a beginning of what the other
 /// took, each message once, and whatever is reported as acknowledged was handed up before. Other mobiles may ask for
@@ -25,6 +23,5 @@ pub fn law_order()
 
 /// Law: at no end of such a session are more messages acknowledged than the other end handed up.
 pub fn law_counts()
-    ensures { (channel : Channel) (events : List Event) → IsHarmless events (start_on channel) → (r : Role) (s : Sapi) →
-        length (acked r s (lines events (answers events (start_on channel)))) ≤ length (got (other r) s (lines events (answers events (start_on channel)))) }
+    ensures { (channel : Channel) (events : List Event) → IsHarmless events (start_on channel) → CountsAgree (lines events (answers events (start_on channel))) }
 {}
