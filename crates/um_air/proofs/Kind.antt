@@ -12,18 +12,18 @@ use Rattle.lapdm_window.specs.declared.Notice.{Notice}
 use Rattle.lapdm_window.specs.declared.Sapi.{Sapi}
 use Rattle.um_block.specs.declared.received.Received.{Received}
 use Rattle.um_block.specs.Received.{softened, IsReceivedBlock}
+use Rattle.lapdm_link.specs.Ways.{Ways, no_ways, way, IsAsSent}
 use Rattle.lapdm_link.specs.Events as E
-use Rattle.lapdm_link.specs.Events.{Request, Send, SendUnit, Close, Tick, Idle, Who, End, Other, Nobody}
+use Rattle.lapdm_link.specs.Events.{Open, OpenBare, Ask, Deliver, Lose, Rival, Send, SendUnit, Close, Tick, Idle, Who, End, Other, Nobody}
 use Rattle.lapdm_link.specs.Worlds.{World}
 use Rattle.lapdm_link.specs.Worlds as W
 use Rattle.lapdm_link.specs.Claims.{Line, notice_lines, answer_lines}
-use Rattle.lapdm_link.proofs.Order.{AllReported, in_order-step, start-reported}
-use Rattle.lapdm_link.proofs.Fitting.{AllFit, IsFitting, fits-step, start-fits}
+use Rattle.lapdm_link.proofs.Fitting.{AllFit}
 use Rattle.lapdm_link.proofs.Octets.{LineOctets, AllSay, WorldOctets, octets-step, start-octets}
-use Rattle.um_air.specs.Air.{Octets, Block, Event, Open, OpenBare, Ask, Deliver, Lose, Rival, as_read, AirState, start_on, way, Takes, AreSent, Answer, Refuses, Does, AirStep, AirRun, turned}
-use Rattle.um_air.specs.Sessions.{told, Sent, after, IsAsSent, ArrivesAsSent, IsHarmlessStep, IsHarmlessAfter, IsHarmless, AreOctets, IsKindEvent, IsOctetEvent, IsKind}
-use Rattle.um_air.proofs.Seeing.{Matches, each_role}
-use Rattle.um_air.proofs.Carrying.{OnWay, IsSeenStep, seen_step}
+use Rattle.um_air.specs.Air.{Octets, Block, Event, as_read, AirState, start_on, Arrives, AreSent, Answer, Refuses, Does, AirStep, AirRun, turned}
+use Rattle.um_air.specs.Sessions.{told, after, ArrivesAsSent, IsHarmlessStep, IsHarmlessAfter, IsHarmless, AreOctets, IsKindEvent, IsOctetEvent, IsKind}
+use Rattle.um_air.proofs.Seeing.{world_of, IsSeenStep}
+use Rattle.um_air.proofs.Carrying.{IsSeenAt, start-seen, seen-now, seen-next}
 use Rattle.um_air.proofs.FewTurned.{accepted_as_sent}
 
 -- the octets of a frame
@@ -64,20 +64,22 @@ kind_block channel tsc fs blocks others places report block e sent fit say few r
     by_first (g ∷ gs) s fit say =
         subst (λ (o : Option Octets). IsAsSent o (octets_of channel g ∷ map (octets_of channel) gs)) (sym (accepted_as_sent (octets_of channel g) tsc block places report (octets_small channel g fit.0 say.0) s.0 few received)) refl
 
-kind_takes : (channel : Channel) (s : Sent) (a between : AirState) (w : World) (event : Event) (report : Option Received) (read : Option Frame) → Matches a w → a.channel ≡ channel → OnWay channel s w → IsFitting channel w → WorldOctets w → IsKindEvent event → Takes a event report read between → ArrivesAsSent event report s
-kind_takes channel s a between w (Deliver sender places) (Some report) read m on_channel on_way fit octets kind t =
-    subst (λ (os : List Octets). IsAsSent report.accepted os) (sym (on_way sender))
-    (kind_block channel a.tsc (W.way sender w) (way sender a) t.0 places report t.1.block t.1.first (subst (λ (c : Channel). AreSent c a.tsc (W.way sender w) (way sender a)) on_channel (m.ways sender)) (fit.ways sender) (octets.ways sender) kind t.1.received)
-kind_takes channel s a between w (Deliver sender places) None read m on_channel on_way fit octets kind t = absurd t
-kind_takes channel s a between w (Open info) report read m on_channel on_way fit octets kind t = tt
-kind_takes channel s a between w (OpenBare r) report read m on_channel on_way fit octets kind t = tt
-kind_takes channel s a between w (Ask r q request) report read m on_channel on_way fit octets kind t = tt
-kind_takes channel s a between w (Lose sender) report read m on_channel on_way fit octets kind t = tt
-kind_takes channel s a between w (Rival info) report read m on_channel on_way fit octets kind t = tt
+kind_takes : (a : AirState) (octets : Ways Octets) (fs : Ways Frame) (ls : List Line) (event : Event) (report : Option Received) (read : Option Frame) → IsSeenAt a octets fs ls → WorldOctets (world_of a fs) → IsKindEvent event →
+    Arrives a event report read → ArrivesAsSent event report octets
+kind_takes a octets fs ls (Deliver sender places) (Some report) read h small kind t =
+    subst (λ (os : List Octets). IsAsSent report.accepted os) (sym (h.carries.written sender))
+    (kind_block a.channel a.tsc (way sender fs) (way sender a.ways) t.others places report t.block t.first (h.carries.blocks sender) (h.fit.ways sender) (small.ways sender) kind t.received)
+kind_takes a octets fs ls (Deliver sender places) None read h small kind t = absurd t
+kind_takes a octets fs ls (Open info) report read h small kind t = tt
+kind_takes a octets fs ls (OpenBare r) report read h small kind t = tt
+kind_takes a octets fs ls (Ask r q request) report read h small kind t = tt
+kind_takes a octets fs ls (Lose sender) report read h small kind t = tt
+kind_takes a octets fs ls (Rival info) report read h small kind t = tt
 
-kind_step : (channel : Channel) (s : Sent) (a b : AirState) (w : World) (event : Event) (answer : Answer) → Matches a w → a.channel ≡ channel → OnWay channel s w → IsFitting channel w → WorldOctets w → IsKindEvent event → AirStep a event b answer → IsHarmlessStep event answer s
-kind_step channel s a b w event (Refuses why) m on_channel on_way fit octets kind h = tt
-kind_step channel s a b w event (Does step) m on_channel on_way fit octets kind h = kind_takes channel s a h.1.between w event step.received h.1.read m on_channel on_way fit octets kind h.1.takes
+kind_step : (a b : AirState) (octets : Ways Octets) (fs : Ways Frame) (ls : List Line) (event : Event) (answer : Answer) → IsSeenAt a octets fs ls → WorldOctets (world_of a fs) → IsKindEvent event →
+    AirStep a event b answer → IsHarmlessStep event answer octets
+kind_step a b octets fs ls event (Refuses why) h small kind t = tt
+kind_step a b octets fs ls event (Does step) h small kind t = kind_takes a octets fs ls event step.received t.1.read h small kind t.1.arrives
 
 -- the lines of such an event
 told_octets : (who : Who) (s : Sapi) (ns : List Notice) → LineOctets (notice_lines who s ns)
@@ -86,7 +88,7 @@ told_octets (End r) s (n ∷ ns) = told_octets (End r) s ns
 told_octets Other s ns = tt
 told_octets Nobody s ns = tt
 
-line_octets : (event : Event) (answer : Answer) → IsOctetEvent event → LineOctets (answer_lines (as_read None event) (told answer))
+line_octets : (event : Event) (answer : Answer) → IsOctetEvent event → LineOctets (answer_lines event (told answer))
 line_octets event (Refuses why) h = tt
 line_octets (Open info) (Does step) h = (h, told_octets step.who step.sapi step.notices)
 line_octets (OpenBare r) (Does step) h = (tt, told_octets step.who step.sapi step.notices)
@@ -99,20 +101,19 @@ line_octets (Deliver sender places) (Does step) h = told_octets step.who step.sa
 line_octets (Lose sender) (Does step) h = told_octets step.who step.sapi step.notices
 line_octets (Rival info) (Does step) h = (h, told_octets step.who step.sapi step.notices)
 
-kind_run : (channel : Channel) (events : List Event) (answers : List Answer) (a b : AirState) (s : Sent) (w : World) (ls : List Line) → AirRun a events answers b → Matches a w → a.channel ≡ channel → OnWay channel s w → IsFitting channel w → WorldOctets w → AllReported w ls → IsKind events → IsHarmlessAfter s events answers
-kind_run channel [] answers a b s w ls run m on_channel on_way fit octets reported kind = tt
-kind_run channel (event ∷ events) [] a b s w ls run m on_channel on_way fit octets reported kind = tt
-kind_run channel (event ∷ events) (answer ∷ answers) a b s w ls run m on_channel on_way fit octets reported kind =
-    let here : IsHarmlessStep event answer s = kind_step channel s a run.0 w event answer m on_channel on_way fit octets kind.0 run.1 in
-    let t : IsSeenStep channel s w event answer run.0 = seen_step channel s a w event answer run.0 m on_channel on_way fit.ways run.1 in
+kind_run : (events : List Event) (answers : List Answer) (a b : AirState) (octets : Ways Octets) (fs : Ways Frame) (ls : List Line) → IsSeenAt a octets fs ls → WorldOctets (world_of a fs) → IsKind events →
+    AirRun a events answers b → IsHarmlessAfter octets events answers
+kind_run [] answers a b octets fs ls h small kind run = tt
+kind_run (event ∷ events) [] a b octets fs ls h small kind run = tt
+kind_run (event ∷ events) (answer ∷ answers) a b octets fs ls h small kind run =
+    let t : IsSeenStep a octets fs event answer run.0 = seen-now a octets fs ls event answer run.0 h run.1 in
+    let w : World = world_of a fs in
     let e : E.Event = as_read t.read event in
-    let said : LineOctets (answer_lines e (W.answer e w)) = subst LineOctets t.same (line_octets event answer kind.1) in (
-      here,
-      kind_run channel events answers run.0 b (after event answer s) (W.after e w) (ls ++ answer_lines e (W.answer e w)) run.2 t.matches t.on_channel t.on_way
-          (fits-step channel w ls e reported t.known fit) (octets-step w ls e reported (t.harmless here) octets said) (in_order-step w ls e reported).0 kind.2,
-    )
+    let here : IsHarmlessStep event answer octets = kind_step a run.0 octets fs ls event answer h small kind.0 run.1 in
+    let said : LineOctets (answer_lines e (W.answer e w)) = subst LineOctets t.same (line_octets event answer kind.1) in
+    let small' : WorldOctets (world_of run.0 t.ways) = subst WorldOctets t.later (octets-step w ls e h.reported (t.harmless here) small said) in
+    (here, kind_run events answers run.0 b (after event answer octets) t.ways _ (seen-next a octets fs ls event answer run.0 h run.1) small' kind.2 run.2)
 
 pub kind_is_harmless : (tsc : ℕ) (channel : Channel) (events : List Event) (answers : List Answer) (b : AirState) → AirRun (start_on tsc channel) events answers b → IsKind events → IsHarmless events answers
 kind_is_harmless tsc channel events answers b run kind =
-    kind_run channel events answers (start_on tsc channel) b (record { up = []; down = [] }) (W.start_on channel) [] run
-    (record { on_channel = refl; ends = refl; ways = each_role _ tt tt }) refl (each_role _ refl refl) (start-fits channel) (start-octets channel) (start-reported channel) kind
+    kind_run events answers (start_on tsc channel) b no_ways no_ways [] (start-seen tsc channel) (start-octets channel) kind run

@@ -1,26 +1,51 @@
--- What is coded, received and read on the air is what frames on two lists are.
-use Rattle.std.proofs.Common.{◌≡◌, refl, sym, ◌∙◌, ap, subst, ℕ, suc, List, [], ◌∷◌, ◌++◌, length, Option, Some, None}
+-- What is coded, received and read on the air is what frames on two ways are: one step.
+use Rattle.std.proofs.Common.{◌≡◌, refl, sym, ◌∙◌, ap, subst, ℕ, suc, List, [], ◌∷◌, ◌++◌, map, length, drop, Option, Some, None}
+use Rattle.std.proofs.lemmas.List.{map-append}
 use Rattle.lapdm_frame.specs.declared.Channel.{Channel}
 use Rattle.lapdm_frame.specs.Content.{Frame}
+use Rattle.lapdm_frame.specs.Frames.{Fits, IsFrame, octets_of}
+use Rattle.lapdm_frame.proofs.Canonical.{octets_canonical}
+use Rattle.lapdm_frame.proofs.Uniqueness.{same_frame}
 use Rattle.lapdm_window.specs.Ends.{Role, Mobile, Network}
 use Rattle.um_block.specs.declared.received.Received.{Received}
+use Rattle.lapdm_link.specs.Ways.{Ways, way, with_way, with_more, count, IsAsSent}
 use Rattle.lapdm_link.specs.Events as E
-use Rattle.lapdm_link.specs.Events.{Ends, Who, Deed, deed, Why, AirFull, Nothing, unless, is_full, is_empty, refusal_by, answer_by}
-use Rattle.lapdm_link.specs.Worlds.{World, sender_of, next, after_by}
+use Rattle.lapdm_link.specs.Events.{Open, OpenBare, Ask, Deliver, Lose, Rival, Ends, Who, sender_of, Deed, deed, taken, Why, AirFull, Nothing, unless, is_full, is_empty, refusal_by}
+use Rattle.lapdm_link.specs.Worlds.{World, answer_by, after_by}
 use Rattle.lapdm_link.specs.Worlds as W
-use Rattle.um_air.specs.Air.{Block, Event, Open, OpenBare, Ask, Deliver, Lose, Rival, as_read, AirState, way, with_way, count, Takes, AreSent, refusal}
+use Rattle.lapdm_link.specs.Claims.{event_lines, notice_lines, answer_lines}
+use Rattle.lapdm_link.proofs.ByKind.{Knows, KnowsBy}
+use Rattle.lapdm_link.proofs.Fitting.{AllFit}
+use Rattle.um_air.specs.Air.{Octets, Block, Event, as_read, AirState, Reads, Arrives, AreSent, Step, Answer, Refuses, Does, Happens, refusal, AirStep}
+use Rattle.um_air.specs.Sessions.{told, after, ArrivesAsSent, IsHarmlessStep}
 
--- the ends are the same, and the blocks on their way are the frames, coded
-pub record Matches (a : AirState) (w : World) : Type 0 where
-  pub on_channel : w.channel ≡ a.channel
-  pub ends : w.ends ≡ a.ends
-  pub ways : (r : Role) → AreSent a.channel a.tsc (W.way r w) (way r a)
+-- ---- two pairs of ways, alike way by way
 
-sent-length : (channel : Channel) (tsc : ℕ) (fs : List Frame) (blocks : List Block) → AreSent channel tsc fs blocks → length blocks ≡ length fs
-sent-length channel tsc [] [] h = refl
-sent-length channel tsc [] (b ∷ bs) h = absurd h
-sent-length channel tsc (f ∷ fs) [] h = absurd h
-sent-length channel tsc (f ∷ fs) (b ∷ bs) h = ap suc (sent-length channel tsc fs bs h.1)
+abbrev pub AreAlike : {X Y : Type 0} → (List X → List Y → Type 0) → Ways X → Ways Y → Type 0
+AreAlike R xs ys = (r : Role) → R (way r xs) (way r ys)
+
+module _ {X Y : Type 0} (R : List X → List Y → Type 0) where
+  alike-with : (sender : Role) (x : List X) (y : List Y) (xs : Ways X) (ys : Ways Y) → R x y → AreAlike R xs ys → AreAlike R (with_way sender x xs) (with_way sender y ys)
+  alike-with Mobile x y xs ys h g Mobile = h
+  alike-with Mobile x y xs ys h g Network = g Network
+  alike-with Network x y xs ys h g Mobile = g Mobile
+  alike-with Network x y xs ys h g Network = h
+
+  alike-taken : ((x : List X) (y : List Y) → R x y → R (drop 1 x) (drop 1 y)) → (read : Option Frame) (event : Event) (xs : Ways X) (ys : Ways Y) → AreAlike R xs ys →
+      AreAlike R (taken (as_read read event) xs) (taken event ys)
+  alike-taken shorter read (Deliver sender places) xs ys h = alike-with sender _ _ xs ys (shorter _ _ (h sender)) h
+  alike-taken shorter read (Lose sender) xs ys h = alike-with sender _ _ xs ys (shorter _ _ (h sender)) h
+  alike-taken shorter read (Open info) xs ys h = h
+  alike-taken shorter read (OpenBare r) xs ys h = h
+  alike-taken shorter read (Ask r s request) xs ys h = h
+  alike-taken shorter read (Rival info) xs ys h = h
+
+-- the blocks are the frames, coded
+sent-drop : (channel : Channel) (tsc : ℕ) (fs : List Frame) (bs : List Block) → AreSent channel tsc fs bs → AreSent channel tsc (drop 1 fs) (drop 1 bs)
+sent-drop channel tsc [] [] h = h
+sent-drop channel tsc [] (b ∷ bs) h = absurd h
+sent-drop channel tsc (f ∷ fs) [] h = absurd h
+sent-drop channel tsc (f ∷ fs) (b ∷ bs) h = h.1
 
 sent-append : (channel : Channel) (tsc : ℕ) (fs gs : List Frame) (bs cs : List Block) → AreSent channel tsc fs bs → AreSent channel tsc gs cs → AreSent channel tsc (fs ++ gs) (bs ++ cs)
 sent-append channel tsc [] gs [] cs h g = g
@@ -28,15 +53,34 @@ sent-append channel tsc [] gs (b ∷ bs) cs h g = absurd h
 sent-append channel tsc (f ∷ fs) gs [] cs h g = absurd h
 sent-append channel tsc (f ∷ fs) gs (b ∷ bs) cs h g = (h.0, sent-append channel tsc fs gs bs cs h.1 g)
 
-sent-rest : (channel : Channel) (tsc : ℕ) (fs : List Frame) (bs others : List Block) (b : Block) → bs ≡ b ∷ others → AreSent channel tsc fs bs → AreSent channel tsc (W.rest fs) others
-sent-rest channel tsc fs bs others b e h = by_first fs (subst (AreSent channel tsc fs) e h)
-  where
-    by_first : (fs : List Frame) → AreSent channel tsc fs (b ∷ others) → AreSent channel tsc (W.rest fs) others
-    by_first [] h = absurd h
-    by_first (f ∷ fs) h = h.1
+sent-length : (channel : Channel) (tsc : ℕ) (fs : List Frame) (bs : List Block) → AreSent channel tsc fs bs → length bs ≡ length fs
+sent-length channel tsc [] [] h = refl
+sent-length channel tsc [] (b ∷ bs) h = absurd h
+sent-length channel tsc (f ∷ fs) [] h = absurd h
+sent-length channel tsc (f ∷ fs) (b ∷ bs) h = ap suc (sent-length channel tsc fs bs h.1)
+
+-- the octets are those of the frames
+abbrev pub AreOctetsOf : Channel → List Frame → List Octets → Type 0
+AreOctetsOf channel fs os = os ≡ map (octets_of channel) fs
+
+octets-drop : (channel : Channel) (fs : List Frame) (os : List Octets) → AreOctetsOf channel fs os → AreOctetsOf channel (drop 1 fs) (drop 1 os)
+octets-drop channel [] os h = ap (drop 1) h
+octets-drop channel (f ∷ fs) os h = ap (drop 1) h
+
+octets-append : (channel : Channel) (fs gs : List Frame) (os ps : List Octets) → AreOctetsOf channel fs os → AreOctetsOf channel gs ps → AreOctetsOf channel (fs ++ gs) (os ++ ps)
+octets-append channel fs gs os ps h g = ap (λ xs. xs ++ ps) h ∙ ap (λ xs. map (octets_of channel) fs ++ xs) g ∙ sym (map-append (octets_of channel) fs gs)
+
+-- ---- an air, as the session of the frames on its ways
+
+abbrev pub world_of : AirState → Ways Frame → World
+world_of a fs = record { channel = a.channel; ends = a.ends; ways = fs }
+
+pub record Carries (a : AirState) (octets : Ways Octets) (fs : Ways Frame) : Type 0 where
+  pub blocks : AreAlike (AreSent a.channel a.tsc) fs a.ways
+  pub written : AreAlike (AreOctetsOf a.channel) fs octets
 
 -- the refusals are the same
-refusal-read : (read : Option Frame) (event : Event) (channel : Channel) (n : Role → ℕ) (es : Ends) → refusal_by channel n (as_read read event) es ≡ refusal_by channel n (as_read None event) es
+refusal-read : (read : Option Frame) (event : Event) (channel : Channel) (n : Role → ℕ) (es : Ends) → refusal_by channel n (as_read read event) es ≡ refusal_by channel n event es
 refusal-read read (Open info) channel n es = refl
 refusal-read read (OpenBare r) channel n es = refl
 refusal-read read (Ask r s request) channel n es = refl
@@ -47,66 +91,127 @@ refusal-read read (Rival info) channel n es = refl
 full : (k m : ℕ) (o : Option Why) → k ≡ m → unless (is_full k) AirFull o ≡ unless (is_full m) AirFull o
 full k m o e = ap (λ i. unless (is_full i) AirFull o) e
 
-refusal-count : (event : Event) (channel : Channel) (n m : Role → ℕ) (es : Ends) → ((r : Role) → n r ≡ m r) → refusal_by channel n (as_read None event) es ≡ refusal_by channel m (as_read None event) es
+refusal-count : (event : Event) (channel : Channel) (n m : Role → ℕ) (es : Ends) → ((r : Role) → n r ≡ m r) → refusal_by channel n event es ≡ refusal_by channel m event es
 refusal-count (Open info) channel n m es h = full _ _ _ (h Mobile)
 refusal-count (OpenBare r) channel n m es h = full _ _ _ (h r)
 refusal-count (Ask r s request) channel n m es h = full _ _ _ (h r)
-refusal-count (Deliver sender places) channel n m es h = ap (λ i. unless (is_empty i) Nothing (unless (is_full (n (E.other sender))) AirFull None)) (h sender) ∙ ap (λ o. unless (is_empty (m sender)) Nothing o) (full (n (E.other sender)) (m (E.other sender)) None (h (E.other sender)))
+refusal-count (Deliver sender places) channel n m es h =
+    ap (λ i. unless (is_empty i) Nothing (unless (is_full (n (E.other sender))) AirFull None)) (h sender)
+    ∙ ap (λ o. unless (is_empty (m sender)) Nothing o) (full (n (E.other sender)) (m (E.other sender)) None (h (E.other sender)))
 refusal-count (Lose sender) channel n m es h = ap (λ i. unless (is_empty i) Nothing None) (h sender)
 refusal-count (Rival info) channel n m es h = full _ _ _ (h Mobile)
 
-pub refusal-same : (a : AirState) (w : World) (read : Option Frame) (event : Event) → Matches a w → W.refusal (as_read read event) w ≡ refusal event a
-refusal-same a w read event h =
-    refusal-read read event w.channel (W.count w) w.ends
-    ∙ refusal-count event w.channel (W.count w) (count a) w.ends (λ r. sym (sent-length a.channel a.tsc (W.way r w) (way r a) (h.ways r)))
-    ∙ ap (λ c. refusal_by c (count a) (as_read None event) w.ends) h.on_channel
-    ∙ ap (λ es. refusal_by a.channel (count a) (as_read None event) es) h.ends
+refusal-same : (a : AirState) (fs : Ways Frame) (read : Option Frame) (event : Event) → AreAlike (AreSent a.channel a.tsc) fs a.ways →
+    W.refusal (as_read read event) (world_of a fs) ≡ refusal event a
+refusal-same a fs read event h =
+    refusal-read read event a.channel (count fs) a.ends
+    ∙ refusal-count event a.channel (count fs) (count a.ways) a.ends (λ r. sym (sent-length a.channel a.tsc (way r fs) (way r a.ways) (h r)))
 
--- a block is taken
-record IsTakenAs (a between : AirState) (w : World) (read : Option Frame) (event : Event) : Type 0 where
-  matches : Matches between (W.taken (as_read read event) w)
-  tsc : between.tsc ≡ a.tsc
-  channel : between.channel ≡ a.channel
+-- the lines of an event do not hang on what is read
+same_lines : (read : Option Frame) (event : Event) → event_lines event ≡ event_lines (as_read read event)
+same_lines read (Open info) = refl
+same_lines read (OpenBare r) = refl
+same_lines read (Ask r s request) = refl
+same_lines read (Deliver sender places) = refl
+same_lines read (Lose sender) = refl
+same_lines read (Rival info) = refl
 
-pub each_role : (P : Role → Type 0) → P Mobile → P Network → (r : Role) → P r
-each_role P h g Mobile = h
-each_role P h g Network = g
+-- ---- what is read
 
-first_gone : (a : AirState) (w : World) (sender : Role) (b : Block) (others : List Block) → way sender a ≡ b ∷ others → Matches a w → Matches (with_way sender others a) (W.without_first sender w)
-first_gone a w Mobile b others e h = record { on_channel = h.on_channel; ends = h.ends; ways = each_role (λ r. AreSent a.channel a.tsc (W.way r (W.without_first Mobile w)) (way r (with_way Mobile others a))) (sent-rest a.channel a.tsc w.up a.up others b e (h.ways Mobile)) (h.ways Network) }
-first_gone a w Network b others e h = record { on_channel = h.on_channel; ends = h.ends; ways = each_role (λ r. AreSent a.channel a.tsc (W.way r (W.without_first Network w)) (way r (with_way Network others a))) (h.ways Mobile) (sent-rest a.channel a.tsc w.down a.down others b e (h.ways Network)) }
+-- a frame that is read fits
+reads-fit : (channel : Channel) (accepted : Option Octets) (f : Frame) → Reads channel accepted (Some f) → Fits channel f
+reads-fit channel (Some octets) f h = h.fits
+reads-fit channel None f h = absurd h
 
-pub same_tsc : (sender : Role) (blocks : List Block) (a : AirState) → ((with_way sender blocks a).tsc ≡ a.tsc) × ((with_way sender blocks a).channel ≡ a.channel)
-same_tsc Mobile blocks a = (refl, refl)
-same_tsc Network blocks a = (refl, refl)
+known-read : (a : AirState) (event : Event) (report : Option Received) (read : Option Frame) → Arrives a event report read → Knows (λ sender f. Fits a.channel f) (as_read read event)
+known-read a (Deliver sender places) (Some report) (Some f) h = reads-fit a.channel report.accepted f h.reads
+known-read a (Deliver sender places) (Some report) None h = tt
+known-read a (Deliver sender places) None read h = absurd h
+known-read a (Open info) report read h = tt
+known-read a (OpenBare r) report read h = tt
+known-read a (Ask r s request) report read h = tt
+known-read a (Lose sender) report read h = tt
+known-read a (Rival info) report read h = tt
 
-gone_as : (a between : AirState) (w : World) (sender : Role) (b : Block) (others : List Block) → way sender a ≡ b ∷ others → between ≡ with_way sender others a → Matches a w → Matches between (W.without_first sender w) × (between.tsc ≡ a.tsc) × (between.channel ≡ a.channel)
-gone_as a between w sender b others e f h = (
-  subst (λ (z : AirState). Matches z (W.without_first sender w)) (sym f) (first_gone a w sender b others e h),
-  ap (λ (z : AirState). z.tsc) f ∙ (same_tsc sender others a).0,
-  ap (λ (z : AirState). z.channel) f ∙ (same_tsc sender others a).1,
-)
+-- a frame that was sent is read as itself
+read_back : (channel : Channel) (accepted : Option Octets) (read : Option Frame) (fs : List Frame) → Reads channel accepted read → AllFit channel fs →
+    IsAsSent accepted (map (octets_of channel) fs) → IsAsSent read fs
+read_back channel None None fs h fit s = tt
+read_back channel None (Some f) fs h fit s = absurd h
+read_back channel (Some octets) None fs h fit s = tt
+read_back channel (Some octets) (Some f) [] h fit s = absurd s
+read_back channel (Some octets) (Some f) (g ∷ gs) h fit s =
+    let sent : IsFrame channel g (octets_of channel g) = (octets_canonical channel g fit.0).frame in
+    same_frame channel (octets_of channel g) f g (subst (IsFrame channel f) s h) sent
 
-unchanged : (a between : AirState) (w : World) → between ≡ a → Matches a w → Matches between w × (between.tsc ≡ a.tsc) × (between.channel ≡ a.channel)
-unchanged a between w e h = (subst (λ (z : AirState). Matches z w) (sym e) h, ap (λ (z : AirState). z.tsc) e, ap (λ (z : AirState). z.channel) e)
+harmless-read : (a : AirState) (octets : Ways Octets) (fs : Ways Frame) (event : Event) (report : Option Received) (read : Option Frame) → AreAlike (AreOctetsOf a.channel) fs octets →
+    ((r : Role) → AllFit a.channel (way r fs)) → Arrives a event report read → ArrivesAsSent event report octets → W.ArrivesAsSent (as_read read event) (world_of a fs)
+harmless-read a octets fs (Deliver sender places) (Some report) read on_way fit t h =
+    read_back a.channel report.accepted read (way sender fs) t.reads (fit sender) (subst (λ (os : List Octets). IsAsSent report.accepted os) (on_way sender) h)
+harmless-read a octets fs (Deliver sender places) None read on_way fit t h = absurd t
+harmless-read a octets fs (Open info) report read on_way fit t h = tt
+harmless-read a octets fs (OpenBare r) report read on_way fit t h = tt
+harmless-read a octets fs (Ask r q request) report read on_way fit t h = tt
+harmless-read a octets fs (Lose sender) report read on_way fit t h = tt
+harmless-read a octets fs (Rival info) report read on_way fit t h = tt
 
-pub taken-as : (a : AirState) (w : World) (event : Event) (report : Option Received) (read : Option Frame) (between : AirState) → Takes a event report read between → Matches a w → Matches between (W.taken (as_read read event) w) × (between.tsc ≡ a.tsc) × (between.channel ≡ a.channel)
-taken-as a w (Deliver sender places) (Some report) read between t h = gone_as a between w sender t.1.block t.0 t.1.first t.2 h
-taken-as a w (Deliver sender places) None read between t h = absurd t
-taken-as a w (Lose sender) None None between t h = gone_as a between w sender t.1.block t.0 t.1.first t.2 h
-taken-as a w (Lose sender) None (Some f) between t h = absurd t
-taken-as a w (Lose sender) (Some report) read between t h = absurd t
-taken-as a w (Open info) None None between t h = unchanged a between w t h
-taken-as a w (OpenBare r) None None between t h = unchanged a between w t h
-taken-as a w (Ask r s request) None None between t h = unchanged a between w t h
-taken-as a w (Rival info) None None between t h = unchanged a between w t h
-taken-as a w (Open info) report read between t h = absurd t
-taken-as a w (OpenBare r) report read between t h = absurd t
-taken-as a w (Ask r s request) report read between t h = absurd t
-taken-as a w (Rival info) report read between t h = absurd t
+-- ---- one step
 
--- frames go out
-pub put : (r : Role) (frames : List Frame) (es : Ends) (between : AirState) (w : World) (blocks : List Block) → Matches between w → AreSent between.channel between.tsc frames blocks →
-    Matches (with_way r (way r between ++ blocks) (record between { ends = es })) (W.with_frames r frames (record w { ends = es }))
-put Mobile frames es between w blocks h s = record { on_channel = h.on_channel; ends = refl; ways = each_role _ (sent-append _ _ w.up frames between.up blocks (h.ways Mobile) s) (h.ways Network) }
-put Network frames es between w blocks h s = record { on_channel = h.on_channel; ends = refl; ways = each_role _ (h.ways Mobile) (sent-append _ _ w.down frames between.down blocks (h.ways Network) s) }
+pub record IsSeenStep (a : AirState) (octets : Ways Octets) (fs : Ways Frame) (event : Event) (answer : Answer) (b : AirState) : Type 0 where
+  pub read : Option Frame
+  pub ways : Ways Frame
+  pub later : W.after (as_read read event) (world_of a fs) ≡ world_of b ways
+  pub carries : Carries b (after event answer octets) ways
+  pub tsc : b.tsc ≡ a.tsc
+  pub same : answer_lines event (told answer) ≡ answer_lines (as_read read event) (W.answer (as_read read event) (world_of a fs))
+  pub known : KnowsBy (W.refusal (as_read read event) (world_of a fs)) (λ sender f. Fits a.channel f) (as_read read event)
+  pub harmless : IsHarmlessStep event answer octets → W.IsHarmlessBy (W.refusal (as_read read event) (world_of a fs)) (as_read read event) (world_of a fs)
+
+module _ (a : AirState) (octets : Ways Octets) (fs : Ways Frame) (event : Event) (h : Carries a octets fs) where
+  seen-refused : (why : Why) → refusal event a ≡ Some why → IsSeenStep a octets fs event (Refuses why) a
+  seen-refused why is =
+      let e : E.Event = as_read None event in
+      let w : World = world_of a fs in
+      let refused : W.refusal e w ≡ Some why = refusal-same a fs None event h.blocks ∙ is in
+      record {
+        read = None;
+        ways = fs;
+        later = ap (λ o. after_by o e w) refused;
+        carries = h;
+        tsc = refl;
+        same = sym (ap (λ o. answer_lines e (answer_by o (deed e w.ends))) refused);
+        known = subst (λ (o : Option Why). KnowsBy o (λ sender f. Fits a.channel f) e) (sym refused) tt;
+        harmless = λ q. subst (λ (o : Option Why). W.IsHarmlessBy o e w) (sym refused) tt;
+      }
+
+  seen-done : (step : Step) (b : AirState) → ((r : Role) → AllFit a.channel (way r fs)) → refusal event a ≡ None → Happens a event b step → IsSeenStep a octets fs event (Does step) b
+  seen-done step b fit is t =
+      let e : E.Event = as_read t.read event in
+      let w : World = world_of a fs in
+      let d : Deed = deed e a.ends in
+      let r : Role = sender_of d.who in
+      let none : W.refusal e w ≡ None = refusal-same a fs t.read event h.blocks ∙ is in
+      let fs' : Ways Frame = with_more r d.frames (taken e fs) in
+      let b' : AirState = record a { ends = d.after; ways = with_more r t.blocks (taken event a.ways) } in
+      let blocks : AreAlike (AreSent a.channel a.tsc) (taken e fs) (taken event a.ways) = alike-taken (AreSent a.channel a.tsc) (sent-drop a.channel a.tsc) t.read event fs a.ways h.blocks in
+      let os : AreAlike (AreOctetsOf a.channel) (taken e fs) (taken event octets) = alike-taken (AreOctetsOf a.channel) (octets-drop a.channel) t.read event fs octets h.written in
+      let octets' : AreAlike (AreOctetsOf a.channel) fs' (with_more r step.frames (taken event octets)) =
+      alike-with (AreOctetsOf a.channel) r _ _ (taken e fs) (taken event octets) (octets-append a.channel (way r (taken e fs)) d.frames (way r (taken event octets)) step.frames (os r) t.frames) os in
+      let blocks' : AreAlike (AreSent a.channel a.tsc) fs' b'.ways =
+      alike-with (AreSent a.channel a.tsc) r _ _ (taken e fs) (taken event a.ways) (sent-append a.channel a.tsc (way r (taken e fs)) d.frames (way r (taken event a.ways)) t.blocks (blocks r) t.sent) blocks in
+      subst (IsSeenStep a octets fs event (Does step)) (sym t.after) (record {
+        read = t.read;
+        ways = fs';
+        later = ap (λ o. after_by o e w) none;
+        carries = record { blocks = blocks'; written = subst (λ (q : Who). AreAlike (AreOctetsOf a.channel) fs' (with_more (sender_of q) step.frames (taken event octets))) (sym t.who) octets' };
+        tsc = refl;
+        same = ap (λ ls. ls ++ notice_lines step.who step.sapi step.notices) (same_lines t.read event) ∙ ap (λ (q : Who). event_lines e ++ notice_lines q step.sapi step.notices) t.who
+            ∙ ap (λ q. event_lines e ++ notice_lines d.who q step.notices) t.sapi ∙ ap (λ q. event_lines e ++ notice_lines d.who d.sapi q) t.notices
+            ∙ sym (ap (λ o. answer_lines e (answer_by o d)) none);
+        known = subst (λ (o : Option Why). KnowsBy o (λ sender f. Fits a.channel f) e) (sym none) (known-read a event step.received t.read t.arrives);
+        harmless = λ q. subst (λ (o : Option Why). W.IsHarmlessBy o e w) (sym none) (harmless-read a octets fs event step.received t.read h.written fit t.arrives q);
+      })
+
+  pub seen-step : (answer : Answer) (b : AirState) → ((r : Role) → AllFit a.channel (way r fs)) → AirStep a event b answer → IsSeenStep a octets fs event answer b
+  seen-step (Refuses why) b fit t = subst (IsSeenStep a octets fs event (Refuses why)) (sym t.1) (seen-refused why t.0)
+  seen-step (Does step) b fit t = seen-done step b fit t.0 t.1

@@ -1,6 +1,6 @@
 -- Sessions over the air: their lines; those in which each block is accepted with the octets that were sent, or not at
 -- all; and those in which at most three bits of a block are turned over.
-use Rattle.std.specs.Prelude.{◌<◌, ◌≤◌, ℕ, All, List, [], ◌∷◌, map, length, Option, Some, None}
+use Rattle.std.specs.Prelude.{◌<◌, ◌≤◌, ℕ, All, List, [], ◌∷◌, map, length, Option, Some}
 use Rattle.um_block.specs.declared.received.Received.{Received}
 use Rattle.lapdm_link.specs.Ways.{Ways, no_ways, way, with_more, IsAsSent}
 use Rattle.lapdm_link.specs.Events.{Open, Ask, Deliver, Rival, Send, SendUnit, sender_of, taken}
