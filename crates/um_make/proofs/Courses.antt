@@ -2,8 +2,8 @@
 use Rattle.std.proofs.Common.{◌≡◌, refl, sym, ap, ◌∙◌, ℕ, zero, suc, ◌+◌, ◌-◌, ◌%◌, ◌<◌, Bool, true, false, if◌then◌else◌, nat_eq, List, [], ◌∷◌, ◌++◌, arith}
 use Rattle.lapdm_window.specs.declared.Sapi.TheVariants.{Zero}
 use Rattle.lapdm_window.specs.Ends.{Role}
-use Rattle.lapdm_link.specs.Events.{Send, Tick, other}
-use Rattle.um_air.specs.Air.{Event, Ask, Deliver, Lose}
+use Rattle.lapdm_link.specs.Events.{Ask, Deliver, Lose, Send, Tick, other}
+use Rattle.um_air.specs.Air.{Event}
 use Rattle.segmenting.specs.Pieces.{Message}
 use Rattle.um_make.specs.declared.course.Stage.{Stage}
 use Rattle.um_make.specs.declared.course.Stage.TheVariants.{Turn}

@@ -4,8 +4,8 @@ use Rattle.std.specs.List.{range_with_len}
 use Rattle.std.proofs.lemmas.List.Elements.{All-nil, All-cons}
 use Rattle.lapdm_window.specs.declared.Sapi.TheVariants.{Zero}
 use Rattle.lapdm_window.specs.Ends.{Role}
-use Rattle.lapdm_link.specs.Events.{Tick, other}
-use Rattle.um_air.specs.Air.{Event, Ask, Deliver, Lose}
+use Rattle.lapdm_link.specs.Events.{Ask, Deliver, Lose, Tick, other}
+use Rattle.um_air.specs.Air.{Event}
 use Rattle.um_air.specs.Sessions.{AreOctets, IsKind}
 use Rattle.um_make.specs.Generated.{size_of, sender, is_lost, turn, piece_turns, last_turn, turns, turn_after, pieces_of, messages, generated}
 

@@ -2,8 +2,7 @@
 use Rattle.std.proofs.Common.{◌≡◌, [], ◌∷◌, refl, length}
 use Rattle.lapdm_window.specs.declared.Sapi.TheVariants.{Zero}
 use Rattle.lapdm_window.specs.Ends.{Mobile, Network}
-use Rattle.lapdm_link.specs.Events.{Send, Tick}
-use Rattle.um_air.specs.Air.{Open, Ask, Deliver, Lose}
+use Rattle.lapdm_link.specs.Events.{Open, Ask, Deliver, Lose, Send, Tick}
 use Rattle.um_make.specs.Generated.{message, pieces_of, turns, turn_after, generated}
 
 -- one message of 38 octets, in two pieces

@@ -2,8 +2,8 @@
 use Rattle.std.specs.Prelude.{◌≡◌, ◌≢◌, ◌≤◌, ℕ, ◌+◌, ◌*◌, ◌%◌, List, [], ◌∷◌, ◌++◌}
 use Rattle.lapdm_window.specs.declared.Sapi.TheVariants.{Zero}
 use Rattle.lapdm_window.specs.Ends.{Role, Mobile, Network}
-use Rattle.lapdm_link.specs.Events.{Tick, other}
-use Rattle.um_air.specs.Air.{Event, Ask, Deliver}
+use Rattle.lapdm_link.specs.Events.{Ask, Deliver, Tick, other}
+use Rattle.um_air.specs.Air.{Event}
 use Rattle.um_make.specs.declared.course.Stage.{Stage}
 use Rattle.um_make.specs.declared.course.Stage.TheVariants.{Opening, Request, Answer, Turn, Back, Timer}
 use Rattle.um_make.specs.declared.course.Course.{Course}

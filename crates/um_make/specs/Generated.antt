@@ -7,8 +7,8 @@ use Rattle.lapdm_frame.specs.Layout.{n201}
 use Rattle.segmenting.specs.Pieces.{Message, count_of}
 use Rattle.lapdm_window.specs.declared.Sapi.TheVariants.{Zero}
 use Rattle.lapdm_window.specs.Ends.{Role, Mobile, Network}
-use Rattle.lapdm_link.specs.Events.{Send, Tick, other}
-use Rattle.um_air.specs.Air.{Event, Open, Ask, Deliver, Lose}
+use Rattle.lapdm_link.specs.Events.{Open, Ask, Deliver, Lose, Send, Tick, other}
+use Rattle.um_air.specs.Air.{Event}
 
 -- how many octets message i has
 abbrev pub size_of : ℕ → ℕ
