@@ -28,6 +28,7 @@ start-carries tsc channel = record { blocks = nothing_sent; written = nothing_wr
     nothing_sent : AreAlike (AreSent channel tsc) no_ways no_ways
     nothing_sent Mobile = tt
     nothing_sent Network = tt
+
     nothing_written : AreAlike (AreOctetsOf channel) no_ways no_ways
     nothing_written Mobile = refl
     nothing_written Network = refl

@@ -1,5 +1,5 @@
 -- From what the calls do to a step of the definition.
-use Rattle.std.proofs.Common.{◌≡◌, refl, sym, ◌∙◌, ap, subst, ℕ, Bool, true, false, List, [], ◌∷◌, ◌++◌, length, map, Option, Some, None}
+use Rattle.std.proofs.Common.{◌≡◌, refl, sym, ◌∙◌, ap, subst, ℕ, Bool, true, false, List, [], ◌∷◌, ◌++◌, length, drop, map, Option, Some, None}
 use Rattle.std.proofs.lemmas.Bool.{false≢true}
 use Rattle.std.proofs.lemmas.Bool.Decides.{nat_tests}
 use Rattle.um_link.proofs.Adding.{adds-none}
@@ -24,9 +24,10 @@ use Rattle.lapdm_window.specs.Ends.{Role, Mobile, Network}
 use Rattle.lapdm_window.specs.Calls.{Call, refusal_of}
 use Rattle.um_block.specs.declared.received.Received.{Received}
 use Rattle.lapdm_link.specs.Events as E
-use Rattle.lapdm_link.specs.Worlds.{sender_of}
+use Rattle.lapdm_link.specs.Events.{sender_of, taken}
+use Rattle.lapdm_link.specs.Ways.{Ways, way, with_more, without_first, count}
 use Rattle.um_air.specs.Air as A
-use Rattle.um_air.specs.Air.{Octets, Block, AirState, way, with_way, as_read, AreSent, Takes, Happens, AirStep, refusal, count}
+use Rattle.um_air.specs.Air.{Octets, Block, AirState, as_read, AreSent, Arrives, Happens, AirStep, refusal}
 use Rattle.um_link.specs.Coded.{AreCoded, Adds}
 use Rattle.um_link.specs.declared.ends.Ends.{Ends}
 use Rattle.um_link.specs.FourEnds as F
@@ -42,44 +43,42 @@ coded-sent channel tsc [] (b ∷ bs) h = absurd h
 coded-sent channel tsc (f ∷ fs) [] h = absurd h
 coded-sent channel tsc (f ∷ fs) (b ∷ bs) h = (h.0, coded-sent channel tsc fs bs h.1)
 
--- before its frames go out the world stands for the air after the event, with the ends after the deed
-pub record IsReady (a between : AirState) (m : Links) (effects : Effects) (d : E.Deed) : Type 0 where
+-- before its frames go out the world stands for the air with these ways, and the ends after the deed
+pub record IsReady (a : AirState) (ways : Ways Block) (m : Links) (effects : Effects) (d : E.Deed) : Type 0 where
   pub tsc : m.tsc ≡ a.tsc
   pub channel : m.channel ≡ a.channel
-  pub same_tsc : between.tsc ≡ a.tsc
-  pub same_channel : between.channel ≡ a.channel
   pub ends : F.Stands m.ends d.after
   pub does : F.Does effects a.channel d
-  pub up : m.up.items ≡ between.up
-  pub down : m.down.items ≡ between.down
+  pub up : m.up.items ≡ ways.up
+  pub down : m.down.items ≡ ways.down
 
-record IsSent (role : Role) (a between : AirState) (w : Links) (d : E.Deed) : Type 0 where
+record IsSent (role : Role) (a : AirState) (ways : Ways Block) (w : Links) (d : E.Deed) : Type 0 where
   blocks : List Block
   sent : AreSent a.channel a.tsc d.frames blocks
-  stands : Stands w (with_way role (way role between ++ blocks) (record between { ends = d.after }))
+  stands : Stands w (record a { ends = d.after; ways = with_more role blocks ways })
 
-sent-frames : (a between : AirState) (m : Links) (effects : Effects) (d : E.Deed) (blocks : List Block) → IsReady a between m effects d → AreCoded m.tsc effects.frames blocks → AreSent a.channel a.tsc d.frames blocks
-sent-frames a between m effects d blocks r h =
+sent-frames : (a : AirState) (ways : Ways Block) (m : Links) (effects : Effects) (d : E.Deed) (blocks : List Block) → IsReady a ways m effects d → AreCoded m.tsc effects.frames blocks → AreSent a.channel a.tsc d.frames blocks
+sent-frames a ways m effects d blocks r h =
     coded-sent a.channel a.tsc d.frames blocks (subst (λ (t : ℕ). AreCoded t (map (octets_of a.channel) d.frames) blocks) r.tsc (subst (λ (os : List Octets). AreCoded m.tsc os blocks) r.does.frames h))
 
-sent-state : (role : Role) (a between : AirState) (m w : Links) (effects : Effects) (d : E.Deed) → IsReady a between m effects d → Sends role effects.frames m w → IsSent role a between w d
-sent-state Mobile a between m w effects d r h = record {
+sent-state : (role : Role) (a : AirState) (ways : Ways Block) (m w : Links) (effects : Effects) (d : E.Deed) → IsReady a ways m effects d → Sends role effects.frames m w → IsSent role a ways w d
+sent-state Mobile a ways m w effects d r h = record {
   blocks = h.added.blocks;
-  sent = sent-frames a between m effects d h.added.blocks r h.added.coded;
+  sent = sent-frames a ways m effects d h.added.blocks r h.added.coded;
   stands = record {
-    tsc = h.same.tsc ∙ r.tsc ∙ sym r.same_tsc;
-    channel = h.same.channel ∙ r.channel ∙ sym r.same_channel;
+    tsc = h.same.tsc ∙ r.tsc;
+    channel = h.same.channel ∙ r.channel;
     ends = subst (λ (p : Ends). F.Stands p d.after) (sym h.same.ends) r.ends;
     up = h.added.behind ∙ ap (λ bs. bs ++ h.added.blocks) r.up;
     down = h.same.kept ∙ r.down;
   };
 }
-sent-state Network a between m w effects d r h = record {
+sent-state Network a ways m w effects d r h = record {
   blocks = h.added.blocks;
-  sent = sent-frames a between m effects d h.added.blocks r h.added.coded;
+  sent = sent-frames a ways m effects d h.added.blocks r h.added.coded;
   stands = record {
-    tsc = h.same.tsc ∙ r.tsc ∙ sym r.same_tsc;
-    channel = h.same.channel ∙ r.channel ∙ sym r.same_channel;
+    tsc = h.same.tsc ∙ r.tsc;
+    channel = h.same.channel ∙ r.channel;
     ends = subst (λ (p : Ends). F.Stands p d.after) (sym h.same.ends) r.ends;
     up = h.same.kept ∙ r.up;
     down = h.added.behind ∙ ap (λ bs. bs ++ h.added.blocks) r.down;
@@ -90,19 +89,20 @@ sent-state Network a between m w effects d r h = record {
 abbrev pub step_by : E.Who → Sapi → Option Received → Effects → A.Step
 step_by who sapi received effects = record { who = who; sapi = sapi; received = received; frames = effects.frames; notices = effects.notices }
 
-pub finish : (event : A.Event) (a between : AirState) (m w : Links) (read : Option Frame) (effects : Effects) (who : E.Who) (sapi : Sapi) (received : Option Received) (role : Role) →
-    IsReady a between m effects (E.deed (as_read read event) a.ends) → Sends role effects.frames m w → Takes a event received read between → sender_of who ≡ role → who ≡ (E.deed (as_read read event) a.ends).who → sapi ≡ (E.deed (as_read read event) a.ends).sapi →
+pub finish : (event : A.Event) (a : AirState) (m w : Links) (read : Option Frame) (effects : Effects) (who : E.Who) (sapi : Sapi) (received : Option Received) (role : Role) →
+    IsReady a (taken event a.ways) m effects (E.deed (as_read read event) a.ends) → Sends role effects.frames m w → Arrives a event received read → sender_of who ≡ role →
+    who ≡ (E.deed (as_read read event) a.ends).who → sapi ≡ (E.deed (as_read read event) a.ends).sapi →
     (b : AirState) × Stands w b × Happens a event b (step_by who sapi received effects)
-finish event a between m w read effects who sapi received role r h takes sender same_who same_sapi =
+finish event a m w read effects who sapi received role r h arrives sender same_who same_sapi =
     let d = E.deed (as_read read event) a.ends in
-    let s : IsSent (sender_of d.who) a between w d = sent-state (sender_of d.who) a between m w effects d r (subst (λ (x : Role). Sends x effects.frames m w) (sym sender ∙ ap sender_of same_who) h) in (
-      with_way (sender_of d.who) (way (sender_of d.who) between ++ s.blocks) (record between { ends = d.after }),
+    let s : IsSent (sender_of d.who) a (taken event a.ways) w d =
+    sent-state (sender_of d.who) a (taken event a.ways) m w effects d r (subst (λ (x : Role). Sends x effects.frames m w) (sym sender ∙ ap sender_of same_who) h) in (
+      record a { ends = d.after; ways = with_more (sender_of d.who) s.blocks (taken event a.ways) },
       s.stands,
       record {
         read = read;
-        between = between;
         blocks = s.blocks;
-        takes = takes;
+        arrives = arrives;
         sent = s.sent;
         after = refl;
         who = same_who;
@@ -113,18 +113,22 @@ finish event a between m w read effects who sapi received role r h takes sender 
     )
 
 -- an end that is asked does something
-pub called : (event : A.Event) (role : Role) (w w' : Links) (ends' : Ends) (effects : Effects) (who : E.Who) (sapi : Sapi) (step : A.Step) → step ≡ step_by who sapi None effects → F.Follows w.channel (E.deed (as_read None event)) w.ends effects ends' → ((a : AirState) → Stands w a → refusal event a ≡ None) → ((a : AirState) → Takes a event None None a) →
+pub called : (event : A.Event) (role : Role) (w w' : Links) (ends' : Ends) (effects : Effects) (who : E.Who) (sapi : Sapi) (step : A.Step) → step ≡ step_by who sapi None effects →
+    F.Follows w.channel (E.deed (as_read None event)) w.ends effects ends' → ((a : AirState) → Stands w a → refusal event a ≡ None) → ((a : AirState) → Arrives a event None None × (taken event a.ways ≡ a.ways)) →
     sender_of who ≡ role → ((es : E.Ends) → who ≡ (E.deed (as_read None event) es).who) → ((es : E.Ends) → sapi ≡ (E.deed (as_read None event) es).sapi) → Sends role effects.frames (record w { ends = ends' }) w' →
     (a : AirState) → Stands w a → (b : AirState) × Stands w' b × AirStep a event b (A.Does step)
-called event role w w' ends' effects who sapi step is follows unrefused takes sender same_who same_sapi sends a st =
+called event role w w' ends' effects who sapi step is follows unrefused plain sender same_who same_sapi sends a st =
     let g = follows a.ends st.ends in
-    let f = finish event a a (record w { ends = ends' }) w' None effects who sapi None role
-    (record { tsc = st.tsc; channel = st.channel; same_tsc = refl; same_channel = refl; ends = g.0; does = subst (λ (c : Channel). F.Does effects c (E.deed (as_read None event) a.ends)) st.channel g.1; up = st.up; down = st.down })
-    sends (takes a) sender (same_who a.ends) (same_sapi a.ends) in
+    let p : Arrives a event None None × (taken event a.ways ≡ a.ways) = plain a in
+    let d : E.Deed = E.deed (as_read None event) a.ends in
+    let m : Links = record w { ends = ends' } in
+    let r : IsReady a a.ways m effects d =
+    record { tsc = st.tsc; channel = st.channel; ends = g.0; does = subst (λ (c : Channel). F.Does effects c d) st.channel g.1; up = st.up; down = st.down } in
+    let f = finish event a m w' None effects who sapi None role (subst (λ (ways : Ways Block). IsReady a ways m effects d) (sym p.1) r) sends p.0 sender (same_who a.ends) (same_sapi a.ends) in
     (f.0, f.1, (unrefused a st, subst (λ (s : A.Step). Happens a event f.0 s) (sym is) f.2))
 
 -- refusals
-same-way : (role : Role) (w : Links) (a : AirState) → Stands w a → blocks_from role w ≡ way role a
+same-way : (role : Role) (w : Links) (a : AirState) → Stands w a → blocks_from role w ≡ way role a.ways
 same-way Mobile w a st = st.up
 same-way Network w a st = st.down
 
@@ -136,16 +140,16 @@ unless-true : (b : Bool) (why : E.Why) (others : Option E.Why) → b ≡ true �
 unless-true true why others h = refl
 unless-true false why others h = absurd (false≢true h)
 
-on-way : (test : ℕ → Bool) (b : Bool) (role : Role) (w : Links) (a : AirState) → Stands w a → test (length (blocks_from role w)) ≡ b → test (count a role) ≡ b
+on-way : (test : ℕ → Bool) (b : Bool) (role : Role) (w : Links) (a : AirState) → Stands w a → test (length (blocks_from role w)) ≡ b → test (count a.ways role) ≡ b
 on-way test b role w a st h = sym (ap (λ bs. test (length bs)) (same-way role w a st)) ∙ h
 
-pub asked-full : (role : Role) (sapi : Sapi) (call : Call) (w : Links) → E.is_full (length (blocks_from role w)) ≡ true → (a : AirState) → Stands w a → E.asked_refusal (count a) role sapi call a.ends ≡ Some E.AirFull
+pub asked-full : (role : Role) (sapi : Sapi) (call : Call) (w : Links) → E.is_full (length (blocks_from role w)) ≡ true → (a : AirState) → Stands w a → E.asked_refusal (count a.ways) role sapi call a.ends ≡ Some E.AirFull
 asked-full role sapi call w h a st = unless-true _ E.AirFull _ (on-way E.is_full true role w a st h)
 
-pub asked-none : (role : Role) (sapi : Sapi) (call : Call) (w : Links) → E.is_full (length (blocks_from role w)) ≡ false → ((es : E.Ends) → F.Stands w.ends es → None ≡ refusal_of call (E.end_in role sapi es)) → (a : AirState) → Stands w a → E.asked_refusal (count a) role sapi call a.ends ≡ None
+pub asked-none : (role : Role) (sapi : Sapi) (call : Call) (w : Links) → E.is_full (length (blocks_from role w)) ≡ false → ((es : E.Ends) → F.Stands w.ends es → None ≡ refusal_of call (E.end_in role sapi es)) → (a : AirState) → Stands w a → E.asked_refusal (count a.ways) role sapi call a.ends ≡ None
 asked-none role sapi call w h n a st = unless-false _ E.AirFull _ (on-way E.is_full false role w a st h) ∙ ap E.because (sym (n a.ends st.ends))
 
-pub asked-because : (role : Role) (sapi : Sapi) (call : Call) (w : Links) (refused : Refused) → E.is_full (length (blocks_from role w)) ≡ false → ((es : E.Ends) → F.Stands w.ends es → Some refused ≡ refusal_of call (E.end_in role sapi es)) → (a : AirState) → Stands w a → E.asked_refusal (count a) role sapi call a.ends ≡ Some (E.Because refused)
+pub asked-because : (role : Role) (sapi : Sapi) (call : Call) (w : Links) (refused : Refused) → E.is_full (length (blocks_from role w)) ≡ false → ((es : E.Ends) → F.Stands w.ends es → Some refused ≡ refusal_of call (E.end_in role sapi es)) → (a : AirState) → Stands w a → E.asked_refusal (count a.ways) role sapi call a.ends ≡ Some (E.Because refused)
 asked-because role sapi call w refused h n a st = unless-false _ E.AirFull _ (on-way E.is_full false role w a st h) ∙ ap E.because (sym (n a.ends st.ends))
 
 -- a refused event
@@ -163,28 +167,38 @@ pub on-channel : (w : Links) (ends' : Ends) (effects : Effects) (deed : E.Ends �
 on-channel w ends' effects deed s h = subst (λ (c : Channel). F.Follows c deed w.ends effects ends') (sym s.channel) h
 
 -- a block is gone from the way of an end
-record IsBetween (a between : AirState) (m : Links) : Type 0 where
+record IsBetween (a : AirState) (ways : Ways Block) (m : Links) : Type 0 where
   tsc : m.tsc ≡ a.tsc
   channel : m.channel ≡ a.channel
-  same_tsc : between.tsc ≡ a.tsc
-  same_channel : between.channel ≡ a.channel
   ends : F.Stands m.ends a.ends
-  up : m.up.items ≡ between.up
-  down : m.down.items ≡ between.down
+  up : m.up.items ≡ ways.up
+  down : m.down.items ≡ ways.down
 
-is-between : (sender : Role) (w m : Links) (a : AirState) → IsSameBut sender w m → Stands w a → IsBetween a (with_way sender (blocks_from sender m) a) m
-is-between Mobile w m a s st = record { tsc = s.tsc ∙ st.tsc; channel = s.channel ∙ st.channel; same_tsc = refl; same_channel = refl; ends = subst (λ (p : Ends). F.Stands p a.ends) (sym s.ends) st.ends; up = refl; down = s.kept ∙ st.down }
-is-between Network w m a s st = record { tsc = s.tsc ∙ st.tsc; channel = s.channel ∙ st.channel; same_tsc = refl; same_channel = refl; ends = subst (λ (p : Ends). F.Stands p a.ends) (sym s.ends) st.ends; up = s.kept ∙ st.up; down = refl }
+is-between : (sender : Role) (w m : Links) (a : AirState) (b : Block) → blocks_from sender w ≡ b ∷ blocks_from sender m → IsSameBut sender w m → Stands w a → IsBetween a (without_first sender a.ways) m
+is-between Mobile w m a b first s st = record {
+  tsc = s.tsc ∙ st.tsc;
+  channel = s.channel ∙ st.channel;
+  ends = subst (λ (p : Ends). F.Stands p a.ends) (sym s.ends) st.ends;
+  up = sym (ap (drop 1) (sym st.up ∙ first));
+  down = s.kept ∙ st.down;
+}
+is-between Network w m a b first s st = record {
+  tsc = s.tsc ∙ st.tsc;
+  channel = s.channel ∙ st.channel;
+  ends = subst (λ (p : Ends). F.Stands p a.ends) (sym s.ends) st.ends;
+  up = s.kept ∙ st.up;
+  down = sym (ap (drop 1) (sym st.down ∙ first));
+}
 
 sends-none : (w : Links) (effects : Effects) → effects.frames ≡ [] → Sends Mobile effects.frames w w
 sends-none w effects none = record { added = subst (λ (os : List Octets). Adds w.tsc os (blocks_from Mobile w) (blocks_from Mobile w)) (sym none) (adds-none w.tsc (blocks_from Mobile w)); same = record { kept = refl; tsc = refl; channel = refl; ends = refl } }
 
-pub lost : (sender : Role) (w m : Links) (effects : Effects) → LosesFrom sender w m → E.is_empty (length (blocks_from sender w)) ≡ false → effects.frames ≡ [] → effects.notices ≡ [] → (a : AirState) → Stands w a → (b : AirState) × Stands m b × AirStep a (A.Lose sender) b (A.Does (step_by E.Nobody Zero None effects))
+pub lost : (sender : Role) (w m : Links) (effects : Effects) → LosesFrom sender w m → E.is_empty (length (blocks_from sender w)) ≡ false → effects.frames ≡ [] → effects.notices ≡ [] → (a : AirState) → Stands w a → (b : AirState) × Stands m b × AirStep a (E.Lose sender) b (A.Does (step_by E.Nobody Zero None effects))
 lost sender w m effects h some no_frames no_notices a st =
-    let i : IsBetween a (with_way sender (blocks_from sender m) a) m = is-between sender w m a h.same st in
-    let f = finish (A.Lose sender) a (with_way sender (blocks_from sender m) a) m m None effects E.Nobody Zero None Mobile
-    (record { tsc = i.tsc; channel = i.channel; same_tsc = i.same_tsc; same_channel = i.same_channel; ends = i.ends; does = record { frames = no_frames; notices = no_notices }; up = i.up; down = i.down })
-    (sends-none m effects no_frames) (blocks_from sender m, record { block = h.block; first = sym (same-way sender w a st) ∙ h.first }, refl) refl refl refl in
+    let i : IsBetween a (without_first sender a.ways) m = is-between sender w m a h.block h.first h.same st in
+    let f = finish (E.Lose sender) a m m None effects E.Nobody Zero None Mobile
+    (record { tsc = i.tsc; channel = i.channel; ends = i.ends; does = record { frames = no_frames; notices = no_notices }; up = i.up; down = i.down })
+    (sends-none m effects no_frames) tt refl refl refl in
     (f.0, f.1, (unless-false _ E.Nothing None (on-way E.is_empty false sender w a st some), f.2))
 
 who-takes : (role : Role) (read : Option Frame) (es : E.Ends) → E.End role ≡ (E.takes_read role read es).who
@@ -197,19 +211,19 @@ who-takes role (Some f) es = by_test (nat_eq f.sapi 0) (nat_eq f.sapi 3)
     by_test false false = refl
 
 arrived-at : (sender : Role) (places : List ℕ) (w m w' : Links) (ends' : Ends) (report : Received) (sapi : Sapi) (effects : Effects) (step : A.Step) → ReceivesFrom sender places w report m → Hears (E.other sender) m.channel report.accepted m.ends sapi effects ends' → E.is_empty (length (blocks_from sender w)) ≡ false → E.is_full (length (blocks_from (E.other sender) w)) ≡ false →
-    Sends (E.other sender) effects.frames (record m { ends = ends' }) w' → step ≡ step_by (E.End (E.other sender)) sapi (Some report) effects → (a : AirState) → Stands w a → (b : AirState) × Stands w' b × AirStep a (A.Deliver sender places) b (A.Does step)
+    Sends (E.other sender) effects.frames (record m { ends = ends' }) w' → step ≡ step_by (E.End (E.other sender)) sapi (Some report) effects → (a : AirState) → Stands w a → (b : AirState) × Stands w' b × AirStep a (E.Deliver sender places) b (A.Does step)
 arrived-at sender places w m w' ends' report sapi effects step h hears some room sends is a st =
-    let i : IsBetween a (with_way sender (blocks_from sender m) a) m = is-between sender w m a h.same st in
+    let i : IsBetween a (without_first sender a.ways) m = is-between sender w m a h.received.block h.received.first h.same st in
     let t : H.Takes (E.other sender) m.channel report.accepted a.ends sapi effects ends' = hears a.ends i.ends in
-    let f = finish (A.Deliver sender places) a (with_way sender (blocks_from sender m) a) (record m { ends = ends' }) w' t.read effects (E.End (E.other sender)) sapi (Some report) (E.other sender)
-    (record { tsc = i.tsc; channel = i.channel; same_tsc = i.same_tsc; same_channel = i.same_channel; ends = t.stands; does = subst (λ (c : Channel). F.Does effects c (E.takes_read (E.other sender) t.read a.ends)) i.channel t.does; up = i.up; down = i.down })
+    let f = finish (E.Deliver sender places) a (record m { ends = ends' }) w' t.read effects (E.End (E.other sender)) sapi (Some report) (E.other sender)
+    (record { tsc = i.tsc; channel = i.channel; ends = t.stands; does = subst (λ (c : Channel). F.Does effects c (E.takes_read (E.other sender) t.read a.ends)) i.channel t.does; up = i.up; down = i.down })
     sends
-    (blocks_from sender m, record { block = h.received.block; first = sym (same-way sender w a st) ∙ h.received.first; received = h.received.received; reads = subst (λ (c : Channel). Reads c report.accepted t.read) i.channel t.reads }, refl)
+    (record { block = h.received.block; others = blocks_from sender m; first = sym (same-way sender w a st) ∙ h.received.first; received = h.received.received; reads = subst (λ (c : Channel). Reads c report.accepted t.read) i.channel t.reads })
     refl (who-takes (E.other sender) t.read a.ends) t.sapi in
-    (f.0, f.1, (unless-false _ E.Nothing _ (on-way E.is_empty false sender w a st some) ∙ unless-false _ E.AirFull None (on-way E.is_full false (E.other sender) w a st room), subst (λ (s : A.Step). Happens a (A.Deliver sender places) f.0 s) (sym is) f.2))
+    (f.0, f.1, (unless-false _ E.Nothing _ (on-way E.is_empty false sender w a st some) ∙ unless-false _ E.AirFull None (on-way E.is_full false (E.other sender) w a st room), subst (λ (s : A.Step). Happens a (E.Deliver sender places) f.0 s) (sym is) f.2))
 
 pub arrived : (sender end : Role) (places : List ℕ) (w m w' : Links) (ends' : Ends) (report : Received) (sapi : Sapi) (effects : Effects) (step : A.Step) → end ≡ E.other sender → ReceivesFrom sender places w report m → Hears end m.channel report.accepted m.ends sapi effects ends' → E.is_empty (length (blocks_from sender w)) ≡ false → E.is_full (length (blocks_from end w)) ≡ false →
-    Sends end effects.frames (record m { ends = ends' }) w' → step ≡ step_by (E.End end) sapi (Some report) effects → (a : AirState) → Stands w a → (b : AirState) × Stands w' b × AirStep a (A.Deliver sender places) b (A.Does step)
+    Sends end effects.frames (record m { ends = ends' }) w' → step ≡ step_by (E.End end) sapi (Some report) effects → (a : AirState) → Stands w a → (b : AirState) × Stands w' b × AirStep a (E.Deliver sender places) b (A.Does step)
 arrived sender end places w m w' ends' report sapi effects step e h hears some room sends is =
     arrived-at sender places w m w' ends' report sapi effects step h (subst (λ (r : Role). Hears r m.channel report.accepted m.ends sapi effects ends') e hears) some (subst (λ (r : Role). E.is_full (length (blocks_from r w)) ≡ false) e room)
     (subst (λ (r : Role). Sends r effects.frames (record m { ends = ends' }) w') e sends) (subst (λ (r : Role). step ≡ step_by (E.End r) sapi (Some report) effects) e is)
@@ -230,7 +244,7 @@ rival-by false false h g = refl
 rival-by true c h g = absurd (false≢true (sym h))
 rival-by false true h g = absurd (false≢true (sym g))
 
-pub rival-none : (info : Message) (w : Links) → E.is_full (length (blocks_from Mobile w)) ≡ false → nat_eq (length info) 0 ≡ false → nat_lt (n201 w.channel) (length info) ≡ false → (a : AirState) → Stands w a → refusal (A.Rival info) a ≡ None
+pub rival-none : (info : Message) (w : Links) → E.is_full (length (blocks_from Mobile w)) ≡ false → nat_eq (length info) 0 ≡ false → nat_lt (n201 w.channel) (length info) ≡ false → (a : AirState) → Stands w a → refusal (E.Rival info) a ≡ None
 rival-none info w full some short a st =
     unless-false _ E.AirFull _ (on-way E.is_full false Mobile w a st full) ∙ ap E.because (rival-by _ _ some (subst (λ (c : Channel). nat_lt (n201 c) (length info) ≡ false) st.channel short))
 

@@ -1,7 +1,6 @@
 -- What the four ends stand for.
 use Rattle.std.specs.Prelude.{◌≡◌, map}
 use Rattle.lapdm_frame.specs.declared.Channel.{Channel}
-use Rattle.lapdm_window.specs.declared.Sapi.{Sapi}
 use Rattle.lapdm_window.specs.declared.Sapi.TheVariants.{Zero, Three}
 use Rattle.lapdm_frame.specs.Frames.{octets_of}
 use Rattle.lapdm_window.specs.declared.effects.Effects.{Effects}

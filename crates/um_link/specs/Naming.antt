@@ -41,16 +41,16 @@ abbrev pub call_of : Call → K.Call
 call_of call = E.call_of (request_of call)
 
 abbrev pub air_event : R.Role → Air → A.Event
-air_event sender V.Deliver = A.Deliver sender []
-air_event sender V.Lose = A.Lose sender
-air_event sender (V.Flip places) = A.Deliver sender places.now
+air_event sender V.Deliver = E.Deliver sender []
+air_event sender V.Lose = E.Lose sender
+air_event sender (V.Flip places) = E.Deliver sender places.now
 
 abbrev pub event_of : Event → A.Event
-event_of (T.Open info) = A.Open info.now
-event_of (T.OpenBare end) = A.OpenBare (role_of end)
-event_of (T.End end sapi call) = A.Ask (role_of end) sapi (request_of call)
+event_of (T.Open info) = E.Open info.now
+event_of (T.OpenBare end) = E.OpenBare (role_of end)
+event_of (T.End end sapi call) = E.Ask (role_of end) sapi (request_of call)
 event_of (T.Air way air) = air_event (sender_of way) air
-event_of (T.Rival info) = A.Rival info.now
+event_of (T.Rival info) = E.Rival info.now
 
 abbrev pub who_of : Who → E.Who
 who_of W.Mobile = E.End R.Mobile

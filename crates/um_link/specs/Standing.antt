@@ -22,8 +22,8 @@ pub record Stands (w : Links) (a : AirState) : Type 0 where
   pub tsc : w.tsc ≡ a.tsc
   pub channel : w.channel ≡ a.channel
   pub ends : F.Stands w.ends a.ends
-  pub up : w.up.items ≡ a.up
-  pub down : w.down.items ≡ a.down
+  pub up : w.up.items ≡ a.ways.up
+  pub down : w.down.items ≡ a.ways.down
 
 -- what each world keeps to
 pub record IsSound (w : Links) : Type 0 where

@@ -147,7 +147,7 @@ impl Links {
         call: &Call<'_>,
     ) -> Result<Step, No>
         requires sound { IsSound self.old }
-        ensures follows { Follows (A.Ask (role_of end) sapi (request_of call.now)) self.old result self.new }
+        ensures follows { Follows (E.Ask (role_of end) sapi (request_of call.now)) self.old result self.new }
         ensures sound { IsSound self.new }
         ensures refused { OnErr result (self.new ≡ self.old) }
         ensures silent { OnErr result (radio.new ≡ radio.old) }
@@ -167,7 +167,7 @@ impl Links {
     /// The mobile asks for the link of SAPI 0.
     fn open<R: Radio>(&mut self, radio: &mut R, info: &[u8]) -> Result<Step, No>
         requires sound { IsSound self.old }
-        ensures follows { Follows (A.Open info.now) self.old result self.new }
+        ensures follows { Follows (E.Open info.now) self.old result self.new }
         ensures sound { IsSound self.new }
         ensures refused { OnErr result (self.new ≡ self.old) }
         ensures silent { OnErr result (radio.new ≡ radio.old) }
@@ -187,7 +187,7 @@ impl Links {
     /// An end asks for the link of SAPI 3.
     fn open_bare<R: Radio>(&mut self, radio: &mut R, end: End) -> Result<Step, No>
         requires sound { IsSound self.old }
-        ensures follows { Follows (A.OpenBare (role_of end)) self.old result self.new }
+        ensures follows { Follows (E.OpenBare (role_of end)) self.old result self.new }
         ensures sound { IsSound self.new }
         ensures refused { OnErr result (self.new ≡ self.old) }
         ensures silent { OnErr result (radio.new ≡ radio.old) }
@@ -208,7 +208,7 @@ impl Links {
     fn deliver<R: Radio>(&mut self, radio: &mut R, sender: End, places: &[u16]) -> Result<Step, No>
         requires sound { IsSound self.old }
         requires places { ArePlaces places.now }
-        ensures follows { Follows (A.Deliver (role_of sender) places.now) self.old result self.new }
+        ensures follows { Follows (E.Deliver (role_of sender) places.now) self.old result self.new }
         ensures sound { IsSound self.new }
         ensures refused { OnErr result (self.new ≡ self.old) }
         ensures silent { OnErr result (radio.new ≡ radio.old) }
@@ -244,7 +244,7 @@ impl Links {
     /// The first block that an end sent is lost.
     fn lose(&mut self, sender: End) -> Result<Step, No>
         requires sound { IsSound self.old }
-        ensures follows { Follows (A.Lose (role_of sender)) self.old result self.new }
+        ensures follows { Follows (E.Lose (role_of sender)) self.old result self.new }
         ensures sound { IsSound self.new }
         ensures refused { OnErr result (self.new ≡ self.old) }
         ensures silent { (frames_in result ≡ 0) × (arrivals_in result ≡ 0) }
@@ -265,7 +265,7 @@ impl Links {
     /// Another mobile asks for the link of SAPI 0.
     fn rival<R: Radio>(&mut self, radio: &mut R, info: &[u8]) -> Result<Step, No>
         requires sound { IsSound self.old }
-        ensures follows { Follows (A.Rival info.now) self.old result self.new }
+        ensures follows { Follows (E.Rival info.now) self.old result self.new }
         ensures sound { IsSound self.new }
         ensures refused { OnErr result (self.new ≡ self.old) }
         ensures silent { OnErr result (radio.new ≡ radio.old) }

@@ -1,5 +1,5 @@
 use Rattle.std.proofs.Common.{sym, ◌∙◌, ap}
-use Rattle.um_air.specs.Air as A
+use Rattle.lapdm_link.specs.Events as E
 use Rattle.um_link.specs.Naming.{role_of}
 use Rattle.um_link.specs.Naming.{event_of, air_event, request_of}
 use Rattle.um_link.proofs.Stepping.{at-event}
@@ -7,15 +7,15 @@ use Rattle.um_link.proofs.links.Links.happen.Goals as goal
 
 pub returns-in-Open-clause-follows : goal.returns-in-Open-clause-follows
 returns-in-Open-clause-follows g c =
-    at-event (event_of c.args.event.now) (A.Open c.in-Open.info.now) c.args.self.now c.open.new.self c.open.result (ap event_of c.in-Open.is) c.open.ensures.follows
+    at-event (event_of c.args.event.now) (E.Open c.in-Open.info.now) c.args.self.now c.open.new.self c.open.result (ap event_of c.in-Open.is) c.open.ensures.follows
 
 pub returns-in-OpenBare-clause-follows : goal.returns-in-OpenBare-clause-follows
 returns-in-OpenBare-clause-follows g c =
-    at-event (event_of c.args.event.now) (A.OpenBare (role_of c.in-OpenBare.end)) c.args.self.now c.open_bare.new.self c.open_bare.result (ap event_of c.in-OpenBare.is) c.open_bare.ensures.follows
+    at-event (event_of c.args.event.now) (E.OpenBare (role_of c.in-OpenBare.end)) c.args.self.now c.open_bare.new.self c.open_bare.result (ap event_of c.in-OpenBare.is) c.open_bare.ensures.follows
 
 pub returns-in-End-clause-follows : goal.returns-in-End-clause-follows
 returns-in-End-clause-follows g c =
-    at-event (event_of c.args.event.now) (A.Ask (role_of c.in-End.end) c.in-End.sapi (request_of c.in-End.call)) c.args.self.now c.ask.new.self c.ask.result (ap event_of c.in-End.is) c.ask.ensures.follows
+    at-event (event_of c.args.event.now) (E.Ask (role_of c.in-End.end) c.in-End.sapi (request_of c.in-End.call)) c.args.self.now c.ask.new.self c.ask.result (ap event_of c.in-End.is) c.ask.ensures.follows
 
 pub returns-in-Air-clause-follows : goal.returns-in-Air-clause-follows
 returns-in-Air-clause-follows g c =
@@ -23,4 +23,4 @@ returns-in-Air-clause-follows g c =
 
 pub returns-in-Rival-clause-follows : goal.returns-in-Rival-clause-follows
 returns-in-Rival-clause-follows g c =
-    at-event (event_of c.args.event.now) (A.Rival c.in-Rival.info.now) c.args.self.now c.rival.new.self c.rival.result (ap event_of c.in-Rival.is) c.rival.ensures.follows
+    at-event (event_of c.args.event.now) (E.Rival c.in-Rival.info.now) c.args.self.now c.rival.new.self c.rival.result (ap event_of c.in-Rival.is) c.rival.ensures.follows
