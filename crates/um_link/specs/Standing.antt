@@ -38,6 +38,10 @@ pub record IsSound (w : Links) : Type 0 where
 abbrev pub Follows : A.Event → Links → Result Step No → Links → Type 0
 Follows event old result new = (a : AirState) → Stands old a → (b : AirState) × Stands new b × AirStep a event b (answer_of result)
 
+-- and no other answer is
+abbrev pub IsOnlyAnswer : A.Event → Links → Result Step No → Type 0
+IsOnlyAnswer event old result = (a : AirState) → Stands old a → (b : AirState) (answer : A.Answer) → AirStep a event b answer → answer ≡ answer_of result
+
 -- how many frames a step sends, and how many blocks it receives
 abbrev pub frames_in : Result Step No → ℕ
 frames_in (Ok s) = length s.effects.frames

@@ -4,13 +4,17 @@ ghost use Rattle.lapdm_frame.specs.declared.Channel.TheVariants as C;
 ghost use Rattle.um_air.specs.Air.{start_on};
 ghost use Rattle.um_block.specs.Tallies.{raised_by};
 ghost use Rattle.um_link.specs.Naming.{event_of, step_of};
-ghost use Rattle.um_link.specs.Standing.{Stands, Follows, FitsWho, frames_in, arrivals_in};
+ghost use Rattle.um_link.specs.Standing.{Stands, Follows, IsOnlyAnswer, FitsWho, frames_in, arrivals_in};
 ghost use Rattle.um_link.specs.Sessions.{GoesOn, KeepsOrder, KeepsDelivery, StaysHarmless};
 ghost use Rattle.um_link.specs.Possible.{IsPossible};
+ghost use Rattle.um_air.specs.Sessions.{AreOctets, IsOctetEvent};
+ghost use Rattle.um_link.specs.Naming.{request_of, role_of};
+ghost use Rattle.lapdm_link.specs.Events.{Ask};
 
-use crate::events::{Event, No, Step};
+use crate::events::{Call, End, Event, No, Step};
 use crate::links::Links;
 use lapdm_frame::Channel;
+use lapdm_window::Sapi;
 use std::alloc::Global;
 use std::marker::Model;
 use um_air::{law_delivery, law_kind, law_order};
@@ -62,6 +66,7 @@ impl World {
     pub fn step<R: Radio>(&mut self, radio: &mut R, event: &Event<'_>) -> Result<Step, No>
         requires { IsPossible event.now }
         ensures follows { Follows (event_of event.now) self.old result self.new }
+        ensures only { IsOnlyAnswer (event_of event.now) self.old result }
         ensures session { GoesOn (event_of event.now) self.old result self.new }
         ensures refused { OnErr result (self.new ≡ self.old) }
         ensures silent { OnErr result (radio.new ≡ radio.old) }
@@ -71,10 +76,41 @@ impl World {
         ensures order { KeepsOrder (event_of event.now) self.old result }
         ensures delivery { KeepsDelivery (event_of event.now) self.old result }
         ensures harmless { StaysHarmless (event_of event.now) self.old result }
+        ensures octets { IsOctetEvent (event_of event.now) }
     {
         law_order();
         law_delivery();
         law_kind();
+        law_octets(event);
         self.links.happen(radio, event)
     }
 }
+
+/// Law: what an event brings is octets.
+fn law_octets(event: &Event<'_>)
+    ensures { IsOctetEvent (event_of event.now) }
+{
+    match event {
+        Event::Open(info) => law_bytes(info),
+        Event::Rival(info) => law_bytes(info),
+        Event::End(end, sapi, call) => law_call(*end, *sapi, call),
+        Event::OpenBare(_) => {}
+        Event::Air(_, _) => {}
+    }
+}
+
+fn law_call(end: End, sapi: Sapi, call: &Call<'_>)
+    ensures { IsOctetEvent (Ask (role_of end) sapi (request_of call.now)) }
+{
+    match call {
+        Call::Send(message) => law_bytes(message),
+        Call::Unit(message) => law_bytes(message),
+        Call::Close => {}
+        Call::Timer => {}
+        Call::Idle => {}
+    }
+}
+
+fn law_bytes(octets: &[u8])
+    ensures { AreOctets octets.now }
+{}
