@@ -3,10 +3,10 @@
 
 mod exhaustive;
 mod lanes;
-pub mod step;
+mod step;
 #[cfg(test)]
 mod tests;
-pub mod trellis;
+mod trellis;
 
 ghost use Rattle.std.specs.Prelude.{◌≡◌, ℕ, ◌*◌, ◌≤◌, List, length};
 ghost use Rattle.conv_code.specs.Code.{coded};

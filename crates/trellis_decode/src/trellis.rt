@@ -46,7 +46,7 @@ pub fn keep(soft: &[i8], rows: &mut [u16], losses: &mut [[i32; 16]])
     requires at_most { length rows.old ≤ 228 }
     requires blank { All (λ row. row ≡ 0) rows.old }
     ensures kept { IsKept rows.new losses.new soft.now }
-    ensures count { length rows.new ≡ length rows.old }
+    ensures count { length soft.now ≡ 2 * length rows.new }
     ensures octets { AreOctets soft.now }
 {
     let free = rows.len() - 4;

@@ -1,0 +1,62 @@
+-- The place that loses least, one place more at a time.
+use Rattle.std.proofs.Common.{◌≡◌, ◌≢◌, ◌⊎◌, ℕ, zero, suc, ◌+◌, ◌<◌, ◌≤◌, inl, inr, ℤ, List, [], ◌∷◌, length, get_or, take, refl, ◌∙◌, arith, below_more}
+use Rattle.std.specs.Prelude.{◌<ℤ◌}
+use Rattle.std.proofs.lemmas.Bool.{cases_lt}
+use Rattle.std.proofs.lemmas.Int.{ints}
+use Rattle.trellis_decode.specs.Trellis.{next}
+use Rattle.list_decode.specs.Detours.{reached, loss_at, IsLeastLoss}
+use Rattle.list_decode.specs.declared.leaving.Leave.{Leave}
+
+-- the best place to leave u at, of those before place k and of the first
+pub record IsBestLeave (u : List ℕ) (losses : List (List ℤ)) (k : ℕ) (best : Leave) : Type 0 where
+  pub found : best.place ≤ k
+  pub within : best.place + 4 < length u
+  pub state : best.state ≡ reached 0 (take best.place u)
+  pub least : IsLeastLoss u losses k best.place best.loss
+
+pub reached_more : (u : List ℕ) (k state : ℕ) → k < length u → reached state (take (k + 1) u) ≡ next (reached state (take k u)) (get_or u k 0)
+reached_more [] k state within = absurd (omega arith)
+reached_more (x ∷ u) zero state within = refl
+reached_more (x ∷ u) (suc k) state within =
+    let more : suc k + 1 ≡ suc (k + 1) = omega arith in
+    rw more (reached_more u k (next state x) (omega arith))
+
+pub reached_small : (state : ℕ) (u : List ℕ) → state < 16 → reached state u < 16
+reached_small state [] small = small
+reached_small state (x ∷ u) small = reached_small (next state x) u (omega arith)
+
+pub least_kept : (u : List ℕ) (losses : List (List ℤ)) (k place : ℕ) (loss : ℤ) → get_or u place 0 ≤ 1 → IsLeastLoss u losses k place loss →
+    (loss <ℤ loss_at 0 u losses k) ⊎ ((loss_at 0 u losses k ≡ loss) × (get_or u place 0 ≢ 0)) → IsLeastLoss u losses (k + 1) place loss
+least_kept u losses k place loss bit old more = record {
+  value = old.value;
+  least = below_more _ _ old.least (elim more [ inl less ↦ omega (arith, ints) | inr tie ↦ let e = tie.0 in omega (arith, ints) ]);
+  before = old.before;
+  after = λ j late lt equal. elim (cases_lt j k) [
+    | inl early ↦ old.after j late early equal
+    | inr now ↦
+        let here : j ≡ k = omega arith in
+        elim more [ inl less ↦ absurd (let e = rw here at equal in omega (arith, ints)) | inr tie ↦ one (get_or u place 0) bit tie.1 ]
+  ];
+} where
+  one : (x : ℕ) → x ≤ 1 → x ≢ 0 → x ≡ 1
+  one zero le ne = absurd (ne refl)
+  one (suc x) le ne = omega arith
+
+pub least_taken : (u : List ℕ) (losses : List (List ℤ)) (k place : ℕ) (loss : ℤ) → place ≤ k → IsLeastLoss u losses k place loss →
+    (loss_at 0 u losses k <ℤ loss) ⊎ ((loss_at 0 u losses k ≡ loss) × (get_or u place 0 ≡ 0)) →
+    IsLeastLoss u losses (k + 1) k (loss_at 0 u losses k)
+least_taken u losses k place loss found old less = record {
+  value = refl;
+  least = below_more _ _ (λ j lt. let low = old.least j lt in elim less [ inl less ↦ omega (arith, ints) | inr tie ↦ let e = tie.0 in omega (arith, ints) ]) (omega (arith, ints));
+  before = λ j lt equal. elim less [
+    | inl less ↦ absurd (let low = old.least j lt in omega (arith, ints))
+    | inr tie ↦ elim (cases_lt j place) [
+      | inl early ↦ old.before j early (equal ∙ tie.0)
+      | inr not_early ↦ elim (cases_lt place j) [
+        | inl late ↦ absurd (let one = old.after j late lt (equal ∙ tie.0) in let zero = tie.1 in omega arith)
+        | inr not_late ↦ let here : j ≡ place = omega arith in rw here tie.1
+      ]
+    ]
+  ];
+  after = λ j late lt equal. absurd (omega arith);
+}

@@ -1,0 +1,76 @@
+//! Where a list is best left, and the best list that leaves it there.
+
+ghost use Rattle.std.specs.Prelude.{◌≡◌, ◌≢◌, ◌⊎◌, true, false, ◌<ℤ◌, ℕ, ◌+◌, ◌-◌, ◌*◌, ◌%◌, ◌<◌, ◌≤◌, length, slice_index, ◌++◌, ◌∷◌};
+ghost use Rattle.std.proofs.Common.{take, drop};
+ghost use Rattle.bit_blocks.specs.Bits.{AllBits};
+ghost use Rattle.list_decode.specs.Detours.{IsLeastLoss, reached};
+ghost use Rattle.trellis_decode.specs.Trellis.{next, read_out};
+
+use trellis_decode::read_list;
+
+/// A place at which a list is left, the state that finds it, and what is lost by that.
+#[derive(Clone, Copy)]
+pub(crate) struct Leave {
+    pub(crate) place: usize,
+    pub(crate) state: usize,
+    pub(crate) loss: i32,
+}
+
+/// Where the least is lost by the other bit; of equal places that whose list comes first in the order of words.
+pub(crate) fn least_loss(u: &[u8], losses: &[[i32; 16]]) -> Leave
+    requires bits { AllBits u.now }
+    requires at_least { 5 ≤ length u.now }
+    requires at_most { length u.now ≤ 228 }
+    requires same { length losses.now ≡ length u.now }
+    ensures least { IsLeastLoss u.now losses.now (length u.now - 4) result.place result.loss }
+    ensures state { result.state ≡ reached 0 (take result.place u.now) }
+    ensures within { result.place + 4 < length u.now }
+{
+    let mut best = Leave {
+        place: 0,
+        state: 0,
+        loss: losses[0][0],
+    };
+    let mut state = 0;
+    for k in 0..u.len() - 4 {
+        let loss = losses[k][state];
+        if comes_first(loss, u[best.place], best.loss) {
+            best = Leave {
+                place: k,
+                state,
+                loss,
+            };
+        }
+        state = (2 * state + usize::from(u[k])) % 16;
+    }
+    best
+}
+
+/// Whether a later place is better to leave a list at than one with this bit.
+fn comes_first(loss: i32, bit: u8, least: i32) -> bool
+    ensures first { result ≡ true → (loss <ℤ least) ⊎ ((loss ≡ least) × (bit ≡ 0)) }
+    ensures not_first { result ≡ false → (least <ℤ loss) ⊎ ((loss ≡ least) × (bit ≢ 0)) }
+{
+    loss < least || loss == least && bit == 0
+}
+
+/// Writes `u` up to a place, the other bit there, and then what the rows choose.
+pub(crate) fn write_detour(u: &[u8], rows: &[u16], leave: Leave, v: &mut [u8])
+    requires bits { AllBits u.now }
+    requires rows { length rows.now ≡ length u.now }
+    requires count { length v.old ≡ length u.now }
+    requires within { leave.place < length u.now }
+    requires state { leave.state < 16 }
+    ensures { v.new ≡ take leave.place u.now ++ (1 - slice_index u.now leave.place) ∷
+        read_out (drop (leave.place + 1) rows.now) (next leave.state (1 - slice_index u.now leave.place)) }
+{
+    let bit = 1 - u[leave.place];
+    v[..leave.place].copy_from_slice(&u[..leave.place]);
+    v[leave.place] = bit;
+    let state = (2 * leave.state + usize::from(bit)) % 16;
+    read_list(
+        &rows[leave.place + 1..],
+        state as u16,
+        &mut v[leave.place + 1..],
+    );
+}
