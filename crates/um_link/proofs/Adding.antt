@@ -5,7 +5,8 @@ use Rattle.um_block.specs.Sent.{IsSentBlock}
 use Rattle.um_air.specs.Air.{Octets, Block}
 use Rattle.um_link.specs.Coded.{AreCoded, Adds}
 
-coded-push : (tsc : ℕ) (os : List Octets) (bs : List Block) (o : Octets) (b : Block) → AreCoded tsc os bs → IsSentBlock o tsc b → AreCoded tsc (os ++ o ∷ []) (bs ++ b ∷ [])
+coded-push : (tsc : ℕ) (os : List Octets) (bs : List Block) (o : Octets) (b : Block) → AreCoded tsc os bs → IsSentBlock o tsc b →
+    AreCoded tsc (os ++ o ∷ []) (bs ++ b ∷ [])
 coded-push tsc [] [] o b h s = (s, tt)
 coded-push tsc [] (c ∷ cs) o b h s = absurd h
 coded-push tsc (p ∷ ps) [] o b h s = absurd h
@@ -14,11 +15,19 @@ coded-push tsc (p ∷ ps) (c ∷ cs) o b h s = (h.0, coded-push tsc ps cs o b h.
 pub adds-none : (tsc : ℕ) (old : List Block) → Adds tsc [] old old
 adds-none tsc old = record { blocks = []; coded = tt; behind = sym (append-nil old) }
 
-pub adds-more : (tsc : ℕ) (os : List Octets) (old mid : List Block) (o : Octets) (b : Block) → Adds tsc os old mid → IsSentBlock o tsc b → Adds tsc (os ++ o ∷ []) old (mid ++ b ∷ [])
-adds-more tsc os old mid o b h s = record { blocks = h.blocks ++ b ∷ []; coded = coded-push tsc os h.blocks o b h.coded s; behind = ap (λ bs. bs ++ b ∷ []) h.behind ∙ append_assoc old h.blocks (b ∷ []) }
+pub adds-more : (tsc : ℕ) (os : List Octets) (old mid : List Block) (o : Octets) (b : Block) → Adds tsc os old mid →
+    IsSentBlock o tsc b → Adds tsc (os ++ o ∷ []) old (mid ++ b ∷ [])
+adds-more tsc os old mid o b h s = record {
+  blocks = h.blocks ++ b ∷ [];
+  coded = coded-push tsc os h.blocks o b h.coded s;
+  behind = ap
+      (λ bs. bs ++ b ∷ []) h.behind ∙ append_assoc old h.blocks (b ∷ []);
+}
 
-pub adds-as : (tsc : ℕ) (os os' : List Octets) (old new new' : List Block) → os' ≡ os → new' ≡ new → Adds tsc os old new → Adds tsc os' old new'
-adds-as tsc os os' old new new' e f h = subst (λ (x : List Octets). Adds tsc x old new') (sym e) (subst (λ (y : List Block). Adds tsc os old y) (sym f) h)
+pub adds-as : (tsc : ℕ) (os os' : List Octets) (old new new' : List Block) → os' ≡ os → new' ≡ new → Adds tsc os old new →
+    Adds tsc os' old new'
+adds-as tsc os os' old new new' e f h =
+    subst (λ (x : List Octets). Adds tsc x old new') (sym e) (subst (λ (y : List Block). Adds tsc os old y) (sym f) h)
 
 -- the blocks of the first frames are on their way
 pub record AreOnTheirWay (tsc : ℕ) (octets : List Octets) (i : ℕ) (old new : List Block) (before now : ℕ) : Type 0 where
@@ -30,13 +39,16 @@ pub record AreOnTheirWay (tsc : ℕ) (octets : List Octets) (i : ℕ) (old new :
 nothing_gone : (n : ℕ) (bs : List Block) → length bs ≤ n → drop (length bs - n) bs ≡ bs
 nothing_gone n bs h = ap (λ k. drop k bs) (let e : length bs - n ≡ 0 = omega arith in e)
 
-pub one_more : (tsc : ℕ) (octets : List Octets) (i : ℕ) (old mid new : List Block) (before now after : ℕ) (b : Block) → AreOnTheirWay tsc octets i old mid before now → i < length octets → IsSentBlock (get_or octets i []) tsc b →
-    length old + length octets ≤ before → new ≡ drop (length (mid ++ b ∷ []) - now) (mid ++ b ∷ []) → after ≡ now → AreOnTheirWay tsc octets (i + 1) old new before after
+pub one_more : (tsc : ℕ) (octets : List Octets) (i : ℕ) (old mid new : List Block) (before now after : ℕ) (b : Block) →
+    AreOnTheirWay tsc octets i old mid before now → i < length octets → IsSentBlock (get_or octets i []) tsc b →
+    length old + length octets ≤ before → new ≡ drop (length (mid ++ b ∷ []) - now) (mid ++ b ∷ []) → after ≡ now →
+    AreOnTheirWay tsc octets (i + 1) old new before after
 one_more tsc octets i old mid new before now after b h within sent room is capacity =
     let longer : length (mid ++ b ∷ []) ≡ length mid + 1 = length-append mid (b ∷ []) in
     let whole : new ≡ mid ++ b ∷ [] = is ∙ nothing_gone now (mid ++ b ∷ []) (omega (arith, longer, h.count, h.capacity, room, within)) in
     record {
-      added = adds-as tsc (take i octets ++ get_or octets i [] ∷ []) (take (i + 1) octets) old (mid ++ b ∷ []) new (take_more octets i [] within) whole (adds-more tsc (take i octets) old mid (get_or octets i []) b h.added sent);
+      added = adds-as tsc (take i octets ++ get_or octets i [] ∷ []) (take (i + 1) octets) old (mid ++ b ∷ []) new
+          (take_more octets i [] within) whole (adds-more tsc (take i octets) old mid (get_or octets i []) b h.added sent);
       capacity = capacity ∙ h.capacity;
       count = omega (arith, ap length whole, longer, h.count);
     }

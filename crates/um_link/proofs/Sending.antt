@@ -17,13 +17,21 @@ pub record AreSentSoFar (tsc : ℕ) (octets : List Octets) (i : ℕ) (old new : 
   pub tally : sent' ≡ raised_by i sent
   pub other : heard' ≡ heard
 
-pub one_more : (tsc : ℕ) (octets : List Octets) (i : ℕ) (old mid new : Buffer Block) (sent sent' sent'' heard heard' heard'' : ℕ) (b : Block) → AreSentSoFar tsc octets i old mid sent sent' heard heard' → i < length octets → IsSentBlock (get_or octets i []) tsc b → All AllBits b →
-    length old.items + length octets ≤ old.capacity → new.items ≡ drop (length (mid.items ++ b ∷ []) - mid.capacity) (mid.items ++ b ∷ []) → new.capacity ≡ mid.capacity → sent'' ≡ raised sent' → heard'' ≡ heard' → AreSentSoFar tsc octets (i + 1) old new sent sent'' heard heard''
+pub one_more : (tsc : ℕ) (octets : List Octets) (i : ℕ) (old mid new : Buffer Block) (sent sent' sent'' heard heard' heard'' : ℕ)
+    (b : Block) → AreSentSoFar tsc octets i old mid sent sent' heard heard' → i < length octets →
+    IsSentBlock (get_or octets i []) tsc b → All AllBits b →
+    length old.items + length octets ≤ old.capacity →
+    new.items ≡ drop (length (mid.items ++ b ∷ []) - mid.capacity) (mid.items ++ b ∷ []) → new.capacity ≡ mid.capacity →
+    sent'' ≡ raised sent' → heard'' ≡ heard' →
+    AreSentSoFar tsc octets (i + 1) old new sent sent'' heard heard''
 one_more tsc octets i old mid new sent sent' sent'' heard heard' heard'' b h within is_sent bits room is capacity tally other =
     let next : i + 1 ≡ suc i = omega arith in
     record {
-      on_way = Q.one_more tsc octets i old.items mid.items new.items old.capacity mid.capacity new.capacity b h.on_way within is_sent room is capacity;
-      bits = subst (All (All AllBits)) (sym is) (All-drop (All AllBits) (length (mid.items ++ b ∷ []) - mid.capacity) (mid.items ++ b ∷ []) (All-append (All AllBits) mid.items (b ∷ []) h.bits (All-cons (All AllBits) b [] bits (All-nil (All AllBits)))));
+      on_way = Q.one_more tsc octets i old.items mid.items new.items old.capacity mid.capacity new.capacity b h.on_way within is_sent
+          room is capacity;
+      bits = subst (All (All AllBits)) (sym is) (All-drop (All AllBits) (length (mid.items ++ b ∷ []) - mid.capacity)
+          (mid.items ++ b ∷ []) (All-append (All AllBits) mid.items (b ∷ []) h.bits
+          (All-cons (All AllBits) b [] bits (All-nil (All AllBits)))));
       tally = tally ∙ ap raised h.tally ∙ sym (ap (λ k. raised_by k sent) next);
       other = other ∙ h.other;
     }

@@ -1,5 +1,5 @@
 -- From what the calls do to a step of the definition.
-use Rattle.std.proofs.Common.{◌≡◌, refl, sym, ◌∙◌, ap, subst, ℕ, Bool, true, false, List, [], ◌∷◌, ◌++◌, length, drop, map, Option, Some, None}
+use Rattle.std.proofs.Common.{◌≡◌, refl, sym, ◌∙◌, ap, subst, ℕ, Bool, true, false, List, [], ◌∷◌, ◌++◌, length, drop, map, Option, Some, None, arith, ◌≤◌, nat_eq, nat_lt, Result}
 use Rattle.std.proofs.lemmas.Bool.{false≢true}
 use Rattle.std.proofs.lemmas.Bool.Decides.{nat_tests}
 use Rattle.um_link.proofs.Adding.{adds-none}
@@ -10,7 +10,6 @@ use Rattle.lapdm_window.specs.declared.Refused.TheVariants as Q
 use Rattle.lapdm_window.specs.Calls.{first_of}
 use Rattle.segmenting.specs.Pieces.{Message}
 use Rattle.um_air.specs.Air.{Reads}
-use Rattle.std.proofs.Common.{arith, ◌≤◌, if◌then◌else◌, nat_eq, nat_lt, Result}
 use Rattle.um_link.specs.declared.events.No.{No}
 use Rattle.um_link.specs.declared.events.Step.{Step}
 use Rattle.um_link.specs.Standing.{Follows}
@@ -34,10 +33,12 @@ use Rattle.um_link.specs.FourEnds as F
 use Rattle.um_link.specs.declared.links.Links.{Links}
 use Rattle.um_link.specs.Hearing.{Hears}
 use Rattle.um_link.specs.Hearing as H
+use Rattle.um_link.proofs.BySapi.{by_sapi}
 use Rattle.um_link.specs.Standing.{IsSound, Stands, blocks_from}
 use Rattle.um_link.specs.Moves.{Sends, IsSameBut, ReceivesFrom, LosesFrom}
 
-coded-sent : (channel : Channel) (tsc : ℕ) (fs : List Frame) (bs : List Block) → AreCoded tsc (map (octets_of channel) fs) bs → AreSent channel tsc fs bs
+coded-sent : (channel : Channel) (tsc : ℕ) (fs : List Frame) (bs : List Block) → AreCoded tsc (map (octets_of channel) fs) bs →
+    AreSent channel tsc fs bs
 coded-sent channel tsc [] [] h = tt
 coded-sent channel tsc [] (b ∷ bs) h = absurd h
 coded-sent channel tsc (f ∷ fs) [] h = absurd h
@@ -57,11 +58,14 @@ record IsSent (role : Role) (a : AirState) (ways : Ways Block) (w : Links) (d : 
   sent : AreSent a.channel a.tsc d.frames blocks
   stands : Stands w (record a { ends = d.after; ways = with_more role blocks ways })
 
-sent-frames : (a : AirState) (ways : Ways Block) (m : Links) (effects : Effects) (d : E.Deed) (blocks : List Block) → IsReady a ways m effects d → AreCoded m.tsc effects.frames blocks → AreSent a.channel a.tsc d.frames blocks
+sent-frames : (a : AirState) (ways : Ways Block) (m : Links) (effects : Effects) (d : E.Deed) (blocks : List Block) →
+    IsReady a ways m effects d → AreCoded m.tsc effects.frames blocks → AreSent a.channel a.tsc d.frames blocks
 sent-frames a ways m effects d blocks r h =
-    coded-sent a.channel a.tsc d.frames blocks (subst (λ (t : ℕ). AreCoded t (map (octets_of a.channel) d.frames) blocks) r.tsc (subst (λ (os : List Octets). AreCoded m.tsc os blocks) r.does.frames h))
+    coded-sent a.channel a.tsc d.frames blocks (subst (λ (t : ℕ). AreCoded t (map (octets_of a.channel) d.frames) blocks) r.tsc
+    (subst (λ (os : List Octets). AreCoded m.tsc os blocks) r.does.frames h))
 
-sent-state : (role : Role) (a : AirState) (ways : Ways Block) (m w : Links) (effects : Effects) (d : E.Deed) → IsReady a ways m effects d → Sends role effects.frames m w → IsSent role a ways w d
+sent-state : (role : Role) (a : AirState) (ways : Ways Block) (m w : Links) (effects : Effects) (d : E.Deed) →
+    IsReady a ways m effects d → Sends role effects.frames m w → IsSent role a ways w d
 sent-state Mobile a ways m w effects d r h = record {
   blocks = h.added.blocks;
   sent = sent-frames a ways m effects d h.added.blocks r h.added.coded;
@@ -87,16 +91,20 @@ sent-state Network a ways m w effects d r h = record {
 
 -- the answer of a deed of an end
 abbrev pub step_by : E.Who → Sapi → Option Received → Effects → A.Step
-step_by who sapi received effects = record { who = who; sapi = sapi; received = received; frames = effects.frames; notices = effects.notices }
+step_by who sapi received effects =
+    record { who = who; sapi = sapi; received = received; frames = effects.frames; notices = effects.notices }
 
-pub finish : (event : A.Event) (a : AirState) (m w : Links) (read : Option Frame) (effects : Effects) (who : E.Who) (sapi : Sapi) (received : Option Received) (role : Role) →
-    IsReady a (taken event a.ways) m effects (E.deed (as_read read event) a.ends) → Sends role effects.frames m w → Arrives a event received read → sender_of who ≡ role →
+pub finish : (event : A.Event) (a : AirState) (m w : Links) (read : Option Frame) (effects : Effects) (who : E.Who) (sapi : Sapi)
+    (received : Option Received) (role : Role) →
+    IsReady a (taken event a.ways) m effects (E.deed (as_read read event) a.ends) → Sends role effects.frames m w →
+    Arrives a event received read → sender_of who ≡ role →
     who ≡ (E.deed (as_read read event) a.ends).who → sapi ≡ (E.deed (as_read read event) a.ends).sapi →
     (b : AirState) × Stands w b × Happens a event b (step_by who sapi received effects)
 finish event a m w read effects who sapi received role r h arrives sender same_who same_sapi =
     let d = E.deed (as_read read event) a.ends in
     let s : IsSent (sender_of d.who) a (taken event a.ways) w d =
-    sent-state (sender_of d.who) a (taken event a.ways) m w effects d r (subst (λ (x : Role). Sends x effects.frames m w) (sym sender ∙ ap sender_of same_who) h) in (
+    sent-state (sender_of d.who) a (taken event a.ways) m w effects d r
+    (subst (λ (x : Role). Sends x effects.frames m w) (sym sender ∙ ap sender_of same_who) h) in (
       record a { ends = d.after; ways = with_more (sender_of d.who) s.blocks (taken event a.ways) },
       s.stands,
       record {
@@ -113,9 +121,12 @@ finish event a m w read effects who sapi received role r h arrives sender same_w
     )
 
 -- an end that is asked does something
-pub called : (event : A.Event) (role : Role) (w w' : Links) (ends' : Ends) (effects : Effects) (who : E.Who) (sapi : Sapi) (step : A.Step) → step ≡ step_by who sapi None effects →
-    F.Follows w.channel (E.deed (as_read None event)) w.ends effects ends' → ((a : AirState) → Stands w a → refusal event a ≡ None) → ((a : AirState) → Arrives a event None None × (taken event a.ways ≡ a.ways)) →
-    sender_of who ≡ role → ((es : E.Ends) → who ≡ (E.deed (as_read None event) es).who) → ((es : E.Ends) → sapi ≡ (E.deed (as_read None event) es).sapi) → Sends role effects.frames (record w { ends = ends' }) w' →
+pub called : (event : A.Event) (role : Role) (w w' : Links) (ends' : Ends) (effects : Effects) (who : E.Who) (sapi : Sapi)
+    (step : A.Step) → step ≡ step_by who sapi None effects →
+    F.Follows w.channel (E.deed (as_read None event)) w.ends effects ends' → ((a : AirState) → Stands w a → refusal event a ≡ None) →
+    ((a : AirState) → Arrives a event None None × (taken event a.ways ≡ a.ways)) →
+    sender_of who ≡ role → ((es : E.Ends) → who ≡ (E.deed (as_read None event) es).who) →
+    ((es : E.Ends) → sapi ≡ (E.deed (as_read None event) es).sapi) → Sends role effects.frames (record w { ends = ends' }) w' →
     (a : AirState) → Stands w a → (b : AirState) × Stands w' b × AirStep a event b (A.Does step)
 called event role w w' ends' effects who sapi step is follows unrefused plain sender same_who same_sapi sends a st =
     let g = follows a.ends st.ends in
@@ -123,8 +134,17 @@ called event role w w' ends' effects who sapi step is follows unrefused plain se
     let d : E.Deed = E.deed (as_read None event) a.ends in
     let m : Links = record w { ends = ends' } in
     let r : IsReady a a.ways m effects d =
-    record { tsc = st.tsc; channel = st.channel; ends = g.0; does = subst (λ (c : Channel). F.Does effects c d) st.channel g.1; up = st.up; down = st.down } in
-    let f = finish event a m w' None effects who sapi None role (subst (λ (ways : Ways Block). IsReady a ways m effects d) (sym p.1) r) sends p.0 sender (same_who a.ends) (same_sapi a.ends) in
+    record {
+      tsc = st.tsc;
+      channel = st.channel;
+      ends = g.0;
+      does = subst
+          (λ (c : Channel). F.Does effects c d) st.channel g.1;
+      up = st.up;
+      down = st.down;
+    } in
+    let f = finish event a m w' None effects who sapi None role (subst (λ (ways : Ways Block). IsReady a ways m effects d) (sym p.1) r)
+    sends p.0 sender (same_who a.ends) (same_sapi a.ends) in
     (f.0, f.1, (unrefused a st, subst (λ (s : A.Step). Happens a event f.0 s) (sym is) f.2))
 
 -- refusals
@@ -140,30 +160,61 @@ unless-true : (b : Bool) (why : E.Why) (others : Option E.Why) → b ≡ true �
 unless-true true why others h = refl
 unless-true false why others h = absurd (false≢true h)
 
-on-way : (test : ℕ → Bool) (b : Bool) (role : Role) (w : Links) (a : AirState) → Stands w a → test (length (blocks_from role w)) ≡ b → test (count a.ways role) ≡ b
+on-way : (test : ℕ → Bool) (b : Bool) (role : Role) (w : Links) (a : AirState) → Stands w a → test (length (blocks_from role w)) ≡ b →
+    test (count a.ways role) ≡ b
 on-way test b role w a st h = sym (ap (λ bs. test (length bs)) (same-way role w a st)) ∙ h
 
-pub asked-full : (role : Role) (sapi : Sapi) (call : Call) (w : Links) → E.is_full (length (blocks_from role w)) ≡ true → (a : AirState) → Stands w a → E.asked_refusal (count a.ways) role sapi call a.ends ≡ Some E.AirFull
+pub asked-full : (role : Role) (sapi : Sapi) (call : Call) (w : Links) → E.is_full (length (blocks_from role w)) ≡ true →
+    (a : AirState) → Stands w a → E.asked_refusal (count a.ways) role sapi call a.ends ≡ Some E.AirFull
 asked-full role sapi call w h a st = unless-true _ E.AirFull _ (on-way E.is_full true role w a st h)
 
-pub asked-none : (role : Role) (sapi : Sapi) (call : Call) (w : Links) → E.is_full (length (blocks_from role w)) ≡ false → ((es : E.Ends) → F.Stands w.ends es → None ≡ refusal_of call (E.end_in role sapi es)) → (a : AirState) → Stands w a → E.asked_refusal (count a.ways) role sapi call a.ends ≡ None
-asked-none role sapi call w h n a st = unless-false _ E.AirFull _ (on-way E.is_full false role w a st h) ∙ ap E.because (sym (n a.ends st.ends))
+pub asked-none : (role : Role) (sapi : Sapi) (call : Call) (w : Links) → E.is_full (length (blocks_from role w)) ≡ false →
+    ((es : E.Ends) → F.Stands w.ends es → None ≡ refusal_of call (E.end_in role sapi es)) → (a : AirState) → Stands w a →
+    E.asked_refusal (count a.ways) role sapi call a.ends ≡ None
+asked-none role sapi call w h n a st =
+    unless-false _ E.AirFull _ (on-way E.is_full false role w a st h) ∙ ap E.because (sym (n a.ends st.ends))
 
-pub asked-because : (role : Role) (sapi : Sapi) (call : Call) (w : Links) (refused : Refused) → E.is_full (length (blocks_from role w)) ≡ false → ((es : E.Ends) → F.Stands w.ends es → Some refused ≡ refusal_of call (E.end_in role sapi es)) → (a : AirState) → Stands w a → E.asked_refusal (count a.ways) role sapi call a.ends ≡ Some (E.Because refused)
-asked-because role sapi call w refused h n a st = unless-false _ E.AirFull _ (on-way E.is_full false role w a st h) ∙ ap E.because (sym (n a.ends st.ends))
+pub asked-because : (role : Role) (sapi : Sapi) (call : Call) (w : Links) (refused : Refused) →
+    E.is_full (length (blocks_from role w)) ≡ false →
+    ((es : E.Ends) → F.Stands w.ends es → Some refused ≡ refusal_of call (E.end_in role sapi es)) → (a : AirState) → Stands w a →
+    E.asked_refusal (count a.ways) role sapi call a.ends ≡ Some (E.Because refused)
+asked-because role sapi call w refused h n a st =
+    unless-false _ E.AirFull _ (on-way E.is_full false role w a st h) ∙ ap E.because (sym (n a.ends st.ends))
 
 -- a refused event
-pub stays : (event : A.Event) (why : E.Why) (w : Links) → ((a : AirState) → Stands w a → refusal event a ≡ Some why) → (a : AirState) → Stands w a → (b : AirState) × Stands w b × AirStep a event b (A.Refuses why)
+pub stays : (event : A.Event) (why : E.Why) (w : Links) → ((a : AirState) → Stands w a → refusal event a ≡ Some why) → (a : AirState) →
+    Stands w a → (b : AirState) × Stands w b × AirStep a event b (A.Refuses why)
 stays event why w h a st = (a, st, (h a st, refl))
 
-pub stays-ends : (event : A.Event) (why : E.Why) (w : Links) (ends' : Ends) → ends' ≡ w.ends → ((a : AirState) → Stands w a → refusal event a ≡ Some why) → (a : AirState) → Stands w a → (b : AirState) × Stands (record w { ends = ends' }) b × AirStep a event b (A.Refuses why)
-stays-ends event why w ends' e h a st = (a, record { tsc = st.tsc; channel = st.channel; ends = subst (λ (p : Ends). F.Stands p a.ends) (sym e) st.ends; up = st.up; down = st.down }, (h a st, refl))
+pub stays-ends : (event : A.Event) (why : E.Why) (w : Links) (ends' : Ends) → ends' ≡ w.ends →
+    ((a : AirState) → Stands w a → refusal event a ≡ Some why) → (a : AirState) → Stands w a →
+    (b : AirState) × Stands (record w { ends = ends' }) b × AirStep a event b (A.Refuses why)
+stays-ends event why w ends' e h a st = (
+  a,
+  record {
+    tsc = st.tsc;
+    channel = st.channel;
+    ends = subst (λ (p : Ends). F.Stands p a.ends)
+        (sym e) st.ends;
+    up = st.up;
+    down = st.down;
+  },
+  (h a st, refl),
+)
 
 -- what the world keeps to
 pub sound-ends : (w : Links) (ends' : Ends) → IsSound w → F.IsOn (F.ends_channel w.ends) ends' → IsSound (record w { ends = ends' })
-sound-ends w ends' s on = record { tsc = s.tsc; channel = s.channel ∙ sym on.mobile; ends = subst (λ (c : Channel). F.IsOn c ends') (sym on.mobile) on; up = s.up; down = s.down }
+sound-ends w ends' s on = record {
+  tsc = s.tsc;
+  channel = s.channel ∙ sym on.mobile;
+  ends = subst (λ (c : Channel). F.IsOn c ends')
+      (sym on.mobile) on;
+  up = s.up;
+  down = s.down;
+}
 
-pub on-channel : (w : Links) (ends' : Ends) (effects : Effects) (deed : E.Ends → E.Deed) → IsSound w → F.Follows (F.ends_channel w.ends) deed w.ends effects ends' → F.Follows w.channel deed w.ends effects ends'
+pub on-channel : (w : Links) (ends' : Ends) (effects : Effects) (deed : E.Ends → E.Deed) → IsSound w →
+    F.Follows (F.ends_channel w.ends) deed w.ends effects ends' → F.Follows w.channel deed w.ends effects ends'
 on-channel w ends' effects deed s h = subst (λ (c : Channel). F.Follows c deed w.ends effects ends') (sym s.channel) h
 
 -- a block is gone from the way of an end
@@ -174,7 +225,8 @@ record IsBetween (a : AirState) (ways : Ways Block) (m : Links) : Type 0 where
   up : m.up.items ≡ ways.up
   down : m.down.items ≡ ways.down
 
-is-between : (sender : Role) (w m : Links) (a : AirState) (b : Block) → blocks_from sender w ≡ b ∷ blocks_from sender m → IsSameBut sender w m → Stands w a → IsBetween a (without_first sender a.ways) m
+is-between : (sender : Role) (w m : Links) (a : AirState) (b : Block) → blocks_from sender w ≡ b ∷ blocks_from sender m →
+    IsSameBut sender w m → Stands w a → IsBetween a (without_first sender a.ways) m
 is-between Mobile w m a b first s st = record {
   tsc = s.tsc ∙ st.tsc;
   channel = s.channel ∙ st.channel;
@@ -191,62 +243,113 @@ is-between Network w m a b first s st = record {
 }
 
 sends-none : (w : Links) (effects : Effects) → effects.frames ≡ [] → Sends Mobile effects.frames w w
-sends-none w effects none = record { added = subst (λ (os : List Octets). Adds w.tsc os (blocks_from Mobile w) (blocks_from Mobile w)) (sym none) (adds-none w.tsc (blocks_from Mobile w)); same = record { kept = refl; tsc = refl; channel = refl; ends = refl } }
+sends-none w effects none = record {
+  added = subst (λ (os : List Octets). Adds w.tsc os (blocks_from Mobile w) (blocks_from Mobile w))
+      (sym none) (adds-none w.tsc (blocks_from Mobile w));
+  same = record { kept = refl; tsc = refl; channel = refl; ends = refl };
+}
 
-pub lost : (sender : Role) (w m : Links) (effects : Effects) → LosesFrom sender w m → E.is_empty (length (blocks_from sender w)) ≡ false → effects.frames ≡ [] → effects.notices ≡ [] → (a : AirState) → Stands w a → (b : AirState) × Stands m b × AirStep a (E.Lose sender) b (A.Does (step_by E.Nobody Zero None effects))
+pub lost : (sender : Role) (w m : Links) (effects : Effects) → LosesFrom sender w m →
+    E.is_empty (length (blocks_from sender w)) ≡ false → effects.frames ≡ [] → effects.notices ≡ [] → (a : AirState) → Stands w a →
+    (b : AirState) × Stands m b × AirStep a (E.Lose sender) b (A.Does (step_by E.Nobody Zero None effects))
 lost sender w m effects h some no_frames no_notices a st =
     let i : IsBetween a (without_first sender a.ways) m = is-between sender w m a h.block h.first h.same st in
     let f = finish (E.Lose sender) a m m None effects E.Nobody Zero None Mobile
-    (record { tsc = i.tsc; channel = i.channel; ends = i.ends; does = record { frames = no_frames; notices = no_notices }; up = i.up; down = i.down })
+    (record {
+      tsc = i.tsc;
+      channel = i.channel;
+      ends = i.ends;
+      does = record { frames = no_frames; notices = no_notices };
+      up =
+          i.up;
+      down = i.down;
+    })
     (sends-none m effects no_frames) tt refl refl refl in
     (f.0, f.1, (unless-false _ E.Nothing None (on-way E.is_empty false sender w a st some), f.2))
 
 who-takes : (role : Role) (read : Option Frame) (es : E.Ends) → E.End role ≡ (E.takes_read role read es).who
 who-takes role None es = refl
-who-takes role (Some f) es = by_test (nat_eq f.sapi 0) (nat_eq f.sapi 3)
-  where
-    by_test : (b c : Bool) → E.End role ≡ (let d : E.Deed = (if b then E.does role Zero (after_frame f (E.end_in role Zero es)) es else (if c then E.does role Three (after_frame f (E.end_in role Three es)) es else E.does_nothing (E.End role) es)) in d.who)
-    by_test true c = refl
-    by_test false true = refl
-    by_test false false = refl
+who-takes role (Some f) es = by_sapi role f es (λ d. E.End role ≡ d.who) (λ q. refl) (λ q. refl) (λ q r. refl)
 
-arrived-at : (sender : Role) (places : List ℕ) (w m w' : Links) (ends' : Ends) (report : Received) (sapi : Sapi) (effects : Effects) (step : A.Step) → ReceivesFrom sender places w report m → Hears (E.other sender) m.channel report.accepted m.ends sapi effects ends' → E.is_empty (length (blocks_from sender w)) ≡ false → E.is_full (length (blocks_from (E.other sender) w)) ≡ false →
-    Sends (E.other sender) effects.frames (record m { ends = ends' }) w' → step ≡ step_by (E.End (E.other sender)) sapi (Some report) effects → (a : AirState) → Stands w a → (b : AirState) × Stands w' b × AirStep a (E.Deliver sender places) b (A.Does step)
+arrived-at : (sender : Role) (places : List ℕ) (w m w' : Links) (ends' : Ends) (report : Received) (sapi : Sapi) (effects : Effects)
+    (step : A.Step) → ReceivesFrom sender places w report m →
+    Hears (E.other sender) m.channel report.accepted m.ends sapi effects ends' → E.is_empty (length (blocks_from sender w)) ≡ false →
+    E.is_full (length (blocks_from (E.other sender) w)) ≡ false →
+    Sends (E.other sender) effects.frames (record m { ends = ends' }) w' → step ≡ step_by (E.End (E.other sender)) sapi
+    (Some report) effects → (a : AirState) → Stands w a →
+    (b : AirState) × Stands w' b × AirStep a (E.Deliver sender places) b (A.Does step)
 arrived-at sender places w m w' ends' report sapi effects step h hears some room sends is a st =
     let i : IsBetween a (without_first sender a.ways) m = is-between sender w m a h.received.block h.received.first h.same st in
     let t : H.Takes (E.other sender) m.channel report.accepted a.ends sapi effects ends' = hears a.ends i.ends in
-    let f = finish (E.Deliver sender places) a (record m { ends = ends' }) w' t.read effects (E.End (E.other sender)) sapi (Some report) (E.other sender)
-    (record { tsc = i.tsc; channel = i.channel; ends = t.stands; does = subst (λ (c : Channel). F.Does effects c (E.takes_read (E.other sender) t.read a.ends)) i.channel t.does; up = i.up; down = i.down })
+    let f = finish (E.Deliver sender places) a (record m { ends = ends' }) w' t.read effects (E.End (E.other sender)) sapi (Some report)
+    (E.other sender)
+    (record {
+      tsc = i.tsc;
+      channel = i.channel;
+      ends = t.stands;
+      does = subst
+          (λ (c : Channel). F.Does effects c (E.takes_read (E.other sender) t.read a.ends)) i.channel t.does;
+      up = i.up;
+      down = i.down;
+    })
     sends
-    (record { block = h.received.block; others = blocks_from sender m; first = sym (same-way sender w a st) ∙ h.received.first; received = h.received.received; reads = subst (λ (c : Channel). Reads c report.accepted t.read) i.channel t.reads })
-    refl (who-takes (E.other sender) t.read a.ends) t.sapi in
-    (f.0, f.1, (unless-false _ E.Nothing _ (on-way E.is_empty false sender w a st some) ∙ unless-false _ E.AirFull None (on-way E.is_full false (E.other sender) w a st room), subst (λ (s : A.Step). Happens a (E.Deliver sender places) f.0 s) (sym is) f.2))
+    (record {
+      block = h.received.block;
+      others = blocks_from sender m;
+      first = sym (same-way sender w a st)
+          ∙ h.received.first;
+      received = h.received.received;
+      reads = subst
+          (λ (c : Channel). Reads c report.accepted t.read) i.channel t.reads;
+    })
+    refl (who-takes (E.other sender) t.read a.ends) t.sapi in (
+      f.0,
+      f.1,
+      (
+        unless-false _ E.Nothing _ (on-way E.is_empty false sender w a st some) ∙ unless-false _ E.AirFull None
+            (on-way E.is_full false (E.other sender) w a st room),
+        subst (λ (s : A.Step). Happens a (E.Deliver sender places) f.0 s)
+            (sym is) f.2,
+      ),
+    )
 
-pub arrived : (sender end : Role) (places : List ℕ) (w m w' : Links) (ends' : Ends) (report : Received) (sapi : Sapi) (effects : Effects) (step : A.Step) → end ≡ E.other sender → ReceivesFrom sender places w report m → Hears end m.channel report.accepted m.ends sapi effects ends' → E.is_empty (length (blocks_from sender w)) ≡ false → E.is_full (length (blocks_from end w)) ≡ false →
-    Sends end effects.frames (record m { ends = ends' }) w' → step ≡ step_by (E.End end) sapi (Some report) effects → (a : AirState) → Stands w a → (b : AirState) × Stands w' b × AirStep a (E.Deliver sender places) b (A.Does step)
+pub arrived : (sender end : Role) (places : List ℕ) (w m w' : Links) (ends' : Ends) (report : Received) (sapi : Sapi)
+    (effects : Effects) (step : A.Step) → end ≡ E.other sender → ReceivesFrom sender places w report m →
+    Hears end m.channel report.accepted m.ends sapi effects ends' → E.is_empty (length (blocks_from sender w)) ≡ false →
+    E.is_full (length (blocks_from end w)) ≡ false →
+    Sends end effects.frames (record m { ends = ends' }) w' → step ≡ step_by (E.End end) sapi (Some report) effects →
+    (a : AirState) → Stands w a → (b : AirState) × Stands w' b × AirStep a (E.Deliver sender places) b (A.Does step)
 arrived sender end places w m w' ends' report sapi effects step e h hears some room sends is =
-    arrived-at sender places w m w' ends' report sapi effects step h (subst (λ (r : Role). Hears r m.channel report.accepted m.ends sapi effects ends') e hears) some (subst (λ (r : Role). E.is_full (length (blocks_from r w)) ≡ false) e room)
-    (subst (λ (r : Role). Sends r effects.frames (record m { ends = ends' }) w') e sends) (subst (λ (r : Role). step ≡ step_by (E.End r) sapi (Some report) effects) e is)
+    arrived-at sender places w m w' ends' report sapi effects step h (subst
+    (λ (r : Role). Hears r m.channel report.accepted m.ends sapi effects ends') e hears) some
+    (subst (λ (r : Role). E.is_full (length (blocks_from r w)) ≡ false) e room)
+    (subst (λ (r : Role). Sends r effects.frames (record m { ends = ends' }) w') e sends)
+    (subst (λ (r : Role). step ≡ step_by (E.End r) sapi (Some report) effects) e is)
 
 room-bound : (n m : ℕ) → nat_lt 62 n ≡ false → m ≡ n → m ≤ 62
 room-bound n m h e = grind (arith, nat_tests)
 
-room-at : (sender : Role) (w m : Links) (ends' : Ends) → IsSameBut sender w m → E.is_full (length (blocks_from (E.other sender) w)) ≡ false → length (blocks_from (E.other sender) (record m { ends = ends' })) ≤ 62
+room-at : (sender : Role) (w m : Links) (ends' : Ends) → IsSameBut sender w m →
+    E.is_full (length (blocks_from (E.other sender) w)) ≡ false → length (blocks_from (E.other sender) (record m { ends = ends' })) ≤ 62
 room-at Mobile w m ends' s h = room-bound (length w.down.items) (length m.down.items) h (ap length s.kept)
 room-at Network w m ends' s h = room-bound (length w.up.items) (length m.up.items) h (ap length s.kept)
 
-pub room-other : (sender end : Role) (w m : Links) (ends' : Ends) → end ≡ E.other sender → IsSameBut sender w m → E.is_full (length (blocks_from end w)) ≡ false → length (blocks_from end (record m { ends = ends' })) ≤ 62
+pub room-other : (sender end : Role) (w m : Links) (ends' : Ends) → end ≡ E.other sender → IsSameBut sender w m →
+    E.is_full (length (blocks_from end w)) ≡ false → length (blocks_from end (record m { ends = ends' })) ≤ 62
 room-other sender end w m ends' e s h =
-    subst (λ (r : Role). length (blocks_from r (record m { ends = ends' })) ≤ 62) (sym e) (room-at sender w m ends' s (subst (λ (r : Role). E.is_full (length (blocks_from r w)) ≡ false) e h))
+    subst (λ (r : Role). length (blocks_from r (record m { ends = ends' })) ≤ 62) (sym e)
+    (room-at sender w m ends' s (subst (λ (r : Role). E.is_full (length (blocks_from r w)) ≡ false) e h))
 
 rival-by : (b c : Bool) → b ≡ false → c ≡ false → first_of ((b, Q.Empty) ∷ (c, Q.TooLong) ∷ []) ≡ None
 rival-by false false h g = refl
 rival-by true c h g = absurd (false≢true (sym h))
 rival-by false true h g = absurd (false≢true (sym g))
 
-pub rival-none : (info : Message) (w : Links) → E.is_full (length (blocks_from Mobile w)) ≡ false → nat_eq (length info) 0 ≡ false → nat_lt (n201 w.channel) (length info) ≡ false → (a : AirState) → Stands w a → refusal (E.Rival info) a ≡ None
+pub rival-none : (info : Message) (w : Links) → E.is_full (length (blocks_from Mobile w)) ≡ false → nat_eq (length info) 0 ≡ false →
+    nat_lt (n201 w.channel) (length info) ≡ false → (a : AirState) → Stands w a → refusal (E.Rival info) a ≡ None
 rival-none info w full some short a st =
-    unless-false _ E.AirFull _ (on-way E.is_full false Mobile w a st full) ∙ ap E.because (rival-by _ _ some (subst (λ (c : Channel). nat_lt (n201 c) (length info) ≡ false) st.channel short))
+    unless-false _ E.AirFull _ (on-way E.is_full false Mobile w a st full) ∙ ap E.because
+    (rival-by _ _ some (subst (λ (c : Channel). nat_lt (n201 c) (length info) ≡ false) st.channel short))
 
 pub at-event : (e e' : A.Event) (old new : Links) (result : Result Step No) → e ≡ e' → Follows e' old result new → Follows e old result new
 at-event e e' old new result same h = subst (λ (x : A.Event). Follows x old result new) (sym same) h

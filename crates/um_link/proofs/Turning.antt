@@ -13,8 +13,10 @@ pub record AreTurned (places : List ℕ) (i : ℕ) (before now : Block) : Type 0
   pub same : now ≡ turned (take i places) before
   pub bits : All AllBits now
 
-pub one_more : (places : List ℕ) (i : ℕ) (before mid now : Block) → AreTurned places i before mid → i < length places → now ≡ turned_at (get_or places i 0) mid → All AllBits now → AreTurned places (i + 1) before now
+pub one_more : (places : List ℕ) (i : ℕ) (before mid now : Block) → AreTurned places i before mid → i < length places →
+    now ≡ turned_at (get_or places i 0) mid → All AllBits now → AreTurned places (i + 1) before now
 one_more places i before mid now h within e bits = record {
-  same = e ∙ ap (turned_at (get_or places i 0)) h.same ∙ sym (turned-last (take i places) (get_or places i 0) before) ∙ sym (ap (λ ps. turned ps before) (take_more places i 0 within));
+  same = e ∙ ap (turned_at (get_or places i 0)) h.same ∙ sym (turned-last (take i places) (get_or places i 0) before)
+      ∙ sym (ap (λ ps. turned ps before) (take_more places i 0 within));
   bits = bits;
 }

@@ -10,7 +10,8 @@ use Rattle.um_air.specs.Air.{Octets, Reads}
 use Rattle.um_link.specs.declared.ends.Ends.{Ends}
 use Rattle.um_link.specs.FourEnds as F
 
-pub record Takes (role : Role) (channel : Channel) (accepted : Option Octets) (es : E.Ends) (link : Sapi) (effects : Effects) (new : Ends) : Type 0 where
+pub record Takes (role : Role) (channel : Channel) (accepted : Option Octets) (es : E.Ends) (link : Sapi) (effects : Effects)
+    (new : Ends) : Type 0 where
   pub read : Option Frame
   pub reads : Reads channel accepted read
   pub stands : F.Stands new (E.takes_read role read es).after

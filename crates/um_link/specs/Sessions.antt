@@ -17,21 +17,26 @@ pub record IsAfter (tsc : ℕ) (channel : Channel) (events : List Event) (answer
 
 -- one event more, and its answer
 abbrev pub GoesOn : Event → Links → Result Step No → Links → Type 0
-GoesOn event old result new = (tsc : ℕ) (channel : Channel) (events : List Event) (answers : List Answer) (a : AirState) → IsAfter tsc channel events answers a old →
-    (b : AirState) × IsAfter tsc channel (events ++ event ∷ []) (answers ++ answer_of result ∷ []) b new × AirStep a event b (answer_of result)
+GoesOn event old result new =
+    (tsc : ℕ) (channel : Channel) (events : List Event) (answers : List Answer) (a : AirState) → IsAfter tsc channel events answers a old →
+    (b : AirState) × IsAfter tsc channel (events ++ event ∷ []) (answers ++ answer_of result ∷ []) b new × AirStep a event b
+    (answer_of result)
 
 -- the claims on order hold of the session with one step more
 abbrev pub KeepsOrder : Event → Links → Result Step No → Type 0
-KeepsOrder event old result = (tsc : ℕ) (channel : Channel) (events : List Event) (answers : List Answer) (a : AirState) → IsAfter tsc channel events answers a old →
+KeepsOrder event old result =
+    (tsc : ℕ) (channel : Channel) (events : List Event) (answers : List Answer) (a : AirState) → IsAfter tsc channel events answers a old →
     OrderClaims (lines (events ++ event ∷ []) (answers ++ answer_of result ∷ []))
 
 -- where it is harmless with that step, the claims on delivery hold of it
 abbrev pub KeepsDelivery : Event → Links → Result Step No → Type 0
-KeepsDelivery event old result = (tsc : ℕ) (channel : Channel) (events : List Event) (answers : List Answer) (a : AirState) → IsAfter tsc channel events answers a old →
+KeepsDelivery event old result =
+    (tsc : ℕ) (channel : Channel) (events : List Event) (answers : List Answer) (a : AirState) → IsAfter tsc channel events answers a old →
     IsHarmless (events ++ event ∷ []) (answers ++ answer_of result ∷ []) →
     Claims (lines (events ++ event ∷ []) (answers ++ answer_of result ∷ []))
 
 -- where it turns at most three bits of a block over, it is harmless
 abbrev pub StaysHarmless : Event → Links → Result Step No → Type 0
-StaysHarmless event old result = (tsc : ℕ) (channel : Channel) (events : List Event) (answers : List Answer) (a : AirState) → IsAfter tsc channel events answers a old →
+StaysHarmless event old result =
+    (tsc : ℕ) (channel : Channel) (events : List Event) (answers : List Answer) (a : AirState) → IsAfter tsc channel events answers a old →
     IsKind (events ++ event ∷ []) → IsHarmless (events ++ event ∷ []) (answers ++ answer_of result ∷ [])

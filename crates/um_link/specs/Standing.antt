@@ -40,7 +40,8 @@ Follows event old result new = (a : AirState) → Stands old a → (b : AirState
 
 -- and no other answer is
 abbrev pub IsOnlyAnswer : A.Event → Links → Result Step No → Type 0
-IsOnlyAnswer event old result = (a : AirState) → Stands old a → (b : AirState) (answer : A.Answer) → AirStep a event b answer → answer ≡ answer_of result
+IsOnlyAnswer event old result =
+    (a : AirState) → Stands old a → (b : AirState) (answer : A.Answer) → AirStep a event b answer → answer ≡ answer_of result
 
 -- how many frames a step sends, and how many blocks it receives
 abbrev pub frames_in : Result Step No → ℕ

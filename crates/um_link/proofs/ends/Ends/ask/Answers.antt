@@ -11,39 +11,46 @@ use Rattle.um_link.proofs.ends.Ends.ask.Goals as goal
 pub returns-in-Mobile-Zero-clause-follows : goal.returns-in-Mobile-Zero-clause-follows
 returns-in-Mobile-Zero-clause-follows c =
     IfOk-weaker c.ask_mobile.result _ _
-    (λ effects f. asks_at (ends_channel c.args.self.now) (call_of c.args.call.now) c.args.self.now _ effects _ _ _ _ c.in-Mobile-Zero.is-0 c.in-Mobile-Zero.is-1
+    (λ effects f. asks_at (ends_channel c.args.self.now) (call_of c.args.call.now) c.args.self.now _ effects _ _ _ _
+    c.in-Mobile-Zero.is-0 c.in-Mobile-Zero.is-1
     (mobile_follows c.args.self.now (ends_channel c.args.self.now) c.requires.on (after_call (call_of c.args.call.now)) effects _ f))
     c.ask_mobile.ensures.follows
 
 pub returns-in-Mobile-Three-clause-refusal : goal.returns-in-Mobile-Three-clause-refusal
 returns-in-Mobile-Three-clause-refusal c es st =
-    at_end (λ r s. result_err c.ask_mobile-in-Mobile-Three.result ≡ refusal_of (call_of c.args.call.now) (E.end_in r s es)) _ _ _ _ c.in-Mobile-Three.is-0 c.in-Mobile-Three.is-1 (c.ask_mobile-in-Mobile-Three.ensures.refusal es.mobile3 st.mobile3)
+    at_end (λ r s. result_err c.ask_mobile-in-Mobile-Three.result ≡ refusal_of (call_of c.args.call.now) (E.end_in r s es)) _ _ _ _
+    c.in-Mobile-Three.is-0 c.in-Mobile-Three.is-1 (c.ask_mobile-in-Mobile-Three.ensures.refusal es.mobile3 st.mobile3)
 
 pub returns-in-Mobile-Three-clause-follows : goal.returns-in-Mobile-Three-clause-follows
 returns-in-Mobile-Three-clause-follows c =
     IfOk-weaker c.ask_mobile-in-Mobile-Three.result _ _
-    (λ effects f. asks_at (ends_channel c.args.self.now) (call_of c.args.call.now) c.args.self.now _ effects _ _ _ _ c.in-Mobile-Three.is-0 c.in-Mobile-Three.is-1
+    (λ effects f. asks_at (ends_channel c.args.self.now) (call_of c.args.call.now) c.args.self.now _ effects _ _ _ _
+    c.in-Mobile-Three.is-0 c.in-Mobile-Three.is-1
     (mobile3_follows c.args.self.now (ends_channel c.args.self.now) c.requires.on (after_call (call_of c.args.call.now)) effects _ f))
     c.ask_mobile-in-Mobile-Three.ensures.follows
 
 pub returns-in-Network-Zero-clause-refusal : goal.returns-in-Network-Zero-clause-refusal
 returns-in-Network-Zero-clause-refusal c es st =
-    at_end (λ r s. result_err c.ask_network.result ≡ refusal_of (call_of c.args.call.now) (E.end_in r s es)) _ _ _ _ c.in-Network-Zero.is-0 c.in-Network-Zero.is-1 (c.ask_network.ensures.refusal es.network st.network)
+    at_end (λ r s. result_err c.ask_network.result ≡ refusal_of (call_of c.args.call.now) (E.end_in r s es)) _ _ _ _
+    c.in-Network-Zero.is-0 c.in-Network-Zero.is-1 (c.ask_network.ensures.refusal es.network st.network)
 
 pub returns-in-Network-Zero-clause-follows : goal.returns-in-Network-Zero-clause-follows
 returns-in-Network-Zero-clause-follows c =
     IfOk-weaker c.ask_network.result _ _
-    (λ effects f. asks_at (ends_channel c.args.self.now) (call_of c.args.call.now) c.args.self.now _ effects _ _ _ _ c.in-Network-Zero.is-0 c.in-Network-Zero.is-1
+    (λ effects f. asks_at (ends_channel c.args.self.now) (call_of c.args.call.now) c.args.self.now _ effects _ _ _ _
+    c.in-Network-Zero.is-0 c.in-Network-Zero.is-1
     (network_follows c.args.self.now (ends_channel c.args.self.now) c.requires.on (after_call (call_of c.args.call.now)) effects _ f))
     c.ask_network.ensures.follows
 
 pub returns-in-Network-Three-clause-refusal : goal.returns-in-Network-Three-clause-refusal
 returns-in-Network-Three-clause-refusal c es st =
-    at_end (λ r s. result_err c.ask_network-in-Network-Three.result ≡ refusal_of (call_of c.args.call.now) (E.end_in r s es)) _ _ _ _ c.in-Network-Three.is-0 c.in-Network-Three.is-1 (c.ask_network-in-Network-Three.ensures.refusal es.network3 st.network3)
+    at_end (λ r s. result_err c.ask_network-in-Network-Three.result ≡ refusal_of (call_of c.args.call.now) (E.end_in r s es)) _ _ _ _
+    c.in-Network-Three.is-0 c.in-Network-Three.is-1 (c.ask_network-in-Network-Three.ensures.refusal es.network3 st.network3)
 
 pub returns-in-Network-Three-clause-follows : goal.returns-in-Network-Three-clause-follows
 returns-in-Network-Three-clause-follows c =
     IfOk-weaker c.ask_network-in-Network-Three.result _ _
-    (λ effects f. asks_at (ends_channel c.args.self.now) (call_of c.args.call.now) c.args.self.now _ effects _ _ _ _ c.in-Network-Three.is-0 c.in-Network-Three.is-1
+    (λ effects f. asks_at (ends_channel c.args.self.now) (call_of c.args.call.now) c.args.self.now _ effects _ _ _ _
+    c.in-Network-Three.is-0 c.in-Network-Three.is-1
     (network3_follows c.args.self.now (ends_channel c.args.self.now) c.requires.on (after_call (call_of c.args.call.now)) effects _ f))
     c.ask_network-in-Network-Three.ensures.follows

@@ -7,5 +7,6 @@ use Rattle.um_link.proofs.ends.Ends.open.Goals as goal
 pub returns-clause-follows : goal.returns-clause-follows
 returns-clause-follows c =
     IfOk-weaker c.open.result _ _
-    (λ effects f. mobile_follows c.args.self.now (ends_channel c.args.self.now) c.requires.on (after_call (Opens c.args.info.now)) effects _ f)
+    (λ effects f. mobile_follows c.args.self.now (ends_channel c.args.self.now) c.requires.on
+    (after_call (Opens c.args.info.now)) effects _ f)
     c.open.ensures.follows

@@ -17,7 +17,8 @@ returns-in-Mobile-clause-follows c =
 
 pub returns-in-Network-clause-refusal : goal.returns-in-Network-clause-refusal
 returns-in-Network-clause-refusal c es st =
-    at_end (λ r s. result_err c.open_bare-in-Network.result ≡ refusal_of OpensBare (E.end_in r s es)) _ _ S.Three S.Three c.in-Network.is refl (c.open_bare-in-Network.ensures.refusal es.network3 st.network3)
+    at_end (λ r s. result_err c.open_bare-in-Network.result ≡ refusal_of OpensBare (E.end_in r s es)) _ _ S.Three S.Three
+    c.in-Network.is refl (c.open_bare-in-Network.ensures.refusal es.network3 st.network3)
 
 pub returns-in-Network-clause-follows : goal.returns-in-Network-clause-follows
 returns-in-Network-clause-follows c =

@@ -7,20 +7,25 @@ use Rattle.um_link.proofs.links.Links.happen.Goals as goal
 
 pub returns-in-Open-clause-follows : goal.returns-in-Open-clause-follows
 returns-in-Open-clause-follows g c =
-    at-event (event_of c.args.event.now) (E.Open c.in-Open.info.now) c.args.self.now c.open.new.self c.open.result (ap event_of c.in-Open.is) c.open.ensures.follows
+    at-event (event_of c.args.event.now) (E.Open c.in-Open.info.now) c.args.self.now c.open.new.self c.open.result
+    (ap event_of c.in-Open.is) c.open.ensures.follows
 
 pub returns-in-OpenBare-clause-follows : goal.returns-in-OpenBare-clause-follows
 returns-in-OpenBare-clause-follows g c =
-    at-event (event_of c.args.event.now) (E.OpenBare (role_of c.in-OpenBare.end)) c.args.self.now c.open_bare.new.self c.open_bare.result (ap event_of c.in-OpenBare.is) c.open_bare.ensures.follows
+    at-event (event_of c.args.event.now) (E.OpenBare (role_of c.in-OpenBare.end)) c.args.self.now c.open_bare.new.self
+    c.open_bare.result (ap event_of c.in-OpenBare.is) c.open_bare.ensures.follows
 
 pub returns-in-End-clause-follows : goal.returns-in-End-clause-follows
 returns-in-End-clause-follows g c =
-    at-event (event_of c.args.event.now) (E.Ask (role_of c.in-End.end) c.in-End.sapi (request_of c.in-End.call)) c.args.self.now c.ask.new.self c.ask.result (ap event_of c.in-End.is) c.ask.ensures.follows
+    at-event (event_of c.args.event.now) (E.Ask (role_of c.in-End.end) c.in-End.sapi (request_of c.in-End.call)) c.args.self.now
+    c.ask.new.self c.ask.result (ap event_of c.in-End.is) c.ask.ensures.follows
 
 pub returns-in-Air-clause-follows : goal.returns-in-Air-clause-follows
 returns-in-Air-clause-follows g c =
-    at-event (event_of c.args.event.now) (air_event (role_of c.sender.result) c.in-Air.air) c.args.self.now c.on_air.new.self c.on_air.result (ap event_of c.in-Air.is ∙ ap (λ r. air_event r c.in-Air.air) (sym c.sender.ensures)) c.on_air.ensures.follows
+    at-event (event_of c.args.event.now) (air_event (role_of c.sender.result) c.in-Air.air) c.args.self.now c.on_air.new.self
+    c.on_air.result (ap event_of c.in-Air.is ∙ ap (λ r. air_event r c.in-Air.air) (sym c.sender.ensures)) c.on_air.ensures.follows
 
 pub returns-in-Rival-clause-follows : goal.returns-in-Rival-clause-follows
 returns-in-Rival-clause-follows g c =
-    at-event (event_of c.args.event.now) (E.Rival c.in-Rival.info.now) c.args.self.now c.rival.new.self c.rival.result (ap event_of c.in-Rival.is) c.rival.ensures.follows
+    at-event (event_of c.args.event.now) (E.Rival c.in-Rival.info.now) c.args.self.now c.rival.new.self c.rival.result
+    (ap event_of c.in-Rival.is) c.rival.ensures.follows

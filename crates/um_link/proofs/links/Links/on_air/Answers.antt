@@ -7,12 +7,16 @@ use Rattle.um_link.proofs.links.Links.on_air.Goals as goal
 
 pub returns-in-Deliver-clause-follows : goal.returns-in-Deliver-clause-follows
 returns-in-Deliver-clause-follows g c =
-    at-event (air_event (role_of c.args.sender) c.args.air.now) (E.Deliver (role_of c.args.sender) []) c.args.self.now c.deliver.new.self c.deliver.result (ap (air_event (role_of c.args.sender)) c.in-Deliver.is) c.deliver.ensures.follows
+    at-event (air_event (role_of c.args.sender) c.args.air.now) (E.Deliver (role_of c.args.sender) []) c.args.self.now
+    c.deliver.new.self c.deliver.result (ap (air_event (role_of c.args.sender)) c.in-Deliver.is) c.deliver.ensures.follows
 
 pub returns-in-Lose-clause-follows : goal.returns-in-Lose-clause-follows
 returns-in-Lose-clause-follows g c =
-    at-event (air_event (role_of c.args.sender) c.args.air.now) (E.Lose (role_of c.args.sender)) c.args.self.now c.lose.new.self c.lose.result (ap (air_event (role_of c.args.sender)) c.in-Lose.is) c.lose.ensures.follows
+    at-event (air_event (role_of c.args.sender) c.args.air.now) (E.Lose (role_of c.args.sender)) c.args.self.now c.lose.new.self
+    c.lose.result (ap (air_event (role_of c.args.sender)) c.in-Lose.is) c.lose.ensures.follows
 
 pub returns-in-Flip-clause-follows : goal.returns-in-Flip-clause-follows
 returns-in-Flip-clause-follows g c =
-    at-event (air_event (role_of c.args.sender) c.args.air.now) (E.Deliver (role_of c.args.sender) c.in-Flip.places.now) c.args.self.now c.deliver-in-Flip.new.self c.deliver-in-Flip.result (ap (air_event (role_of c.args.sender)) c.in-Flip.is) c.deliver-in-Flip.ensures.follows
+    at-event (air_event (role_of c.args.sender) c.args.air.now) (E.Deliver (role_of c.args.sender) c.in-Flip.places.now) c.args.self.now
+    c.deliver-in-Flip.new.self c.deliver-in-Flip.result (ap (air_event (role_of c.args.sender)) c.in-Flip.is)
+    c.deliver-in-Flip.ensures.follows
