@@ -1,7 +1,8 @@
 -- Sessions: the four ends, and the frames on their way between them.
-use Rattle.std.specs.Prelude.{List, [], ◌∷◌, Option, Some, None}
+use Rattle.std.specs.Prelude.{◌≤◌, All, List, [], ◌∷◌, length, Option, Some, None}
 use Rattle.lapdm_frame.specs.declared.Channel.{Channel}
 use Rattle.lapdm_frame.specs.Content.{Frame}
+use Rattle.lapdm_frame.specs.Frames.{Fits}
 use Rattle.lapdm_link.specs.Ways.{Ways, no_ways, way, with_more, count, IsAsSent}
 use Rattle.lapdm_link.specs.Events.{Event, Deliver, Ends, idle_ends, sender_of, Deed, deed, taken, Why, refusal_by, Answer, Refuses, Does}
 
@@ -53,3 +54,13 @@ IsHarmlessBy None event w = ArrivesAsSent event w
 abbrev pub IsHarmless : List Event → World → Type 0
 IsHarmless [] w = Unit {0}
 IsHarmless (event ∷ events) w = IsHarmlessBy (refusal event w) event w × IsHarmless events (after event w)
+
+-- what is read fits in a block of the channel, as all that lapdm_frame reads does
+abbrev pub IsReadable : Channel → Event → Type 0
+IsReadable channel (Deliver sender (Some f)) = Fits channel f
+IsReadable channel event = Unit {0}
+
+-- at most two frames go out, each fits in a block, and at most two notices come
+abbrev pub IsSendable : Channel → Answer → Type 0
+IsSendable channel (Refuses why) = Unit {0}
+IsSendable channel (Does who sapi frames notices) = (length frames ≤ 2) × All (Fits channel) frames × (length notices ≤ 2)

@@ -2,10 +2,10 @@
 //! of frames here: nothing is coded. A law does nothing: it is called for its contract.
 #![tactic(auto)]
 
-ghost use Rattle.std.specs.Prelude.{List};
+ghost use Rattle.std.specs.Prelude.{All, List};
 ghost use Rattle.lapdm_frame.specs.declared.Channel.{Channel};
 ghost use Rattle.lapdm_link.specs.Events.{Event};
-ghost use Rattle.lapdm_link.specs.Worlds.{start_on, answers, IsHarmless};
+ghost use Rattle.lapdm_link.specs.Worlds.{start_on, answers, IsHarmless, IsReadable, IsSendable};
 ghost use Rattle.lapdm_link.specs.Claims.{lines, Claims, OrderClaims, CountsAgree};
 
 /// Law: where frames arrive in order as they were sent, or are lost, each end hands up a beginning of what the other
@@ -24,4 +24,10 @@ pub fn law_order()
 /// Law: at no end of such a session are more messages acknowledged than the other end handed up.
 pub fn law_counts()
     ensures { (channel : Channel) (events : List Event) → IsHarmless events (start_on channel) → CountsAgree (lines events (answers events (start_on channel))) }
+{}
+
+/// Law: where each frame that arrives is one that can be read, a step gives at most two frames and two notices, and
+/// each frame can be written.
+pub fn law_frames()
+    ensures { (channel : Channel) (events : List Event) → All (IsReadable channel) events → All (IsSendable channel) (answers events (start_on channel)) }
 {}

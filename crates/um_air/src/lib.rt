@@ -7,9 +7,49 @@ ghost use Rattle.lapdm_frame.specs.declared.Channel.{Channel};
 ghost use Rattle.um_block.specs.Sent.{IsSentBlock};
 ghost use Rattle.um_block.specs.Received.{softened, IsReceivedBlock};
 ghost use Rattle.um_block.specs.declared.received.Received.{Received};
-ghost use Rattle.lapdm_link.specs.Claims.{Claims, OrderClaims};
+ghost use Rattle.lapdm_link.specs.Claims.{Claims, OrderClaims, CountsAgree};
 ghost use Rattle.um_air.specs.Air.{Event, Answer, AirState, start_on, AirStep, AirRun, Block, turned};
 ghost use Rattle.um_air.specs.Sessions.{lines, IsHarmless, IsKind};
+
+/// Law: an event has at most one answer, and leads to one state of the air.
+pub fn law_one_answer()
+    ensures { (a : AirState) (event : Event) (b c : AirState) (x y : Answer) → AirStep a event b x → AirStep a event c y → (b ≡ c) × (x ≡ y) }
+{}
+
+/// Law: whatever came before in a session, every event has an answer.
+pub fn law_some_answer()
+    ensures { (tsc : ℕ) (channel : Channel) (events : List Event) (answers : List Answer) (a : AirState) → tsc ≤ 7 →
+        AirRun (start_on tsc channel) events answers a → (event : Event) → (b : AirState) × (answer : Answer) × AirStep a event b answer }
+{}
+
+/// Law: the events of a session determine all answers, and how it ends.
+pub fn law_one_run()
+    ensures { (a : AirState) (events : List Event) (b c : AirState) (xs ys : List Answer) → AirRun a events xs b → AirRun a events ys c → (b ≡ c) × (xs ≡ ys) }
+{}
+
+/// Law: whatever the events are, there is a session of them.
+pub fn law_some_run()
+    ensures { (tsc : ℕ) (channel : Channel) (events : List Event) → tsc ≤ 7 → (answers : List Answer) × (b : AirState) × AirRun (start_on tsc channel) events answers b }
+{}
+
+/// Law: where each block is accepted with the octets that were sent, or not at all, the claims on delivery hold of a
+/// session.
+pub fn law_run_delivery()
+    ensures { (tsc : ℕ) (channel : Channel) (events : List Event) (answers : List Answer) (b : AirState) →
+        AirRun (start_on tsc channel) events answers b → IsHarmless events answers → Claims (lines events answers) }
+{}
+
+/// Law: at no end of such a session are more messages acknowledged than the other end handed up.
+pub fn law_run_counts()
+    ensures { (tsc : ℕ) (channel : Channel) (events : List Event) (answers : List Answer) (b : AirState) →
+        AirRun (start_on tsc channel) events answers b → IsHarmless events answers → CountsAgree (lines events answers) }
+{}
+
+/// Law: whatever blocks are accepted, the claims on order hold of a session.
+pub fn law_run_order()
+    ensures { (tsc : ℕ) (channel : Channel) (events : List Event) (answers : List Answer) (b : AirState) →
+        AirRun (start_on tsc channel) events answers b → OrderClaims (lines events answers) }
+{}
 
 /// Law: where each block is accepted with the octets that were sent, or not at all, the claims on delivery hold after
 /// any step of a session.
