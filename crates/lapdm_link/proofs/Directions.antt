@@ -1,5 +1,12 @@
--- Pieces from one end to the other, and their acknowledgements back: why three bits are enough for a number.
--- No end, queue or SAPI is named.
+-- Pieces from one end to the other, and their acknowledgements back: the invariant of delivery, and why three bits are
+-- enough for a number. No end, queue or SAPI is named, so it serves both directions of both links.
+--
+-- Everything counted lies in one row: how many pieces the sender counts as acknowledged; for each frame with an N(R) on
+-- its way back, how many were accepted when it was sent; how many pieces are accepted; for each I frame on its way, how
+-- many pieces there are up to the one that it carries; how many are sent. The row never falls, and its last number is
+-- at most one more than its first, since the window is one frame. So of the two pieces that an arriving I frame may
+-- carry, the last accepted and the next, N(S) tells which, and of the two counts that an N(R) may stand for it tells
+-- whether it is that of the piece that waits; then what lies between, the count of accepted pieces, is that count too.
 use Rattle.std.proofs.Common.{◌≡◌, ◌≢◌, refl, sym, ◌∙◌, ap, arith, ℕ, ◌+◌, ◌%◌, false, ◌<◌, ◌≤◌, List, [], ◌∷◌, ◌++◌, length, take, get_or}
 use Rattle.std.proofs.lemmas.List.{length-append, take-append-le, take_more}
 use Rattle.std.proofs.Math.ListN.{get_or-append}
@@ -18,9 +25,8 @@ pub record Carries (ps : List Piece) (n : ℕ) (x : ℕ × Piece) : Type 0 where
   pub within : at < length ps
   pub piece : get_or ps at ([], false) ≡ x.1
 
--- of all pieces so many are acknowledged and so many sent; these are accepted. On their way are the pieces, and
--- back the acknowledgements. Everything counted lies in one row that never falls: acknowledged, what the
--- acknowledgements on their way say, accepted, the pieces on their way, sent; and it rises by one at most
+-- of all pieces so many are acknowledged and so many sent; these are accepted, the first of all; on their way are these
+-- pieces, and back these acknowledgements
 pub record IsDirection (ps : List Piece) (acked sent : ℕ) (accepted : List Piece) (there : List (ℕ × Piece)) (back : List ℕ) : Type 0 where
   pub acknowledged : Climbs Counts acked back (length accepted)
   pub carried : Climbs (Carries ps) (length accepted) there sent

@@ -1,5 +1,5 @@
 -- There is an answer to every event: a session can always go on.
-use Rattle.std.proofs.Common.{◌≡◌, ◌≢◌, refl, sym, ◌∙◌, ap, subst, arith, ℕ, ◌/◌, ◌%◌, ◌-◌, ◌<◌, ◌≤◌, ℤ, List, [], ◌∷◌, ◌++◌, map, length, get_or, set, Option, Some, None, All, inl, inr}
+use Rattle.std.proofs.Common.{◌≡◌, refl, sym, ◌∙◌, ap, subst, arith, ℕ, ◌/◌, ◌%◌, ◌-◌, ◌<◌, ◌≤◌, List, [], ◌∷◌, map, length, get_or, set, Option, Some, None, All, inl, inr}
 use Rattle.std.specs.Prelude.{IfSome}
 use Rattle.std.proofs.lemmas.Bool.{cases_eq}
 use Rattle.std.proofs.lemmas.List.{get_or-set_other, get_or-set_same, get_or_default, length-set, length-map}
@@ -26,7 +26,7 @@ use Rattle.lapdm_link.specs.Claims.{Line}
 use Rattle.lapdm_link.proofs.ByKind.{KnowsBy}
 use Rattle.lapdm_link.proofs.Fitting.{AllFit}
 use Rattle.lapdm_link.proofs.Small.{deed-fits}
-use Rattle.um_air.specs.Air.{Octets, Block, Event, as_read, AirState, start_on, Reads, Hears, Arrives, AreSent, Answer, Refuses, Does, refusal, AirStep, AirRun, turned_at, turned}
+use Rattle.um_air.specs.Air.{Octets, Block, Event, as_read, AirState, start_on, Reads, Arrives, AreSent, Answer, Refuses, Does, refusal, AirStep, AirRun, turned_at, turned}
 use Rattle.um_air.specs.Sessions.{after}
 use Rattle.um_air.proofs.Seeing.{world_of, refusal-same, known-read}
 use Rattle.um_air.proofs.Carrying.{IsSeenAt, start-seen, seen-now, seen-next, IsSeen, seen}

@@ -101,7 +101,7 @@ refusal-count (Deliver sender places) channel n m es h =
 refusal-count (Lose sender) channel n m es h = ap (λ i. unless (is_empty i) Nothing None) (h sender)
 refusal-count (Rival info) channel n m es h = full _ _ _ (h Mobile)
 
-refusal-same : (a : AirState) (fs : Ways Frame) (read : Option Frame) (event : Event) → AreAlike (AreSent a.channel a.tsc) fs a.ways →
+pub refusal-same : (a : AirState) (fs : Ways Frame) (read : Option Frame) (event : Event) → AreAlike (AreSent a.channel a.tsc) fs a.ways →
     W.refusal (as_read read event) (world_of a fs) ≡ refusal event a
 refusal-same a fs read event h =
     refusal-read read event a.channel (count fs) a.ends
@@ -123,7 +123,7 @@ reads-fit : (channel : Channel) (accepted : Option Octets) (f : Frame) → Reads
 reads-fit channel (Some octets) f h = h.fits
 reads-fit channel None f h = absurd h
 
-known-read : (a : AirState) (event : Event) (report : Option Received) (read : Option Frame) → Arrives a event report read → Knows (λ sender f. Fits a.channel f) (as_read read event)
+pub known-read : (a : AirState) (event : Event) (report : Option Received) (read : Option Frame) → Arrives a event report read → Knows (λ sender f. Fits a.channel f) (as_read read event)
 known-read a (Deliver sender places) (Some report) (Some f) h = reads-fit a.channel report.accepted f h.reads
 known-read a (Deliver sender places) (Some report) None h = tt
 known-read a (Deliver sender places) None read h = absurd h
