@@ -1,4 +1,4 @@
-//! Tests that cross crates: whole runs over sources and sinks in memory.
+//! Tests that cross crates: whole runs over sources and sinks in memory, and sessions over the air.
 #![tactic(auto)]
 
 #[cfg(test)]
@@ -13,3 +13,5 @@ mod outside;
 mod replay;
 #[cfg(test)]
 mod show;
+#[cfg(test)]
+mod world;
