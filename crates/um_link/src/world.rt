@@ -17,7 +17,7 @@ use lapdm_frame::Channel;
 use lapdm_window::Sapi;
 use std::alloc::Global;
 use std::marker::Model;
-use um_air::{law_delivery, law_kind, law_order};
+use um_air::{law_delivery, law_kind, law_one_answer, law_order};
 use um_block::Radio;
 use um_io::NoMemory;
 
@@ -78,6 +78,7 @@ impl World {
         ensures harmless { StaysHarmless (event_of event.now) self.old result }
         ensures octets { IsOctetEvent (event_of event.now) }
     {
+        law_one_answer();
         law_order();
         law_delivery();
         law_kind();
