@@ -2,3 +2,6 @@ mod Worked
 pub mod KindEvents
 pub mod Courses
 pub mod Counting
+pub mod Totals
+pub mod Sizes
+pub mod Tallying

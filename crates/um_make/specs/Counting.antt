@@ -1,9 +1,16 @@
--- What counting a notice adds.
-use Rattle.std.specs.Prelude.{◌≡◌, ◌≤◌, ℕ, ◌+◌, ◌*◌, List, length, sum}
+-- What counting one event, or one notice, adds.
+use Rattle.std.specs.Prelude.{◌≡◌, ◌≤◌, ℕ, ◌+◌, ◌*◌, Bool, ◌&&◌, if◌then◌else◌, List, [], length, sum}
 use Rattle.std.specs.List.{sum_by, filter_map}
 use Rattle.lapdm_window.specs.declared.Notice.{Notice}
-use Rattle.lapdm_link.specs.Claims.{got_in, acked_in}
+use Rattle.lapdm_window.specs.declared.Sapi.{Sapi}
+use Rattle.lapdm_window.specs.declared.Sapi.TheVariants.{Zero}
+use Rattle.lapdm_window.specs.Ends.{Role, Mobile, Network}
+use Rattle.lapdm_link.specs.Events.{Who, End}
+use Rattle.lapdm_link.specs.Claims.{got_in, acked_in, is_role, is_sapi}
+use Rattle.um_air.specs.Air.{Event, Answer, Refuses, Does, Step}
 use Rattle.um_make.specs.declared.end_summary.EndSummary.{EndSummary}
+use Rattle.um_make.specs.declared.summary.Summary.{Summary}
+use Rattle.um_make.specs.Summaries.{sends, has_parity, lacks_parity, is_take, is_drop, is_loss}
 
 -- these notices are counted
 pub record Tells (notices : List Notice) (old new : EndSummary) : Type 0 where
@@ -25,3 +32,55 @@ pub record IsEndBelow (most : ℕ) (e : EndSummary) : Type 0 where
   pub octets : e.octets ≤ most
   pub sum : e.sum ≤ most
   pub acked : e.acked ≤ most
+
+abbrev pub one_if : Bool → ℕ
+one_if b = if b then 1 else 0
+
+-- what is told of the link of SAPI 0 of an end
+abbrev pub told_of : Role → Who → Sapi → List Notice → List Notice
+told_of r (End role) sapi notices = if is_role r role && is_sapi Zero sapi then notices else []
+told_of r who sapi notices = []
+
+abbrev pub told_in : Role → Answer → List Notice
+told_in r (Refuses why) = []
+told_in r (Does step) = told_of r step.who step.sapi step.notices
+
+-- the answer is counted; the events are not
+pub record Adds (answer : Answer) (old new : Summary) : Type 0 where
+  pub steps : new.steps ≡ old.steps
+  pub sent : new.sends ≡ old.sends + sends answer
+  pub takes : new.takes ≡ old.takes + one_if (is_take answer)
+  pub drops : new.drops ≡ old.drops + one_if (is_drop answer)
+  pub lost : new.lost ≡ old.lost
+  pub mobile : Tells (told_in Mobile answer) old.mobile new.mobile
+  pub network : Tells (told_in Network answer) old.network new.network
+
+-- an event and its answer are counted
+pub record Counts (event : Event) (answer : Answer) (old new : Summary) : Type 0 where
+  pub steps : new.steps ≡ old.steps + 1
+  pub sent : new.sends ≡ old.sends + sends answer
+  pub takes : new.takes ≡ old.takes + one_if (is_take answer)
+  pub drops : new.drops ≡ old.drops + one_if (is_drop answer)
+  pub lost : new.lost ≡ old.lost + one_if (is_loss event)
+  pub mobile : Tells (told_in Mobile answer) old.mobile new.mobile
+  pub network : Tells (told_in Network answer) old.network new.network
+
+-- no number rose by more than this
+pub record RisesAtMost (most : ℕ) (old new : Summary) : Type 0 where
+  pub steps : new.steps ≤ old.steps + most
+  pub sent : new.sends ≤ old.sends + most
+  pub takes : new.takes ≤ old.takes + most
+  pub drops : new.drops ≤ old.drops + most
+  pub lost : new.lost ≤ old.lost + most
+  pub mobile : GrowsAtMost most old.mobile new.mobile
+  pub network : GrowsAtMost most old.network new.network
+
+-- all numbers are at most this
+pub record IsBelow (most : ℕ) (s : Summary) : Type 0 where
+  pub steps : s.steps ≤ most
+  pub sent : s.sends ≤ most
+  pub takes : s.takes ≤ most
+  pub drops : s.drops ≤ most
+  pub lost : s.lost ≤ most
+  pub mobile : IsEndBelow most s.mobile
+  pub network : IsEndBelow most s.network

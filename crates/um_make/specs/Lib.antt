@@ -1,3 +1,6 @@
 pub mod Generated
+pub mod Summaries
+pub mod Runs
 pub mod Counting
 pub mod Courses
+pub mod Underway

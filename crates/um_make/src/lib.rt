@@ -8,11 +8,15 @@ ghost use Rattle.um_make.specs.Generated.{generated};
 mod course;
 mod end_summary;
 mod room;
+mod run;
 mod script;
+mod summary;
 
 pub use end_summary::EndSummary;
 pub use room::Room;
+pub use run::make;
 pub use script::Script;
+pub use summary::Summary;
 
 /// Law: of every generated run at most three bits of each block are turned over, and all messages are octets.
 pub fn law_generated_is_kind()

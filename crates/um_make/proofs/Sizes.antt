@@ -1,0 +1,39 @@
+-- How long a generated run is at most: a message has at most 13 pieces, and a piece at most two turns of two events.
+use Rattle.std.proofs.Common.{◌≡◌, ℕ, zero, suc, ◌+◌, ◌*◌, ◌/◌, ◌-◌, ◌%◌, ◌≤◌, Bool, true, false, if◌then◌else◌, List, [], ◌∷◌, ◌++◌, length, length-append, arith}
+use Rattle.std.proofs.lemmas.List.FromFn.{length-map-range_with_len}
+use Rattle.lapdm_window.specs.declared.Sapi.TheVariants.{Zero}
+use Rattle.lapdm_window.specs.Ends.{Role}
+use Rattle.lapdm_link.specs.Events.{Tick, other}
+use Rattle.um_air.specs.Air.{Event, Ask, Deliver, Lose}
+use Rattle.um_make.specs.Generated.{places, size_of, message, sender, is_lost, turn, piece_turns, last_turn, turns, turn_after, pieces_of, messages, generated}
+
+turn-size : (r : Role) (c : ℕ) → length (turn r c) ≤ 2
+turn-size r c = by (is_lost c)
+  where
+    by : (lost : Bool) → length (if lost then Lose r ∷ Ask r Zero Tick ∷ [] else Deliver r (places c) ∷ Deliver (other r) [] ∷ []) ≤ 2
+    by true = omega arith
+    by false = omega arith
+
+again-size : (r : Role) (c : ℕ) (lost : Bool) → length (if lost then turn r (c + 1) else []) ≤ 2
+again-size r c true = turn-size r (c + 1)
+again-size r c false = omega arith
+
+turns-size : (r : Role) (pieces c : ℕ) → length (turns r pieces c) ≤ 4 * pieces
+turns-size r zero c = omega arith
+turns-size r (suc pieces) c =
+    omega (arith, length-append (piece_turns r (c + 1)) (turns r pieces (last_turn (c + 1))), length-append (turn r (c + 1)) (if is_lost (c + 1) then turn r (c + 1 + 1) else []),
+    turn-size r (c + 1), again-size r (c + 1) (is_lost (c + 1)), turns-size r pieces (last_turn (c + 1)))
+
+few_pieces : (i : ℕ) → pieces_of i ≤ 13
+few_pieces i =
+    let size : length (message i) ≡ size_of i = length-map-range_with_len (λ j. (i + j) % 256) 0 (size_of i) in
+    omega arith
+
+messages-size : (more i c : ℕ) → length (messages more i c) ≤ 53 * more
+messages-size zero i c = omega arith
+messages-size (suc more) i c =
+    omega (arith, length-append (turns (sender i) (pieces_of i) c) (messages more (i + 1) (turn_after (pieces_of i) c)),
+    turns-size (sender i) (pieces_of i) c, few_pieces i, messages-size more (i + 1) (turn_after (pieces_of i) c))
+
+pub generated-size : (n : ℕ) → length (generated n) ≤ 53 * n + 3
+generated-size n = omega (arith, messages-size n 1 0)

@@ -1,0 +1,18 @@
+-- A session from the start to its end, summed up.
+use Rattle.std.specs.Prelude.{◌≡◌, ◌≤◌, ℕ, List}
+use Rattle.lapdm_frame.specs.declared.Channel.TheVariants.{Sdcch}
+use Rattle.um_air.specs.Air.{Event, Answer, AirState, start_on, AirRun}
+use Rattle.um_make.specs.declared.summary.Summary.{Summary}
+use Rattle.um_make.specs.Summaries.{IsSummary}
+
+-- the numbers are those of the answers to these events, from idle ends on SDCCH
+pub record SumsUp (tsc : ℕ) (events : List Event) (s : Summary) : Type 0 where
+  pub answers : List Answer
+  pub last : AirState
+  pub run : AirRun (start_on tsc Sdcch) events answers last
+  pub summary : IsSummary events answers s
+
+-- at neither end are more messages acknowledged than the other handed up
+pub record IsDelivered (s : Summary) : Type 0 where
+  pub mobile : s.mobile.acked ≤ s.network.got
+  pub network : s.network.acked ≤ s.mobile.got

@@ -1,0 +1,36 @@
+//! The generated run: its events step a world, one after another.
+ghost use Rattle.std.specs.Prelude.{◌≡◌, ◌≤◌, ◌+◌, IfOk, OnErr};
+ghost use Rattle.um_block.specs.Tallies.{raised_by};
+ghost use Rattle.um_make.specs.Generated.{generated};
+ghost use Rattle.um_make.specs.Runs.{SumsUp, IsDelivered};
+
+use crate::room::Room;
+use crate::script::Script;
+use crate::summary::Summary;
+use std::alloc::Global;
+use um_block::Radio;
+use um_io::NoMemory;
+use um_link::World;
+
+/// Steps a new world through the generated run of so many messages, over SDCCH with a training sequence 0 to 7, and sums
+/// up what came of it. All memory is taken before the first step.
+pub fn make<R: Radio>(alloc: Global, n: u32, tsc: u8, radio: &mut R) -> Result<Summary, NoMemory>
+    requires some { 1 ≤ n }
+    requires most { n ≤ 1000 }
+    requires tsc { tsc ≤ 7 }
+    ensures run { IfOk result (λ s. SumsUp tsc (generated n) s) }
+    ensures delivered { IfOk result (λ s. IsDelivered s) }
+    ensures sent { IfOk result (λ s. R.sent radio.new ≡ raised_by s.sends (R.sent radio.old)) }
+    ensures heard { IfOk result (λ s. R.heard radio.new ≡ raised_by (s.takes + s.drops) (R.heard radio.old)) }
+    ensures silent { OnErr result (radio.new ≡ radio.old) }
+{
+    let mut world = World::new(alloc, tsc)?;
+    let mut script = Script::new(n);
+    let mut room = Room::new();
+    let mut summary = Summary::new();
+    while let Some(event) = script.next(&mut room) {
+        let answer = world.step(radio, &event);
+        summary.count(&event, &answer);
+    }
+    Ok(summary)
+}

@@ -1,0 +1,128 @@
+//! What a session comes to.
+ghost use Rattle.std.specs.Prelude.{◌≡◌, ◌^◌, ◌+◌, ◌≤◌, if◌then◌else◌, [], length};
+ghost use Rattle.lapdm_window.specs.declared.Sapi.TheVariants as S;
+ghost use Rattle.lapdm_window.specs.Ends as R;
+ghost use Rattle.lapdm_link.specs.Claims.{is_sapi};
+ghost use Rattle.um_air.specs.Air as A;
+ghost use Rattle.um_link.specs.Naming.{event_of, answer_of, step_of};
+ghost use Rattle.um_make.specs.Summaries.{is_loss};
+
+use crate::end_summary::EndSummary;
+use lapdm_window::{Notice, Sapi};
+use um_block::Received;
+use um_link::{Air, Event, No, Step, Who};
+
+/// What a session comes to.
+#[derive(Clone, Copy, Debug, PartialEq, Eq)]
+pub struct Summary {
+    /// How many events there were.
+    pub steps: u64,
+    /// How many blocks were sent.
+    pub sends: u64,
+    /// How many blocks arrived with their parity.
+    pub takes: u64,
+    /// How many arrived without it.
+    pub drops: u64,
+    /// How many were to be lost.
+    pub lost: u64,
+    pub mobile: EndSummary,
+    pub network: EndSummary,
+}
+
+impl Summary {
+    ghost use Rattle.um_make.specs.Summaries.{IsSummary, has_parity, lacks_parity};
+    ghost use Rattle.um_make.specs.Counting.{Adds, Counts, RisesAtMost, IsBelow, IsEndBelow, Tells, GrowsAtMost, told_in, one_if};
+
+    /// Nothing has happened.
+    pub(crate) fn new() -> Summary
+        ensures counts { IsSummary [] [] result }
+        ensures small { IsBelow 0 result }
+    {
+        Summary {
+            steps: 0,
+            sends: 0,
+            takes: 0,
+            drops: 0,
+            lost: 0,
+            mobile: EndSummary::new(),
+            network: EndSummary::new(),
+        }
+    }
+
+    /// Counts an event and its answer.
+    pub(crate) fn count(&mut self, event: &Event<'_>, answer: &Result<Step, No>)
+        requires { IsBelow (2 ^ 58) self.old }
+        ensures counts { Counts (event_of event.now) (answer_of answer.now) self.old self.new }
+        ensures rises { RisesAtMost 192015 self.old self.new }
+    {
+        self.steps += 1;
+        if is_loss(event) {
+            self.lost += 1;
+        }
+        if let Ok(step) = answer {
+            self.add(step);
+        }
+    }
+
+    /// Counts what came of an event.
+    fn add(&mut self, step: &Step)
+        requires { IsBelow (2 ^ 59) self.old }
+        ensures adds { Adds (A.Does (step_of step.now)) self.old self.new }
+        ensures rises { RisesAtMost 192015 self.old self.new }
+    {
+        self.sends += step.effects.frames.as_slice().len() as u64;
+        self.arrive(&step.received);
+        self.tell(step);
+    }
+
+    /// Counts the block that arrived, if one did.
+    fn arrive(&mut self, received: &Option<Received>)
+        requires { IsBelow (2 ^ 60) self.old }
+        ensures { self.new ≡ record self.old {
+            takes = self.old.takes + one_if (has_parity received.now); drops = self.old.drops + one_if (lacks_parity received.now) } }
+    {
+        if let Some(report) = received {
+            if report.accepted.is_some() {
+                self.takes += 1;
+            } else {
+                self.drops += 1;
+            }
+        }
+    }
+
+    /// Counts what the ends told.
+    fn tell(&mut self, step: &Step)
+        requires mobile_small { IsEndBelow (2 ^ 59) self.old.mobile }
+        requires network_small { IsEndBelow (2 ^ 59) self.old.network }
+        ensures mobile { Tells (told_in R.Mobile (A.Does (step_of step.now))) self.old.mobile self.new.mobile }
+        ensures network { Tells (told_in R.Network (A.Does (step_of step.now))) self.old.network self.new.network }
+        ensures same { self.new ≡ record self.old { mobile = self.new.mobile; network = self.new.network } }
+        ensures mobile_most { GrowsAtMost 192015 self.old.mobile self.new.mobile }
+        ensures network_most { GrowsAtMost 192015 self.old.network self.new.network }
+    {
+        let notices = signalling_notices(step);
+        match step.who {
+            Who::Mobile => self.mobile.tell_all(notices),
+            Who::Network => self.network.tell_all(notices),
+            Who::Rival | Who::Nobody => {}
+        }
+    }
+}
+
+/// What was told of the link of SAPI 0.
+fn signalling_notices(step: &Step) -> &[Notice]
+    ensures zero { result.now ≡ (if is_sapi S.Zero step.now.sapi then step.now.effects.notices else []) }
+    ensures few { length result.now ≤ 3 }
+{
+    match step.sapi {
+        Sapi::Zero => step.effects.notices.as_slice(),
+        Sapi::Three => &[],
+    }
+}
+
+/// Whether a block is to be lost.
+fn is_loss(event: &Event<'_>) -> bool
+    ensures { result ≡ is_loss (event_of event.now) }
+{
+    matches!(event, Event::Air(_, Air::Lose))
+}
