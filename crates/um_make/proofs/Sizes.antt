@@ -3,8 +3,7 @@ use Rattle.std.proofs.Common.{◌≡◌, ℕ, zero, suc, ◌+◌, ◌*◌, ◌/�
 use Rattle.std.proofs.lemmas.List.FromFn.{length-map-range_with_len}
 use Rattle.lapdm_window.specs.declared.Sapi.TheVariants.{Zero}
 use Rattle.lapdm_window.specs.Ends.{Role}
-use Rattle.lapdm_link.specs.Events.{Tick, other}
-use Rattle.um_air.specs.Air.{Event, Ask, Deliver, Lose}
+use Rattle.lapdm_link.specs.Events.{Ask, Deliver, Lose, Tick, other}
 use Rattle.um_make.specs.Generated.{places, size_of, message, sender, is_lost, turn, piece_turns, last_turn, turns, turn_after, pieces_of, messages, generated}
 
 turn-size : (r : Role) (c : ℕ) → length (turn r c) ≤ 2

@@ -1,5 +1,5 @@
 -- The numbers of a session with one event more.
-use Rattle.std.proofs.Common.{◌≡◌, ◌∙◌, refl, sym, ap, subst, ℕ, ◌+◌, Bool, true, false, if◌then◌else◌, ◌&&◌, List, [], ◌∷◌, ◌++◌, length, sum, map, length-append, append_assoc, arith, None}
+use Rattle.std.proofs.Common.{◌≡◌, ◌∙◌, refl, sym, ap, subst, ℕ, ◌+◌, Bool, true, false, if◌then◌else◌, ◌&&◌, List, [], ◌∷◌, ◌++◌, length, sum, map, length-append, append_assoc, arith}
 use Rattle.std.specs.List.{sum_by, filter_map}
 use Rattle.std.proofs.lemmas.List.Elements.{filter_map-append}
 use Rattle.std.proofs.lemmas.List.Sums.{sum_by-append, sum_by_push}
@@ -7,9 +7,9 @@ use Rattle.lapdm_window.specs.declared.Notice.{Notice}
 use Rattle.lapdm_window.specs.declared.Sapi.{Sapi}
 use Rattle.lapdm_window.specs.declared.Sapi.TheVariants.{Zero}
 use Rattle.lapdm_window.specs.Ends.{Role, Mobile, Network}
-use Rattle.lapdm_link.specs.Events.{Who, End, Other, Nobody}
+use Rattle.lapdm_link.specs.Events.{Open, OpenBare, Ask, Deliver, Lose, Rival, Who, End, Other, Nobody}
 use Rattle.lapdm_link.specs.Claims.{Line, Told, answer_lines, notice_lines, notice_in, notices, got_in, acked_in, got, acked, is_role, is_sapi}
-use Rattle.um_air.specs.Air.{Event, Open, OpenBare, Ask, Deliver, Lose, Rival, as_read, Answer, Refuses, Does}
+use Rattle.um_air.specs.Air.{Event, Answer, Refuses, Does}
 use Rattle.um_air.specs.Sessions.{told, lines}
 use Rattle.um_make.specs.declared.end_summary.EndSummary.{EndSummary}
 use Rattle.um_make.specs.declared.summary.Summary.{Summary}
@@ -22,7 +22,7 @@ lines-push [] [] e a same = refl
 lines-push [] (y ∷ answers) e a same = absurd (omega arith)
 lines-push (x ∷ es) [] e a same = absurd (omega arith)
 lines-push (x ∷ es) (y ∷ answers) e a same =
-    let first : List Line = answer_lines (as_read None x) (told y) in
+    let first : List Line = answer_lines x (told y) in
     ap (λ (ls : List Line). first ++ ls) (lines-push es answers e a (omega arith)) ∙ sym (append_assoc first (lines es answers) (lines (e ∷ []) (a ∷ [])))
 
 -- an end's notices of one answer

@@ -5,7 +5,8 @@ use Rattle.lapdm_window.specs.declared.Sapi.TheVariants.{Zero}
 use Rattle.lapdm_window.specs.Ends.{Role, Mobile, Network}
 use Rattle.um_block.specs.declared.received.Received.{Received}
 use Rattle.lapdm_link.specs.Claims.{Line, got, acked}
-use Rattle.um_air.specs.Air.{Event, Lose, Answer, Refuses, Does}
+use Rattle.lapdm_link.specs.Events.{Lose}
+use Rattle.um_air.specs.Air.{Event, Answer, Refuses, Does}
 use Rattle.um_air.specs.Sessions.{lines}
 use Rattle.um_make.specs.declared.end_summary.EndSummary.{EndSummary}
 use Rattle.um_make.specs.declared.summary.Summary.{Summary}

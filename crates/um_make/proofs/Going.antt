@@ -1,0 +1,97 @@
+-- A generated run goes on, event by event, to its end.
+use Rattle.std.proofs.Common.{◌≡◌, ◌∙◌, refl, sym, ap, subst, ℕ, ◌+◌, ◌*◌, ◌^◌, ◌≤◌, List, [], ◌∷◌, ◌++◌, length, length-append, append_assoc, Result, arith}
+use Rattle.std.proofs.lemmas.List.{append-nil}
+use Rattle.lapdm_frame.specs.declared.Channel.TheVariants.{Sdcch}
+use Rattle.lapdm_window.specs.declared.Sapi.TheVariants.{Zero}
+use Rattle.lapdm_window.specs.Ends.{Mobile, Network}
+use Rattle.lapdm_link.specs.Claims.{CountsAgree}
+use Rattle.um_air.specs.Air.{Event, AirState, start_on, AirRun}
+use Rattle.um_air.specs.Sessions.{lines, IsHarmless}
+use Rattle.um_air.proofs.Carrying.{air_counts}
+use Rattle.um_air.proofs.Kind.{kind_is_harmless}
+use Rattle.um_link.specs.declared.events.No.{No}
+use Rattle.um_link.specs.declared.events.Step.{Step}
+use Rattle.um_link.specs.declared.links.Links.{Links}
+use Rattle.um_link.specs.Naming.{answer_of}
+use Rattle.um_link.specs.Standing.{Stands}
+use Rattle.um_link.specs.Sessions.{GoesOn}
+use Rattle.um_make.specs.declared.end_summary.EndSummary.{EndSummary}
+use Rattle.um_make.specs.declared.summary.Summary.{Summary}
+use Rattle.um_make.specs.Generated.{generated}
+use Rattle.um_make.specs.Summaries.{IsSummary}
+use Rattle.um_make.specs.Runs.{SumsUp, IsDelivered}
+use Rattle.um_make.specs.Counting.{Counts, GrowsAtMost, RisesAtMost, IsEndBelow, IsBelow}
+use Rattle.um_make.specs.Underway.{IsUnderway}
+use Rattle.um_make.proofs.KindEvents.{kind-generated}
+use Rattle.um_make.proofs.Totals.{summary-push}
+use Rattle.um_make.proofs.Sizes.{generated-size}
+
+end-below : (n k m : ℕ) (old new : EndSummary) → n + k ≤ m → IsEndBelow n old → GrowsAtMost k old new → IsEndBelow m new
+end-below n k m old new within h g = record { got = omega (arith, h.got, g.got); octets = omega (arith, h.octets, g.octets); sum = omega (arith, h.sum, g.sum); acked = omega (arith, h.acked, g.acked) }
+
+below-more : (n k m : ℕ) (old new : Summary) → n + k ≤ m → IsBelow n old → RisesAtMost k old new → IsBelow m new
+below-more n k m old new within h g = record {
+  steps = omega (arith, h.steps, g.steps);
+  sent = omega (arith, h.sent, g.sent);
+  takes = omega (arith, h.takes, g.takes);
+  drops = omega (arith, h.drops, g.drops);
+  lost = omega (arith, h.lost, g.lost);
+  mobile = end-below n k m old.mobile new.mobile within h.mobile g.mobile;
+  network = end-below n k m old.network new.network within h.network g.network;
+}
+
+stays-end : (e : EndSummary) → GrowsAtMost 0 e e
+stays-end e = record { got = omega arith; octets = omega arith; sum = omega arith; acked = omega arith }
+
+stays : (s : Summary) → RisesAtMost 0 s s
+stays s = record { steps = omega arith; sent = omega arith; takes = omega arith; drops = omega arith; lost = omega arith; mobile = stays-end s.mobile; network = stays-end s.network }
+
+pub begins : (tsc : ℕ) (all : List Event) (world : Links) (s : Summary) → Stands world (start_on tsc Sdcch) → IsSummary [] [] s → IsBelow 0 s → IsUnderway tsc all all world s
+begins tsc all world s stands counts small = record {
+  events = [];
+  answers = [];
+  state = start_on tsc Sdcch;
+  whole = refl;
+  same = refl;
+  after = record { run = refl; stands = stands };
+  summary = counts;
+  small = small;
+}
+
+pub goes_on : (tsc : ℕ) (all script others : List Event) (world next : Links) (s t : Summary) (e : Event) (r : Result Step No) → IsUnderway tsc all script world s → script ≡ e ∷ others → GoesOn e world r next → Counts e (answer_of r) s t → RisesAtMost 192015 s t →
+    IsUnderway tsc all others next t
+goes_on tsc all script others world next s t e r h first goes counts rises =
+    let to = goes tsc Sdcch h.events h.answers h.state h.after in
+    record {
+      events = h.events ++ e ∷ [];
+      answers = h.answers ++ answer_of r ∷ [];
+      state = to.0;
+      whole = h.whole ∙ ap (λ (es : List Event). h.events ++ es) first ∙ sym (append_assoc h.events (e ∷ []) others);
+      same = omega (arith, h.same, length-append h.answers (answer_of r ∷ []), length-append h.events (e ∷ []));
+      after = to.1;
+      summary = summary-push h.events h.answers e (answer_of r) s t h.same h.summary counts;
+      small = below-more (192015 * length h.events) 192015 (192015 * length (h.events ++ e ∷ [])) s t (omega (arith, length-append h.events (e ∷ []))) h.small rises;
+    }
+
+pub small_enough : (tsc n : ℕ) (script : List Event) (world : Links) (s : Summary) → n ≤ 1000 → IsUnderway tsc (generated n) script world s → IsBelow (2 ^ 58) s
+small_enough tsc n script world s most h =
+    below-more (192015 * length h.events) 0 (2 ^ 58) s s (omega (arith, generated-size n, ap length h.whole, length-append h.events script)) h.small (stays s)
+
+pub sums_up : (tsc : ℕ) (all script : List Event) (world : Links) (s : Summary) → script ≡ [] → IsUnderway tsc all script world s → SumsUp tsc all s
+sums_up tsc all script world s none h =
+    let done : h.events ≡ all = sym (append-nil h.events) ∙ ap (λ (es : List Event). h.events ++ es) (sym none) ∙ sym h.whole in
+    record {
+      answers = h.answers;
+      last = h.state;
+      run = subst (λ (es : List Event). AirRun (start_on tsc Sdcch) es h.answers h.state) done h.after.run;
+      summary = subst (λ (es : List Event). IsSummary es h.answers s) done h.summary;
+    }
+
+pub delivered : (tsc n : ℕ) (s : Summary) → SumsUp tsc (generated n) s → IsDelivered s
+delivered tsc n s h =
+    let harmless : IsHarmless (generated n) h.answers = kind_is_harmless tsc Sdcch (generated n) h.answers h.last h.run (kind-generated n) in
+    let agree : CountsAgree (lines (generated n) h.answers) = air_counts tsc Sdcch (generated n) h.answers h.last h.run harmless in
+    record {
+      mobile = omega (arith, agree Mobile Zero, h.summary.mobile.acknowledged, h.summary.network.messages);
+      network = omega (arith, agree Network Zero, h.summary.network.acknowledged, h.summary.mobile.messages);
+    }
