@@ -1,6 +1,7 @@
 pub mod Generated
 pub mod Summaries
 pub mod Runs
+pub mod Texts
 pub mod Counting
 pub mod Courses
 pub mod Underway

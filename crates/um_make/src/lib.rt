@@ -11,12 +11,14 @@ mod room;
 mod run;
 mod script;
 mod summary;
+mod text;
 
 pub use end_summary::EndSummary;
 pub use room::Room;
 pub use run::make;
 pub use script::Script;
 pub use summary::Summary;
+pub use text::summary_lines;
 
 /// Law: of every generated run at most three bits of each block are turned over, and all messages are octets.
 pub fn law_generated_is_kind()

@@ -1,0 +1,77 @@
+//! The lines that report a generated run.
+ghost use Rattle.std.specs.Prelude.{◌≡◌, ◌+◌, ◌≤◌, ◌<◌, [], ◌++◌, codes, length};
+ghost use Rattle.std.specs.Fmt.{decimal};
+ghost use Rattle.um_make.specs.Texts.{words_line, steps_line, end_line, summary_text};
+
+use crate::end_summary::EndSummary;
+use crate::summary::Summary;
+use um_lines::Text;
+
+/// Writes the four lines of a run of so many messages with a training sequence.
+pub fn summary_lines(out: &mut Text, n: u32, tsc: u8, summary: &Summary)
+    requires { out.old ≡ [] }
+    ensures text { out.new ≡ summary_text n tsc summary.now }
+    ensures short { length out.new < 2000 }
+{
+    push_words(out, n, tsc);
+    push_steps(out, summary);
+    push_end(out, b"mob", &summary.mobile);
+    push_end(out, b"net", &summary.network);
+}
+
+fn push_words(out: &mut Text, n: u32, tsc: u8)
+    requires { out.old ≡ [] }
+    ensures text { out.new ≡ words_line n tsc }
+    ensures length { length out.new ≤ 100 }
+{
+    out.push(b"make ");
+    push_decimal(out, u64::from(n));
+    out.push(b" ");
+    push_decimal(out, u64::from(tsc));
+    out.push(b"\n");
+}
+
+fn push_steps(out: &mut Text, summary: &Summary)
+    requires { length out.old ≤ 100 }
+    ensures text { out.new ≡ out.old ++ steps_line summary.now }
+    ensures length { length out.new ≤ length out.old + 240 }
+{
+    push_number(out, b"steps ", summary.steps);
+    push_number(out, b" sends ", summary.sends);
+    push_number(out, b" takes ", summary.takes);
+    push_number(out, b" drops ", summary.drops);
+    push_number(out, b" lost ", summary.lost);
+    out.push(b"\n");
+}
+
+fn push_end(out: &mut Text, name: &[u8], summary: &EndSummary)
+    requires room { length out.old ≤ 1000 }
+    requires name { length name.now ≤ 3 }
+    ensures text { out.new ≡ out.old ++ end_line name.now summary.now }
+    ensures length { length out.new ≤ length out.old + 200 }
+{
+    out.push(name);
+    push_number(out, b" got ", summary.got);
+    push_number(out, b" octets ", summary.octets);
+    push_number(out, b" sum ", summary.sum);
+    push_number(out, b" acked ", summary.acked);
+    out.push(b"\n");
+}
+
+fn push_number(out: &mut Text, name: &[u8], number: u64)
+    requires room { length out.old ≤ 2000 }
+    requires name { length name.now ≤ 8 }
+    ensures text { out.new ≡ out.old ++ name.now ++ decimal number }
+    ensures length { length out.new ≤ length out.old + 48 }
+{
+    out.push(name);
+    push_decimal(out, number);
+}
+
+fn push_decimal(out: &mut Text, number: u64)
+    requires { length out.old ≤ 2100 }
+    ensures text { out.new ≡ out.old ++ decimal number }
+    ensures length { length out.new ≤ length out.old + 40 }
+{
+    out.push(itoa::Buffer::new().format(number).as_bytes());
+}
