@@ -5,10 +5,9 @@ use Rattle.lapdm_frame.specs.declared.Channel.TheVariants.{Sdcch}
 use Rattle.lapdm_window.specs.declared.Sapi.TheVariants.{Zero}
 use Rattle.lapdm_window.specs.Ends.{Mobile, Network}
 use Rattle.lapdm_link.specs.Claims.{CountsAgree}
-use Rattle.um_air.specs.Air.{Event, AirState, start_on, AirRun}
+use Rattle.um_air.specs.Air.{Event, Answer, AirState, start_on, AirRun}
 use Rattle.um_air.specs.Sessions.{lines, IsHarmless}
-use Rattle.um_air.proofs.Carrying.{air_counts}
-use Rattle.um_air.proofs.Kind.{kind_is_harmless}
+use Rattle.um_air.proofs.Laws.{air_counts, kind_is_harmless, one_run}
 use Rattle.um_link.specs.declared.events.No.{No}
 use Rattle.um_link.specs.declared.events.Step.{Step}
 use Rattle.um_link.specs.declared.links.Links.{Links}
@@ -80,11 +79,14 @@ small_enough tsc n script world s most h =
 pub sums_up : (tsc : ℕ) (all script : List Event) (world : Links) (s : Summary) → script ≡ [] → IsUnderway tsc all script world s → SumsUp tsc all s
 sums_up tsc all script world s none h =
     let done : h.events ≡ all = sym (append-nil h.events) ∙ ap (λ (es : List Event). h.events ++ es) (sym none) ∙ sym h.whole in
+    let run : AirRun (start_on tsc Sdcch) all h.answers h.state = subst (λ (es : List Event). AirRun (start_on tsc Sdcch) es h.answers h.state) done h.after.run in
+    let summary : IsSummary all h.answers s = subst (λ (es : List Event). IsSummary es h.answers s) done h.summary in
     record {
       answers = h.answers;
       last = h.state;
-      run = subst (λ (es : List Event). AirRun (start_on tsc Sdcch) es h.answers h.state) done h.after.run;
-      summary = subst (λ (es : List Event). IsSummary es h.answers s) done h.summary;
+      run = run;
+      summary = summary;
+      only = λ others b other. subst (λ (answers : List Answer). IsSummary all answers s) (one_run (start_on tsc Sdcch) all h.state b h.answers others run other).1 summary;
     }
 
 pub delivered : (tsc n : ℕ) (s : Summary) → SumsUp tsc (generated n) s → IsDelivered s

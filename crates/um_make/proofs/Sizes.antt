@@ -20,8 +20,14 @@ again-size r c false = omega arith
 turns-size : (r : Role) (pieces c : ℕ) → length (turns r pieces c) ≤ 4 * pieces
 turns-size r zero c = omega arith
 turns-size r (suc pieces) c =
-    omega (arith, length-append (piece_turns r (c + 1)) (turns r pieces (last_turn (c + 1))), length-append (turn r (c + 1)) (if is_lost (c + 1) then turn r (c + 1 + 1) else []),
-    turn-size r (c + 1), again-size r (c + 1) (is_lost (c + 1)), turns-size r pieces (last_turn (c + 1)))
+    omega (
+      arith,
+      length-append (piece_turns r (c + 1)) (turns r pieces (last_turn (c + 1))),
+      length-append (turn r (c + 1)) (if is_lost (c + 1) then turn r (c + 1 + 1) else []),
+      turn-size r (c + 1),
+      again-size r (c + 1) (is_lost (c + 1)),
+      turns-size r pieces (last_turn (c + 1)),
+    )
 
 few_pieces : (i : ℕ) → pieces_of i ≤ 13
 few_pieces i =
@@ -31,8 +37,13 @@ few_pieces i =
 messages-size : (more i c : ℕ) → length (messages more i c) ≤ 53 * more
 messages-size zero i c = omega arith
 messages-size (suc more) i c =
-    omega (arith, length-append (turns (sender i) (pieces_of i) c) (messages more (i + 1) (turn_after (pieces_of i) c)),
-    turns-size (sender i) (pieces_of i) c, few_pieces i, messages-size more (i + 1) (turn_after (pieces_of i) c))
+    omega (
+      arith,
+      length-append (turns (sender i) (pieces_of i) c) (messages more (i + 1) (turn_after (pieces_of i) c)),
+      turns-size (sender i) (pieces_of i) c,
+      few_pieces i,
+      messages-size more (i + 1) (turn_after (pieces_of i) c),
+    )
 
 pub generated-size : (n : ℕ) → length (generated n) ≤ 53 * n + 3
 generated-size n = omega (arith, messages-size n 1 0)

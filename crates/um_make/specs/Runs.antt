@@ -5,12 +5,13 @@ use Rattle.um_air.specs.Air.{Event, Answer, AirState, start_on, AirRun}
 use Rattle.um_make.specs.declared.summary.Summary.{Summary}
 use Rattle.um_make.specs.Summaries.{IsSummary}
 
--- the numbers are those of the answers to these events, from idle ends on SDCCH
+-- the numbers are those of the answers to these events, from idle ends on SDCCH; there are no other answers
 pub record SumsUp (tsc : ℕ) (events : List Event) (s : Summary) : Type 0 where
   pub answers : List Answer
   pub last : AirState
   pub run : AirRun (start_on tsc Sdcch) events answers last
   pub summary : IsSummary events answers s
+  pub only : (others : List Answer) (b : AirState) → AirRun (start_on tsc Sdcch) events others b → IsSummary events others s
 
 -- at neither end are more messages acknowledged than the other handed up
 pub record IsDelivered (s : Summary) : Type 0 where

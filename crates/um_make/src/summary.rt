@@ -79,7 +79,9 @@ impl Summary {
     fn arrive(&mut self, received: &Option<Received>)
         requires { IsBelow (2 ^ 60) self.old }
         ensures { self.new ≡ record self.old {
-            takes = self.old.takes + one_if (has_parity received.now); drops = self.old.drops + one_if (lacks_parity received.now) } }
+          takes = self.old.takes + one_if (has_parity received.now);
+          drops = self.old.drops + one_if (lacks_parity received.now);
+        } }
     {
         if let Some(report) = received {
             if report.accepted.is_some() {

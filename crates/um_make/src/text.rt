@@ -34,7 +34,7 @@ fn push_words(out: &mut Text, n: u32, tsc: u8)
 fn push_steps(out: &mut Text, summary: &Summary)
     requires { length out.old ≤ 100 }
     ensures text { out.new ≡ out.old ++ steps_line summary.now }
-    ensures length { length out.new ≤ length out.old + 240 }
+    ensures length { length out.new ≤ length out.old + 250 }
 {
     push_number(out, b"steps ", summary.steps);
     push_number(out, b" sends ", summary.sends);

@@ -27,6 +27,10 @@ loop-event-preserved g c =
           ∙ raised_by-more (arrivals_in answer) (old.takes + old.drops) _ (new.takes + new.drops) heard;
     }
 
+pub returns-clause-run : goal.returns-clause-run
+returns-clause-run g c =
+    sums_up c.args.tsc (generated c.args.n) c.loop-event.script c.loop-event.world c.loop-event.summary c.in_default.ensures.event.0 c.loop-event.invariant.underway
+
 pub returns-clause-delivered : goal.returns-clause-delivered
 returns-clause-delivered g c =
     delivered c.args.tsc c.args.n c.loop-event.summary

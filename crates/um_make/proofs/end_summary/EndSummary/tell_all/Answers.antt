@@ -2,7 +2,7 @@ use Rattle.std.proofs.Common.{◌≡◌, ◌∙◌, sym, ap, subst, List, []}
 use Rattle.std.proofs.Common.{◌+◌, ◌∷◌, ◌++◌, take, arith}
 use Rattle.std.proofs.lemmas.List.{take_more}
 use Rattle.lapdm_window.specs.declared.Notice.{Notice}
-use Rattle.um_make.specs.Counting.{Tells, GrowsAtMost}
+use Rattle.um_make.specs.Counting.{Tells}
 use Rattle.um_make.proofs.Counting.{tells-more}
 use Rattle.um_make.proofs.end_summary.EndSummary.tell_all.Goals as goal
 

@@ -1,4 +1,4 @@
-use Rattle.std.proofs.Common.{◌≤◌, ◌*◌, take}
+use Rattle.std.proofs.Common.{◌*◌, take}
 use Rattle.um_make.specs.Counting.{Tells, GrowsAtMost}
 use Rattle.um_make.proofs.end_summary.EndSummary.tell_all.Given as goal
 
