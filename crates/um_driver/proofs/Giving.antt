@@ -1,41 +1,11 @@
 -- What comes of judged lines, one after another.
-use Rattle.std.proofs.Common.{◌≡◌, ℕ, suc, ◌<◌, ◌≤◌, ◌+◌, Bool, true, false, List, [], ◌∷◌, ◌++◌, length, Option, Some, None, ◌⊎◌, inl, inr, sym, refl, ap, ◌∙◌, subst, append_assoc, arith}
+use Rattle.std.proofs.Common.{◌≡◌, ℕ, ◌+◌, Bool, true, false, List, [], ◌∷◌, ◌++◌, length, inl, inr, sym, refl, ap, ◌∙◌, subst, append_assoc, arith}
 use Rattle.um_lines.specs.declared.fault.LineFault.{LineFault}
 use Rattle.um_lines.specs.Refusals.{refused_text}
-use Rattle.um_driver.specs.Rules.{Rules, IsGood, IsBad, Runs, IsDetermined}
+use Rattle.um_driver.specs.Rules.{Rules, IsGood, IsBad, Runs, IsDetermined, joined}
+use Rattle.um_driver.specs.Outputs.{Gives}
+use Rattle.um_driver.specs.Table.{IsFront}
 use Rattle.um_driver.specs.declared.status.Status.{Status}
-use Rattle.um_driver.specs.declared.status.Status.TheVariants.{Done, BadInput, TooLong}
-
--- the line is good and answered, and so on
-pub record Goes {State : Type 0} (r : Rules State) (a : State) (line : List ℕ) (Then : State → List ℕ → Type 0) (z : List ℕ) : Type 0 where
-  pub answer : List ℕ
-  pub rest : List ℕ
-  pub mid : State
-  pub good : IsGood r a line
-  pub step : r.Step a line answer mid
-  pub then_ : Then mid rest
-  pub output : z ≡ answer ++ rest
-
--- the line has a reason
-pub record Stops {State : Type 0} (r : Rules State) (a : State) (n : ℕ) (line : List ℕ) (status : Status) (z : List ℕ) : Type 0 where
-  pub fault : LineFault
-  pub bad : IsBad r a line fault
-  pub status_is : status ≡ BadInput
-  pub output : z ≡ refused_text n fault
-
--- the end has a reason
-pub record StopsAtEnd {State : Type 0} (r : Rules State) (a : State) (n : ℕ) (status : Status) (z : List ℕ) : Type 0 where
-  pub fault : LineFault
-  pub bad : r.end_fault a ≡ Some fault
-  pub status_is : status ≡ BadInput
-  pub output : z ≡ refused_text n fault
-
--- what comes of these judged lines, the first of which has the number n, where the input ended or was cut
-abbrev pub Gives : {State : Type 0} → Rules State → State → ℕ → List (List ℕ) → Bool → Status → List ℕ → Type 0
-Gives r a n [] true status z = ((r.end_fault a ≡ None) × (status ≡ Done) × (z ≡ [])) ⊎ StopsAtEnd r a n status z
-Gives r a n [] false status z = (status ≡ TooLong) × (z ≡ [])
-Gives r a n (line ∷ judged) ended status z =
-    Goes r a line (λ mid rest. Gives r mid (n + 1) judged ended status rest) z ⊎ Stops r a n line status z
 
 pub good_or_bad : {State : Type 0} (r : Rules State) (a : State) (line : List ℕ) (fault : LineFault) →
     IsGood r a line → IsBad r a line fault → ⊥
@@ -78,23 +48,35 @@ Gives-unique r det a n (line ∷ judged) ended s s' z z' (inr stop) (inr stop') 
     (stop.status_is ∙ sym stop'.status_is, stop.output ∙ ap (λ g. refused_text n g) f ∙ sym stop'.output)
 
 -- good lines first
-pub Gives-after : {State : Type 0} (r : Rules State) (a b : State) (n m : ℕ) (ls judged : List (List ℕ)) (ended : Bool) (s : Status) (y z : List ℕ) →
-    m ≡ length ls + n → Runs r a ls y b → Gives r b m judged ended s z → Gives r a n (ls ++ judged) ended s (y ++ z)
-Gives-after {State} r a b n m [] judged ended s y z e (y_is, b_is) h =
-    let number : m ≡ n = omega arith in
-    let output : z ≡ y ++ z = let f = ap (λ w. w ++ z) y_is in sym f in
-    let P : List ℕ → Type 0 = λ w. Gives r a n judged ended s w in
-    subst P output (Gives-from r b a m n judged ended s z b_is number h)
-Gives-after r a b n m (line ∷ ls) judged ended s y z e (answer, rest, mid, good, step, runs, y_is) h =
+pub Gives-after : {State : Type 0} (r : Rules State) (a b : State) (n m : ℕ) (ls ys judged : List (List ℕ)) (ended : Bool) (s : Status) (z : List ℕ) →
+    m ≡ length ls + n → Runs r a ls ys b → Gives r b m judged ended s z → Gives r a n (ls ++ judged) ended s (joined ys ++ z)
+Gives-after r a b n m [] [] judged ended s z e same h = Gives-from r b a m n judged ended s z same (omega arith) h
+Gives-after r a b n m [] (y ∷ ys) judged ended s z e none h = absurd none
+Gives-after r a b n m (line ∷ ls) [] judged ended s z e none h = absurd none
+Gives-after r a b n m (line ∷ ls) (y ∷ ys) judged ended s z e (mid, good, step, runs) h =
     inl (record {
-      answer = answer;
-      rest = rest ++ z;
+      answer = y;
+      rest = joined ys ++ z;
       mid = mid;
       good = good;
       step = step;
-      then_ = Gives-after r mid b (n + 1) m ls judged ended s rest z (omega arith) runs h;
-      output = ap (λ w. w ++ z) y_is ∙ append_assoc answer rest z;
+      then_ = Gives-after r mid b (n + 1) m ls ys judged ended s z (omega arith) runs h;
+      output = append_assoc y (joined ys) z;
     })
+
+-- the answers to first lines begin what comes of all
+pub Gives-front : {State : Type 0} (r : Rules State) → IsDetermined r → (a b : State) (n : ℕ) (ls ys judged : List (List ℕ)) (ended : Bool) (s : Status) (z : List ℕ) →
+    Runs r a ls ys b → Gives r a n (ls ++ judged) ended s z → IsFront (joined ys) z
+Gives-front r det a b n [] [] judged ended s z same g = (z, refl)
+Gives-front r det a b n [] (y ∷ ys) judged ended s z none g = absurd none
+Gives-front r det a b n (line ∷ ls) [] judged ended s z none g = absurd none
+Gives-front r det a b n (line ∷ ls) (y ∷ ys) judged ended s z (mid, good, step, runs) (inl g) =
+    let same = det a line g.answer y g.mid mid g.step step in
+    let then = Gives-front r det mid b (n + 1) ls ys judged ended s g.rest runs
+    (Gives-from r g.mid mid (n + 1) (n + 1) (ls ++ judged) ended s g.rest same.1 refl g.then_) in
+    (then.0, g.output ∙ (let p = same.0 in let q = then.1 in cc (p, q)) ∙ sym (append_assoc y (joined ys) then.0))
+Gives-front r det a b n (line ∷ ls) (y ∷ ys) judged ended s z (mid, good, step, runs) (inr stop) =
+    absurd (good_or_bad r a line stop.fault good stop.bad)
 
 pub Gives-at : {State : Type 0} (r : Rules State) (a : State) (n : ℕ) (judged judged' : List (List ℕ)) (ended ended' : Bool) (s : Status) (z z' : List ℕ) →
     judged' ≡ judged → ended' ≡ ended → z' ≡ z → Gives r a n judged ended s z → Gives r a n judged' ended' s z'

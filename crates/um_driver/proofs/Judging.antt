@@ -1,39 +1,16 @@
 -- Which lines of an input are judged: those that ended within the limit, and what follows them where it is long or
 -- the input ends with it.
-use Rattle.std.proofs.Common.{◌≡◌, ℕ, zero, suc, ◌<◌, ◌≤◌, ◌+◌, Bool, true, false, List, [], ◌∷◌, ◌++◌, length, ◌⊎◌, inl, inr, sym, refl, ap, ◌∙◌, subst, append_assoc, append-nil, length-append, take, drop, take-append-drop, length-drop, arith}
+use Rattle.std.proofs.Common.{◌≡◌, ℕ, ◌<◌, ◌≤◌, Bool, true, false, List, [], ◌∷◌, ◌++◌, length, ◌⊎◌, inl, inr, sym, refl, ap, ◌∙◌, subst, append_assoc, append-nil, length-append, take, drop, take-append-drop, length-drop, arith}
 use Rattle.std.specs.List.{All}
 use Rattle.std.proofs.lemmas.Bool.{cases_eq, cases_lt}
 use Rattle.std.proofs.lemmas.List.{length-take-le}
-use Rattle.std.proofs.lemmas.List.Elements.{All-nil, All-cons, All-head, All-tail, All-append}
-use Rattle.um_io.specs.Lines.{IsPlain, IsLine, IsDivided, IsCutOff, text_of}
+use Rattle.std.proofs.lemmas.List.Elements.{All-nil, All-cons, All-head, All-tail}
+use Rattle.um_io.specs.Lines.{IsPlain, IsLine, IsDivided, text_of}
 use Rattle.um_driver.specs.Divided.{Begins}
-use Rattle.um_driver.specs.Outputs.{IsJudged, IsOver}
-use Rattle.um_driver.proofs.LineLists.{within, no_feed, GoesOn, Compared, compared, text-cons, one_division, All-before, All-behind}
-
--- these octets of an input count: all of them where it ended within the limit
-abbrev pub Counts : List ℕ → List ℕ → Bool → Type 0
-Counts x octets true = (x ≡ octets) × (length x ≤ 67108864)
-Counts x octets false = (past : List ℕ) × IsOver x octets past
-
--- what follows the whole lines is not judged
-abbrev pub NotJudged : List ℕ → Bool → Type 0
-NotJudged last true = last ≡ []
-NotJudged last false = length last ≤ 4096
-
--- what follows the whole lines is judged
-abbrev pub AlsoJudged : List ℕ → Bool → Type 0
-AlsoJudged last true = 0 < length last
-AlsoJudged last false = 4096 < length last
-
--- these lines of an input are judged
-pub record Judges (x : List ℕ) (judged : List (List ℕ)) (ended : Bool) : Type 0 where
-  pub octets : List ℕ
-  pub lines : List (List ℕ)
-  pub last : List ℕ
-  pub counts : Counts x octets ended
-  pub begins : Begins octets lines last
-  pub plain : IsLine last
-  pub tail : ((judged ≡ lines) × NotJudged last ended) ⊎ ((judged ≡ lines ++ last ∷ []) × AlsoJudged last ended)
+use Rattle.um_io.specs.Reading.{input_limit, line_limit}
+use Rattle.um_driver.specs.Outputs.{IsOver, Counts, NotJudged, AlsoJudged, Judges}
+use Rattle.um_driver.specs.Table.{IsJudged}
+use Rattle.um_driver.proofs.LineLists.{within, no_feed, compared, one_division, All-before, All-behind}
 
 -- a front that is no longer is a front of a front
 pub record IsFrontOf (u v c p : List ℕ) : Type 0 where
@@ -87,7 +64,7 @@ divide (o ∷ octets) =
     elim (cases_eq o 10) [ inl e ↦ with_feed o octets e d | inr h ↦ with_plain o octets d.lines d.last h d.begins d.plain ]
 
 -- an input within the limit does not go on past it
-over_limit : (x counted past : List ℕ) → IsOver x counted past → length x ≤ 67108864 → ⊥
+over_limit : (x counted past : List ℕ) → IsOver x counted past → length x ≤ input_limit → ⊥
 over_limit x counted past over h = omega (arith, ap length over.whole, length-append counted past, over.count, over.some)
 
 -- the lines of an input within the limit are judged, and no others
@@ -102,7 +79,7 @@ judged_whole x judged ls last j b p =
     ]
 
 pub Judges-divided : (x : List ℕ) (judged : List (List ℕ)) (ended : Bool) (lines : List (List ℕ)) → Judges x judged ended →
-    IsDivided x lines → length x ≤ 67108864 → (ended ≡ true) × (judged ≡ lines)
+    IsDivided x lines → length x ≤ input_limit → (ended ≡ true) × (judged ≡ lines)
 Judges-divided x judged true lines j d h = (
   refl,
   elim d.whole [
@@ -130,7 +107,7 @@ same_front (o ∷ c) p (i ∷ c') p' e h = let rest = same_front c p c' p' (cc e
 
 -- of an input that goes on past the limit the lines that ended within it are judged, where the next is not long there
 pub Judges-over : (x : List ℕ) (judged : List (List ℕ)) (ended : Bool) (counted past : List ℕ) (lines : List (List ℕ)) (last : List ℕ) →
-    Judges x judged ended → IsOver x counted past → Begins counted lines last → IsLine last → length last ≤ 4096 →
+    Judges x judged ended → IsOver x counted past → Begins counted lines last → IsLine last → length last ≤ line_limit →
     (ended ≡ false) × (judged ≡ lines)
 Judges-over x judged true counted past lines last j over b p short = absurd (over_limit x counted past over j.counts.1)
 Judges-over x judged false counted past lines last j over b p short =
@@ -143,6 +120,38 @@ Judges-over x judged false counted past lines last j over b p short =
       ],
     )
 
+not_both : (last : List ℕ) (ended : Bool) → NotJudged last ended → AlsoJudged last ended → ⊥
+not_both last true none some = omega (arith, some, ap length none)
+not_both last false short long = omega (arith, short, long)
+
+same_judged : (x : List ℕ) (judged judged' : List (List ℕ)) (ended : Bool) (j : Judges x judged ended) (k : Judges x judged' ended) →
+    j.octets ≡ k.octets → judged ≡ judged'
+same_judged x judged judged' ended j k e =
+    let same = one_division j.lines k.lines j.last k.last j.begins.plain k.begins.plain j.plain k.plain (sym j.begins.whole ∙ e ∙ k.begins.whole) in
+    let l = same.0 in let m = same.1 in
+    elim j.tail [
+      | inl (f, none) ↦ elim k.tail [
+        | inl (g, _) ↦ f ∙ l ∙ sym g
+        | inr (g, some) ↦ absurd (not_both k.last ended (subst (λ last. NotJudged last ended) m none) some)
+      ]
+      | inr (f, some) ↦ elim k.tail [
+        | inl (g, none) ↦ absurd (not_both j.last ended (subst (λ last. NotJudged last ended) (sym m) none) some)
+        | inr (g, _) ↦ cc (f, g, l, m)
+      ]
+    ]
+
+-- the lines of an input are judged in one way
+pub Judges-unique : (x : List ℕ) (judged judged' : List (List ℕ)) (ended ended' : Bool) → Judges x judged ended → Judges x judged' ended' →
+    (ended ≡ ended') × (judged ≡ judged')
+Judges-unique x judged judged' true true j k = (refl, same_judged x judged judged' true j k (sym j.counts.0 ∙ k.counts.0))
+Judges-unique x judged judged' true false j k = absurd (over_limit x k.octets k.counts.0 k.counts.1 j.counts.1)
+Judges-unique x judged judged' false true j k = absurd (over_limit x j.octets j.counts.0 j.counts.1 k.counts.1)
+Judges-unique x judged judged' false false j k = (
+  refl,
+  same_judged x judged judged' false j k
+      (same_front j.octets j.counts.0 k.octets k.counts.0 (sym j.counts.1.whole ∙ k.counts.1.whole) (j.counts.1.count ∙ sym k.counts.1.count)),
+)
+
 -- a front of the input that lies within the limit is a front of what counts
 pub record CountedFront (octets u v : List ℕ) (ended : Bool) : Type 0 where
   pub part : List ℕ
@@ -151,7 +160,7 @@ pub record CountedFront (octets u v : List ℕ) (ended : Bool) : Type 0 where
   pub rest_is : v ≡ part ++ past
   pub none_past : ended ≡ true → past ≡ []
 
-pub counted_front : (x octets u v : List ℕ) (ended : Bool) → x ≡ u ++ v → length u ≤ 67108864 → Counts x octets ended → CountedFront octets u v ended
+pub counted_front : (x octets u v : List ℕ) (ended : Bool) → x ≡ u ++ v → length u ≤ input_limit → Counts x octets ended → CountedFront octets u v ended
 counted_front x octets u v true e h counts =
     record { part = v; past = []; front_is = sym counts.0 ∙ e; rest_is = sym (append-nil v); none_past = λ _. refl }
 counted_front x octets u v false e h counts =
@@ -161,7 +170,7 @@ counted_front x octets u v false e h counts =
 
 -- whole lines that came within the limit are the first that are judged
 pub Judges-first : (x : List ℕ) (judged : List (List ℕ)) (ended : Bool) (lines : List (List ℕ)) (more : List ℕ) → Judges x judged ended →
-    Begins x lines more → length (text_of lines) ≤ 67108864 → (rest : List (List ℕ)) × (judged ≡ lines ++ rest)
+    Begins x lines more → length (text_of lines) ≤ input_limit → (rest : List (List ℕ)) × (judged ≡ lines ++ rest)
 Judges-first x judged ended lines more j b h =
     let f = counted_front x j.octets (text_of lines) more ended b.whole h j.counts in
     let tail : (t : List (List ℕ)) × (judged ≡ j.lines ++ t) = elim j.tail [ inl (e, _) ↦ ([], e ∙ sym (append-nil j.lines)) | inr (e, _) ↦ (j.last ∷ [], e) ] in
@@ -178,7 +187,7 @@ pub record NextJudged (judged lines : List (List ℕ)) (line : List ℕ) : Type 
   pub next : List ℕ
   pub more : List (List ℕ)
   pub judged_are : judged ≡ lines ++ next ∷ more
-  pub same : (next ≡ line) ⊎ ((4096 < length line) × (4096 < length next))
+  pub same : (next ≡ line) ⊎ ((line_limit < length line) × (line_limit < length next))
 
 -- the rest after a plain part of a line begins with its line feed only where that part is the whole line
 feed_first : (part t after : List ℕ) → IsLine part → part ++ 10 ∷ t ≡ 10 ∷ after → part ≡ []
@@ -193,18 +202,18 @@ feed_within line (o ∷ part) past after last h w e =
 
 -- where a line feed follows within the limit, something that counts follows
 feed_counts : (x octets u v after : List ℕ) (ended : Bool) → Counts x octets ended → (f : CountedFront octets u v ended) →
-    f.part ≡ [] → v ≡ 10 ∷ after → length u < 67108864 → ⊥
+    f.part ≡ [] → v ≡ 10 ∷ after → length u < input_limit → ⊥
 feed_counts x octets u v after true counts f none feed under =
     let p = f.none_past refl in let q = f.rest_is in cc (p, q, none, feed)
 feed_counts x octets u v after false counts f none feed under =
     omega (arith, under, counts.1.count, ap length f.front_is, length-append u f.part, ap length none)
 
-not_long : (last : List ℕ) (ended : Bool) → NotJudged last ended → 4096 < length last → ⊥
+not_long : (last : List ℕ) (ended : Bool) → NotJudged last ended → line_limit < length last → ⊥
 not_long last true none long = omega (arith, long, ap length none)
 not_long last false short long = omega (arith, long, short)
 
 -- an input that is no longer than the limit ended
-is_ended : (x octets u : List ℕ) (ended : Bool) → Counts x octets ended → x ≡ u ++ [] → length u ≤ 67108864 → ended ≡ true
+is_ended : (x octets u : List ℕ) (ended : Bool) → Counts x octets ended → x ≡ u ++ [] → length u ≤ input_limit → ended ≡ true
 is_ended x octets u true counts e h = refl
 is_ended x octets u false counts e h =
     absurd (over_limit x octets counts.0 counts.1 (omega (arith, h, ap length e, length-append u [])))
@@ -251,11 +260,11 @@ module _ (x : List ℕ) (judged lines : List (List ℕ)) (line : List ℕ) (ende
       no_more (o ∷ p) e = cc e
 
   -- what follows the whole lines is the next
-  next_last : lines ≡ j.lines → judged ≡ j.lines ++ j.last ∷ [] → (j.last ≡ line) ⊎ ((4096 < length line) × (4096 < length j.last)) →
+  next_last : lines ≡ j.lines → judged ≡ j.lines ++ j.last ∷ [] → (j.last ≡ line) ⊎ ((line_limit < length line) × (line_limit < length j.last)) →
       NextJudged judged lines line
   next_last ls e same = record { next = j.last; more = []; judged_are = e ∙ ap (λ k. k ++ j.last ∷ []) (sym ls); same = same }
 
-  long_last : line ++ front.part ≡ j.last → 4096 < length line → 4096 < length j.last
+  long_last : line ++ front.part ≡ j.last → line_limit < length line → line_limit < length j.last
   long_last w long = omega (arith, long, ap length w, length-append line front.part)
 
   -- a line that is judged after the whole lines is the last, or a part of it
@@ -298,7 +307,7 @@ module _ (x : List ℕ) (judged lines : List (List ℕ)) (line : List ℕ) (ende
 cut_at : (n : ℕ) (x : List ℕ) → n < length x → (c p : List ℕ) × (x ≡ c ++ p) × (length c ≡ n) × (0 < length p)
 cut_at n x h = (take n x, drop n x, sym (take-append-drop n x), length-take-le n x (omega arith), rw length-drop (omega arith))
 
-judges_ended : (x : List ℕ) (lines : List (List ℕ)) (last : List ℕ) → length x ≤ 67108864 → Begins x lines last → IsLine last →
+judges_ended : (x : List ℕ) (lines : List (List ℕ)) (last : List ℕ) → length x ≤ input_limit → Begins x lines last → IsLine last →
     (judged : List (List ℕ)) × (ended : Bool) × Judges x judged ended
 judges_ended x lines [] h b p = (
   lines,
@@ -329,7 +338,7 @@ judges_ended x lines (o ∷ last) h b p = (
 
 judges_over : (x counted past : List ℕ) (d : Division counted) → IsOver x counted past →
     (judged : List (List ℕ)) × (ended : Bool) × Judges x judged ended
-judges_over x counted past d over = elim (cases_lt 4096 (length d.last)) [
+judges_over x counted past d over = elim (cases_lt line_limit (length d.last)) [
   | inl long ↦ (
     d.lines ++ d.last ∷ [],
     false,
@@ -360,9 +369,9 @@ judges_over x counted past d over = elim (cases_lt 4096 (length d.last)) [
 
 -- of every input some lines are judged
 pub judged_of : (x : List ℕ) → (judged : List (List ℕ)) × (ended : Bool) × Judges x judged ended
-judged_of x = elim (cases_lt 67108864 (length x)) [
+judged_of x = elim (cases_lt input_limit (length x)) [
   | inl over ↦
-      let c = cut_at 67108864 x over in
+      let c = cut_at input_limit x over in
       judges_over x c.0 c.1 (divide c.0) (record { whole = c.2; count = c.3; some = c.4 })
   | inr h ↦ let d = divide x in judges_ended x d.lines d.last h d.begins d.plain
 ]

@@ -7,5 +7,7 @@ pub mod OutputLemmas
 pub mod OutputExists
 pub mod TableLemmas
 pub mod Turns
+pub mod Reaching
 pub mod Comings
 pub mod Settling
+pub mod Weaker

@@ -1,9 +1,8 @@
 -- How octets are divided into lines, and that they are divided in one way.
-use Rattle.std.proofs.Common.{◌≡◌, ℕ, ◌<◌, ◌≤◌, ◌+◌, List, [], ◌∷◌, ◌++◌, length, ◌⊎◌, inl, inr, sym, refl, ap, ◌∙◌, append_assoc, append-nil, length-append, arith}
+use Rattle.std.proofs.Common.{◌≡◌, ℕ, ◌+◌, List, [], ◌∷◌, ◌++◌, length, ◌⊎◌, inl, inr, sym, refl, ap, ◌∙◌, append_assoc, length-append, arith}
 use Rattle.std.specs.List.{All}
-use Rattle.std.proofs.lemmas.List.Elements.{All-nil, All-cons, All-head, All-tail, All-append}
-use Rattle.um_io.specs.Lines.{IsPlain, IsLine, IsDivided, IsCutOff, text_of}
-use Rattle.um_driver.specs.Divided.{Begins}
+use Rattle.std.proofs.lemmas.List.Elements.{All-nil, All-cons, All-head, All-tail}
+use Rattle.um_io.specs.Lines.{IsPlain, IsLine, text_of}
 
 -- a line that begins another line, the rest of which follows
 pub record IsWithin (line more line' after : List ℕ) : Type 0 where

@@ -1,25 +1,16 @@
 -- One turn of a run: what the next answer of the reader of lines makes of it.
 use Rattle.std.proofs.Common.{◌≡◌, ℕ, ◌<◌, ◌≤◌, ◌+◌, Bool, true, false, List, [], ◌∷◌, ◌++◌, length, length-append, Option, Some, None, ◌⊎◌, inl, inr, sym, refl, ap, ◌∙◌, subst, append_assoc, append-nil, arith}
-use Rattle.std.specs.List.{All}
-use Rattle.std.specs.Io.KnownBytes.{Appends, Consumes, Keeps, IsAtEnd}
+use Rattle.std.specs.Io.KnownBytes.{Consumes, IsAtEnd}
 use Rattle.std.proofs.lemmas.Bool.{cases_Bool}
-use Rattle.std.proofs.lemmas.List.Elements.{All-nil, All-cons, All-append}
-use Rattle.um_io.specs.Lines.{IsPlain, IsLine, IsCutOff, IsDivided, text_of}
-use Rattle.um_io.specs.Reading.{Reading, IsReading, NeedsMore, IsReady}
-use Rattle.um_io.specs.Next.{IsAnswered, IsHeld, Gives, IsStep, IsNext}
+use Rattle.um_io.specs.Lines.{IsLine, IsDivided, text_of}
+use Rattle.um_io.specs.Reading.{Reading, IsReading, NeedsMore, IsReady, input_limit, line_limit, held_limit}
+use Rattle.um_io.specs.Next.{IsAnswered, IsHeld, IsStep}
 use Rattle.um_io.specs.declared.lines.Next.{Next}
-use Rattle.um_io.specs.declared.lines.Next.TheVariants as next
-use Rattle.um_lines.specs.declared.fault.LineFault.{LineFault}
-use Rattle.um_lines.specs.declared.fault.LineFault.TheVariants.{Long}
-use Rattle.um_lines.specs.Refusals.{refused_text}
-use Rattle.um_driver.specs.Divided.{Begins}
-use Rattle.um_driver.specs.Rules.{Rules, IsGood, IsBad, Runs, Answers}
-use Rattle.um_driver.specs.Outputs.{IsJudged, IsRefused}
-use Rattle.um_driver.specs.Table.{Reads, AreFirst, AreAnswered, IsNear}
-use Rattle.um_driver.specs.Course.{EndsAt, Holds, IsAt}
+use Rattle.um_driver.specs.Rules.{Rules}
+use Rattle.um_driver.specs.Table.{Reads, IsWhole, IsNear}
+use Rattle.um_driver.specs.Course.{EndsAt, IsAt, IsUnderway}
 use Rattle.um_driver.proofs.KnownOctets.{Consumes-append}
-use Rattle.um_driver.proofs.LineLists.{text-cons}
-use Rattle.um_driver.proofs.RunLemmas.{Runs-at}
+use Rattle.um_driver.proofs.RunLemmas.{Runs-length}
 
 -- what a source that lost q has left, or nothing where it does not tell
 pub record Rest (left left' : Option (List ℕ)) (q : List ℕ) : Type 0 where
@@ -48,87 +39,55 @@ Consumes-at mid left' came came' e h = let P : List ℕ → Type 0 = λ c. Consu
 -- a line came after good lines, whose answers are written or gathered
 pub record HasLine {State : Type 0} (r : Rules State) (a : State) (Stands : State → Type 0) (reading' : Reading)
     (left left' taken taken' : Option (List ℕ)) (gathered line : List ℕ) : Type 0 where
-  pub q : List ℕ
-  pub y : List ℕ
-  pub lines : List (List ℕ)
-  pub answers : List ℕ
-  pub state : State
-  pub read : Consumes left left' q
-  pub written : Appends taken taken' y
+  pub at : IsAt r a Stands left left' taken taken' gathered
   pub valid : IsReading reading'
-  pub plain : All IsLine lines
-  pub runs : Runs r a lines answers state
-  pub output : answers ≡ y ++ gathered
-  pub stands : Stands state
-  pub number : reading'.number ≡ length lines + 1
+  pub number : reading'.number ≡ length at.lines + 1
   pub goes_on : reading'.over ≡ false
   pub at_end : reading'.ended ≡ true → EndsAt left left'
-  pub within : length (text_of lines) ≤ 67108864
-  pub bound : length q ≤ 67108864 + 4097
+  pub within : length (text_of at.lines) ≤ input_limit
   pub line_plain : IsLine line
-  pub short : length line ≤ 4096
-  pub near : IsNear r a q y
+  pub short : length line ≤ line_limit
   pub there :
-      ((q ≡ text_of lines ++ (line ++ 10 ∷ (reading'.held ++ reading'.past))) × (reading'.answered ≡ length (text_of lines ++ line) + 1))
-      ⊎ ((q ≡ text_of lines ++ line) × (0 < length line) × (reading'.held ++ reading'.past ≡ []) × (reading'.ended ≡ true) × (reading'.answered ≡ length q))
+      ((at.q ≡ text_of at.lines ++ (line ++ 10 ∷ (reading'.held ++ reading'.past))) × (reading'.answered ≡ length (text_of at.lines ++ line) + 1))
+      ⊎ ((at.q ≡ text_of at.lines ++ line) × (0 < length line) × (reading'.held ++ reading'.past ≡ []) × (reading'.ended ≡ true) × (reading'.answered ≡ length at.q))
 
 -- no line came after good lines, whose answers are written or gathered
 pub record HasNone {State : Type 0} (r : Rules State) (a : State) (Stands : State → Type 0) (reading' : Reading)
     (left left' taken taken' : Option (List ℕ)) (gathered : List ℕ) : Type 0 where
-  pub q : List ℕ
-  pub y : List ℕ
-  pub lines : List (List ℕ)
-  pub answers : List ℕ
-  pub state : State
-  pub read : Consumes left left' q
-  pub written : Appends taken taken' y
-  pub plain : All IsLine lines
-  pub runs : Runs r a lines answers state
-  pub output : answers ≡ y ++ gathered
-  pub stands : Stands state
-  pub number : reading'.number ≡ length lines
-  pub within : length (text_of lines) ≤ 67108864
-  pub bound : length q ≤ 67108864 + 4097
-  pub near : IsNear r a q y
+  pub at : IsAt r a Stands left left' taken taken' gathered
+  pub number : reading'.number ≡ length at.lines
+  pub within : length (text_of at.lines) ≤ input_limit
   pub held_plain : IsLine reading'.held
-  pub whole : q ≡ text_of lines ++ (reading'.held ++ reading'.past)
-  pub answered : reading'.answered ≡ length (text_of lines)
+  pub whole : at.q ≡ text_of at.lines ++ (reading'.held ++ reading'.past)
+  pub answered : reading'.answered ≡ length (text_of at.lines)
 
 -- the input ended after good lines, whose answers are written or gathered
 pub record HasEnd {State : Type 0} (r : Rules State) (a : State) (Stands : State → Type 0) (reading' : Reading)
     (left left' taken taken' : Option (List ℕ)) (gathered : List ℕ) : Type 0 where
-  pub q : List ℕ
-  pub y : List ℕ
+  pub at : IsAt r a Stands left left' taken taken' gathered
   pub rest : List ℕ
-  pub lines : List (List ℕ)
-  pub answers : List ℕ
-  pub state : State
-  pub reads : Reads left left' q rest
-  pub none_left : rest ≡ []
-  pub written : Appends taken taken' y
-  pub runs : Runs r a lines answers state
-  pub output : answers ≡ y ++ gathered
-  pub stands : Stands state
-  pub number : reading'.number ≡ length lines
-  pub divided : IsDivided q lines
-  pub limit : length q ≤ 67108864
-  pub near : IsNear r a q y
+  pub reads : Reads left left' at.q rest
+  pub whole : IsWhole at.q rest at.lines
+  pub number : reading'.number ≡ length at.lines
 
 nil_behind : (u v : List ℕ) → u ++ v ≡ [] → (u ≡ []) × (v ≡ [])
 nil_behind [] v e = (refl, e)
 nil_behind (o ∷ u) v e = cc e
 
 module _ {State : Type 0} (r : Rules State) (a : State) (Stands : State → Type 0) (reading reading' : Reading)
-    (left mid left' taken taken' : Option (List ℕ)) (gathered : List ℕ) (at : IsAt r a Stands reading left mid taken taken' gathered)
-    (near_before : IsNear r a at.q at.y) (ready : IsReady reading ⊎ (gathered ≡ [])) (answer : Next) (came : List ℕ) (step : IsStep reading reading' mid left' answer came) (valid : IsReading reading') where
+    (left mid left' taken taken' : Option (List ℕ)) (gathered : List ℕ) (u : IsUnderway r a Stands reading left mid taken taken' gathered)
+    (ready : IsReady reading ⊎ (gathered ≡ [])) (answer : Next) (came : List ℕ) (step : IsStep reading reading' mid left' answer came) (valid : IsReading reading') where
   abbrev pub all : List ℕ
   all = reading.held ++ reading.past ++ came
+
+  abbrev at : IsAt r a Stands left mid taken taken' gathered
+  at = u.at
 
   -- the source is at its end where the reader says so
   ends_at : reading'.ended ≡ true → EndsAt left left'
   ends_at e = elim (cases_Bool reading.ended) [
     | inl before ↦ EndsAt-still left mid left' at.q at.read
-        (Consumes-at mid left' came [] (step.still before).0 step.bytes) (at.at_end before)
+        (Consumes-at mid left' came [] (step.still before).0 step.bytes) (u.at_end before)
     | inr open_ ↦ EndsAt-now left left' (step.ended e open_)
   ]
 
@@ -138,7 +97,7 @@ module _ {State : Type 0} (r : Rules State) (a : State) (Stands : State → Type
   -- where something is held or was not at its end, all that was read is whole lines and what is held
   whole : (reading.held ++ reading.past ≡ [] → reading.ended ≡ true → ⊥) →
       (at.q ++ came ≡ text_of at.lines ++ (reading.held ++ reading.past ++ came)) × (reading.answered ≡ length (text_of at.lines))
-  whole open_ = elim at.holds [
+  whole open_ = elim u.holds [
     | inl (q_is, answered) ↦ (ap (λ q. q ++ came) q_is ∙ append_assoc (text_of at.lines) (reading.held ++ reading.past) came, answered)
     | inr (cut, none, ended, _) ↦ absurd (open_ none ended)
   ]
@@ -149,39 +108,55 @@ module _ {State : Type 0} (r : Rules State) (a : State) (Stands : State → Type
       let no_came = (step.still ended).0 in
       omega (arith, some, ap length none, ap length no_came, length-append (reading.held ++ reading.past) came)
 
-  -- where nothing is gathered, what is written are the answers
-  runs_written : gathered ≡ [] → Runs r a at.lines at.y at.state
-  runs_written none = Runs-at r a at.state at.state at.lines at.answers at.y (at.output ∙ ap (λ g. at.y ++ g) none ∙ append-nil at.y) refl at.runs
-
   -- where an answer was ready nothing came
   no_came : IsReady reading → came ≡ []
-  no_came (inl over) = let open_ = at.goes_on in absurd (cc (over, open_))
+  no_came (inl over) = let open_ = u.goes_on in absurd (cc (over, open_))
   no_came (inr answer_) = elim step.needed [ inl needs ↦ absurd (answer_ needs) | inr none ↦ none ]
 
-  near_at : came ≡ [] → IsNear r a (at.q ++ came) at.y
+  near_at : came ≡ [] → IsNear (at.q ++ came) at.y at.lines at.answers
   near_at none =
-      let P : List ℕ → Type 0 = λ q. IsNear r a q at.y in
-      subst P (sym (ap (λ c. at.q ++ c) none ∙ append-nil at.q)) near_before
+      let P : List ℕ → Type 0 = λ q. IsNear q at.y at.lines at.answers in
+      subst P (sym (ap (λ c. at.q ++ c) none ∙ append-nil at.q)) at.near
 
-  near : at.q ++ came ≡ text_of at.lines ++ (reading.held ++ reading.past ++ came) → IsNear r a (at.q ++ came) at.y
+  near : at.q ++ came ≡ text_of at.lines ++ (reading.held ++ reading.past ++ came) → IsNear (at.q ++ came) at.y at.lines at.answers
   near q_is = elim ready [
     | inl answer_ ↦ near_at (no_came answer_)
     | inr none ↦ record {
-      lines = at.lines;
+      before = at.lines;
+      after = [];
+      written = at.answers;
+      others = [];
       rest = reading.held ++ reading.past ++ came;
-      answers = at.y;
-      more = [];
-      state = at.state;
+      lines_are = sym (append-nil at.lines);
+      answers_are = sym (append-nil at.answers);
+      count = Runs-length r a at.state at.lines at.answers at.runs;
       begins = record { plain = at.plain; whole = q_is };
-      runs = runs_written none;
-      taken = sym (append-nil at.y);
+      front = ([], sym (ap (λ w. w ++ []) at.output ∙ append-nil (at.y ++ gathered) ∙ ap (λ g. at.y ++ g) none ∙ append-nil at.y));
       near = step.room;
     }
   ]
 
   bound : at.q ++ came ≡ text_of at.lines ++ (reading.held ++ reading.past ++ came) → reading.answered ≡ length (text_of at.lines) →
-      length (at.q ++ came) ≤ 67108864 + 4097
-  bound q_is answered = omega (arith, ap length q_is, answered, step.room, at.valid.limit, length-append (text_of at.lines) (reading.held ++ reading.past ++ came))
+      length (at.q ++ came) ≤ input_limit + held_limit
+  bound q_is answered = omega (arith, ap length q_is, answered, step.room, u.valid.limit, length-append (text_of at.lines) (reading.held ++ reading.past ++ came))
+
+  -- the same lines, once these octets came
+  abbrev now : length (at.q ++ came) ≤ input_limit + held_limit → IsNear (at.q ++ came) at.y at.lines at.answers → IsAt r a Stands left left' taken taken' gathered
+  now within close = record {
+    q = at.q ++ came;
+    y = at.y;
+    lines = at.lines;
+    answers = at.answers;
+    state = at.state;
+    read = read;
+    written = at.written;
+    bound = within;
+    plain = at.plain;
+    runs = at.runs;
+    stands = at.stands;
+    output = at.output;
+    near = close;
+  }
 
   -- a line came
   pub has_line : (line : List ℕ) →
@@ -190,26 +165,14 @@ module _ {State : Type 0} (r : Rules State) (a : State) (Stands : State → Type
   has_line line (inl l) =
       let w = whole (not_cut (omega (arith, ap length l.octets, l.some, length-append (line ++ 10 ∷ []) (reading'.held ++ reading'.past)))) in
       record {
-        q = at.q ++ came;
-        y = at.y;
-        lines = at.lines;
-        answers = at.answers;
-        state = at.state;
-        read = read;
-        written = at.written;
+        at = now (bound w.0 w.1) (near w.0);
         valid = valid;
-        plain = at.plain;
-        runs = at.runs;
-        output = at.output;
-        stands = at.stands;
-        number = omega (arith, l.number, at.number);
+        number = omega (arith, l.number, u.number);
         goes_on = l.over;
         at_end = ends_at;
-        within = omega (arith, w.1, at.valid.limit);
-        bound = bound w.0 w.1;
+        within = omega (arith, w.1, u.valid.limit);
         line_plain = l.plain;
         short = l.short;
-        near = near w.0;
         there = inl (
           w.0 ∙ ap (λ o. text_of at.lines ++ o) (l.octets ∙ append_assoc line (10 ∷ []) (reading'.held ++ reading'.past)),
           omega (arith, l.answered, w.1, length-append line (10 ∷ []), length-append (text_of at.lines) line),
@@ -220,26 +183,14 @@ module _ {State : Type 0} (r : Rules State) (a : State) (Stands : State → Type
       let q_is : at.q ++ came ≡ text_of at.lines ++ line =
       w.0 ∙ ap (λ o. text_of at.lines ++ o) (l.octets ∙ ap (λ o. line ++ [] ++ o) none ∙ append-nil (line ++ []) ∙ append-nil line) in
       record {
-        q = at.q ++ came;
-        y = at.y;
-        lines = at.lines;
-        answers = at.answers;
-        state = at.state;
-        read = read;
-        written = at.written;
+        at = now (bound w.0 w.1) (near w.0);
         valid = valid;
-        plain = at.plain;
-        runs = at.runs;
-        output = at.output;
-        stands = at.stands;
-        number = omega (arith, l.number, at.number);
+        number = omega (arith, l.number, u.number);
         goes_on = l.over;
         at_end = ends_at;
-        within = omega (arith, w.1, at.valid.limit);
-        bound = bound w.0 w.1;
+        within = omega (arith, w.1, u.valid.limit);
         line_plain = l.plain;
         short = l.short;
-        near = near w.0;
         there = inr (
           q_is,
           omega (arith, l.some, length-append line []),
@@ -255,21 +206,9 @@ module _ {State : Type 0} (r : Rules State) (a : State) (Stands : State → Type
   has_none stops h open_ =
       let w = whole open_ in
       record {
-        q = at.q ++ came;
-        y = at.y;
-        lines = at.lines;
-        answers = at.answers;
-        state = at.state;
-        read = read;
-        written = at.written;
-        plain = at.plain;
-        runs = at.runs;
-        output = at.output;
-        stands = at.stands;
-        number = h.number ∙ at.number;
-        within = omega (arith, w.1, at.valid.limit);
-        bound = bound w.0 w.1;
-        near = near w.0;
+        at = now (bound w.0 w.1) (near w.0);
+        number = h.number ∙ u.number;
+        within = omega (arith, w.1, u.valid.limit);
         held_plain = h.plain;
         whole = w.0 ∙ ap (λ o. text_of at.lines ++ o) h.octets;
         answered = h.answered ∙ w.1;
@@ -280,18 +219,18 @@ module _ {State : Type 0} (r : Rules State) (a : State) (Stands : State → Type
       let P : List ℕ → Type 0 = λ q. IsDivided q at.lines in
       subst P same (record {
         plain = at.plain;
-        whole = elim at.holds [
+        whole = elim u.holds [
           | inl (q_is, _) ↦ inl (q_is ∙ ap (λ o. text_of at.lines ++ o) none ∙ append-nil (text_of at.lines))
           | inr (cut, _, _, _) ↦ inr cut
         ];
       })
 
-  limit : at.q ≡ at.q ++ came → reading.held ++ reading.past ≡ [] → length (at.q ++ came) ≤ 67108864
+  limit : at.q ≡ at.q ++ came → reading.held ++ reading.past ≡ [] → length (at.q ++ came) ≤ input_limit
   limit same none =
-      let P : List ℕ → Type 0 = λ q. length q ≤ 67108864 in
-      subst P same (elim at.holds [
-        | inl (q_is, answered) ↦ omega (arith, ap length q_is, answered, at.valid.limit, ap length none, length-append (text_of at.lines) (reading.held ++ reading.past))
-        | inr (_, _, _, answered) ↦ omega (arith, answered, at.valid.limit)
+      let P : List ℕ → Type 0 = λ q. length q ≤ input_limit in
+      subst P same (elim u.holds [
+        | inl (q_is, answered) ↦ omega (arith, ap length q_is, answered, u.valid.limit, ap length none, length-append (text_of at.lines) (reading.held ++ reading.past))
+        | inr (_, _, _, answered) ↦ omega (arith, answered, u.valid.limit)
       ])
 
   -- the input ended
@@ -300,21 +239,45 @@ module _ {State : Type 0} (r : Rules State) (a : State) (Stands : State → Type
       let parts = nil_behind (reading.held ++ reading.past) came none in
       let same : at.q ≡ at.q ++ came = sym (ap (λ c. at.q ++ c) parts.1 ∙ append-nil at.q) in
       let rest = rest_of left left' (at.q ++ came) read in
+      let within = limit same parts.0 in
       record {
-        q = at.q ++ came;
-        y = at.y;
+        at = now (omega (arith, within)) (near_at parts.1);
         rest = rest.rest;
-        lines = at.lines;
-        answers = at.answers;
-        state = at.state;
         reads = rest.reads;
-        none_left = rest.at_end (ends_at ended);
-        written = at.written;
-        runs = at.runs;
-        output = at.output;
-        stands = at.stands;
-        number = h.number ∙ at.number;
-        divided = divided same parts.0;
-        limit = limit same parts.0;
-        near = near_at parts.1;
+        whole = record { none_left = rest.at_end (ends_at ended); all = divided same parts.0; limit = within };
+        number = h.number ∙ u.number;
       }
+
+  some_or_none : (xs : List ℕ) → (xs ≡ []) ⊎ (0 < length xs)
+  some_or_none [] = inl refl
+  some_or_none (x ∷ xs) = inr (omega arith)
+
+  -- where nothing came, and no octet is past the limit now, none was before
+  none_past : (stops : Bool) → IsHeld reading reading' all stops → reading.held ++ reading.past ≡ reading'.held → reading.past ≡ []
+  none_past stops h same = elim (some_or_none reading.past) [
+    | inl none ↦ none
+    | inr some ↦ absurd (omega (arith, some, u.valid.past some, valid.limit, h.answered, ap length same, length-append reading.held reading.past))
+  ]
+
+  still_open : reading'.ended ≡ false → reading.ended ≡ false
+  still_open open_ = elim (cases_Bool reading.ended) [
+    | inl before ↦ let still = (step.still before).1 in absurd (cc (still, open_))
+    | inr before ↦ before
+  ]
+
+  -- a reader that needs more now, and to which nothing came, needed more before
+  needed_more : (stops : Bool) → IsHeld reading reading' all stops → NeedsMore reading' → came ≡ [] → NeedsMore reading
+  needed_more stops h needs none =
+      let same : reading.held ++ reading.past ≡ reading'.held =
+      sym (append-nil (reading.held ++ reading.past)) ∙ ap (λ c. reading.held ++ reading.past ++ c) (sym none) ∙ h.octets ∙ ap (λ p. reading'.held ++ p) needs.past ∙ append-nil reading'.held in
+      let past = none_past stops h same in
+      let held : reading.held ≡ reading'.held = sym (append-nil reading.held) ∙ ap (λ p. reading.held ++ p) (sym past) ∙ same in
+      record { plain = subst IsLine (sym held) needs.plain; short = omega (arith, needs.short, ap length held); past = past; ended = still_open needs.ended }
+
+  not_ready : (stops : Bool) → IsHeld reading reading' all stops → NeedsMore reading' → IsReady reading → ⊥
+  not_ready stops h needs (inl over) = let open_ = u.goes_on in cc (over, open_)
+  not_ready stops h needs (inr none) = none (needed_more stops h needs (no_came (inr none)))
+
+  -- where a reading failed nothing is gathered
+  pub none_gathered : (stops : Bool) → IsHeld reading reading' all stops → NeedsMore reading' → gathered ≡ []
+  none_gathered stops h needs = elim ready [ inl answer_ ↦ absurd (not_ready stops h needs answer_) | inr none ↦ none ]

@@ -13,3 +13,9 @@ OutputIsUnique {State} r = IsDetermined r →
 -- where good lines always have an answer, every input has an output
 abbrev pub OutputExists : {State : Type 0} → Rules State → Type 0
 OutputExists {State} r = (a : State) (x : List ℕ) → IsTotal r a → (status : Status) × (z : List ℕ) × IsOutput r a x status z
+
+-- every input has one output and one way to end
+pub record HasOneOutput {State : Type 0} (r : Rules State) (start : State) : Type 0 where
+  pub some : (x : List ℕ) → (status : Status) × (z : List ℕ) × IsOutput r start x status z
+  pub one : (x : List ℕ) (status status' : Status) (z z' : List ℕ) → IsOutput r start x status z →
+      IsOutput r start x status' z' → (status ≡ status') × (z ≡ z')

@@ -1,6 +1,7 @@
 -- What a command says of the lines of its input: a machine over lines.
 use Rattle.std.specs.Prelude.{ℕ, ◌≡◌, ◌≤◌, ◌<◌, List, [], ◌∷◌, ◌++◌, length, Option, Some, None, Result, MatchResult, ◌⊎◌}
 use Rattle.um_io.specs.Lines.{IsLine}
+use Rattle.um_io.specs.Reading.{line_limit}
 use Rattle.um_lines.specs.declared.fault.LineFault.{LineFault}
 use Rattle.um_lines.specs.declared.fault.LineFault.TheVariants.{Long}
 
@@ -11,22 +12,34 @@ pub record Rules (State : Type 0) : Type 1 where
   pub end_fault : State → Option LineFault
   pub Step : State → List ℕ → List ℕ → State → Type 0
 
+-- a command's rules, and the state in which a run of it begins
+pub record Machine : Type 1 where
+  pub State : Type 0
+  pub rules : Rules State
+  pub start : State
+
 -- a line without a reason in this state
 pub record IsGood {State : Type 0} (r : Rules State) (a : State) (line : List ℕ) : Type 0 where
-  pub short : length line ≤ 4096
+  pub short : length line ≤ line_limit
   pub no_fault : r.fault a line ≡ None
 
--- the first reason of a line in this state: above 4,096 octets it is `long`
+-- the first reason of a line in this state: above the limit of a line it is `long`
 abbrev pub IsBad : {State : Type 0} → Rules State → State → List ℕ → LineFault → Type 0
 IsBad r a line fault =
-    ((4096 < length line) × (fault ≡ Long)) ⊎ ((length line ≤ 4096) × (r.fault a line ≡ Some fault))
+    ((line_limit < length line) × (fault ≡ Long)) ⊎ ((length line ≤ line_limit) × (r.fault a line ≡ Some fault))
 
--- these lines are good one after another, and answered so, from one state to another
-abbrev pub Runs : {State : Type 0} → Rules State → State → List (List ℕ) → List ℕ → State → Type 0
-Runs r a [] y b = (y ≡ []) × (b ≡ a)
-Runs {State} r a (line ∷ lines) y b =
-    (answer : List ℕ) × (rest : List ℕ) × (mid : State) ×
-    IsGood r a line × r.Step a line answer mid × Runs r mid lines rest b × (y ≡ answer ++ rest)
+-- these lines are good one after another, and each is answered so, from one state to another
+abbrev pub Runs : {State : Type 0} → Rules State → State → (lines answers : List (List ℕ)) → State → Type 0
+Runs r a [] [] b = b ≡ a
+Runs {State} r a (line ∷ lines) (answer ∷ answers) b =
+    (mid : State) × IsGood r a line × r.Step a line answer mid × Runs r mid lines answers b
+Runs r a [] (answer ∷ answers) b = ⊥
+Runs r a (line ∷ lines) [] b = ⊥
+
+-- texts one after another
+abbrev pub joined : List (List ℕ) → List ℕ
+joined [] = []
+joined (text ∷ texts) = text ++ joined texts
 
 -- what a command answers to a line in a state: an answer, and it stands for the state after it; or the reason of
 -- the line, with no answer, and it stands for the same state
@@ -43,5 +56,5 @@ IsDetermined {State} r =
 -- whatever good lines came first, a good line has an answer
 abbrev pub IsTotal : {State : Type 0} → Rules State → State → Type 0
 IsTotal {State} r a =
-    (lines : List (List ℕ)) (y : List ℕ) (b : State) → Runs r a lines y b →
+    (lines answers : List (List ℕ)) (b : State) → Runs r a lines answers b →
     (line : List ℕ) → IsLine line → IsGood r b line → (answer : List ℕ) × (c : State) × r.Step b line answer c

@@ -1,6 +1,7 @@
 -- What is written of a text, and what of it is gathered: only the bodies of this crate need this.
-use Rattle.std.specs.Prelude.{ℕ, ◌≡◌, List, ◌++◌, Option, Result, MatchResult}
+use Rattle.std.specs.Prelude.{ℕ, ◌≡◌, ◌≤◌, List, ◌++◌, Option, Result, MatchResult}
 use Rattle.std.specs.Io.KnownBytes.{Appends}
+use Rattle.um_io.specs.Outside.{Rose}
 use Rattle.um_driver.specs.Table.{TakesFront}
 
 -- a piece was taken whole, or a front of it
@@ -14,3 +15,7 @@ Gathers text gathered' taken taken' = (w : List ℕ) × (text ≡ w ++ gathered'
 -- so it is on Ok; on Err a front of the text was taken
 abbrev pub GathersAll : {T E : Type 0} → Result T E → List ℕ → List ℕ → Option (List ℕ) → Option (List ℕ) → Type 0
 GathersAll result text gathered' taken taken' = MatchResult result (λ _. Gathers text gathered' taken taken') (λ _. TakesFront taken taken' text)
+
+-- on Ok the count stays, and on Err it rose
+abbrev pub Counted : {T E : Type 0} → Result T E → ℕ → ℕ → Type 0
+Counted result before now = MatchResult result (λ _. now ≡ before) (λ _. Rose before now × (before ≤ now))

@@ -1,6 +1,7 @@
 //! What a command that reads lines promises.
 ghost use Rattle.std.specs.Prelude.{◌≡◌, ◌≤◌, [], length};
 ghost use Rattle.um_io.specs.Lines.{IsLine};
+ghost use Rattle.um_io.specs.Reading.{line_limit};
 ghost use Rattle.um_driver.specs.Rules.{Rules, Answers};
 
 use um_lines::{LineFault, Text};
@@ -26,7 +27,7 @@ pub trait Command {
 
     /// Answers a line.
     fn answer(&mut self, line: &[u8], out: &mut Text) -> Result<(), LineFault>
-        requires short { length line.now ≤ 4096 }
+        requires short { length line.now ≤ line_limit }
         requires plain { IsLine line.now }
         requires empty { out.old ≡ [] }
         ensures answered { (a : State) → stands self.old a → Answers rules a line.now result out.new (stands self.new) }

@@ -1,11 +1,11 @@
 //! The one driver.
-ghost use Rattle.std.specs.Prelude.{◌≡◌, ◌≢◌, ℕ, ◌≤◌, ◌<◌, List, Option, Some, None, [], ◌++◌, ◌⊎◌, OnOk, OnErr};
-ghost use Rattle.um_io.specs.Outside.{Rose};
+ghost use Rattle.std.specs.Prelude.{◌≡◌, ◌≢◌, ℕ, ◌<◌, List, Option, Some, None, [], ◌++◌, ◌⊎◌, OnOk};
 ghost use Rattle.um_io.specs.Reading.{at_start, IsReady};
 ghost use Rattle.um_lines.specs.Refusals.{refused_text};
-ghost use Rattle.um_driver.specs.Table.{IsRun, HasCause, Completes};
-ghost use Rattle.um_driver.specs.Taking.{GathersAll};
-ghost use Rattle.um_driver.specs.Course.{IsUnderway, Comes, Concludes, Settles, WriteCause};
+ghost use Rattle.um_driver.specs.Rules.{IsDetermined};
+ghost use Rattle.um_driver.specs.Table.{IsRun, HasCause, EndsAsDue};
+ghost use Rattle.um_driver.specs.Taking.{GathersAll, Counted};
+ghost use Rattle.um_driver.specs.Course.{IsUnderway, Comes, Concludes, Settles, WriteCause, ReadCause};
 
 use crate::command::Command;
 use crate::gathered::Gathered;
@@ -24,7 +24,7 @@ enum Turn {
     Done,
     /// It does not end within the octets that count.
     TooLong,
-    /// The source failed.
+    /// The source failed. Nothing is gathered, since all is written before a reading.
     ReadFault,
 }
 
@@ -41,8 +41,7 @@ fn ask<C: Command, S: Source>(
         IsReady lines.old ⊎ (gathered ≡ []) →
         Comes C.rules a (C.stands command.new) lines.new left (S.left input.new) taken taken' gathered out.new result }
     ensures goes_on { result ≡ Turn.Answered → lines.old.answered < lines.new.answered }
-    ensures later { S.faults input.old ≤ S.faults input.new }
-    ensures cause { result ≡ Turn.ReadFault → Rose (S.faults input.old) (S.faults input.new) }
+    ensures cause { ReadCause result (S.faults input.old) (S.faults input.new) }
     ensures keeps { C.kept command.new ≡ C.kept command.old }
 {
     match lines.next(input) {
@@ -64,7 +63,6 @@ fn ask<C: Command, S: Source>(
 fn conclude<K: Sink>(status: Status, gathered: &mut Gathered, output: &mut K) -> Status
     requires { status ≢ Status.WriteFault }
     ensures concludes { Concludes status gathered.old (K.taken output.old) (K.taken output.new) result }
-    ensures later { K.faults output.old ≤ K.faults output.new }
     ensures cause { WriteCause (Some result) (K.faults output.old) (K.faults output.new) }
 {
     match gathered.flush(output) {
@@ -82,7 +80,6 @@ fn refuse<K: Sink>(
     output: &mut K,
 ) -> Status
     ensures concludes { Concludes Status.BadInput (gathered.old ++ refused_text number fault) (K.taken output.old) (K.taken output.new) result }
-    ensures later { K.faults output.old ≤ K.faults output.new }
     ensures cause { WriteCause (Some result) (K.faults output.old) (K.faults output.new) }
 {
     out.clear();
@@ -97,7 +94,6 @@ fn refuse<K: Sink>(
 fn tell<K: Sink>(out: &mut Text, gathered: &mut Gathered, output: &mut K) -> Option<Status>
     ensures settles { Settles Turn.Answered gathered.old out.old gathered.new (K.taken output.old) (K.taken output.new) result }
     ensures empty { result ≡ None → out.new ≡ [] }
-    ensures later { K.faults output.old ≤ K.faults output.new }
     ensures cause { WriteCause result (K.faults output.old) (K.faults output.new) }
 {
     match gathered.add(out.octets(), output) {
@@ -118,7 +114,6 @@ fn settle<K: Sink>(
 ) -> Option<Status>
     ensures settles { Settles turn gathered.old out.old gathered.new (K.taken output.old) (K.taken output.new) result }
     ensures empty { result ≡ None → out.new ≡ [] }
-    ensures later { K.faults output.old ≤ K.faults output.new }
     ensures cause { WriteCause result (K.faults output.old) (K.faults output.new) }
 {
     match turn {
@@ -126,7 +121,7 @@ fn settle<K: Sink>(
         Turn::Refused(number, fault) => Some(refuse(number, fault, out, gathered, output)),
         Turn::Done => Some(conclude(Status::Done, gathered, output)),
         Turn::TooLong => Some(conclude(Status::TooLong, gathered, output)),
-        Turn::ReadFault => Some(conclude(Status::ReadFault, gathered, output)),
+        Turn::ReadFault => Some(Status::ReadFault),
     }
 }
 
@@ -139,8 +134,7 @@ fn make_way<K: Sink>(
     ensures kept { lines.new ≡ lines.old }
     ensures gathers { GathersAll result gathered.old gathered.new (K.taken output.old) (K.taken output.new) }
     ensures ready { OnOk result (IsReady lines.new ⊎ (gathered.new ≡ [])) }
-    ensures later { K.faults output.old ≤ K.faults output.new }
-    ensures cause { OnErr result (Rose (K.faults output.old) (K.faults output.new)) }
+    ensures counted { Counted result (K.faults output.old) (K.faults output.new) }
 {
     if lines.is_ready() {
         Ok(())
@@ -166,8 +160,6 @@ fn serve<C: Command, S: Source, K: Sink>(
         (K.faults output.old) (K.faults output.new) }
 
     ensures opened { result ≢ Status.NoMemory }
-    ensures later_source { S.faults input.old ≤ S.faults input.new }
-    ensures later_sink { K.faults output.old ≤ K.faults output.new }
     ensures keeps { C.kept command.new ≡ C.kept command.old }
 {
     let mut out = Text::new();
@@ -199,7 +191,8 @@ pub fn drive<C: Command, S: Source, K: Sink>(
     ensures table { IsRun C.rules (C.start command.old) (C.stands command.new) result
         (S.left input.old) (S.left input.new) (K.taken output.old) (K.taken output.new) }
 
-    ensures complete { Completes C.rules (C.start command.old) result
+    // Where no line has two answers, it ends and writes as the rules have it for the whole input.
+    ensures due { IsDetermined C.rules → EndsAsDue C.rules (C.start command.old) result
         (S.left input.old) (K.taken output.old) (K.taken output.new) }
 
     ensures cause { HasCause result (S.faults input.old) (S.faults input.new)
@@ -210,8 +203,6 @@ pub fn drive<C: Command, S: Source, K: Sink>(
     // Want of memory comes before anything is read or written.
     ensures opening { result ≡ Status.NoMemory → (input.new ≡ input.old) × (output.new ≡ output.old) }
 
-    ensures later_source { S.faults input.old ≤ S.faults input.new }
-    ensures later_sink { K.faults output.old ≤ K.faults output.new }
     ensures keeps { C.kept command.new ≡ C.kept command.old }
 {
     match Lines::new(alloc) {

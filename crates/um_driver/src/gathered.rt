@@ -1,7 +1,6 @@
 //! Answers that wait to be written.
-ghost use Rattle.std.specs.Prelude.{◌≡◌, ◌≤◌, ◌+◌, [], ◌++◌, length, OnOk, OnErr, false, IsTrue};
-ghost use Rattle.um_io.specs.Outside.{Rose};
-ghost use Rattle.um_driver.specs.Taking.{TakesAll, Gathers, GathersAll};
+ghost use Rattle.std.specs.Prelude.{◌≡◌, ◌≤◌, ◌+◌, [], ◌++◌, length, OnOk, false, IsTrue};
+ghost use Rattle.um_driver.specs.Taking.{TakesAll, Gathers, GathersAll, Counted};
 
 use crate::writing::put_all;
 use std::marker::Model;
@@ -64,8 +63,7 @@ impl Gathered {
     pub(crate) fn flush<K: Sink>(&mut self, output: &mut K) -> Result<(), Failed>
         ensures taken { TakesAll (K.taken output.old) (K.taken output.new) result self.old }
         ensures empty { OnOk result (self.new ≡ []) }
-        ensures later { K.faults output.old ≤ K.faults output.new }
-        ensures cause { OnErr result (Rose (K.faults output.old) (K.faults output.new)) }
+        ensures counted { Counted result (K.faults output.old) (K.faults output.new) }
     {
         put_all(output, self.octets())?;
         self.length = 0;
@@ -77,8 +75,7 @@ impl Gathered {
         ensures gathers { GathersAll result self.old self.new (K.taken output.old) (K.taken output.new) }
         ensures empty { IsTrue due → OnOk result (self.new ≡ []) }
         ensures stays { due ≡ false → self.new ≡ self.old }
-        ensures later { K.faults output.old ≤ K.faults output.new }
-        ensures cause { OnErr result (Rose (K.faults output.old) (K.faults output.new)) }
+        ensures counted { Counted result (K.faults output.old) (K.faults output.new) }
     {
         if due { self.flush(output) } else { Ok(()) }
     }
@@ -87,8 +84,7 @@ impl Gathered {
     pub(crate) fn add<K: Sink>(&mut self, octets: &[u8], output: &mut K) -> Result<(), Failed>
         requires { length octets.now ≤ 4096 }
         ensures gathers { GathersAll result (self.old ++ octets.now) self.new (K.taken output.old) (K.taken output.new) }
-        ensures later { K.faults output.old ≤ K.faults output.new }
-        ensures cause { OnErr result (Rose (K.faults output.old) (K.faults output.new)) }
+        ensures counted { Counted result (K.faults output.old) (K.faults output.new) }
     {
         let full = !self.has_room(octets.len());
         self.flush_if(full, output)?;

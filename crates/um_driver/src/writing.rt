@@ -1,15 +1,12 @@
 //! Writing to the sink.
-ghost use Rattle.std.specs.Prelude.{◌≤◌, OnErr};
-ghost use Rattle.um_io.specs.Outside.{Rose};
-ghost use Rattle.um_driver.specs.Taking.{TakesAll};
+ghost use Rattle.um_driver.specs.Taking.{TakesAll, Counted};
 
 use um_io::{Failed, Sink};
 
 /// Writes the whole piece, in as many calls of the sink as it takes.
 pub(crate) fn put_all<K: Sink>(output: &mut K, piece: &[u8]) -> Result<(), Failed>
     ensures taken { TakesAll (K.taken output.old) (K.taken output.new) result piece.now }
-    ensures later { K.faults output.old ≤ K.faults output.new }
-    ensures cause { OnErr result (Rose (K.faults output.old) (K.faults output.new)) }
+    ensures counted { Counted result (K.faults output.old) (K.faults output.new) }
 {
     let mut written = 0;
     while written < piece.len() {

@@ -1,4 +1,3 @@
-use Rattle.std.proofs.Common.{◌≡◌, List, ℕ, ◌++◌}
 use Rattle.um_driver.proofs.Settling.{gathers_first}
 use Rattle.um_driver.proofs.driver.refuse.Goals as goal
 

@@ -1,13 +1,13 @@
 use Rattle.std.proofs.Common.{arith, refl, ◌<◌, ◌∙◌}
-use Rattle.um_driver.proofs.Settling.{underway_cut, way_made, run_ends, run_goes_on, is_answered, at_first}
+use Rattle.um_driver.proofs.Settling.{underway_cut, way_made, run_ends, run_goes_on, is_answered, kept_by, at_first}
 use Rattle.um_driver.proofs.driver.serve.Goals as goal
 
 pub loop-command-init : goal.loop-command-init
 loop-command-init g c = record {
   underway = rw c.new-gathered.ensures (at_first _ _ _ _ _ _ c.requires.first c.requires.stands);
   empty = c.new-out.ensures;
-  later_source = omega arith;
-  later_sink = omega arith;
+  source_kept = refl;
+  sink_kept = refl;
   keeps = refl;
 }
 
@@ -24,16 +24,14 @@ returns-in-Some-clause-table g c =
 pub loop-command-preserved : goal.loop-command-preserved
 loop-command-preserved g c =
     let way = way_made _ _ _ _ _ _ _ _ _ _ _ _ c.make_way.ensures.kept c.loop-command.invariant.underway c.in-Ok.ensures.gathers in
-    let later_source = c.ask-turn.ensures.later in
-    let later_way = c.in-Ok.ensures.later in
-    let later_sink = c.in-None.ensures.later in
+    let answered = is_answered c.ask-turn.result _ c.ask-turn.new.out c.settle.new.gathered _ _ c.in-None.ensures.settles in
     let keeps = c.ask-turn.ensures.keeps in
     record {
       underway = run_goes_on _ _ _ _ _ _ _ _ _ c.ask-turn.result _ c.ask-turn.new.out c.settle.new.gathered
           (c.ask-turn.ensures.comes _ _ _ _ _ way c.in-Ok.ensures.ready) c.in-None.ensures.settles;
       empty = c.in-None.ensures.empty refl;
-      later_source = omega (arith, later_source, c.loop-command.invariant.later_source);
-      later_sink = omega (arith, later_way, later_sink, c.loop-command.invariant.later_sink);
+      source_kept = kept_by c.ask-turn.result _ _ answered c.ask-turn.ensures.cause ∙ c.loop-command.invariant.source_kept;
+      sink_kept = c.in-None.ensures.cause ∙ c.in-Ok.ensures.counted ∙ c.loop-command.invariant.sink_kept;
       keeps = keeps ∙ c.loop-command.invariant.keeps;
     }
 
@@ -43,7 +41,7 @@ loop-command-smaller g c =
     let rises = c.ask-turn.ensures.goes_on (is_answered c.ask-turn.result _ c.ask-turn.new.out c.settle.new.gathered _ _ c.in-None.ensures.settles) in
     let then = run_goes_on _ _ _ _ _ _ _ _ _ c.ask-turn.result _ c.ask-turn.new.out c.settle.new.gathered
     (c.ask-turn.ensures.comes _ _ _ _ _ way c.in-Ok.ensures.ready) c.in-None.ensures.settles in
-    let limit = then.at.valid.limit in
+    let limit = then.valid.limit in
     let kept = c.make_way.ensures.kept in
     let rises_from : c.loop-command.lines.answered < c.ask-turn.new.lines.answered = rw kept at rises in
     omega (arith, rises_from, limit)

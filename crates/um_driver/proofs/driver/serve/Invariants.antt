@@ -1,4 +1,5 @@
-use Rattle.std.proofs.Common.{◌≡◌, ◌≤◌, ◌-◌, []}
+use Rattle.std.proofs.Common.{◌≡◌, ◌-◌, []}
+use Rattle.um_io.specs.Reading.{input_limit}
 use Rattle.um_driver.specs.Course.{IsUnderway}
 use Rattle.um_driver.proofs.driver.serve.Given as goal
 
@@ -7,10 +8,10 @@ invariant-loop-command g l = record {
   underway : IsUnderway g.C.Command.rules (g.C.Command.start l.fn.command) (g.C.Command.stands l.command) l.lines
       (g.S.Source.left l.fn.input) (g.S.Source.left l.input) (g.K.Sink.taken l.fn.output) (g.K.Sink.taken l.output) l.gathered;
   empty : l.out ≡ [];
-  later_source : g.S.Source.faults l.fn.input ≤ g.S.Source.faults l.input;
-  later_sink : g.K.Sink.faults l.fn.output ≤ g.K.Sink.faults l.output;
+  source_kept : g.S.Source.faults l.input ≡ g.S.Source.faults l.fn.input;
+  sink_kept : g.K.Sink.faults l.output ≡ g.K.Sink.faults l.fn.output;
   keeps : g.C.Command.kept l.command ≡ g.C.Command.kept l.fn.command;
 }
 
 abbrev pub decreases-loop-command : goal.decreases-loop-command
-decreases-loop-command g l = 67108864 - l.lines.answered
+decreases-loop-command g l = input_limit - l.lines.answered

@@ -1,4 +1,4 @@
-use Rattle.std.proofs.Common.{arith, length-drop, length-take}
+use Rattle.std.proofs.Common.{arith, length-drop, length-take, ◌∙◌}
 use Rattle.std.proofs.lemmas.Result.{MatchResult-from_err}
 use Rattle.std.specs.Io.KnownBytes.{Appends}
 use Rattle.um_driver.specs.Table.{TakesFront}
@@ -18,5 +18,5 @@ pub loop-written-preserved : goal.loop-written-preserved
 loop-written-preserved g c = record {
   bound = let n = c.in_ok-written.ensures.bound in omega (arith, simp (length-take, length-drop) at n);
   front = Appends-front _ _ _ _ _ _ c.loop-written.invariant.front c.in_ok-written.ensures.octets;
-  later = omega (arith, c.in_ok-written.ensures.later, c.loop-written.invariant.later);
+  kept = c.in_ok-written.ensures.kept ∙ c.loop-written.invariant.kept;
 }

@@ -1,4 +1,4 @@
-use Rattle.std.proofs.Common.{length, take, ◌-◌, ◌≤◌}
+use Rattle.std.proofs.Common.{length, take, ◌-◌, ◌≤◌, ◌≡◌}
 use Rattle.std.specs.Io.KnownBytes.{Appends}
 use Rattle.um_driver.proofs.writing.put_all.Given as goal
 
@@ -6,7 +6,7 @@ abbrev pub invariant-loop-written : goal.invariant-loop-written
 invariant-loop-written g l = record {
   bound : l.written ≤ length l.piece;
   front : Appends (g.K.Sink.taken l.fn.output) (g.K.Sink.taken l.output) (take l.written l.piece);
-  later : g.K.Sink.faults l.fn.output ≤ g.K.Sink.faults l.output;
+  kept : g.K.Sink.faults l.output ≡ g.K.Sink.faults l.fn.output;
 }
 
 abbrev pub decreases-loop-written : goal.decreases-loop-written

@@ -1,0 +1,75 @@
+-- Which of the answers are reached by what was written.
+use Rattle.std.proofs.Common.{◌≡◌, ℕ, List, [], ◌∷◌, ◌++◌, length, ◌⊎◌, inl, inr, sym, refl, ap, ◌∙◌, append_assoc, append-nil, arith}
+use Rattle.std.proofs.lemmas.Bool.{cases_lt}
+use Rattle.um_driver.specs.Rules.{joined}
+use Rattle.um_driver.specs.Table.{IsFront, IsReached}
+use Rattle.um_driver.proofs.Judging.{front_of}
+
+-- a front of two lists ends in the first, or in the second
+pub front_ends : (u more c p : List ℕ) → u ++ more ≡ c ++ p → IsFront u c ⊎ ((w : List ℕ) × IsFront w p × (u ≡ c ++ w))
+front_ends u more c p e = elim (cases_lt (length c) (length u)) [
+  | inl longer ↦ let f = front_of c p u more (sym e) (omega (arith, longer)) in inr (f.part, (more, f.rest_is), f.front_is)
+  | inr h ↦ let f = front_of u more c p e h in inl (f.part, f.front_is)
+]
+
+-- these of the answers are reached, and y ends with them
+pub record Reach (answers : List (List ℕ)) (y : List ℕ) : Type 0 where
+  pub first : List (List ℕ)
+  pub second : List (List ℕ)
+  pub answers_are : answers ≡ first ++ second
+  pub reached : IsReached y first
+  pub front : IsFront y (joined first)
+
+-- y ends before the end of the first answer
+reach_within : (answer : List ℕ) (answers : List (List ℕ)) (y part : List ℕ) → answer ≡ y ++ part → Reach (answer ∷ answers) y
+reach_within answer answers [] part e =
+    record { first = []; second = answer ∷ answers; answers_are = refl; reached = inl ([], refl); front = ([], refl) }
+reach_within answer answers (o ∷ y) part e = record {
+  first = answer ∷ [];
+  second = answers;
+  answers_are = refl;
+  reached = inr (record {
+    earlier = [];
+    answer = answer;
+    part = o ∷ y;
+    answers_are = refl;
+    front = (part, e);
+    some = omega arith;
+    y_is = refl;
+  });
+  front = (part, append-nil answer ∙ e);
+}
+
+-- y has all of the first answer
+reach_after : (answer : List ℕ) (answers : List (List ℕ)) (y part : List ℕ) → y ≡ answer ++ part → Reach answers part → Reach (answer ∷ answers) y
+reach_after answer answers y part e then = record {
+  first = answer ∷ then.first;
+  second = then.second;
+  answers_are = ap (λ l. answer ∷ l) then.answers_are;
+  reached = elim then.reached [
+    | inl (w, f) ↦ inl (w, e ∙ ap (λ o. answer ++ o) f ∙ sym (append_assoc answer (joined then.first) w))
+    | inr ends ↦ inr (record {
+      earlier = answer ∷ ends.earlier;
+      answer = ends.answer;
+      part = ends.part;
+      answers_are = ap (λ l. answer ∷ l) ends.answers_are;
+      front = ends.front;
+      some = ends.some;
+      y_is = e ∙ ap (λ o. answer ++ o) ends.y_is ∙ sym (append_assoc answer (joined ends.earlier) ends.part);
+    })
+  ];
+  front = (then.front.0, ap (λ o. answer ++ o) then.front.1 ∙ sym (append_assoc answer part then.front.0) ∙ ap (λ o. o ++ then.front.0) (sym e));
+}
+
+none_behind : (u v : List ℕ) → [] ≡ u ++ v → u ≡ []
+none_behind [] v e = refl
+none_behind (o ∷ u) v e = absurd (cc e)
+
+pub reach : (answers : List (List ℕ)) (y more : List ℕ) → joined answers ≡ y ++ more → Reach answers y
+reach [] y more e = record { first = []; second = []; answers_are = refl; reached = inl (y, refl); front = (more, e) }
+reach (answer ∷ answers) y more e = elim (cases_lt (length y) (length answer)) [
+  | inl shorter ↦ let f = front_of y more answer (joined answers) (sym e) (omega (arith, shorter)) in reach_within answer answers y f.part f.front_is
+  | inr h ↦
+      let f = front_of answer (joined answers) y more e h in
+      reach_after answer answers y f.part f.front_is (reach answers f.part more f.rest_is)
+]
