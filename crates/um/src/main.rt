@@ -4,6 +4,7 @@
 use std::env;
 use std::io::ErrorKind;
 use std::process::ExitCode;
+use um_block::PlainRadio;
 use um_cli::{Words, run};
 use um_io::{ReadSource, WriteSink};
 
@@ -24,6 +25,7 @@ fn main(rt: HostRuntime) -> ExitCode {
     }
     let mut input = ReadSource::new(rt.stdin());
     let mut output = WriteSink::new(rt.stdout());
-    let status = run(rt.alloc(), &words, &mut input, &mut output);
+    let mut radio = PlainRadio::new();
+    let status = run(rt.alloc(), &words, &mut input, &mut output, &mut radio);
     ExitCode::from(status.number())
 }

@@ -11,9 +11,8 @@ use Rattle.um_text.proofs.CodeLaws.{one_meaning}
 use Rattle.um_block.proofs.SentOnce.{one_sent_block, one_access_burst, one_sync_burst}
 use Rattle.um_block.proofs.SentExists.{some_sent_block, some_access_burst, some_sync_burst}
 use Rattle.um_driver.specs.Rules.{IsDetermined, IsTotal}
-use Rattle.um_driver.proofs.OutputExists.{output_exists}
-use Rattle.um_driver.proofs.OutputLemmas.{output_unique}
-use Rattle.um_cli.specs.Runs.{HasOneOutput}
+use Rattle.um_driver.specs.Laws.{HasOneOutput}
+use Rattle.um_driver.proofs.OutputExists.{has_one_output}
 use Rattle.um_cli.specs.Code.{IsCodeAnswer, code_rules}
 
 -- a line has at most one meaning
@@ -70,14 +69,11 @@ some_answer line (Sch info) means =
     (sync_text sent.0, (sent.0, sent.1, refl))
 
 pub code_is_total : IsTotal code_rules tt
-code_is_total lines y b runs line plain good =
+code_is_total lines answers b runs line plain good =
     let meant : HasOneMeaningUnless None (CodeMeans line) =
     subst (λ fault. HasOneMeaningUnless fault (CodeMeans line)) good.no_fault (one_meaning line) in
     let answer = some_answer line meant.0 meant.1 in
     (answer.0, tt, (meant.0, meant.1, answer.1))
 
 pub code_has_one_output : HasOneOutput code_rules tt
-code_has_one_output = record {
-  some = λ x. output_exists code_rules tt x code_is_total;
-  one = λ x status status' z z' out out'. output_unique code_rules code_is_determined tt x status status' z z' out out';
-}
+code_has_one_output = has_one_output code_rules tt code_is_total code_is_determined

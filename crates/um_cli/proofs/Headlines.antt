@@ -1,27 +1,19 @@
 -- What is received is a codeword that no other beats.
-use Rattle.std.proofs.Common.{◌≡◌, ◌≢◌, ℕ, ℤ, true, inl, inr, ◌≤ℤ◌, ◌↔◌, List, [], ◌∷◌, ◌++◌, Option, Some, None, take, refl, sym, ap, ◌∙◌, arith}
-use Rattle.std.specs.Prelude.{IsSome, MatchOption}
+use Rattle.std.proofs.Common.{◌≡◌, ◌≢◌, ℕ, ℤ, true, inl, inr, ◌≤ℤ◌, List, [], ◌∷◌, ◌++◌, refl, sym, ap, ◌∙◌, arith}
 use Rattle.std.specs.Str.{bytes_eq}
 use Rattle.std.proofs.lemmas.Bool.{cases_Bool}
 use Rattle.std.proofs.lemmas.Int.{ints}
 use Rattle.std.proofs.lemmas.Slice.Eq.{bytes_eq-Decides}
-use Rattle.fire_code.specs.Words.{IsXcchWord, IsRachWord, IsSchWord}
 use Rattle.conv_code.specs.Code.{coded}
 use Rattle.conv_code.specs.Likelihood.{likelihood, IsMostLikely, FallsBehind}
 use Rattle.burst_map.specs.AccessBurst as A
 use Rattle.burst_map.specs.SyncBurst as S
-use Rattle.um_block.specs.Packed.{octets_of}
 use Rattle.um_block.proofs.SentExists.{length-coded}
 use Rattle.um_text.specs.declared.burst_lines.BurstLine.{BurstLine}
 use Rattle.um_text.specs.declared.burst_lines.BurstLine.TheVariants.{Skip, Normal, Access, Sync}
 use Rattle.um_cli.specs.Replay.{IsBlockAnswer, IsReplayAnswer, replay_rules}
 use Rattle.um_cli.specs.Headline.{IsUnbeaten, ReportsBestBlock, ReportsBest, headline_rules}
-use Rattle.um_cli.proofs.Weaker.{IsWeaker}
-
--- something is accepted exactly where the fact holds
-accepted_where : {A : Type 0} (o : Option A) (P : Type 0) (Q : A → Type 0) → MatchOption o (¬ P) (λ v. P × Q v) → IsSome o ↔ P
-accepted_where None P Q h = (λ some. absurd cc, λ holds. absurd (h holds))
-accepted_where (Some v) P Q h = (λ some. h.0, λ holds. refl)
+use Rattle.um_driver.proofs.Weaker.{IsWeaker}
 
 -- a list that is most likely is not beaten
 not_behind : (soft : List ℤ) (u v : List ℕ) → FallsBehind soft v u → likelihood soft (coded v) ≤ℤ likelihood soft (coded u)
@@ -55,7 +47,7 @@ best_block bursts y after (inr (four, s, (r, received, text))) = inr (
     r = r;
     read = received.gathered;
     best = unbeaten received.soft r.u received.best;
-    parity = accepted_where r.accepted (IsXcchWord (take 224 r.u)) (λ octets. octets ≡ octets_of (take 184 r.u)) received.accepted;
+    accepted = received.accepted;
     text = text;
   },
 )
@@ -68,7 +60,7 @@ best_answer held (Access bsic soft) y after (s, (r, received, text)) = (
   record {
     r = r;
     best = unbeaten (A.body soft) r.u received.best;
-    parity = accepted_where r.accepted (IsRachWord (take 14 r.u) bsic) (λ info. info ≡ take 8 r.u) received.accepted;
+    accepted = received.accepted;
     text = text;
   },
 )
@@ -77,7 +69,7 @@ best_answer held (Sync soft) y after (s, (r, received, text)) = (
   record {
     r = r;
     best = unbeaten (S.first_half soft ++ S.second_half soft) r.u received.best;
-    parity = accepted_where r.accepted (IsSchWord (take 35 r.u)) (λ info. info ≡ take 25 r.u) received.accepted;
+    accepted = received.accepted;
     text = text;
   },
 )

@@ -5,5 +5,4 @@ pub mod ReplayRules
 pub mod Restoring
 pub mod ShowRules
 pub mod Tops
-pub mod Weaker
 pub mod WordListsLemmas

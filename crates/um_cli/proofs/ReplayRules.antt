@@ -14,10 +14,10 @@ use Rattle.um_lines.specs.Meanings.{HasOneMeaningUnless}
 use Rattle.um_text.specs.Reports.{IsBlockReport, access_report_text, sync_report_text}
 use Rattle.um_text.proofs.BurstLaws.{one_meaning, normal_burst, access_burst, sync_burst}
 use Rattle.um_text.proofs.ReportLaws.{one_block_report, some_block_report}
-use Rattle.um_driver.specs.Rules.{Runs, IsDetermined, IsTotal}
-use Rattle.um_driver.proofs.OutputExists.{output_exists}
-use Rattle.um_driver.proofs.OutputLemmas.{output_unique}
-use Rattle.um_cli.specs.Runs.{HasOneOutput}
+use Rattle.um_driver.specs.Rules.{IsDetermined, IsTotal}
+use Rattle.um_driver.specs.Laws.{HasOneOutput}
+use Rattle.um_driver.proofs.OutputExists.{has_one_output}
+use Rattle.um_driver.proofs.RunLemmas.{Runs-keep}
 use Rattle.um_cli.specs.Replay.{IsBlockAnswer, IsReplayAnswer, AnswersReplay, replay_rules}
 
 -- ---- one answer
@@ -78,11 +78,6 @@ step_keeps held after line y h (Normal soft, means, answer) =
 step_keeps held after line y h (Access bsic soft, means, (s, _)) = subst IsHeld (sym s) h
 step_keeps held after line y h (Sync soft, means, (s, _)) = subst IsHeld (sym s) h
 
-runs_keep : (lines : List (List ℕ)) (y : List ℕ) (a b : List (List ℤ)) → IsHeld a → Runs replay_rules a lines y b → IsHeld b
-runs_keep [] y a b h (_, s) = subst IsHeld (sym s) h
-runs_keep (line ∷ lines) y a b h (answer, rest, mid, good, step, runs, _) =
-    runs_keep lines rest mid b (step_keeps a mid line answer h step) runs
-
 -- bursts, the last of which has just come, are answered
 pub some_block_answer : (held : List (List ℤ)) (soft : List ℤ) → IsHeld held → length soft ≡ 148 →
     (y : List ℕ) × (after : List (List ℤ)) × IsBlockAnswer (held ++ soft ∷ []) y after
@@ -120,13 +115,10 @@ good_means held line good =
     (meant.0, meant.1)
 
 pub replay_is_total : IsTotal replay_rules []
-replay_is_total lines y b runs line plain good =
+replay_is_total lines answers b runs line plain good =
     let meant = good_means b line good.no_fault in
-    let answer = some_answer b line meant.0 (runs_keep lines y [] b held_none runs) meant.1 in
+    let answer = some_answer b line meant.0 (Runs-keep replay_rules IsHeld (λ a after line y h step. step_keeps a after line y h step) [] b lines answers held_none runs) meant.1 in
     (answer.0, answer.1, (meant.0, meant.1, answer.2))
 
 pub replay_has_one_output : HasOneOutput replay_rules []
-replay_has_one_output = record {
-  some = λ x. output_exists replay_rules [] x replay_is_total;
-  one = λ x status status' z z' out out'. output_unique replay_rules replay_is_determined [] x status status' z z' out out';
-}
+replay_has_one_output = has_one_output replay_rules [] replay_is_total replay_is_determined

@@ -26,10 +26,12 @@ use Rattle.um_text.proofs.BurstLaws.{one_meaning}
 use Rattle.um_text.proofs.WrittenBursts.{normal_line, access_line, sync_line, normal_restored, access_restored, sync_restored, normal_whole, access_whole, sync_whole}
 use Rattle.um_text.proofs.ReportLaws.{some_block_report}
 use Rattle.um_text.proofs.SmallOctets.{small_octets}
-use Rattle.um_driver.specs.Rules.{Runs, IsGood}
-use Rattle.um_driver.specs.Outputs.{IsGoodInput, IsOutput}
+use Rattle.um_io.specs.Reading.{input_limit, line_limit}
+use Rattle.um_driver.specs.Rules.{Runs, IsGood, joined}
+use Rattle.um_driver.specs.Outputs.{IsOutput}
 use Rattle.um_driver.specs.declared.status.Status.TheVariants.{Done}
-use Rattle.um_driver.proofs.RunLemmas.{Runs-append}
+use Rattle.um_driver.proofs.GoodInputs.{good_from_output, output_from_good}
+use Rattle.um_driver.proofs.RunLemmas.{Runs-append, joined-append}
 use Rattle.um_cli.specs.Code.{IsCodeAnswer, code_rules}
 use Rattle.um_cli.specs.Replay.{IsReplayAnswer, replay_rules}
 use Rattle.um_cli.specs.Restored.{IsRestored, AreRestored}
@@ -37,12 +39,14 @@ use Rattle.um_cli.specs.Restored.{IsRestored, AreRestored}
 -- octets are lines of `replay` that are reported so, with no burst held before or after them
 pub record IsRead (octets reports : List ℕ) : Type 0 where
   pub lines : List (List ℕ)
+  pub answers : List (List ℕ)
   pub plain : All IsLine lines
   pub whole : octets ≡ text_of lines
-  pub runs : Runs replay_rules [] lines reports []
+  pub runs : Runs replay_rules [] lines answers []
+  pub reports_are : reports ≡ joined answers
 
 nothing_read : IsRead [] []
-nothing_read = record { lines = []; plain = All-nil IsLine; whole = refl; runs = (refl, refl) }
+nothing_read = record { lines = []; answers = []; plain = All-nil IsLine; whole = refl; runs = refl; reports_are = refl }
 
 text-append : (ls ls' : List (List ℕ)) → text_of (ls ++ ls') ≡ text_of ls ++ text_of ls'
 text-append [] ls' = refl
@@ -51,13 +55,15 @@ text-append (l ∷ ls) ls' = ap (λ w. l ++ 10 ∷ w) (text-append ls ls') ∙ s
 both_read : (x x' y y' : List ℕ) → IsRead x y → IsRead x' y' → IsRead (x ++ x') (y ++ y')
 both_read x x' y y' r r' = record {
   lines = r.lines ++ r'.lines;
+  answers = r.answers ++ r'.answers;
   plain = All-append IsLine r.lines r'.lines r.plain r'.plain;
   whole = (let p = r.whole in let q = r'.whole in cc (p, q)) ∙ sym (text-append r.lines r'.lines);
-  runs = Runs-append replay_rules [] [] [] r.lines r'.lines y y' r.runs r'.runs;
+  runs = Runs-append replay_rules [] [] [] r.lines r'.lines r.answers r'.answers r.runs r'.runs;
+  reports_are = (let p = r.reports_are in let q = r'.reports_are in cc (p, q)) ∙ sym (joined-append r.answers r'.answers);
 }
 
 -- a line with a meaning has no reason
-good_line : (held : List (List ℤ)) (line : List ℕ) (m : BurstLine) → length line ≤ 4096 → BurstMeans (length held) line m → IsGood replay_rules held line
+good_line : (held : List (List ℤ)) (line : List ℕ) (m : BurstLine) → length line ≤ line_limit → BurstMeans (length held) line m → IsGood replay_rules held line
 good_line held line m short means = go (burst_fault (length held) line) refl (one_meaning (length held) line)
   where
     go : (fault : Option LineFault) → burst_fault (length held) line ≡ fault → HasOneMeaningUnless fault (BurstMeans (length held) line) →
@@ -66,16 +72,16 @@ good_line held line m short means = go (burst_fault (length held) line) refl (on
     go (Some fault) e none = absurd (none m means)
 
 -- one good line and its answer before others
-then : (held mid after : List (List ℤ)) (line answer rest : List ℕ) (lines : List (List ℕ)) (m : BurstLine) → length line ≤ 4096 →
-    BurstMeans (length held) line m → IsReplayAnswer held m answer mid → Runs replay_rules mid lines rest after →
-    Runs replay_rules held (line ∷ lines) (answer ++ rest) after
-then held mid after line answer rest lines m short means answers runs =
-    (answer, rest, mid, good_line held line m short means, (m, means, answers), runs, refl)
+then : (held mid after : List (List ℤ)) (line answer : List ℕ) (lines others : List (List ℕ)) (m : BurstLine) → length line ≤ line_limit →
+    BurstMeans (length held) line m → IsReplayAnswer held m answer mid → Runs replay_rules mid lines others after →
+    Runs replay_rules held (line ∷ lines) (answer ∷ others) after
+then held mid after line answer lines others m short means answers runs =
+    (mid, good_line held line m short means, (m, means, answers), runs)
 
-last_line : (held : List (List ℤ)) (line answer : List ℕ) (m : BurstLine) → length line ≤ 4096 → BurstMeans (length held) line m →
-    IsReplayAnswer held m answer [] → Runs replay_rules held (line ∷ []) answer []
+last_line : (held : List (List ℤ)) (line answer : List ℕ) (m : BurstLine) → length line ≤ line_limit → BurstMeans (length held) line m →
+    IsReplayAnswer held m answer [] → Runs replay_rules held (line ∷ []) (answer ∷ []) []
 last_line held line answer m short means answers =
-    (answer, [], [], good_line held line m short means, (m, means, answers), (refl, refl), sym (append-nil answer))
+    ([], good_line held line m short means, (m, means, answers), refl)
 
 length-softened : (bits : List ℕ) (n : ℕ) → length bits ≡ n → length (softened bits) ≡ n
 length-softened bits n e = length-map bits soft_value ∙ e
@@ -99,10 +105,12 @@ access_back info bsic burst count bits sent =
       restored = (received.0, clean_access info bsic burst received.0 sent received.1, refl);
       read = record {
         lines = access_line bsic burst ∷ [];
+        answers = access_report_text bsic received.0 ∷ [];
         plain = All-cons IsLine (access_line bsic burst) [] (access_whole bsic burst).uncut (All-nil IsLine);
         whole = refl;
         runs = last_line [] (access_line bsic burst) (access_report_text bsic received.0) (Access bsic (softened burst)) means.0 means
             (refl, (received.0, received.1, refl));
+        reports_are = sym (append-nil (access_report_text bsic received.0));
       };
     }
 
@@ -116,10 +124,12 @@ sync_back info burst sent =
       restored = (received.0, clean_sync info burst received.0 sent received.1, refl);
       read = record {
         lines = sync_line burst ∷ [];
+        answers = sync_report_text received.0 ∷ [];
         plain = All-cons IsLine (sync_line burst) [] (sync_whole burst).uncut (All-nil IsLine);
         whole = refl;
         runs = last_line [] (sync_line burst) (sync_report_text received.0) (Sync (softened burst)) means.0 means
             (refl, (received.0, received.1, refl));
+        reports_are = sym (append-nil (sync_report_text received.0));
       };
     }
 
@@ -147,7 +157,7 @@ softened_counts (burst ∷ bursts) each =
 -- four bursts are read one after the other
 four_runs : (a b c d report : List ℕ) (r : Received) → All (AreBits 148) (a ∷ b ∷ c ∷ d ∷ []) →
     IsReceivedBlock (map softened (a ∷ b ∷ c ∷ d ∷ [])) r → IsBlockReport r report →
-    Runs replay_rules [] (map normal_line (a ∷ b ∷ c ∷ d ∷ [])) report []
+    Runs replay_rules [] (map normal_line (a ∷ b ∷ c ∷ d ∷ [])) ([] ∷ [] ∷ [] ∷ report ∷ []) []
 four_runs a b c d report r each received text =
     let P : List ℕ → Type 0 = AreBits 148 in
     let rest = All-tail P a (b ∷ c ∷ d ∷ []) each in
@@ -166,15 +176,15 @@ four_runs a b c d report r each received text =
     let mc = normal_restored 2 c third.many third.each in
     let md = normal_restored 3 d fourth.many fourth.each in
     let at_last = last_line (sa ∷ sb ∷ sc ∷ []) (normal_line d) report (Normal sd) md.0 md (inr (refl, refl, (r, received, text))) in
-    let from_third = then (sa ∷ sb ∷ []) (sa ∷ sb ∷ sc ∷ []) [] (normal_line c) [] report (normal_line d ∷ []) (Normal sc) mc.0 mc
+    let from_third = then (sa ∷ sb ∷ []) (sa ∷ sb ∷ sc ∷ []) [] (normal_line c) [] (normal_line d ∷ []) (report ∷ []) (Normal sc) mc.0 mc
     (inl (lit< tt, refl, refl)) at_last in
-    let from_second = then (sa ∷ []) (sa ∷ sb ∷ []) [] (normal_line b) [] report (normal_line c ∷ normal_line d ∷ []) (Normal sb) mb.0 mb
+    let from_second = then (sa ∷ []) (sa ∷ sb ∷ []) [] (normal_line b) [] (normal_line c ∷ normal_line d ∷ []) ([] ∷ report ∷ []) (Normal sb) mb.0 mb
     (inl (lit< tt, refl, refl)) from_third in
-    then [] (sa ∷ []) [] (normal_line a) [] report (normal_line b ∷ normal_line c ∷ normal_line d ∷ []) (Normal sa) ma.0 ma
+    then [] (sa ∷ []) [] (normal_line a) [] (normal_line b ∷ normal_line c ∷ normal_line d ∷ []) ([] ∷ [] ∷ report ∷ []) (Normal sa) ma.0 ma
     (inl (lit< tt, refl, refl)) from_second
 
 block_runs : (bursts : List (List ℕ)) (report : List ℕ) (r : Received) → length bursts ≡ 4 → All (AreBits 148) bursts →
-    IsReceivedBlock (map softened bursts) r → IsBlockReport r report → Runs replay_rules [] (map normal_line bursts) report []
+    IsReceivedBlock (map softened bursts) r → IsBlockReport r report → Runs replay_rules [] (map normal_line bursts) ([] ∷ [] ∷ [] ∷ report ∷ []) []
 block_runs [] report r count each received text = absurd (omega arith)
 block_runs (a ∷ []) report r count each received text = absurd (omega arith)
 block_runs (a ∷ b ∷ []) report r count each received text = absurd (omega arith)
@@ -194,9 +204,11 @@ block_back octets tsc bursts small sent =
       restored = (received.0, clean_block octets tsc bursts received.0 small sent received.1, text.1);
       read = record {
         lines = map normal_line bursts;
+        answers = [] ∷ [] ∷ [] ∷ text.0 ∷ [];
         plain = plain_lines bursts shape.1;
         whole = block_text-lines bursts;
         runs = block_runs bursts text.0 received.0 shape.0 shape.1 received.1 text.1;
+        reports_are = sym (append-nil text.0);
       };
     }
 
@@ -213,21 +225,22 @@ brought_back line (C.Sch info) answer means (burst, sent, text) =
     subst (IsBroughtBack (C.Sch info)) (sym text) (sync_back info burst sent)
 
 -- the answers to lines are read, and their reports restore the lines
-pub record AreBroughtBack (lines : List (List ℕ)) (answers : List ℕ) : Type 0 where
+pub record AreBroughtBack (lines answers : List (List ℕ)) : Type 0 where
   pub reports : List ℕ
   pub restored : AreRestored lines reports
-  pub read : IsRead answers reports
+  pub read : IsRead (joined answers) reports
 
-all_brought_back : (lines : List (List ℕ)) (answers : List ℕ) (state : Unit {0}) → Runs code_rules tt lines answers state → AreBroughtBack lines answers
-all_brought_back [] answers state (none, _) =
-    record { reports = []; restored = refl; read = subst (λ w. IsRead w []) (sym none) nothing_read }
-all_brought_back (line ∷ lines) answers state (answer, rest, mid, good, (m, means, a), runs, whole) =
-    let one = brought_back line m answer means a in
-    let others = all_brought_back lines rest state runs in
+all_brought_back : (lines answers : List (List ℕ)) (state : Unit {0}) → Runs code_rules tt lines answers state → AreBroughtBack lines answers
+all_brought_back [] [] state same = record { reports = []; restored = refl; read = nothing_read }
+all_brought_back [] (y ∷ ys) state none = absurd none
+all_brought_back (line ∷ lines) [] state none = absurd none
+all_brought_back (line ∷ lines) (y ∷ ys) state (mid, good, (m, means, a), runs) =
+    let one = brought_back line m y means a in
+    let others = all_brought_back lines ys state runs in
     record {
       reports = one.report ++ others.reports;
       restored = (m, one.report, others.reports, means, one.restored, others.restored, refl);
-      read = subst (λ w. IsRead w (one.report ++ others.reports)) (sym whole) (both_read answer rest one.report others.reports one.read others.read);
+      read = both_read y (joined ys) one.report others.reports one.read others.read;
     }
 
 -- the output of a good input of `code` is a good input of `replay`, and its reports restore the input
@@ -238,20 +251,23 @@ pub record IsRestoredWhole (z x : List ℕ) : Type 0 where
   pub restored : AreRestored lines reports
   pub output : IsOutput replay_rules [] x Done reports
 
-pub restored_whole : (z x : List ℕ) → IsGoodInput code_rules tt z x → length x ≤ 67108864 → IsRestoredWhole z x
-restored_whole z x good limit =
-    let back = all_brought_back good.lines x good.state good.runs in
+pub restored_whole : (z x : List ℕ) → IsOutput code_rules tt z Done x → length x ≤ input_limit → IsRestoredWhole z x
+restored_whole z x out limit =
+    let good = good_from_output code_rules tt z x out in
+    let back = all_brought_back good.lines good.answers good.state good.runs in
     record {
       lines = good.lines;
       reports = back.reports;
       divided = good.all;
       restored = back.restored;
-      output = record {
+      output = output_from_good replay_rules [] x back.reports (record {
         lines = back.read.lines;
+        answers = back.read.answers;
         state = [];
-        all = record { plain = back.read.plain; whole = inl back.read.whole };
+        all = record { plain = back.read.plain; whole = inl (good.output ∙ back.read.whole) };
         limit = limit;
         runs = back.read.runs;
         end_good = refl;
-      };
+        output = back.read.reports_are;
+      });
     }

@@ -10,9 +10,8 @@ use Rattle.um_text.proofs.ShowLaws.{length-hex_octets}
 use Rattle.um_text.proofs.ShowOnce.{one_meaning}
 use Rattle.um_text.proofs.ReportLaws.{one_frame_text, some_frame_text}
 use Rattle.um_driver.specs.Rules.{IsDetermined, IsTotal}
-use Rattle.um_driver.proofs.OutputExists.{output_exists}
-use Rattle.um_driver.proofs.OutputLemmas.{output_unique}
-use Rattle.um_cli.specs.Runs.{HasOneOutput}
+use Rattle.um_driver.specs.Laws.{HasOneOutput}
+use Rattle.um_driver.proofs.OutputExists.{has_one_output}
 use Rattle.um_cli.specs.Show.{IsShowAnswer, show_rules}
 
 same_meaning : (line : List ℕ) (m m' : ShowLine) → ShowMeans line m → ShowMeans line m' → m ≡ m'
@@ -43,14 +42,11 @@ some_answer line (Octets octets) means =
 some_answer line (Frame octets) means = (octets_text octets, refl)
 
 pub show_is_total : IsTotal show_rules tt
-show_is_total lines y b runs line plain good =
+show_is_total lines answers b runs line plain good =
     let meant : HasOneMeaningUnless None (ShowMeans line) =
     subst (λ fault. HasOneMeaningUnless fault (ShowMeans line)) good.no_fault (one_meaning line) in
     let answer = some_answer line meant.0 meant.1 in
     (answer.0, tt, (meant.0, meant.1, answer.1))
 
 pub show_has_one_output : HasOneOutput show_rules tt
-show_has_one_output = record {
-  some = λ x. output_exists show_rules tt x show_is_total;
-  one = λ x status status' z z' out out'. output_unique show_rules show_is_determined tt x status status' z z' out out';
-}
+show_has_one_output = has_one_output show_rules tt show_is_total show_is_determined

@@ -1,12 +1,13 @@
 -- Each reported block is a codeword that no other beats under the soft values read, its data accepted exactly where its
 -- parity holds (this project's own rule).
-use Rattle.std.specs.Prelude.{ℕ, ℤ, ◌≡◌, ◌<◌, ◌≤ℤ◌, ◌⊎◌, ◌↔◌, List, [], ◌∷◌, ◌++◌, length, map, take, IsSome}
+use Rattle.std.specs.Prelude.{ℕ, ℤ, ◌≡◌, ◌<◌, ◌≤ℤ◌, ◌⊎◌, List, [], ◌∷◌, ◌++◌, length, map, take, MatchOption}
 use Rattle.fire_code.specs.Words.{IsXcchWord, IsRachWord, IsSchWord}
 use Rattle.conv_code.specs.Code.{coded, IsCodeword}
 use Rattle.conv_code.specs.Likelihood.{likelihood}
 use Rattle.interleave.specs.Bursts.{IsInterleaved}
 use Rattle.burst_map.specs.AccessBurst as A
 use Rattle.burst_map.specs.SyncBurst as S
+use Rattle.um_block.specs.Packed.{octets_of}
 use Rattle.um_block.specs.Received.{coded_places}
 use Rattle.um_block.specs.declared.received.Received.{Received}
 use Rattle.um_block.specs.declared.received.ReceivedAccess.{ReceivedAccess}
@@ -30,21 +31,27 @@ pub record IsBestBlock (bursts : List (List ℤ)) (report : List ℕ) : Type 0 w
   pub r : Received
   pub read : IsInterleaved soft (map coded_places bursts)
   pub best : IsUnbeaten soft r.u
-  pub parity : IsSome r.accepted ↔ IsXcchWord (take 224 r.u)
+  pub accepted : MatchOption r.accepted
+      (¬ IsXcchWord (take 224 r.u))
+      (λ octets. IsXcchWord (take 224 r.u) × (octets ≡ octets_of (take 184 r.u)))
   pub text : IsBlockReport r report
 
 -- an access burst's report
 pub record IsBestAccess (burst : List ℤ) (bsic report : List ℕ) : Type 0 where
   pub r : ReceivedAccess
   pub best : IsUnbeaten (A.body burst) r.u
-  pub parity : IsSome r.accepted ↔ IsRachWord (take 14 r.u) bsic
+  pub accepted : MatchOption r.accepted
+      (¬ IsRachWord (take 14 r.u) bsic)
+      (λ info. IsRachWord (take 14 r.u) bsic × (info ≡ take 8 r.u))
   pub text : report ≡ access_report_text bsic r
 
 -- a synchronisation burst's report
 pub record IsBestSync (burst : List ℤ) (report : List ℕ) : Type 0 where
   pub r : ReceivedSync
   pub best : IsUnbeaten (S.first_half burst ++ S.second_half burst) r.u
-  pub parity : IsSome r.accepted ↔ IsSchWord (take 35 r.u)
+  pub accepted : MatchOption r.accepted
+      (¬ IsSchWord (take 35 r.u))
+      (λ info. IsSchWord (take 35 r.u) × (info ≡ take 25 r.u))
   pub text : report ≡ sync_report_text r
 
 -- what these normal bursts, of which the last has just come, are answered with: fewer than four wait, and four are reported

@@ -3,7 +3,7 @@ pub mod Code
 pub mod Headline
 pub mod Replay
 pub mod Restored
-pub mod Runs
+pub mod Machines
 pub mod Shapes
 pub mod Show
 pub mod WordLists

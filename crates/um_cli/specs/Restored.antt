@@ -1,6 +1,7 @@
 -- What `code` writes, `replay` restores (this project's own rule).
 use Rattle.std.specs.Prelude.{ℕ, ◌≡◌, ◌≤◌, List, [], ◌∷◌, ◌++◌, length, Option, IfSome}
 use Rattle.um_io.specs.Lines.{IsDivided}
+use Rattle.um_io.specs.Reading.{input_limit}
 use Rattle.um_block.specs.Restored.{IsCleanBlock, IsCleanAccess, IsCleanSync}
 use Rattle.um_block.specs.declared.received.Received.{Received}
 use Rattle.um_block.specs.declared.received.ReceivedAccess.{ReceivedAccess}
@@ -9,7 +10,7 @@ use Rattle.um_text.specs.declared.code.CodeLine.{CodeLine}
 use Rattle.um_text.specs.declared.code.CodeLine.TheVariants.{Skip, Block, Rach, Sch}
 use Rattle.um_text.specs.CodeLines.{CodeMeans}
 use Rattle.um_text.specs.Reports.{IsBlockReport, access_report_text, sync_report_text}
-use Rattle.um_driver.specs.Outputs.{IsGoodInput}
+use Rattle.um_driver.specs.Outputs.{IsOutput}
 use Rattle.um_driver.specs.Table.{Agrees}
 use Rattle.um_driver.specs.declared.status.Status.{Status}
 use Rattle.um_driver.specs.declared.status.Status.TheVariants.{Done}
@@ -33,5 +34,5 @@ AreRestored (line ∷ lines) reports =
 -- over an input that is the whole output of a good input of `code`, a run ends as one that writes the reports of that
 -- input's lines, unless the outside failed or there was no memory
 abbrev pub Restores : Status → Option (List ℕ) → Option (List ℕ) → Option (List ℕ) → Type 0
-Restores status left taken taken' = IfSome left (λ x. (z : List ℕ) → IsGoodInput code_rules tt z x → length x ≤ 67108864 →
+Restores status left taken taken' = IfSome left (λ x. (z : List ℕ) → IsOutput code_rules tt z Done x → length x ≤ input_limit →
     (lines : List (List ℕ)) × (reports : List ℕ) × IsDivided z lines × AreRestored lines reports × Agrees status Done reports taken taken')

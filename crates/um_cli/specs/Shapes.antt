@@ -1,14 +1,19 @@
 -- What the words ask for: this project's own rules.
-use Rattle.std.specs.Prelude.{ℕ, ◌≡◌, List, [], ◌∷◌, codes}
+use Rattle.std.specs.Prelude.{ℕ, List, [], ◌∷◌, Option, Some, None, codes, if◌then◌else◌}
+use Rattle.std.specs.Str.{bytes_eq}
 use Rattle.um_cli.specs.declared.words.Shape.{Shape}
 use Rattle.um_cli.specs.declared.words.Shape.TheVariants.{Code, Replay, Show}
 
--- the words are of this shape
-abbrev pub HasShape : List (List ℕ) → Shape → Type 0
-HasShape words Code = words ≡ codes "code" ∷ []
-HasShape words Replay = words ≡ codes "replay" ∷ []
-HasShape words Show = words ≡ codes "show" ∷ []
+-- what one word asks for
+abbrev pub word_shape : List ℕ → Option Shape
+word_shape word =
+    if bytes_eq word (codes "code") then Some Code
+    else if bytes_eq word (codes "replay") then Some Replay
+    else if bytes_eq word (codes "show") then Some Show
+    else None
 
--- the words are of no shape
-abbrev pub HasNoShape : List (List ℕ) → Type 0
-HasNoShape words = (shape : Shape) → ¬ HasShape words shape
+-- what words ask for, if they are of any shape
+abbrev pub shape_of : List (List ℕ) → Option Shape
+shape_of [] = None
+shape_of (word ∷ []) = word_shape word
+shape_of (word ∷ second ∷ words) = None

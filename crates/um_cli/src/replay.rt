@@ -3,6 +3,7 @@ ghost use Rattle.std.specs.Prelude.{◌≡◌, ℤ, List, [], ◌∷◌, ◌++�
 ghost use Rattle.conv_code.specs.Likelihood.{AllSoft};
 ghost use Rattle.um_cli.specs.Replay.{replay_rules, IsBlockAnswer};
 
+use crate::held::HeldBursts;
 use std::marker::Model;
 use um_block::{receive_access, receive_block, receive_sync};
 use um_driver::Command;
@@ -12,21 +13,16 @@ use um_text::{BurstLine, access_report, block_report, parse_burst, sync_report};
 /// The command `replay`, with the normal bursts of a block that has not all its four.
 #[derive(Drop)]
 pub struct Replay {
-    bursts: [[i8; 148]; 4],
-    held: u8,
+    held: HeldBursts,
 }
 
 // Clauses see the list of bursts held.
 impl Model for Replay {
-    ghost use Rattle.std.specs.Prelude.{ℤ, ◌≤◌, List, take};
-    ghost use Rattle.std.specs.List.{All};
-    ghost use Rattle.conv_code.specs.Likelihood.{AllSoft};
+    ghost use Rattle.std.specs.Prelude.{ℤ, List};
 
     ghost Value = { List (List ℤ) };
 
-    ghost view = { λ r. take r.held r.bursts };
-
-    ghost invariant = { λ r. (r.held ≤ 3) × All AllSoft r.bursts };
+    ghost view = { λ r. r.held };
 }
 
 impl Replay {
@@ -35,8 +31,7 @@ impl Replay {
         ensures { result ≡ [] }
     {
         Replay {
-            bursts: [[0; 148]; 4],
-            held: 0,
+            held: HeldBursts::new(),
         }
     }
 
@@ -46,12 +41,8 @@ impl Replay {
         requires empty { out.old ≡ [] }
         ensures { IsBlockAnswer (self.old ++ burst ∷ []) out.new self.new }
     {
-        self.bursts[self.held as usize] = burst;
-        if self.held < 3 {
-            self.held += 1;
-        } else {
-            self.held = 0;
-            block_report(out, &receive_block(&self.bursts));
+        if let Some(block) = self.held.add(burst) {
+            block_report(out, &receive_block(&block));
         }
     }
 }
@@ -70,7 +61,7 @@ impl Command for Replay {
     ghost kept = { λ _. tt };
 
     fn answer(&mut self, line: &[u8], out: &mut Text) -> Result<(), LineFault> {
-        match parse_burst(line, self.held)? {
+        match parse_burst(line, self.held.count())? {
             BurstLine::Skip => {}
             BurstLine::Normal(burst) => self.hold(burst, out),
             BurstLine::Access { bsic, soft } => {
@@ -82,7 +73,7 @@ impl Command for Replay {
     }
 
     fn finish(&self) -> Option<LineFault> {
-        if self.held == 0 {
+        if self.held.count() == 0 {
             None
         } else {
             Some(LineFault::Order)

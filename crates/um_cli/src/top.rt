@@ -1,60 +1,60 @@
 //! The top call.
-ghost use Rattle.std.specs.Prelude.{◌≡◌, ◌≤◌, ◌↔◌, []};
+ghost use Rattle.std.specs.Prelude.{◌≡◌, ◌↔◌, Some, None, []};
 ghost use Rattle.um_driver.specs.Table.{IsRun, HasCause};
-ghost use Rattle.um_cli.specs.Code.{code_rules};
-ghost use Rattle.um_cli.specs.Replay.{replay_rules};
-ghost use Rattle.um_cli.specs.Show.{show_rules};
 ghost use Rattle.um_cli.specs.Headline.{headline_rules};
+ghost use Rattle.um_cli.specs.Machines.{IsTable, IsDueEnd, OneOutput};
 ghost use Rattle.um_cli.specs.Restored.{Restores};
-ghost use Rattle.um_cli.specs.Runs.{HasOneOutput, IsTable, IsDueEnd};
-ghost use Rattle.um_cli.specs.Shapes.{HasShape, HasNoShape};
+ghost use Rattle.um_cli.specs.Shapes.{shape_of};
 
 use crate::code::Code;
 use crate::replay::Replay;
 use crate::show::Show;
 use crate::words::{Shape, Words};
 use std::alloc::Global;
+use um_block::Radio;
 use um_driver::{Status, drive};
 use um_io::{Sink, Source};
 
 /// Runs the command that the words name, from the octets of `input` to the octets of `output`.
 ///
-/// All memory is taken before the first octet is read.
-pub fn run<S: Source, K: Sink>(
+/// All memory is taken before the first octet is read. The commands built so far leave the radio as it was.
+pub fn run<S: Source, K: Sink, R: Radio>(
     alloc: Global,
     words: &Words,
     input: &mut S,
     output: &mut K,
+    radio: &mut R,
 ) -> Status
-    // Words of no shape alone are bad, and then nothing is read, written or counted.
-    ensures bad_words { (result ≡ Status.BadWords) ↔ HasNoShape words.now }
-    ensures untouched { HasNoShape words.now → (input.new ≡ input.old) × (output.new ≡ output.old) }
+    // Words of no shape alone are bad, and then nothing is read or written.
+    ensures bad_words { (result ≡ Status.BadWords) ↔ (shape_of words.now ≡ None) }
+    ensures untouched { shape_of words.now ≡ None → (input.new ≡ input.old) × (output.new ≡ output.old) }
 
     // Want of memory comes before anything is read or written.
     ensures opening { result ≡ Status.NoMemory → (input.new ≡ input.old) × (output.new ≡ output.old) }
 
     // What was read and written of a run of the command named, for each way to end.
-    ensures table { (shape : Shape) → HasShape words.now shape → IsTable shape result
+    ensures table { (shape : Shape) → shape_of words.now ≡ Some shape → IsTable shape result
         (S.left input.old) (S.left input.new) (K.taken output.old) (K.taken output.new) }
 
     // It ends and writes as the command's rules have it for the whole input, unless the outside failed.
-    ensures due { (shape : Shape) → HasShape words.now shape → IsDueEnd shape result
+    ensures due { (shape : Shape) → shape_of words.now ≡ Some shape → IsDueEnd shape result
         (S.left input.old) (K.taken output.old) (K.taken output.new) }
 
-    // Each reported block is a codeword that no other beats under the soft values read, its data accepted exactly where
-    // its parity holds.
-    ensures headline { HasShape words.now Shape.Replay → IsRun headline_rules [] (λ _. Unit {0}) result
+    // Each reported block is a codeword that no other beats under the soft values read, and its data are accepted
+    // exactly where its parity holds.
+    ensures headline { shape_of words.now ≡ Some Shape.Replay → IsRun headline_rules [] (λ _. Unit {0}) result
         (S.left input.old) (S.left input.new) (K.taken output.old) (K.taken output.new) }
 
     // What `code` writes, `replay` restores.
-    ensures restores { HasShape words.now Shape.Replay → Restores result
+    ensures restores { shape_of words.now ≡ Some Shape.Replay → Restores result
         (S.left input.old) (K.taken output.old) (K.taken output.new) }
 
-    // The outside failed only where its count rose, and no count falls.
+    // The outside failed exactly where its count rose; else the count is as before.
     ensures cause { HasCause result (S.faults input.old) (S.faults input.new)
         (K.faults output.old) (K.faults output.new) }
-    ensures later_source { S.faults input.old ≤ S.faults input.new }
-    ensures later_sink { K.faults output.old ≤ K.faults output.new }
+
+    // The radio is not used.
+    ensures radio { radio.new ≡ radio.old }
 {
     match words.shape() {
         None => Status::BadWords,
@@ -64,17 +64,7 @@ pub fn run<S: Source, K: Sink>(
     }
 }
 
-/// Every list of octets, good or bad and of any length, has one output of `code` and one way to end.
-pub fn law_code_has_one_output()
-    ensures { HasOneOutput code_rules tt }
-{}
-
-/// Every list of octets has one output of `replay` and one way to end.
-pub fn law_replay_has_one_output()
-    ensures { HasOneOutput replay_rules [] }
-{}
-
-/// Every list of octets has one output of `show` and one way to end.
-pub fn law_show_has_one_output()
-    ensures { HasOneOutput show_rules tt }
+/// Every list of octets, good or bad and of any length, has one output of each command and one way to end.
+pub fn law_one_output()
+    ensures { (shape : Shape) → OneOutput shape }
 {}

@@ -1,7 +1,7 @@
 //! The words that the program was called with.
-ghost use Rattle.std.specs.Prelude.{◌≡◌, ℕ, List, [], ◌∷◌, map, MatchOption};
+ghost use Rattle.std.specs.Prelude.{◌≡◌, ℕ, List, [], map};
 ghost use Rattle.um_cli.specs.WordLists.{held_word, added_word};
-ghost use Rattle.um_cli.specs.Shapes.{HasShape, HasNoShape};
+ghost use Rattle.um_cli.specs.Shapes.{word_shape, shape_of};
 
 /// What a list of words asks for.
 #[derive(Clone, Copy, Debug, PartialEq, Eq)]
@@ -54,10 +54,10 @@ impl Words {
 
     /// What the words ask for, if they are of any shape.
     pub fn shape(&self) -> Option<Shape>
-        ensures { MatchOption result (HasNoShape self.now) (HasShape self.now) }
+        ensures { result ≡ shape_of self.now }
     {
         match self.held.as_slice() {
-            [word] => shape_of(word.as_str()),
+            [word] => word_shape(word.as_str()),
             _ => None,
         }
     }
@@ -77,8 +77,8 @@ fn hold(word: &str) -> ArrayString<8>
 }
 
 /// What one word asks for.
-fn shape_of(word: &str) -> Option<Shape>
-    ensures { MatchOption result (HasNoShape (word.now ∷ [])) (HasShape (word.now ∷ [])) }
+fn word_shape(word: &str) -> Option<Shape>
+    ensures { result ≡ word_shape word.now }
 {
     match word {
         "code" => Some(Shape::Code),

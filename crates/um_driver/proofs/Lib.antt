@@ -5,6 +5,7 @@ pub mod Giving
 pub mod Judging
 pub mod OutputLemmas
 pub mod OutputExists
+pub mod GoodInputs
 pub mod TableLemmas
 pub mod Turns
 pub mod Reaching

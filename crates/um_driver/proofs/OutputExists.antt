@@ -53,7 +53,7 @@ gives_some r a total done answers b runs n (line ∷ judged) ended plain = elim 
 ]
 
 -- judged lines are lines
-plain_judged : (x : List ℕ) (judged : List (List ℕ)) (ended : Bool) → Judges x judged ended → All IsLine judged
+pub plain_judged : (x : List ℕ) (judged : List (List ℕ)) (ended : Bool) → Judges x judged ended → All IsLine judged
 plain_judged x judged ended j = elim j.tail [
   | inl (e, _) ↦ rw e j.begins.plain
   | inr (e, _) ↦ rw e (All-append IsLine j.lines (j.last ∷ []) j.begins.plain (All-cons IsLine j.last [] j.plain (All-nil IsLine)))

@@ -54,3 +54,11 @@ Runs-split r a c (line ∷ ls) (y ∷ ys) ys' (mid, good, step, runs) =
 pub joined-append : (ys ys' : List (List ℕ)) → joined (ys ++ ys') ≡ joined ys ++ joined ys'
 joined-append [] ys' = refl
 joined-append (y ∷ ys) ys' = ap (λ w. y ++ w) (joined-append ys ys') ∙ sym (append_assoc y (joined ys) (joined ys'))
+
+-- what each step keeps holds after a run
+pub Runs-keep : {State : Type 0} (r : Rules State) (P : State → Type 0) → ((a b : State) (line answer : List ℕ) → P a → r.Step a line answer b → P b) →
+    (a b : State) (ls ys : List (List ℕ)) → P a → Runs r a ls ys b → P b
+Runs-keep {State} r P keeps a b [] [] h same = subst P (sym same) h
+Runs-keep r P keeps a b [] (y ∷ ys) h none = absurd none
+Runs-keep r P keeps a b (line ∷ ls) [] h none = absurd none
+Runs-keep r P keeps a b (line ∷ ls) (y ∷ ys) h (mid, good, step, runs) = Runs-keep r P keeps mid b ls ys (keeps a mid line y h step) runs

@@ -2,6 +2,7 @@
 use crate::code::ACCESS_BURST;
 use crate::outside::{Outside, compare};
 use std::test::Fail;
+use um_block::PlainRadio;
 use um_cli::{Status, Words, run};
 use um_io::{MemorySink, PlainSource, Source};
 
@@ -165,7 +166,13 @@ fn no_more_is_read_than_the_buffer_holds_before_a_line_is_answered(
         .ok()
         .ok_or("no memory")?;
     assert_eq!(rt;
-        run(rt.alloc(), &words, &mut source, &mut sink),
+        run(
+            rt.alloc(),
+            &words,
+            &mut source,
+            &mut sink,
+            &mut PlainRadio::new()
+        ),
         Status::WriteFault
     );
     assert_eq!(rt; sink.octets(), b"".as_slice());

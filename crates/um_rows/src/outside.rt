@@ -3,6 +3,7 @@ ghost use Rattle.std.specs.Prelude.{◌≤◌};
 
 use std::process::Abort;
 use std::test::Fail;
+use um_block::PlainRadio;
 use um_cli::{Status, Words, run};
 use um_io::{MemorySink, MemorySource, PlainSource};
 
@@ -72,7 +73,16 @@ pub fn compare(
         outside.failing_puts,
     )
     .expect(rt, "the sink finds its memory");
-    assert_eq!(rt; run(rt.alloc(), &held, &mut source, &mut sink), status);
+    assert_eq!(rt;
+        run(
+            rt.alloc(),
+            &held,
+            &mut source,
+            &mut sink,
+            &mut PlainRadio::new()
+        ),
+        status
+    );
     assert_eq!(rt; sink.octets(), output);
 }
 
@@ -99,7 +109,13 @@ pub fn coded(rt: &(impl Abort + AllocGlobal), input: &[u8]) -> Result<Vec<u8>, F
         .ok()
         .ok_or("no memory")?;
     assert_eq!(rt;
-        run(rt.alloc(), &words, &mut source, &mut sink),
+        run(
+            rt.alloc(),
+            &words,
+            &mut source,
+            &mut sink,
+            &mut PlainRadio::new()
+        ),
         Status::Done
     );
     Ok(sink.octets().to_vec(rt.alloc())?)

@@ -362,3 +362,35 @@ fn a_failing_outside_leaves_a_front_of_the_report(rt: HostRuntime) {
     let full = Outside::of_room(0);
     compare(&rt, &["replay"], FILL_FRAME, full, Status::WriteFault, b"");
 }
+
+/// A sink that takes at most 50 octets a call and fails at the calls with these numbers.
+fn taking_fifty(failing_puts: &[u64]) -> Outside<'_> {
+    Outside {
+        take_most: 100,
+        failing_takes: &[],
+        put_most: 50,
+        failing_puts,
+        room: 1000,
+    }
+}
+
+#[test]
+fn each_writing_of_a_report_fails_in_turn(rt: HostRuntime) -> Result<(), Fail> {
+    for (call, taken) in [(1, 0), (2, 50), (3, 100)] {
+        let calls = [call];
+        let front = FILL_FRAME_REPORT.get(..taken).ok_or("144 octets")?;
+        let outside = taking_fifty(&calls);
+        compare(
+            &rt,
+            &["replay"],
+            FILL_FRAME,
+            outside,
+            Status::WriteFault,
+            front,
+        );
+    }
+    let fourth = taking_fifty(&[4]);
+    let all = FILL_FRAME_REPORT;
+    compare(&rt, &["replay"], FILL_FRAME, fourth, Status::Done, all);
+    Ok(())
+}

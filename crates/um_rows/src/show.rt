@@ -119,3 +119,18 @@ fn line_feeds_past_the_limit_are_too_many_to_show(rt: HostRuntime) -> Result<(),
     );
     Ok(())
 }
+
+#[test]
+fn a_line_to_show_may_have_4096_octets_and_no_more(rt: HostRuntime) -> Result<(), Fail> {
+    let mut line = vec![in rt.alloc(); b'#'; 4096]?;
+    compare_in_pieces(&rt, &["show"], line.as_slice(), Status::Done, b"");
+    line.push(b'#')?;
+    compare_in_pieces(
+        &rt,
+        &["show"],
+        line.as_slice(),
+        Status::BadInput,
+        b"refused 1 long\n",
+    );
+    Ok(())
+}

@@ -6,15 +6,15 @@ use Rattle.um_cli.proofs.replay.ReplayCommand.answer.Goals as goal
 pub hold-requires-clause-soft : goal.hold-requires-clause-soft
 hold-requires-clause-soft c =
     let means = c.in_ok-parse_burst.ensures.means in
-    (normal_burst c.self.inside.held c.args.line.now c.in-Normal.burst (subst (BurstMeans c.self.inside.held c.args.line.now) c.in-Normal.is means)).1
+    (normal_burst c.count.result c.args.line.now c.in-Normal.burst (subst (BurstMeans c.count.result c.args.line.now) c.in-Normal.is means)).1
 
 pub receive_access-requires : goal.receive_access-requires
 receive_access-requires c =
     let means = c.in_ok-parse_burst.ensures.means in
-    (access_burst c.self.inside.held c.args.line.now c.in-Access.bsic c.in-Access.soft
-    (subst (BurstMeans c.self.inside.held c.args.line.now) c.in-Access.is means)).4
+    (access_burst c.count.result c.args.line.now c.in-Access.bsic c.in-Access.soft
+    (subst (BurstMeans c.count.result c.args.line.now) c.in-Access.is means)).4
 
 pub receive_sync-requires : goal.receive_sync-requires
 receive_sync-requires c =
     let means = c.in_ok-parse_burst.ensures.means in
-    (sync_burst c.self.inside.held c.args.line.now c.in-Sync.burst (subst (BurstMeans c.self.inside.held c.args.line.now) c.in-Sync.is means)).2
+    (sync_burst c.count.result c.args.line.now c.in-Sync.burst (subst (BurstMeans c.count.result c.args.line.now) c.in-Sync.is means)).2

@@ -1,6 +1,5 @@
-use Rattle.std.proofs.Common.{◌≡◌, [], ◌∷◌, map, ap, sym, subst, ◌∙◌}
-use Rattle.std.specs.Prelude.{MatchOption}
-use Rattle.um_cli.specs.Shapes.{HasShape, HasNoShape}
+use Rattle.std.proofs.Common.{◌≡◌, [], ◌∷◌, map, ap, sym, ◌∙◌}
+use Rattle.um_cli.specs.Shapes.{shape_of}
 use Rattle.um_cli.proofs.WordListsLemmas.{map-single}
 use Rattle.um_cli.proofs.words.Words.shape.Goals as goal
 
@@ -12,4 +11,4 @@ returns-in-len1 c =
     ∙ map-single (λ word. word.bytes) c.as_slice.result.now c.word-item.result c.in-len1.len_at_least c.in-len1.len_below
     ∙ ap (λ word. word.bytes ∷ []) (sym c.word-item.is)
     ∙ ap (λ word. word ∷ []) (sym c.as_str.ensures.value) in
-    subst (λ words. MatchOption c.shape_of.result (HasNoShape words) (HasShape words)) (sym words_are) c.shape_of.ensures
+    c.word_shape.ensures ∙ ap shape_of (sym words_are)
