@@ -4,8 +4,7 @@ use Rattle.std.proofs.lemmas.Bool.{false≢true}
 use Rattle.std.proofs.lemmas.Bool.Decides.{nat_tests}
 use Rattle.um_link.proofs.Adding.{adds-none}
 use Rattle.lapdm_frame.specs.Layout.{n201}
-use Rattle.lapdm_window.specs.Tables.{after_frame}
-use Rattle.lapdm_window.specs.declared.Sapi.TheVariants.{Zero, Three}
+use Rattle.lapdm_window.specs.declared.Sapi.TheVariants.{Zero}
 use Rattle.lapdm_window.specs.declared.Refused.TheVariants as Q
 use Rattle.lapdm_window.specs.Calls.{first_of}
 use Rattle.segmenting.specs.Pieces.{Message}
