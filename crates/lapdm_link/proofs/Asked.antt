@@ -39,17 +39,23 @@ record IsAsked (x : EndState) (call : Call) (mid : EndState) : Type 0 where
   acked : wholly_acked mid ≡ wholly_acked x
   phase : (o c k : ℕ) → Phase x.state o c k → Phase mid.state o c (k + length (filter_map closes_in (call ∷ [])))
 
-asked-told : (x mid : EndState) (call : Call) → IsAsked x call mid → (cs : List Call) (ns : List Notice) → HasTold x cs ns → HasTold mid (cs ++ call ∷ []) ns
+asked-told : (x mid : EndState) (call : Call) → IsAsked x call mid → (cs : List Call) (ns : List Notice) → HasTold x cs ns →
+    HasTold mid (cs ++ call ∷ []) ns
 asked-told x mid call a cs ns h =
-    let closes-more : length (filter_map closes_in cs) + length (filter_map closes_in (call ∷ [])) ≡ length (filter_map closes_in (cs ++ call ∷ [])) = sym (ap length (filter_map-append closes_in cs (call ∷ [])) ∙ length-append (filter_map closes_in cs) (filter_map closes_in (call ∷ []))) in
+    let closes-more : length (filter_map closes_in cs) + length (filter_map closes_in (call ∷ [])) ≡ length
+    (filter_map closes_in (cs ++ call ∷ [])) =
+    sym (ap length (filter_map-append closes_in cs (call ∷ []))
+    ∙ length-append (filter_map closes_in cs) (filter_map closes_in (call ∷ []))) in
     record {
       taken = filter_map-append sent_in cs (call ∷ []) ∙ ap (λ ms. ms ++ filter_map sent_in (call ∷ [])) h.taken ∙ sym a.taken;
       got = h.got ∙ ap (endings []) (sym a.accepted);
       acked = h.acked ∙ sym a.acked;
-      phase = subst (λ (k : ℕ). Phase mid.state (length (filter_map opened_in ns)) (length (filter_map closed_in ns)) k) closes-more (a.phase _ _ _ h.phase);
+      phase = subst (λ (k : ℕ). Phase mid.state (length (filter_map opened_in ns)) (length (filter_map closed_in ns)) k) closes-more
+          (a.phase _ _ _ h.phase);
     }
 
-called-by : (x mid : EndState) (call : Call) (o : Outcome) → mid.role ≡ x.role → mid.sapi ≡ x.sapi → mid.channel ≡ x.channel → IsEnd mid → IsAsked x call mid → IsStep mid o → IsCalled x call o
+called-by : (x mid : EndState) (call : Call) (o : Outcome) → mid.role ≡ x.role → mid.sapi ≡ x.sapi → mid.channel ≡ x.channel → IsEnd mid →
+    IsAsked x call mid → IsStep mid o → IsCalled x call o
 called-by x mid call o role sapi channel end a s = record {
   role = s.role ∙ role;
   sapi = s.sapi ∙ sapi;
@@ -62,7 +68,8 @@ called-by x mid call o role sapi channel end a s = record {
 no_more : (s : State) (o c k : ℕ) → Phase s o c k → Phase s o c (k + 0)
 no_more s o c k h = subst (λ (i : ℕ). Phase s o c i) (let e : k ≡ k + 0 = omega arith in e) h
 
-asked-plainly : (x : EndState) (call : Call) → filter_map sent_in (call ∷ []) ≡ [] → filter_map closes_in (call ∷ []) ≡ [] → IsAsked x call x
+asked-plainly : (x : EndState) (call : Call) → filter_map sent_in (call ∷ []) ≡ [] → filter_map closes_in (call ∷ []) ≡ [] →
+    IsAsked x call x
 asked-plainly x call a b = record {
   taken = sym (append-nil x.taken) ∙ ap (λ ms. x.taken ++ ms) (sym a);
   accepted = refl;
@@ -93,8 +100,16 @@ begins-phase s e o c k h = let g : Phase S.Idle o c k = subst (λ (t : State). P
 ends-phase : (s : State) → s ≡ S.Open → (o c k : ℕ) → Phase s o c k → Phase S.Closing o c (k + 1)
 ends-phase s e o c k h = let g : Phase S.Open o c k = subst (λ (t : State). Phase t o c k) e h in (g.0, g.1)
 
-ticks_if : (s : State) (b : Bool) (x : EndState) → x.state ≡ s → awaits_in s (waits x) ≡ true → IsStep x (if b then sends (repeated s x) (record x { retries = x.retries + 1 }) else closes R.Failed x)
-ticks_if s true x e due = record { role = refl; sapi = refl; channel = refl; tells = silent x _ refl refl refl refl; end = λ h. moved-end x x.state x.kept (x.retries + 1) h }
+ticks_if : (s : State) (b : Bool) (x : EndState) → x.state ≡ s → awaits_in s (waits x) ≡ true →
+    IsStep x (if b then sends (repeated s x) (record x { retries = x.retries + 1 }) else closes R.Failed x)
+ticks_if s true x e due =
+    record {
+      role = refl;
+      sapi = refl;
+      channel = refl;
+      tells = silent x _ refl refl refl refl;
+      end = λ h. moved-end x x.state x.kept (x.retries + 1) h;
+    }
 ticks_if S.Idle false x e due = absurd (false≢true due)
 ticks_if S.Closed false x e due = absurd (false≢true due)
 ticks_if S.Opening false x e due = step-closes S.Opening R.Failed [] x e refl
@@ -107,20 +122,29 @@ step-next x = let h = in-sends_next x in record { role = h.role; sapi = h.sapi; 
 pub is_called : (call : Call) (x : EndState) → refusal_of call x ≡ None → IsEnd x → IsCalled x call (after_call call x)
 is_called (Opens info) x ok h =
     let mid : EndState = record x { state = S.Opening; kept = info; retries = 0 } in
-    let is_now : x.state ≡ S.Idle = is_idle-is x.state (not_false (is_idle x.state) (passes (not (is_idle x.state)) No.NotIdle (frame_refusals info x) ok).no) in
-    called-by x mid (Opens info) _ refl refl refl (moved-end x S.Opening info 0 h) (record { taken = sym (append-nil x.taken); accepted = refl; acked = refl; phase = begins-phase x.state is_now }) (step-silent mid _)
+    let is_now : x.state ≡ S.Idle =
+    is_idle-is x.state (not_false (is_idle x.state) (passes (not (is_idle x.state)) No.NotIdle (frame_refusals info x) ok).no) in
+    called-by x mid (Opens info) _ refl refl refl (moved-end x S.Opening info 0 h)
+    (record { taken = sym (append-nil x.taken); accepted = refl; acked = refl; phase = begins-phase x.state is_now })
+    (step-silent mid _)
 is_called OpensBare x ok h =
     let mid : EndState = record x { state = S.Opening; kept = []; retries = 0 } in
     let is_now : x.state ≡ S.Idle = is_idle-is x.state (not_false (is_idle x.state) (passes (not (is_idle x.state)) No.NotIdle [] ok).no) in
-    called-by x mid OpensBare _ refl refl refl (moved-end x S.Opening [] 0 h) (record { taken = sym (append-nil x.taken); accepted = refl; acked = refl; phase = begins-phase x.state is_now }) (step-silent mid _)
+    called-by x mid OpensBare _ refl refl refl (moved-end x S.Opening [] 0 h)
+    (record { taken = sym (append-nil x.taken); accepted = refl; acked = refl; phase = begins-phase x.state is_now })
+    (step-silent mid _)
 is_called (Sends m) x ok h =
     let good : IsMessage m = is_message m x (passes (not (is_open x.state)) No.NotOpen (put_refusals m x) ok).rest in
-    called-by x (with_taken m x) (Sends m) _ refl refl refl (IsEnd-taken x m h good) (record { taken = refl; accepted = refl; acked = wholly_acked-taken x m h; phase = no_more x.state }) (step-next (with_taken m x))
+    called-by x (with_taken m x) (Sends m) _ refl refl refl (IsEnd-taken x m h good)
+    (record { taken = refl; accepted = refl; acked = wholly_acked-taken x m h; phase = no_more x.state }) (step-next (with_taken m x))
 is_called (SendsUnit m) x ok h = called-by x x (SendsUnit m) _ refl refl refl h (asked-plainly x (SendsUnit m) refl refl) (step-silent x _)
 is_called Closes x ok h =
     let mid : EndState = record x { state = S.Closing; retries = 0 } in
     let is_now : x.state ≡ S.Open = is_open-is x.state (not_false (is_open x.state) (passes (not (is_open x.state)) No.NotOpen [] ok).no) in
-    called-by x mid Closes _ refl refl refl (moved-end x S.Closing x.kept 0 h) (record { taken = sym (append-nil x.taken); accepted = refl; acked = refl; phase = ends-phase x.state is_now }) (step-silent mid _)
+    called-by x mid Closes _ refl refl refl (moved-end x S.Closing x.kept 0 h)
+    (record { taken = sym (append-nil x.taken); accepted = refl; acked = refl; phase = ends-phase x.state is_now }) (step-silent mid _)
 is_called Ticks x ok h =
-    called-by x x Ticks _ refl refl refl h (asked-plainly x Ticks refl refl) (ticks_if x.state (nat_lt x.retries (n200 x.channel x.state)) x refl (not_false (awaits x) (passes (not (awaits x)) No.NotRunning [] ok).no))
+    called-by x x Ticks _ refl refl refl h (asked-plainly x Ticks refl refl)
+    (ticks_if x.state (nat_lt x.retries (n200 x.channel x.state)) x refl
+    (not_false (awaits x) (passes (not (awaits x)) No.NotRunning [] ok).no))
 is_called Idles x ok h = called-by x x Idles _ refl refl refl h (asked-plainly x Idles refl refl) (step-silent x _)

@@ -72,54 +72,65 @@ module _ (w : World) (P : World → List Line → Type 0) (Known : Role → Fram
     (called : (r : Role) (s : Sapi) (call : Call) → IsPlaced r s call → refusal_of call (end_of r s w) ≡ None →
     P (acted r s (after_call call (end_of r s w)) w) (Asked r s call ∷ map (Told r s) (after_call call (end_of r s w)).notices))
     (taken : (r : Role) (s : Sapi) (f : Frame) → Known (other r) f →
-    P (acted r s (after_frame f (end_of r s (without_first (other r) w))) (without_first (other r) w)) (map (Told r s) (after_frame f (end_of r s (without_first (other r) w))).notices))
+    P (acted r s (after_frame f (end_of r s (without_first (other r) w))) (without_first (other r) w))
+    (map (Told r s) (after_frame f (end_of r s (without_first (other r) w))).notices))
     (lost : (sender : Role) → P (without_first sender w) [])
-    (rival : (info : Message) → rival_refusal w.channel info ≡ None → P (with_frames Mobile (rival_frame info ∷ []) w) (Rivals info ∷ [])) where
-  opened : (o : Option Why) (info : Message) → refusal (Open info) w ≡ o → P (after_by o (Open info) w) (answer_lines {Manner = Option Frame} (Open info) (answer_by o (deed (Open info) w.ends)))
-  opened (Some why) info h = refused
-  opened None info h = called Mobile Zero (Opens info) tt (no_refusal _ _ h)
+    (rival : (info : Message) → rival_refusal w.channel info ≡ None → P (with_frames Mobile (rival_frame info ∷ []) w) (Rivals info ∷ []))
+  where
+    opened : (o : Option Why) (info : Message) → refusal (Open info) w ≡ o →
+        P (after_by o (Open info) w) (answer_lines {Manner = Option Frame} (Open info) (answer_by o (deed (Open info) w.ends)))
+    opened (Some why) info h = refused
+    opened None info h = called Mobile Zero (Opens info) tt (no_refusal _ _ h)
 
-  opened_bare : (o : Option Why) (r : Role) → refusal (OpenBare r) w ≡ o → P (after_by o (OpenBare r) w) (answer_lines {Manner = Option Frame} (OpenBare r) (answer_by o (deed (OpenBare r) w.ends)))
-  opened_bare (Some why) r h = refused
-  opened_bare None r h = called r Three OpensBare (placed-bare r) (no_refusal _ _ h)
+    opened_bare : (o : Option Why) (r : Role) → refusal (OpenBare r) w ≡ o →
+        P (after_by o (OpenBare r) w) (answer_lines {Manner = Option Frame} (OpenBare r) (answer_by o (deed (OpenBare r) w.ends)))
+    opened_bare (Some why) r h = refused
+    opened_bare None r h = called r Three OpensBare (placed-bare r) (no_refusal _ _ h)
 
-  asked : (o : Option Why) (r : Role) (s : Sapi) (request : Request) → refusal (Ask r s request) w ≡ o → P (after_by o (Ask r s request) w) (answer_lines {Manner = Option Frame} (Ask r s request) (answer_by o (deed (Ask r s request) w.ends)))
-  asked (Some why) r s request h = refused
-  asked None r s request h = called r s (call_of request) (placed-request r s request) (no_refusal _ _ h)
+    asked : (o : Option Why) (r : Role) (s : Sapi) (request : Request) → refusal (Ask r s request) w ≡ o →
+        P (after_by o (Ask r s request) w)
+        (answer_lines {Manner = Option Frame} (Ask r s request) (answer_by o (deed (Ask r s request) w.ends)))
+    asked (Some why) r s request h = refused
+    asked None r s request h = called r s (call_of request) (placed-request r s request) (no_refusal _ _ h)
 
-  -- nothing is sent
-  quietly : (sender r : Role) → P (with_frames r [] (without_first sender w)) []
-  quietly sender r = subst (λ (z : World). P z []) (sym (none_sent r (without_first sender w))) (lost sender)
+    -- nothing is sent
+    quietly : (sender r : Role) → P (with_frames r [] (without_first sender w)) []
+    quietly sender r = subst (λ (z : World). P z []) (sym (none_sent r (without_first sender w))) (lost sender)
 
-  taken_by : (r : Role) (f : Frame) → Known (other r) f → (zero three : Bool) →
-      (let d : Deed = (if zero then does r Zero (after_frame f (end_of r Zero w)) w.ends else (if three then does r Three (after_frame f (end_of r Three w)) w.ends else does_nothing (End r) w.ends)) in P (next d (without_first (other r) w)) (notice_lines d.who d.sapi d.notices))
-  taken_by Mobile f known true three = taken Mobile Zero f known
-  taken_by Network f known true three = taken Network Zero f known
-  taken_by Mobile f known false true = taken Mobile Three f known
-  taken_by Network f known false true = taken Network Three f known
-  taken_by Mobile f known false false = quietly Network Mobile
-  taken_by Network f known false false = quietly Mobile Network
+    taken_by : (r : Role) (f : Frame) → Known (other r) f → (zero three : Bool) →
+        (let d : Deed = (if zero then does r Zero (after_frame f (end_of r Zero w)) w.ends else
+        (if three then does r Three (after_frame f (end_of r Three w)) w.ends else does_nothing (End r) w.ends)) in P
+        (next d (without_first (other r) w)) (notice_lines d.who d.sapi d.notices))
+    taken_by Mobile f known true three = taken Mobile Zero f known
+    taken_by Network f known true three = taken Network Zero f known
+    taken_by Mobile f known false true = taken Mobile Three f known
+    taken_by Network f known false true = taken Network Three f known
+    taken_by Mobile f known false false = quietly Network Mobile
+    taken_by Network f known false false = quietly Mobile Network
 
-  delivered : (o : Option Why) (sender : Role) (read : Option Frame) → KnowsBy o Known (Deliver sender read) → P (after_by o (Deliver sender read) w) (answer_lines (Deliver sender read) (answer_by o (deed (Deliver sender read) w.ends)))
-  delivered (Some why) sender read known = refused
-  delivered None Mobile (Some f) known = taken_by Network f known (nat_eq f.sapi 0) (nat_eq f.sapi 3)
-  delivered None Network (Some f) known = taken_by Mobile f known (nat_eq f.sapi 0) (nat_eq f.sapi 3)
-  delivered None Mobile None known = quietly Mobile Network
-  delivered None Network None known = quietly Network Mobile
+    delivered : (o : Option Why) (sender : Role) (read : Option Frame) → KnowsBy o Known (Deliver sender read) →
+        P (after_by o (Deliver sender read) w) (answer_lines (Deliver sender read) (answer_by o (deed (Deliver sender read) w.ends)))
+    delivered (Some why) sender read known = refused
+    delivered None Mobile (Some f) known = taken_by Network f known (nat_eq f.sapi 0) (nat_eq f.sapi 3)
+    delivered None Network (Some f) known = taken_by Mobile f known (nat_eq f.sapi 0) (nat_eq f.sapi 3)
+    delivered None Mobile None known = quietly Mobile Network
+    delivered None Network None known = quietly Network Mobile
 
-  lost_by : (o : Option Why) (sender : Role) → P (after_by o (Lose sender) w) (answer_lines {Manner = Option Frame} (Lose sender) (answer_by o (deed (Lose sender) w.ends)))
-  lost_by (Some why) sender = refused
-  lost_by None Mobile = quietly Mobile Mobile
-  lost_by None Network = quietly Network Mobile
+    lost_by : (o : Option Why) (sender : Role) →
+        P (after_by o (Lose sender) w) (answer_lines {Manner = Option Frame} (Lose sender) (answer_by o (deed (Lose sender) w.ends)))
+    lost_by (Some why) sender = refused
+    lost_by None Mobile = quietly Mobile Mobile
+    lost_by None Network = quietly Network Mobile
 
-  rival_by : (o : Option Why) (info : Message) → refusal (Rival info) w ≡ o → P (after_by o (Rival info) w) (answer_lines {Manner = Option Frame} (Rival info) (answer_by o (deed (Rival info) w.ends)))
-  rival_by (Some why) info h = refused
-  rival_by None info h = rival info (no_refusal _ _ h)
+    rival_by : (o : Option Why) (info : Message) → refusal (Rival info) w ≡ o →
+        P (after_by o (Rival info) w) (answer_lines {Manner = Option Frame} (Rival info) (answer_by o (deed (Rival info) w.ends)))
+    rival_by (Some why) info h = refused
+    rival_by None info h = rival info (no_refusal _ _ h)
 
-  pub by_kind : (event : Event) → KnowsBy (refusal event w) Known event → P (after event w) (answer_lines event (answer event w))
-  by_kind (Open info) known = opened (refusal (Open info) w) info refl
-  by_kind (OpenBare r) known = opened_bare (refusal (OpenBare r) w) r refl
-  by_kind (Ask r s request) known = asked (refusal (Ask r s request) w) r s request refl
-  by_kind (Deliver sender read) known = delivered (refusal (Deliver sender read) w) sender read known
-  by_kind (Lose sender) known = lost_by (refusal (Lose sender) w) sender
-  by_kind (Rival info) known = rival_by (refusal (Rival info) w) info refl
+    pub by_kind : (event : Event) → KnowsBy (refusal event w) Known event → P (after event w) (answer_lines event (answer event w))
+    by_kind (Open info) known = opened (refusal (Open info) w) info refl
+    by_kind (OpenBare r) known = opened_bare (refusal (OpenBare r) w) r refl
+    by_kind (Ask r s request) known = asked (refusal (Ask r s request) w) r s request refl
+    by_kind (Deliver sender read) known = delivered (refusal (Deliver sender read) w) sender read known
+    by_kind (Lose sender) known = lost_by (refusal (Lose sender) w) sender
+    by_kind (Rival info) known = rival_by (refusal (Rival info) w) info refl

@@ -34,14 +34,17 @@ pub record IsDirection (ps : List Piece) (acked sent : ℕ) (accepted : List Pie
   pub within : sent ≤ length ps
   pub in_order : accepted ≡ take (length accepted) ps
 
-acknowledged-le : (ps : List Piece) (a s : ℕ) (qs : List Piece) (there : List (ℕ × Piece)) (back : List ℕ) → IsDirection ps a s qs there back → a ≤ length qs
+acknowledged-le : (ps : List Piece) (a s : ℕ) (qs : List Piece) (there : List (ℕ × Piece)) (back : List ℕ) →
+    IsDirection ps a s qs there back → a ≤ length qs
 acknowledged-le ps a s qs there back h = climbs-le Counts a back (length qs) h.acknowledged
 
-accepted-le : (ps : List Piece) (a s : ℕ) (qs : List Piece) (there : List (ℕ × Piece)) (back : List ℕ) → IsDirection ps a s qs there back → length qs ≤ s
+accepted-le : (ps : List Piece) (a s : ℕ) (qs : List Piece) (there : List (ℕ × Piece)) (back : List ℕ) → IsDirection ps a s qs there back →
+    length qs ≤ s
 accepted-le ps a s qs there back h = climbs-le (Carries ps) (length qs) there s h.carried
 
 -- what is sent and not acknowledged is one piece
-pub waits_for_one : (ps : List Piece) (a s : ℕ) (qs : List Piece) (there : List (ℕ × Piece)) (back : List ℕ) → s ≢ a → IsDirection ps a s qs there back → s ≡ a + 1
+pub waits_for_one : (ps : List Piece) (a s : ℕ) (qs : List Piece) (there : List (ℕ × Piece)) (back : List ℕ) → s ≢ a →
+    IsDirection ps a s qs there back → s ≡ a + 1
 waits_for_one ps a s qs there back apart h =
     let low : a ≤ length qs = acknowledged-le ps a s qs there back h in
     let high : length qs ≤ s = accepted-le ps a s qs there back h in
@@ -49,7 +52,8 @@ waits_for_one ps a s qs there back apart h =
     grind arith
 
 -- a new piece is to go out
-pub next_waits : (ps : List Piece) (a s : ℕ) (qs : List Piece) (there : List (ℕ × Piece)) (back : List ℕ) → s ≡ a → s < length ps → IsDirection ps a s qs there back → IsDirection ps a (s + 1) qs there back
+pub next_waits : (ps : List Piece) (a s : ℕ) (qs : List Piece) (there : List (ℕ × Piece)) (back : List ℕ) → s ≡ a → s < length ps →
+    IsDirection ps a s qs there back → IsDirection ps a (s + 1) qs there back
 next_waits ps a s qs there back none left h = record {
   acknowledged = h.acknowledged;
   carried = climbs-higher (Carries ps) (length qs) there s (s + 1) (omega arith) h.carried;
@@ -59,9 +63,11 @@ next_waits ps a s qs there back none left h = record {
 }
 
 -- the piece that waits goes out, for the first time or again
-pub piece_out : (ps : List Piece) (a s : ℕ) (qs : List Piece) (there : List (ℕ × Piece)) (back : List ℕ) → s ≡ a + 1 → IsDirection ps a s qs there back → IsDirection ps a s qs (there ++ (a % 8, get_or ps a ([], false)) ∷ []) back
+pub piece_out : (ps : List Piece) (a s : ℕ) (qs : List Piece) (there : List (ℕ × Piece)) (back : List ℕ) → s ≡ a + 1 →
+    IsDirection ps a s qs there back → IsDirection ps a s qs (there ++ (a % 8, get_or ps a ([], false)) ∷ []) back
 piece_out ps a s qs there back one h =
-    let last : Carries ps s (a % 8, get_or ps a ([], false)) = record { at = a; count = one; number = refl; within = omega (arith, h.within); piece = refl } in
+    let last : Carries ps s (a % 8, get_or ps a ([], false)) =
+    record { at = a; count = one; number = refl; within = omega (arith, h.within); piece = refl } in
     record {
       acknowledged = h.acknowledged;
       carried = climbs-push (Carries ps) (length qs) there s (a % 8, get_or ps a ([], false)) last h.carried;
@@ -83,7 +89,8 @@ take-next : (ps qs : List Piece) (n : ℕ) (d : Piece) → n < length ps → qs 
 take-next ps qs n d h e = ap (λ xs. xs ++ get_or ps n d ∷ []) e ∙ sym (take_more ps n d h)
 
 -- a piece is accepted
-pub piece_in : (ps : List Piece) (a s : ℕ) (qs : List Piece) (ns : ℕ) (p : Piece) (there : List (ℕ × Piece)) (back : List ℕ) → ns ≡ length qs % 8 → IsDirection ps a s qs ((ns, p) ∷ there) back → IsDirection ps a s (qs ++ p ∷ []) there back
+pub piece_in : (ps : List Piece) (a s : ℕ) (qs : List Piece) (ns : ℕ) (p : Piece) (there : List (ℕ × Piece)) (back : List ℕ) →
+    ns ≡ length qs % 8 → IsDirection ps a s qs ((ns, p) ∷ there) back → IsDirection ps a s (qs ++ p ∷ []) there back
 piece_in ps a s qs ns p there back number h =
     let k : ℕ = h.carried.0 in
     let c : Carries ps k (ns, p) = h.carried.2 in
@@ -91,7 +98,8 @@ piece_in ps a s qs ns p there back number h =
     let low : length qs ≤ k = h.carried.1 in
     let below : a ≤ length qs = acknowledged-le ps a s qs ((ns, p) ∷ there) back h in
     let above : k ≤ s = climbs-le (Carries ps) k there s rest in
-    let at_is : c.at ≡ length qs = right_piece a (length qs) s c.at below (omega (arith, c.count)) (omega (arith, c.count)) h.window (sym c.number ∙ number) in
+    let at_is : c.at ≡ length qs = right_piece a (length qs) s c.at below (omega (arith, c.count)) (omega (arith, c.count)) h.window
+    (sym c.number ∙ number) in
     let longer : length (qs ++ p ∷ []) ≡ length qs + 1 = length-append qs (p ∷ []) in
     let k_is : k ≡ length (qs ++ p ∷ []) = omega (arith, c.count) in
     let piece : get_or ps (length qs) ([], false) ≡ p = ap (λ i. get_or ps i ([], false)) (sym at_is) ∙ c.piece in
@@ -100,11 +108,13 @@ piece_in ps a s qs ns p there back number h =
       carried = climbs-lower (Carries ps) (length (qs ++ p ∷ [])) k there s (omega arith) rest;
       window = h.window;
       within = h.within;
-      in_order = ap (λ q. qs ++ q ∷ []) (sym piece) ∙ take-next ps qs (length qs) ([], false) (omega (arith, c.within)) h.in_order ∙ ap (λ n. take n ps) (sym longer);
+      in_order = ap (λ q. qs ++ q ∷ []) (sym piece) ∙ take-next ps qs (length qs) ([], false) (omega (arith, c.within)) h.in_order
+          ∙ ap (λ n. take n ps) (sym longer);
     }
 
 -- a piece is lost or ignored
-pub piece_gone : (ps : List Piece) (a s : ℕ) (qs : List Piece) (x : ℕ × Piece) (there : List (ℕ × Piece)) (back : List ℕ) → IsDirection ps a s qs (x ∷ there) back → IsDirection ps a s qs there back
+pub piece_gone : (ps : List Piece) (a s : ℕ) (qs : List Piece) (x : ℕ × Piece) (there : List (ℕ × Piece)) (back : List ℕ) →
+    IsDirection ps a s qs (x ∷ there) back → IsDirection ps a s qs there back
 piece_gone ps a s qs x there back h = record {
   acknowledged = h.acknowledged;
   carried = climbs-rest (Carries ps) (length qs) x there s h.carried;
@@ -114,7 +124,8 @@ piece_gone ps a s qs x there back h = record {
 }
 
 -- an acknowledgement counts
-pub number_in : (ps : List Piece) (a s : ℕ) (qs : List Piece) (there : List (ℕ × Piece)) (nr : ℕ) (back : List ℕ) → s ≢ a → nr ≡ s % 8 → IsDirection ps a s qs there (nr ∷ back) → IsDirection ps s s qs there back
+pub number_in : (ps : List Piece) (a s : ℕ) (qs : List Piece) (there : List (ℕ × Piece)) (nr : ℕ) (back : List ℕ) → s ≢ a → nr ≡ s % 8 →
+    IsDirection ps a s qs there (nr ∷ back) → IsDirection ps s s qs there back
 number_in ps a s qs there nr back waits number h =
     let k : ℕ = h.acknowledged.0 in
     let rest : Climbs Counts k back (length qs) = h.acknowledged.3 in
@@ -132,7 +143,8 @@ number_in ps a s qs there nr back waits number h =
     }
 
 -- an acknowledgement is lost or ignored, or says nothing new
-pub number_gone : (ps : List Piece) (a s : ℕ) (qs : List Piece) (there : List (ℕ × Piece)) (nr : ℕ) (back : List ℕ) → IsDirection ps a s qs there (nr ∷ back) → IsDirection ps a s qs there back
+pub number_gone : (ps : List Piece) (a s : ℕ) (qs : List Piece) (there : List (ℕ × Piece)) (nr : ℕ) (back : List ℕ) →
+    IsDirection ps a s qs there (nr ∷ back) → IsDirection ps a s qs there back
 number_gone ps a s qs there nr back h = record {
   acknowledged = climbs-rest Counts a nr back (length qs) h.acknowledged;
   carried = h.carried;
@@ -142,7 +154,8 @@ number_gone ps a s qs there nr back h = record {
 }
 
 -- an acknowledgement goes out
-pub number_out : (ps : List Piece) (a s : ℕ) (qs : List Piece) (there : List (ℕ × Piece)) (back : List ℕ) → IsDirection ps a s qs there back → IsDirection ps a s qs there (back ++ length qs % 8 ∷ [])
+pub number_out : (ps : List Piece) (a s : ℕ) (qs : List Piece) (there : List (ℕ × Piece)) (back : List ℕ) →
+    IsDirection ps a s qs there back → IsDirection ps a s qs there (back ++ length qs % 8 ∷ [])
 number_out ps a s qs there back h = record {
   acknowledged = climbs-push Counts a back (length qs) (length qs % 8) refl h.acknowledged;
   carried = h.carried;
@@ -161,7 +174,8 @@ carries-more ps more n x c = record {
   piece = get_or-append ps more ([], false) c.at c.within ∙ c.piece;
 }
 
-pub more_pieces : (ps more : List Piece) (a s : ℕ) (qs : List Piece) (there : List (ℕ × Piece)) (back : List ℕ) → IsDirection ps a s qs there back → IsDirection (ps ++ more) a s qs there back
+pub more_pieces : (ps more : List Piece) (a s : ℕ) (qs : List Piece) (there : List (ℕ × Piece)) (back : List ℕ) →
+    IsDirection ps a s qs there back → IsDirection (ps ++ more) a s qs there back
 more_pieces ps more a s qs there back h =
     let r_le : length qs ≤ s = accepted-le ps a s qs there back h in
     record {

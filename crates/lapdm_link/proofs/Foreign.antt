@@ -34,15 +34,19 @@ other_number Zero Three h = refl
 other_number Three Zero h = refl
 other_number Three Three h = absurd (false≢true (sym h))
 
-pub foreign : {T : Type 0} (look : Look T) → IsBlind look → (Says : Content → Type 0) (s s' : Sapi) (fs : List Frame) → is_sapi s' s ≡ false → AllFrames Says s fs → seen look s' fs ≡ []
+pub foreign : {T : Type 0} (look : Look T) → IsBlind look → (Says : Content → Type 0) (s s' : Sapi) (fs : List Frame) →
+    is_sapi s' s ≡ false → AllFrames Says s fs → seen look s' fs ≡ []
 foreign look blind Says s s' [] h a = refl
 foreign look blind Says s s' (f ∷ fs) h a =
-    let none : look (is_on s' f) f.content ≡ None = ap (λ (n : ℕ). look (nat_eq n (sapi_number s')) f.content) a.0 ∙ ap (λ b. look b f.content) (other_number s s' h) ∙ blind.elsewhere f.content in
+    let none : look (is_on s' f) f.content ≡ None = ap (λ (n : ℕ). look (nat_eq n (sapi_number s')) f.content) a.0
+    ∙ ap (λ b. look b f.content) (other_number s s' h) ∙ blind.elsewhere f.content in
     ap (λ o. cons_option o (seen look s' fs)) none ∙ foreign look blind Says s s' fs h a.2
 
-pub foreign-frame : {T : Type 0} (look : Look T) → IsBlind look → (f : Frame) (x : EndState) (s s' : Sapi) → IsEnd x → x.sapi ≡ s → is_sapi s' s ≡ false → seen look s' (after_frame f x).frames ≡ []
+pub foreign-frame : {T : Type 0} (look : Look T) → IsBlind look → (f : Frame) (x : EndState) (s s' : Sapi) → IsEnd x → x.sapi ≡ s →
+    is_sapi s' s ≡ false → seen look s' (after_frame f x).frames ≡ []
 foreign-frame look blind f x s s' e same h =
-    foreign look blind (Answers x (after_frame f x).after) x.sapi s' _ (subst (λ (t : Sapi). is_sapi s' t ≡ false) (sym same) h) (taken-frame f x e).frames
+    foreign look blind (Answers x (after_frame f x).after) x.sapi s' _ (subst (λ (t : Sapi). is_sapi s' t ≡ false) (sym same) h)
+    (taken-frame f x e).frames
 
 -- the frames of a call are of its SAPI, or the fill frame
 abbrev Any : Content → Type 0
@@ -52,7 +56,8 @@ all-any : (s : Sapi) (fs : List Frame) → AllFrames IsNumbered s fs → AllFram
 all-any s [] h = tt
 all-any s (f ∷ fs) h = (h.0, tt, all-any s fs h.2)
 
-any-ticks : (s : State) (b : Bool) (x : EndState) → AllFrames Any x.sapi (if b then sends (repeated s x) (record x { retries = x.retries + 1 }) else closes R.Failed x).frames
+any-ticks : (s : State) (b : Bool) (x : EndState) →
+    AllFrames Any x.sapi (if b then sends (repeated s x) (record x { retries = x.retries + 1 }) else closes R.Failed x).frames
 any-ticks s false x = tt
 any-ticks S.Idle true x = (refl, tt, tt)
 any-ticks S.Opening true x = (refl, tt, tt)
@@ -60,13 +65,21 @@ any-ticks S.Open true x = (refl, tt, tt)
 any-ticks S.Closing true x = (refl, tt, tt)
 any-ticks S.Closed true x = (refl, tt, tt)
 
-pub foreign-call : {T : Type 0} (look : Look T) → IsBlind look → (call : Call) (x : EndState) (s s' : Sapi) → x.sapi ≡ s → is_sapi s' s ≡ false → seen look s' (after_call call x).frames ≡ []
-foreign-call look blind (Opens info) x s s' same h = foreign look blind Any s s' (after_call (Opens info) x).frames h (ap sapi_number same, tt, tt)
-foreign-call look blind OpensBare x s s' same h = foreign look blind Any s s' (after_call OpensBare x).frames h (ap sapi_number same, tt, tt)
-foreign-call look blind (Sends m) x s s' same h = foreign look blind Any x.sapi s' _ (subst (λ (t : Sapi). is_sapi s' t ≡ false) (sym same) h) (all-any x.sapi _ (in-sends_next (with_taken m x)).frames)
-foreign-call look blind (SendsUnit m) x s s' same h = foreign look blind Any s s' (after_call (SendsUnit m) x).frames h (ap sapi_number same, tt, tt)
+pub foreign-call : {T : Type 0} (look : Look T) → IsBlind look → (call : Call) (x : EndState) (s s' : Sapi) → x.sapi ≡ s →
+    is_sapi s' s ≡ false → seen look s' (after_call call x).frames ≡ []
+foreign-call look blind (Opens info) x s s' same h =
+    foreign look blind Any s s' (after_call (Opens info) x).frames h (ap sapi_number same, tt, tt)
+foreign-call look blind OpensBare x s s' same h =
+    foreign look blind Any s s' (after_call OpensBare x).frames h (ap sapi_number same, tt, tt)
+foreign-call look blind (Sends m) x s s' same h =
+    foreign look blind Any x.sapi s' _ (subst (λ (t : Sapi). is_sapi s' t ≡ false) (sym same) h)
+    (all-any x.sapi _ (in-sends_next (with_taken m x)).frames)
+foreign-call look blind (SendsUnit m) x s s' same h =
+    foreign look blind Any s s' (after_call (SendsUnit m) x).frames h (ap sapi_number same, tt, tt)
 foreign-call look blind Closes x s s' same h = foreign look blind Any s s' (after_call Closes x).frames h (ap sapi_number same, tt, tt)
-foreign-call look blind Ticks x s s' same h = foreign look blind Any x.sapi s' _ (subst (λ (t : Sapi). is_sapi s' t ≡ false) (sym same) h) (any-ticks x.state (nat_lt x.retries (n200 x.channel x.state)) x)
+foreign-call look blind Ticks x s s' same h =
+    foreign look blind Any x.sapi s' _ (subst (λ (t : Sapi). is_sapi s' t ≡ false) (sym same) h)
+    (any-ticks x.state (nat_lt x.retries (n200 x.channel x.state)) x)
 foreign-call look blind Idles x s s' same h = ap (λ o. cons_option o []) (blind.fill (is_on s' (fill (command_cr x.role))))
 
 pub blind-pieces : IsBlind piece_of

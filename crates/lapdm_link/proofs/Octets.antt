@@ -104,8 +104,10 @@ piece-octets [] i h l = absurd (omega (arith, l))
 piece-octets (p ∷ ps) zero h l = h.0
 piece-octets (p ∷ ps) (suc i) h l = piece-octets ps i h.1 (omega (arith, l))
 
-carried : (x : EndState) (info : List ℕ) (more : Bool) (i : ℕ) → EndOctets x → i < length (all_pieces x) → get_or (all_pieces x) i ([], false) ≡ (info, more) → AreOctets info
-carried x info more i h l e = subst AreOctets (ap (λ (p : Piece). p.0) e) (piece-octets (all_pieces x) i (all-octets (n201 x.channel) x.taken h.taken) l)
+carried : (x : EndState) (info : List ℕ) (more : Bool) (i : ℕ) → EndOctets x → i < length (all_pieces x) →
+    get_or (all_pieces x) i ([], false) ≡ (info, more) → AreOctets info
+carried x info more i h l e =
+    subst AreOctets (ap (λ (p : Piece). p.0) e) (piece-octets (all_pieces x) i (all-octets (n201 x.channel) x.taken h.taken) l)
 
 -- answers
 answer-octets : (x z : EndState) (c : Content) → EndOctets x → AreOctets z.kept → Answers x z c → AreOctets (information c)
@@ -121,12 +123,14 @@ answers-octets : (x z : EndState) (s : Sapi) (fs : List Frame) → EndOctets x �
 answers-octets x z s [] h k a = tt
 answers-octets x z s (f ∷ fs) h k a = (answer-octets x z f.content h k a.1, answers-octets x z s fs h k a.2)
 
-opens-octets : (c : Content) (x : EndState) (info : Message) → AreOctets (information c) → AreOctets x.kept → OpensBy c x info → AreOctets info
+opens-octets : (c : Content) (x : EndState) (info : Message) → AreOctets (information c) → AreOctets x.kept → OpensBy c x info →
+    AreOctets info
 opens-octets (Sabm p i) x info h k o = subst AreOctets o.0 h
 opens-octets (Ua f i) x info h k o = subst AreOctets o.0 h
 opens-octets other x info h k o = absurd o
 
-kept-octets : (c : Content) (x : EndState) (o : Outcome) → AreOctets (information c) → AreOctets x.kept → (Remains x o ⊎ IsOver x o) ⊎ IsOpenedBy c x o → AreOctets o.after.kept
+kept-octets : (c : Content) (x : EndState) (o : Outcome) → AreOctets (information c) → AreOctets x.kept →
+    (Remains x o ⊎ IsOver x o) ⊎ IsOpenedBy c x o → AreOctets o.after.kept
 kept-octets c x o h k (inl (inl m)) = subst AreOctets (sym m.kept) k
 kept-octets c x o h k (inl (inr m)) = subst AreOctets (sym m.kept) k
 kept-octets c x o h k (inr m) = subst AreOctets (sym m.kept) (opens-octets c x m.info h k m.cause)
@@ -139,7 +143,10 @@ frame-octets : (f : Frame) (x : EndState) → AreOctets (information f.content) 
 frame-octets f x octets e h =
     let t : IsTaken f.content x (after_frame f x) = taken-frame f x e in
     let k : AreOctets (after_frame f x).after.kept = kept-octets f.content x (after_frame f x) octets h.kept t.goes in
-    record { end = record { kept = k; taken = subst AllMessages (sym (step-frame f x e).tells.taken) h.taken }; frames = answers-octets x (after_frame f x).after x.sapi (after_frame f x).frames h k t.frames }
+    record {
+      end = record { kept = k; taken = subst AllMessages (sym (step-frame f x e).tells.taken) h.taken };
+      frames = answers-octets x (after_frame f x).after x.sapi (after_frame f x).frames h k t.frames;
+    }
 
 -- calls
 well-octets : (x : EndState) (c : Content) → EndOctets x → IsNumbered c → SaysWell (all_pieces x) c → AreOctets (information c)
@@ -148,22 +155,26 @@ well-octets x (Rr nr pf) h k a = none
 well-octets x (Rej nr pf) h k a = none
 well-octets x other h k a = absurd k
 
-all-well : (x : EndState) (s : Sapi) (fs : List Frame) → EndOctets x → AllFrames IsNumbered s fs → AllFrames (SaysWell (all_pieces x)) s fs → AllSay fs
+all-well : (x : EndState) (s : Sapi) (fs : List Frame) → EndOctets x → AllFrames IsNumbered s fs →
+    AllFrames (SaysWell (all_pieces x)) s fs → AllSay fs
 all-well x s [] h k a = tt
 all-well x s (f ∷ fs) h k a = (well-octets x f.content h k.1 a.1, all-well x s fs h k.2 a.2)
 
-repeated-octets : (t : State) (x : EndState) → awaits_in t (waits x) ≡ true → IsEnd x → EndOctets x → AreOctets (information (repeated t x).content)
+repeated-octets : (t : State) (x : EndState) → awaits_in t (waits x) ≡ true → IsEnd x → EndOctets x →
+    AreOctets (information (repeated t x).content)
 repeated-octets S.Idle x due e h = absurd (false≢true due)
 repeated-octets S.Closed x due e h = absurd (false≢true due)
 repeated-octets S.Opening x due e h = h.kept
 repeated-octets S.Closing x due e h = none
 repeated-octets S.Open x due e h = piece-octets (all_pieces x) x.acked (all-octets (n201 x.channel) x.taken h.taken) (waits_within x e due)
 
-ticks-octets : (t : State) (b : Bool) (x : EndState) → awaits_in t (waits x) ≡ true → IsEnd x → EndOctets x → OutcomeOctets (if b then sends (repeated t x) (record x { retries = x.retries + 1 }) else closes R.Failed x)
+ticks-octets : (t : State) (b : Bool) (x : EndState) → awaits_in t (waits x) ≡ true → IsEnd x → EndOctets x →
+    OutcomeOctets (if b then sends (repeated t x) (record x { retries = x.retries + 1 }) else closes R.Failed x)
 ticks-octets t true x due e h = record { end = record { kept = h.kept; taken = h.taken }; frames = (repeated-octets t x due e h, tt) }
 ticks-octets t false x due e h = record { end = record { kept = h.kept; taken = h.taken }; frames = tt }
 
-call-octets : (call : Call) (x : EndState) → CallOctets call → refusal_of call x ≡ None → IsEnd x → EndOctets x → OutcomeOctets (after_call call x)
+call-octets : (call : Call) (x : EndState) → CallOctets call → refusal_of call x ≡ None → IsEnd x → EndOctets x →
+    OutcomeOctets (after_call call x)
 call-octets (Opens info) x c ok e h = record { end = record { kept = c; taken = h.taken }; frames = (c, tt) }
 call-octets OpensBare x c ok e h = record { end = record { kept = none; taken = h.taken }; frames = (none, tt) }
 call-octets (Sends m) x c ok e h =
@@ -171,10 +182,15 @@ call-octets (Sends m) x c ok e h =
     let end : IsEnd y = IsEnd-taken x m e (is_message m x (passes (not (is_open x.state)) No.NotOpen (put_refusals m x) ok).rest) in
     let i : InOpen y (sends_next y) = in-sends_next y in
     let g : EndOctets y = record { kept = h.kept; taken = messages-push x.taken m h.taken c } in
-    record { end = record { kept = subst AreOctets (sym i.kept) g.kept; taken = subst AllMessages (sym i.tells.taken) g.taken }; frames = all-well y y.sapi (sends_next y).frames g i.frames (i.well end) }
+    record {
+      end = record { kept = subst AreOctets (sym i.kept) g.kept; taken = subst AllMessages (sym i.tells.taken) g.taken };
+      frames = all-well y y.sapi (sends_next y).frames g i.frames (i.well end);
+    }
 call-octets (SendsUnit m) x c ok e h = record { end = record { kept = h.kept; taken = h.taken }; frames = (c, tt) }
 call-octets Closes x c ok e h = record { end = record { kept = h.kept; taken = h.taken }; frames = (none, tt) }
-call-octets Ticks x c ok e h = ticks-octets x.state (nat_lt x.retries (n200 x.channel x.state)) x (not_false (awaits x) (passes (not (awaits x)) No.NotRunning [] ok).no) e h
+call-octets Ticks x c ok e h =
+    ticks-octets x.state (nat_lt x.retries (n200 x.channel x.state)) x
+    (not_false (awaits x) (passes (not (awaits x)) No.NotRunning [] ok).no) e h
 call-octets Idles x c ok e h = record { end = record { kept = h.kept; taken = h.taken }; frames = (none, tt) }
 
 -- all ends and ways
@@ -189,27 +205,39 @@ acted-octets r s o w h g = record {
 }
 
 lost-octets : (w : World) → WorldOctets w → (sender : Role) → WorldOctets (without_first sender w)
-lost-octets w h Mobile = record { ends = λ r s. subst EndOctets (sym (end_with_way r s Mobile (rest w.ways.up) w)) (h.ends r s); ways = each_way (λ r. AllSay (way r (without_first Mobile w))) Mobile (say-rest w.ways.up (h.ways Mobile)) (h.ways Network) }
-lost-octets w h Network = record { ends = λ r s. subst EndOctets (sym (end_with_way r s Network (rest w.ways.down) w)) (h.ends r s); ways = each_way (λ r. AllSay (way r (without_first Network w))) Network (say-rest w.ways.down (h.ways Network)) (h.ways Mobile) }
+lost-octets w h Mobile = record {
+  ends = λ r s. subst EndOctets (sym (end_with_way r s Mobile (rest w.ways.up) w)) (h.ends r s);
+  ways = each_way (λ r. AllSay (way r (without_first Mobile w))) Mobile (say-rest w.ways.up (h.ways Mobile)) (h.ways Network);
+}
+lost-octets w h Network =
+    record {
+      ends = λ r s. subst EndOctets (sym (end_with_way r s Network (rest w.ways.down) w)) (h.ends r s);
+      ways = each_way (λ r. AllSay (way r (without_first Network w))) Network (say-rest w.ways.down (h.ways Network)) (h.ways Mobile);
+    }
 
 rival-octets : (w : World) → WorldOctets w → (info : Message) → AreOctets info → WorldOctets (with_frames Mobile (rival_frame info ∷ []) w)
 rival-octets w h info g = record {
   ends = λ r s. subst EndOctets (sym (end_with_way r s Mobile (w.ways.up ++ rival_frame info ∷ []) w)) (h.ends r s);
-  ways = each_way (λ r. AllSay (way r (with_frames Mobile (rival_frame info ∷ []) w))) Mobile (say-append w.ways.up (rival_frame info ∷ []) (h.ways Mobile) (g, tt)) (h.ways Network);
+  ways = each_way (λ r. AllSay (way r (with_frames Mobile (rival_frame info ∷ []) w))) Mobile
+      (say-append w.ways.up (rival_frame info ∷ []) (h.ways Mobile) (g, tt)) (h.ways Network);
 }
 
 first-octets : (f : Frame) (fs : List Frame) → IsFirst f fs → AllSay fs → AreOctets (information f.content)
 first-octets f fs i h = let g : AllSay (f ∷ i.others) = subst AllSay i.first h in g.0
 
-pub octets-step : (w : World) (ls : List Line) (event : Event) → AllReported w ls → IsHarmlessBy (refusal event w) event w → WorldOctets w → LineOctets (answer_lines event (answer event w)) → WorldOctets (after event w)
+pub octets-step : (w : World) (ls : List Line) (event : Event) → AllReported w ls → IsHarmlessBy (refusal event w) event w → WorldOctets w →
+    LineOctets (answer_lines event (answer event w)) → WorldOctets (after event w)
 octets-step w ls event reported harmless h =
     by_kind w (λ z new. LineOctets new → WorldOctets z) (λ sender f. IsAsSent (Some f) (way sender w)) (λ l. h)
-    (λ r s call placed ok l. acted-octets r s (after_call call (end_of r s w)) w h (call-octets call (end_of r s w) l.0 ok (reported r s).end (h.ends r s)))
+    (λ r s call placed ok l. acted-octets r s (after_call call (end_of r s w)) w h
+    (call-octets call (end_of r s w) l.0 ok (reported r s).end (h.ends r s)))
     (λ r s f known l.
     (let w' : World = without_first (other r) w in
     let h' : WorldOctets w' = lost-octets w h (other r) in
     let e : IsEnd (end_of r s w') = subst IsEnd (sym (end_with_way r s (other r) (rest (way (other r) w)) w)) (reported r s).end in
-    acted-octets r s (after_frame f (end_of r s w')) w' h' (frame-octets f (end_of r s w') (first-octets f (way (other r) w) (is_first f (way (other r) w) known) (h.ways (other r))) e (h'.ends r s))))
+    acted-octets r s (after_frame f (end_of r s w')) w' h'
+    (frame-octets f (end_of r s w') (first-octets f (way (other r) w) (is_first f (way (other r) w) known) (h.ways (other r))) e
+    (h'.ends r s))))
     (λ sender l. lost-octets w h sender)
     (λ info ok l. rival-octets w h info l.0)
     event (as_sent (refusal event w) event w harmless)

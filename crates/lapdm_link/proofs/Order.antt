@@ -41,16 +41,23 @@ abbrev pub MayStand : List Line → Line → Type 0
 MayStand before (Told r s n) = MaySay (calls r s before) (notices r s before) n
 MayStand before other = Unit {0}
 
-said-stands : (r : Role) (s : Sapi) (before : List Line) (ns : List Notice) → AllSaid (calls r s before) (notices r s before) ns → AllStand MayStand before (map (Told r s) ns)
+said-stands : (r : Role) (s : Sapi) (before : List Line) (ns : List Notice) → AllSaid (calls r s before) (notices r s before) ns →
+    AllStand MayStand before (map (Told r s) ns)
 said-stands r s before [] h = tt
 said-stands r s before (n ∷ ns) h =
     let same_calls : calls r s before ≡ calls r s (before ++ Told r s n ∷ []) = sym (calls-told r s before (n ∷ []) r s) in
-    let more_notices : notices r s before ++ n ∷ [] ≡ notices r s (before ++ Told r s n ∷ []) = sym (notices-told r s before (n ∷ [])) in
-    (h.0, said-stands r s (before ++ Told r s n ∷ []) ns (subst (λ (cs : List Call). AllSaid cs (notices r s (before ++ Told r s n ∷ [])) ns) same_calls (subst (λ (ms : List Notice). AllSaid (calls r s before) ms ns) more_notices h.1)))
+    let more_notices : notices r s before ++ n ∷ [] ≡ notices r s (before ++ Told r s n ∷ []) = sym (notices-told r s before (n ∷ [])) in (
+      h.0,
+      said-stands r s (before ++ Told r s n ∷ []) ns
+          (subst (λ (cs : List Call). AllSaid cs (notices r s (before ++ Told r s n ∷ [])) ns) same_calls
+          (subst (λ (ms : List Notice). AllSaid (calls r s before) ms ns) more_notices h.1)),
+    )
 
-reported-as : (r : Role) (s : Sapi) (e e' : EndState) (cs cs' : List Call) (ns ns' : List Notice) → e' ≡ e → cs' ≡ cs → ns' ≡ ns → IsReported r s e cs ns → IsReported r s e' cs' ns'
+reported-as : (r : Role) (s : Sapi) (e e' : EndState) (cs cs' : List Call) (ns ns' : List Notice) → e' ≡ e → cs' ≡ cs → ns' ≡ ns →
+    IsReported r s e cs ns → IsReported r s e' cs' ns'
 reported-as r s e e' cs cs' ns ns' p q u h =
-    subst (λ (x : EndState). IsReported r s x cs' ns') (sym p) (subst (λ (c : List Call). IsReported r s e c ns') (sym q) (subst (λ (n : List Notice). IsReported r s e cs n) (sym u) h))
+    subst (λ (x : EndState). IsReported r s x cs' ns') (sym p)
+    (subst (λ (c : List Call). IsReported r s e c ns') (sym q) (subst (λ (n : List Notice). IsReported r s e cs n) (sym u) h))
 
 abbrev pub Follows : List Line → World → List Line → Type 0
 Follows ls w new = AllReported w (ls ++ new) × AllStand MayStand ls new
@@ -62,35 +69,60 @@ module _ (w : World) (ls : List Line) (h : AllReported w ls) where
   moved_way : (sender : Role) (fs : List Frame) → AllReported (with_way sender fs w) ls
   moved_way sender fs r s = reported-as r s _ _ _ _ _ _ (end_with_way r s sender fs w) refl refl (h r s)
 
-called : (w : World) (ls : List Line) → AllReported w ls → (r : Role) (s : Sapi) (call : Call) → IsPlaced r s call → refusal_of call (end_of r s w) ≡ None → Follows ls (acted r s (after_call call (end_of r s w)) w) (Asked r s call ∷ map (Told r s) (after_call call (end_of r s w)).notices)
+called : (w : World) (ls : List Line) → AllReported w ls → (r : Role) (s : Sapi) (call : Call) → IsPlaced r s call →
+    refusal_of call (end_of r s w) ≡ None → Follows ls (acted r s (after_call call (end_of r s w)) w)
+    (Asked r s call ∷ map (Told r s) (after_call call (end_of r s w)).notices)
 called w ls h r s call placed ok =
     let e : EndState = end_of r s w in
     let o : Outcome = after_call call e in
     let c : IsCalled e call o = is_called call e ok (h r s).end in
-    let here : IsReported r s o.after (calls r s ls ++ call ∷ []) (notices r s ls ++ o.notices) = record { role = c.role ∙ (h r s).role; sapi = c.sapi ∙ (h r s).sapi; end = c.end; told = c.told (calls r s ls) (notices r s ls) (h r s).told } in
+    let here : IsReported r s o.after (calls r s ls ++ call ∷ []) (notices r s ls ++ o.notices) =
+    record {
+      role = c.role ∙ (h r s).role;
+      sapi = c.sapi ∙ (h r s).sapi;
+      end = c.end;
+      told = c.told (calls r s ls) (notices r s ls) (h r s).told;
+    } in
     let said : AllSaid (calls r s (ls ++ Asked r s call ∷ [])) (notices r s (ls ++ Asked r s call ∷ [])) o.notices =
     (let a : AllSaid (calls r s ls ++ call ∷ []) (notices r s ls) o.notices = c.said (calls r s ls) (notices r s ls) (h r s).told in
-    subst (λ (cs : List Call). AllSaid cs (notices r s (ls ++ Asked r s call ∷ [])) o.notices) (sym (calls-asked r s ls call)) (subst (λ (ns : List Notice). AllSaid (calls r s ls ++ call ∷ []) ns o.notices) (sym (notices-asked r s ls call r s)) a)) in (
-      each_end (λ r' s'. IsReported r' s' (end_of r' s' (acted r s o w)) (calls r' s' (ls ++ Asked r s call ∷ map (Told r s) o.notices)) (notices r' s' (ls ++ Asked r s call ∷ map (Told r s) o.notices))) r s
+    subst (λ (cs : List Call). AllSaid cs (notices r s (ls ++ Asked r s call ∷ [])) o.notices) (sym (calls-asked r s ls call))
+    (subst (λ (ns : List Notice). AllSaid (calls r s ls ++ call ∷ []) ns o.notices) (sym (notices-asked r s ls call r s)) a)) in (
+      each_end (λ r' s'. IsReported r' s' (end_of r' s' (acted r s o w)) (calls r' s' (ls ++ Asked r s call ∷ map (Told r s) o.notices))
+          (notices r' s' (ls ++ Asked r s call ∷ map (Told r s) o.notices))) r s
           (reported-as r s _ _ _ _ _ _ (end_does r s o w) (calls-called r s ls call o.notices) (notices-called r s ls call o.notices) here)
-          (λ r' s' n. reported-as r' s' _ _ _ _ _ _ (end_does-else r s o w r' s' n) (calls-called_else r s ls call o.notices r' s' n) (notices-called_else r s ls call o.notices r' s' n) (h r' s')),
+          (λ r' s' n. reported-as r' s' _ _ _ _ _ _ (end_does-else r s o w r' s' n) (calls-called_else r s ls call o.notices r' s' n)
+          (notices-called_else r s ls call o.notices r' s' n) (h r' s')),
       (tt, said-stands r s (ls ++ Asked r s call ∷ []) o.notices said),
     )
 
-taken : (w : World) (ls : List Line) → AllReported w ls → (r : Role) (s : Sapi) (f : Frame) → Follows ls (acted r s (after_frame f (end_of r s w)) w) (map (Told r s) (after_frame f (end_of r s w)).notices)
+taken : (w : World) (ls : List Line) → AllReported w ls → (r : Role) (s : Sapi) (f : Frame) →
+    Follows ls (acted r s (after_frame f (end_of r s w)) w) (map (Told r s) (after_frame f (end_of r s w)).notices)
 taken w ls h r s f =
     let e : EndState = end_of r s w in
     let o : Outcome = after_frame f e in
     let c : IsStep e o = step-frame f e (h r s).end in
-    let here : IsReported r s o.after (calls r s ls) (notices r s ls ++ o.notices) = record { role = c.role ∙ (h r s).role; sapi = c.sapi ∙ (h r s).sapi; end = c.end (h r s).end; told = has_told-more e o.after (calls r s ls) (notices r s ls) o.notices c.tells (h r s).told } in (
-      each_end (λ r' s'. IsReported r' s' (end_of r' s' (acted r s o w)) (calls r' s' (ls ++ map (Told r s) o.notices)) (notices r' s' (ls ++ map (Told r s) o.notices))) r s
+    let here : IsReported r s o.after (calls r s ls) (notices r s ls ++ o.notices) =
+    record {
+      role = c.role ∙ (h r s).role;
+      sapi = c.sapi ∙ (h r s).sapi;
+      end = c.end (h r s).end;
+      told = has_told-more e o.after (calls r s ls) (notices r s ls) o.notices c.tells (h r s).told;
+    } in (
+      each_end (λ r' s'. IsReported r' s' (end_of r' s' (acted r s o w)) (calls r' s' (ls ++ map (Told r s) o.notices))
+          (notices r' s' (ls ++ map (Told r s) o.notices))) r s
           (reported-as r s _ _ _ _ _ _ (end_does r s o w) (calls-told r s ls o.notices r s) (notices-told r s ls o.notices) here)
-          (λ r' s' n. reported-as r' s' _ _ _ _ _ _ (end_does-else r s o w r' s' n) (calls-told r s ls o.notices r' s') (notices-else r s ls o.notices r' s' n) (h r' s')),
+          (λ r' s' n. reported-as r' s' _ _ _ _ _ _ (end_does-else r s o w r' s' n) (calls-told r s ls o.notices r' s')
+          (notices-else r s ls o.notices r' s' n) (h r' s')),
       said-stands r s ls o.notices (all_said e o.after (calls r s ls) (notices r s ls) o.notices (c.end (h r s).end) c.tells (h r s).told),
     )
 
-rival : (w : World) (ls : List Line) → AllReported w ls → (info : Message) → Follows ls (with_frames Mobile (rival_frame info ∷ []) w) (Rivals info ∷ [])
-rival w ls h info = (λ r s. reported-as r s _ _ _ _ _ _ (end_with_way r s Mobile (w.ways.up ++ rival_frame info ∷ []) w) (calls-rival r s ls info) (notices-rival r s ls info) (h r s), (tt, tt))
+rival : (w : World) (ls : List Line) → AllReported w ls → (info : Message) → Follows ls (with_frames Mobile (rival_frame info ∷ []) w)
+    (Rivals info ∷ [])
+rival w ls h info = (
+  λ r s. reported-as r s _ _ _ _ _ _ (end_with_way r s Mobile (w.ways.up ++ rival_frame info ∷ []) w)
+      (calls-rival r s ls info) (notices-rival r s ls info) (h r s),
+  (tt, tt),
+)
 
 any_frame : (o : Option Why) (event : Event) → KnowsBy o (λ r f. Unit {0}) event
 any_frame (Some why) event = tt
@@ -98,14 +130,16 @@ any_frame None (Deliver sender (Some f)) = tt
 any_frame None (Deliver sender None) = tt
 any_frame None other = tt
 
-pub in_order-step : (w : World) (ls : List Line) (event : Event) → AllReported w ls → Follows ls (after event w) (answer_lines event (answer event w))
+pub in_order-step : (w : World) (ls : List Line) (event : Event) → AllReported w ls →
+    Follows ls (after event w) (answer_lines event (answer event w))
 in_order-step w ls event h =
     by_kind w (Follows ls) (λ r f. Unit {0}) (refused w ls h) (called w ls h)
     (λ r s f known. taken (without_first (other r) w) ls (moved_way w ls h (other r) (rest (way (other r) w))) r s f)
     (λ sender. refused (without_first sender w) ls (moved_way w ls h sender (rest (way sender w))))
     (λ info ok. rival w ls h info) event (any_frame (refusal event w) event)
 
-pub in_order-run : (events : List Event) (w : World) (ls : List Line) → AllReported w ls → ((z : World) × AllReported z (ls ++ lines events (answers events w)) × AllStand MayStand ls (lines events (answers events w)))
+pub in_order-run : (events : List Event) (w : World) (ls : List Line) → AllReported w ls →
+    ((z : World) × AllReported z (ls ++ lines events (answers events w)) × AllStand MayStand ls (lines events (answers events w)))
 in_order-run [] w ls h = (w, (refused w ls h).0, tt)
 in_order-run (event ∷ events) w ls h =
     let new : List Line = answer_lines event (answer event w) in
@@ -121,10 +155,14 @@ told_nothing : (r : Role) (s : Sapi) (channel : Channel) → HasTold (start r s 
 told_nothing r s channel = record { taken = refl; got = refl; acked = refl; phase = (refl, refl, refl) }
 
 pub start-reported : (channel : Channel) → AllReported (start_on channel) []
-start-reported channel Mobile Zero = record { role = refl; sapi = refl; end = started Mobile Zero channel; told = told_nothing Mobile Zero channel }
-start-reported channel Mobile Three = record { role = refl; sapi = refl; end = started Mobile Three channel; told = told_nothing Mobile Three channel }
-start-reported channel Network Zero = record { role = refl; sapi = refl; end = started Network Zero channel; told = told_nothing Network Zero channel }
-start-reported channel Network Three = record { role = refl; sapi = refl; end = started Network Three channel; told = told_nothing Network Three channel }
+start-reported channel Mobile Zero =
+    record { role = refl; sapi = refl; end = started Mobile Zero channel; told = told_nothing Mobile Zero channel }
+start-reported channel Mobile Three =
+    record { role = refl; sapi = refl; end = started Mobile Three channel; told = told_nothing Mobile Three channel }
+start-reported channel Network Zero =
+    record { role = refl; sapi = refl; end = started Network Zero channel; told = told_nothing Network Zero channel }
+start-reported channel Network Three =
+    record { role = refl; sapi = refl; end = started Network Three channel; told = told_nothing Network Three channel }
 
 pub opened-most : (s : State) (o c k : ℕ) → Phase s o c k → o ≤ 1
 opened-most S.Idle o c k h = omega (arith, h.0)
@@ -140,7 +178,8 @@ closed-most S.Open o c k h = omega (arith, h.1)
 closed-most S.Closing o c k h = omega (arith, h.1)
 closed-most S.Closed o c k h = omega (arith, h.1)
 
-is_open_end : (r : Role) (s : Sapi) (n : Notice) (before : List Line) → IsOfOpenEnd n → MaySay (calls r s before) (notices r s before) n → IsOpenEnd r s before
+is_open_end : (r : Role) (s : Sapi) (n : Notice) (before : List Line) → IsOfOpenEnd n → MaySay (calls r s before) (notices r s before) n →
+    IsOpenEnd r s before
 is_open_end r s (N.Got m) before of h = record { opened = h.0; closed = h.1; closes = h.2 }
 is_open_end r s (N.Acked n) before of h = record { opened = h.2.0; closed = h.2.1; closes = h.2.2 }
 is_open_end r s N.Oversize before of h = record { opened = h.0; closed = h.1; closes = h.2 }
@@ -151,7 +190,9 @@ order_claims channel events =
     let run = in_order-run events (start_on channel) [] (start-reported channel) in
     let ls : List Line = lines events (answers events (start_on channel)) in
     record {
-      acknowledged = λ r s n before place. (let m : MaySay (calls r s before) (notices r s before) (N.Acked n) = stands MayStand ls before (Told r s (N.Acked n)) run.2 place in (m.0, m.1));
+      acknowledged = λ r s n before place.
+          (let m : MaySay (calls r s before) (notices r s before) (N.Acked n) = stands MayStand ls before
+          (Told r s (N.Acked n)) run.2 place in (m.0, m.1));
       opened_once = λ r s. opened-most _ _ _ _ (run.1 r s).told.phase;
       closed_once = λ r s. closed-most _ _ _ _ (run.1 r s).told.phase;
       inside = λ r s n before of place. is_open_end r s n before of (stands MayStand ls before (Told r s n) run.2 place);

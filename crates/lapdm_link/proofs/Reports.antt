@@ -34,7 +34,9 @@ pub step-silent : (x : EndState) (fs : List Frame) → IsStep x (record { after 
 step-silent x fs = record { role = refl; sapi = refl; channel = refl; tells = silent x x refl refl refl refl; end = λ e. e }
 
 -- one notice that leads to another state
-step-told : (x : EndState) (k : Message) (s : State) (n : Notice) (fs : List Frame) → filter_map ending_in (n ∷ []) ≡ [] → filter_map acked_in (n ∷ []) ≡ [] → Numbers (wholly_acked x) (n ∷ []) → MayTell x.state n s → IsStep x (record { after = record x { state = s; kept = k }; frames = fs; notices = n ∷ [] })
+step-told : (x : EndState) (k : Message) (s : State) (n : Notice) (fs : List Frame) → filter_map ending_in (n ∷ []) ≡ [] →
+    filter_map acked_in (n ∷ []) ≡ [] → Numbers (wholly_acked x) (n ∷ []) → MayTell x.state n s →
+    IsStep x (record { after = record x { state = s; kept = k }; frames = fs; notices = n ∷ [] })
 step-told x k s n fs no_got no_acked numbers may = record {
   role = refl;
   sapi = refl;
@@ -55,10 +57,12 @@ may_open-idle x info e = subst (λ (s : State). MayTell s (N.Opened info) Open) 
 may_open-opening : (x : EndState) (info : Message) → x.state ≡ Opening → MayTell x.state (N.Opened info) Open
 may_open-opening x info e = subst (λ (s : State). MayTell s (N.Opened info) Open) (sym e) refl
 
-may_close : (x : EndState) (s : State) (reason : Reason) → x.state ≡ s → MayTell s (N.Closed reason) Closed → MayTell x.state (N.Closed reason) Closed
+may_close : (x : EndState) (s : State) (reason : Reason) → x.state ≡ s → MayTell s (N.Closed reason) Closed →
+    MayTell x.state (N.Closed reason) Closed
 may_close x s reason e may = subst (λ (u : State). MayTell u (N.Closed reason) Closed) (sym e) may
 
-pub step-closes : (s : State) (reason : Reason) (fs : List Frame) (x : EndState) → x.state ≡ s → MayTell s (N.Closed reason) Closed → IsStep x (record { after = record x { state = Closed }; frames = fs; notices = N.Closed reason ∷ [] })
+pub step-closes : (s : State) (reason : Reason) (fs : List Frame) (x : EndState) → x.state ≡ s → MayTell s (N.Closed reason) Closed →
+    IsStep x (record { after = record x { state = Closed }; frames = fs; notices = N.Closed reason ∷ [] })
 step-closes s reason fs x e may = step-told x x.kept Closed (N.Closed reason) fs refl refl tt (may_close x s reason e may)
 
 step-opened_by : (info : Message) (x : EndState) → x.state ≡ Idle → IsStep x (opened_by info x)
@@ -89,7 +93,8 @@ step-other_ua : (s : Sapi) (x : EndState) → x.state ≡ Opening → IsStep x (
 step-other_ua Zero x e = step-closes Opening R.Contention [] x e refl
 step-other_ua Three x e = step-silent x _
 
-step-ua_in_opening : (same : Bool) (info : Message) (x : EndState) → x.state ≡ Opening → IsStep x (if same then opens info x else other_ua x.sapi x)
+step-ua_in_opening : (same : Bool) (info : Message) (x : EndState) → x.state ≡ Opening →
+    IsStep x (if same then opens info x else other_ua x.sapi x)
 step-ua_in_opening true info x e = step-told x x.kept Open (N.Opened info) [] refl refl tt (may_open-opening x info e)
 step-ua_in_opening false info x e = step-other_ua x.sapi x e
 

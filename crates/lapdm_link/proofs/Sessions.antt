@@ -40,21 +40,29 @@ record IsNext (ls : List Line) (z : World) (new : List Line) : Type 0 where
   after_cause : AllStand IsOpenedAfter ls new
 
 next_quiet : (w : World) (ls : List Line) → AllUnits w ls → AllOpenings w ls → IsNext ls w []
-next_quiet w ls u o = record { units = subst (AllUnits w) (sym (append-nil ls)) u; openings = subst (AllOpenings w) (sym (append-nil ls)) o; after_cause = tt }
+next_quiet w ls u o = record {
+  units = subst (AllUnits w) (sym (append-nil ls)) u;
+  openings = subst (AllOpenings w) (sym (append-nil ls)) o;
+  after_cause = tt;
+}
 
-next_call : (w : World) (ls : List Line) → IsSession w ls → (r : Role) (s : Sapi) (call : Call) → IsPlaced r s call → refusal_of call (end_of r s w) ≡ None → IsNext ls (acted r s (after_call call (end_of r s w)) w) (Asked r s call ∷ map (Told r s) (after_call call (end_of r s w)).notices)
+next_call : (w : World) (ls : List Line) → IsSession w ls → (r : Role) (s : Sapi) (call : Call) → IsPlaced r s call →
+    refusal_of call (end_of r s w) ≡ None → IsNext ls (acted r s (after_call call (end_of r s w)) w)
+    (Asked r s call ∷ map (Told r s) (after_call call (end_of r s w)).notices)
 next_call w ls h r s call placed ok =
     let o = openings-call w ls h.openings r s call placed (h.reported r s).sapi ok in
     record { units = units-call w ls h.units r s call (h.reported r s).sapi ok; openings = o.0; after_cause = o.1 }
 
 next_frame : (w : World) (ls : List Line) → IsSession w ls → (r : Role) (s : Sapi) (f : Frame) → IsAsSent (Some f) (way (other r) w) →
-    IsNext ls (acted r s (after_frame f (end_of r s (without_first (other r) w))) (without_first (other r) w)) (map (Told r s) (after_frame f (end_of r s (without_first (other r) w))).notices)
+    IsNext ls (acted r s (after_frame f (end_of r s (without_first (other r) w))) (without_first (other r) w))
+    (map (Told r s) (after_frame f (end_of r s (without_first (other r) w))).notices)
 next_frame w ls h r s f known =
     let e = h.reported r s in
     let o = openings-frame w ls h.openings r s f e.end e.role e.sapi known in
     record { units = units-frame w ls h.units r s f e.end e.sapi known; openings = o.0; after_cause = o.1 }
 
-next : (w : World) (ls : List Line) (event : Event) → IsHarmlessBy (refusal event w) event w → IsSession w ls → IsNext ls (after event w) (answer_lines event (answer event w))
+next : (w : World) (ls : List Line) (event : Event) → IsHarmlessBy (refusal event w) event w → IsSession w ls →
+    IsNext ls (after event w) (answer_lines event (answer event w))
 next w ls event harmless h =
     by_kind w (IsNext ls) (λ sender f. IsAsSent (Some f) (way sender w))
     (next_quiet w ls h.units h.openings)
@@ -64,7 +72,8 @@ next w ls event harmless h =
     (λ info ok. record { units = units-rival w ls h.units info; openings = openings-rival w ls h.openings info; after_cause = (tt, tt) })
     event (as_sent (refusal event w) event w harmless)
 
-pub session-step : (w : World) (ls : List Line) (event : Event) → IsHarmlessBy (refusal event w) event w → IsSession w ls → IsSession (after event w) (ls ++ answer_lines event (answer event w))
+pub session-step : (w : World) (ls : List Line) (event : Event) → IsHarmlessBy (refusal event w) event w → IsSession w ls →
+    IsSession (after event w) (ls ++ answer_lines event (answer event w))
 session-step w ls event harmless h =
     let new : List Line = answer_lines event (answer event w) in
     let told : Follows ls (after event w) new = in_order-step w ls event h.reported in
@@ -80,7 +89,8 @@ session-step w ls event harmless h =
       after_cause = stand-append IsOpenedAfter [] ls new h.after_cause n.after_cause;
     }
 
-pub session-run : (events : List Event) (w : World) (ls : List Line) → IsHarmless events w → IsSession w ls → ((z : World) × IsSession z (ls ++ lines events (answers events w)))
+pub session-run : (events : List Event) (w : World) (ls : List Line) → IsHarmless events w → IsSession w ls →
+    ((z : World) × IsSession z (ls ++ lines events (answers events w)))
 session-run [] w ls harmless h = (w, subst (IsSession w) (sym (append-nil ls)) h)
 session-run (event ∷ events) w ls harmless h =
     let new : List Line = answer_lines event (answer event w) in
@@ -88,7 +98,15 @@ session-run (event ∷ events) w ls harmless h =
     (run.0, subst (IsSession run.0) (append_assoc ls new (lines events (answers events (after event w)))) run.1)
 
 pub start-session : (channel : Channel) → IsSession (start_on channel) []
-start-session channel = record { reported = start-reported channel; carried = start-carried channel; units = start-units channel; openings = start-openings channel; in_order = tt; after_got = tt; after_cause = tt }
+start-session channel = record {
+  reported = start-reported channel;
+  carried = start-carried channel;
+  units = start-units channel;
+  openings = start-openings channel;
+  in_order = tt;
+  after_got = tt;
+  after_cause = tt;
+}
 
 other_twice : (r : Role) → other (other r) ≡ r
 other_twice Mobile = refl
@@ -99,21 +117,26 @@ pub session-claims : (w : World) (ls : List Line) → IsSession w ls → Claims 
 session-claims w ls h = record {
   in_order = λ r s. got_in_order w ls h.reported h.carried r s;
   acknowledged = λ r s n before place.
-      (let m : MaySay (calls r s before) (notices r s before) (N.Acked n) = stands MayStand ls before (Told r s (N.Acked n)) h.in_order place in
+      (let m : MaySay (calls r s before) (notices r s before) (N.Acked n) = stands MayStand ls before
+      (Told r s (N.Acked n)) h.in_order place in
       (m.0, stands IsAfterGot ls before (Told r s (N.Acked n)) h.after_got place));
   units = λ r s. sub-front (units_got (other r) s ls) (units_on s (way r w)) _ (h.units r s);
   cause = λ r s info before place. stands IsOpenedAfter ls before (Told r s (N.Opened info)) h.after_cause place;
   once = λ r s. opened-most _ _ _ _ (h.reported r s).told.phase;
-  no_oversize = λ r s before place. none_oversize w ls h.reported h.carried (other r) s before (subst (λ (q : Role). (more : List Line) × (before ++ Told q s N.Oversize ∷ more ≡ ls)) (sym (other_twice r)) place);
+  no_oversize = λ r s before place. none_oversize w ls h.reported h.carried (other r) s before
+      (subst (λ (q : Role). (more : List Line) × (before ++ Told q s N.Oversize ∷ more ≡ ls)) (sym (other_twice r)) place);
 }
 
-pub claims : (channel : Channel) (events : List Event) → IsHarmless events (start_on channel) → Claims (lines events (answers events (start_on channel)))
+pub claims : (channel : Channel) (events : List Event) → IsHarmless events (start_on channel) →
+    Claims (lines events (answers events (start_on channel)))
 claims channel events harmless =
     let run = session-run events (start_on channel) [] harmless (start-session channel) in
     session-claims run.0 (lines events (answers events (start_on channel))) run.1
 
 -- no end counts more messages as acknowledged than the other handed up
-pub counts : (channel : Channel) (events : List Event) → IsHarmless events (start_on channel) → (r : Role) (s : Sapi) → length (acked r s (lines events (answers events (start_on channel)))) ≤ length (got (other r) s (lines events (answers events (start_on channel))))
+pub counts : (channel : Channel) (events : List Event) → IsHarmless events (start_on channel) → (r : Role) (s : Sapi) →
+    length (acked r s (lines events (answers events (start_on channel)))) ≤ length
+    (got (other r) s (lines events (answers events (start_on channel))))
 counts channel events harmless r s =
     let run = session-run events (start_on channel) [] harmless (start-session channel) in
     acked_most run.0 (lines events (answers events (start_on channel))) run.1.reported run.1.carried r s

@@ -40,7 +40,8 @@ by_test : (m n : ℕ) (b : Bool) (x y : Outcome) → AtMost m n x → AtMost m n
 by_test m n true x y h g = h
 by_test m n false x y h g = g
 
-both : (m n k l : ℕ) (o : Outcome) (rule : EndState → Outcome) → AtMost m n o → AtMost k l (rule o.after) → AtMost (m + k) (n + l) (o then rule)
+both : (m n k l : ℕ) (o : Outcome) (rule : EndState → Outcome) → AtMost m n o → AtMost k l (rule o.after) →
+    AtMost (m + k) (n + l) (o then rule)
 both m n k l o rule h g = record {
   frames = omega (arith, h.frames, g.frames, length-append o.frames (rule o.after).frames);
   notices = omega (arith, h.notices, g.notices, length-append o.notices (rule o.after).notices);
@@ -68,7 +69,11 @@ few-counts nr e = by_test 0 1 (acknowledges nr e) (reports_acked (next_piece e).
     by_more false = a_notice 0 _ _
 
 few-accepts : (piece : Piece) (e : EndState) → AtMost 0 1 (accepts piece e)
-few-accepts piece e = record { frames = omega arith; notices = by_answer (answer_to e.accepted piece) piece.1 (open_part e.accepted ++ piece.0) }
+few-accepts piece e = record {
+  frames = omega arith;
+  notices = by_answer (answer_to e.accepted piece) piece.1
+      (open_part e.accepted ++ piece.0);
+}
   where
     by_answer : (j : Joined) (b : Bool) (m : Message) → length (notices_of j b m) ≤ 1
     by_answer J.Whole b m = omega arith
@@ -78,7 +83,8 @@ few-accepts piece e = record { frames = omega arith; notices = by_answer (answer
 
 few-answers : (p : Bool) (e : EndState) → AtMost 2 0 (answers_piece p e)
 few-answers true e = both 1 0 1 0 (says_rr true e) sends_next (a_frame 0 _ e) (few-next e)
-few-answers false e = by_test 2 0 (has_next e) (sends_piece e) (says_rr false e) (more 1 0 2 0 _ (omega arith) (omega arith) (a_frame 0 _ _)) (more 1 0 2 0 _ (omega arith) (omega arith) (a_frame 0 _ e))
+few-answers false e = by_test 2 0 (has_next e) (sends_piece e) (says_rr false e)
+    (more 1 0 2 0 _ (omega arith) (omega arith) (a_frame 0 _ _)) (more 1 0 2 0 _ (omega arith) (omega arith) (a_frame 0 _ e))
 
 few-rejects : (p : Bool) (e : EndState) → AtMost 1 0 (rejects p e)
 few-rejects p e = by_test 1 0 (reject_is_due p e) _ (stays e) (a_frame 0 _ _) (nothing 1 0 e)
@@ -87,11 +93,13 @@ few-poll : (b : Bool) (e : EndState) → AtMost 1 0 (answers_poll b e)
 few-poll b e = by_test 1 0 b (says_rr true e) (stays e) (a_frame 0 _ e) (nothing 1 0 e)
 
 -- an N(R) is counted, and one rule and another follow
-counted : (m n k l : ℕ) (nr : ℕ) (first second : EndState → Outcome) (e : EndState) → ((x : EndState) → AtMost m n (first x)) → ((x : EndState) → AtMost k l (second x)) → m + k ≤ 2 → 1 + n + l ≤ 2 →
+counted : (m n k l : ℕ) (nr : ℕ) (first second : EndState → Outcome) (e : EndState) → ((x : EndState) → AtMost m n (first x)) →
+    ((x : EndState) → AtMost k l (second x)) → m + k ≤ 2 → 1 + n + l ≤ 2 →
     AtMost 2 2 (counts nr e then first then second)
 counted m n k l nr first second e h g frames notices =
     more (0 + m + k) (1 + n + l) 2 2 (counts nr e then first then second) (omega (arith, frames)) notices
-    (both (0 + m) (1 + n) k l (counts nr e then first) second (both 0 1 m n (counts nr e) first (few-counts nr e) (h (counts nr e).after)) (g (counts nr e then first).after))
+    (both (0 + m) (1 + n) k l (counts nr e then first) second (both 0 1 m n (counts nr e) first (few-counts nr e) (h (counts nr e).after))
+    (g (counts nr e then first).after))
 
 few-i : (ns nr : ℕ) (p : Bool) (piece : Piece) (e : EndState) → AtMost 2 2 (takes_i ns nr p piece e)
 few-i ns nr p piece e =
@@ -117,7 +125,8 @@ one_notice : (note : Notice) (e : EndState) → AtMost 2 2 (reports note e)
 one_notice note e = more 0 1 2 2 _ (omega arith) (omega arith) (a_notice 0 note e)
 
 opened : (info : Message) (e : EndState) → AtMost 2 2 (opened_by info e)
-opened info e = more 1 1 2 2 _ (omega arith) (omega arith) (both 0 1 1 0 (opens info (record e { kept = info })) (says_ua info) (a_notice 0 _ _) (a_frame 0 _ _))
+opened info e = more 1 1 2 2 _ (omega arith) (omega arith)
+    (both 0 1 1 0 (opens info (record e { kept = info })) (says_ua info) (a_notice 0 _ _) (a_frame 0 _ _))
 
 few-sabm_in_idle : (s : Sapi) (r : Role) (info : Message) (e : EndState) → AtMost 2 2 (sabm_in_idle s r info e)
 few-sabm_in_idle Zero Mobile info e = one_frame _ e
@@ -143,7 +152,8 @@ few-state S.Idle b (Sabm p info) e = few-sabm_in_idle e.sapi e.role info e
 few-state S.Idle b (Disc p) e = one_frame _ e
 few-state S.Idle b other e = few-dm (is_poll b other) e
 few-state S.Opening b (Sabm p info) e = few-sabm_in_opening e.sapi info e
-few-state S.Opening b (Ua true info) e = by_test 2 2 (bytes_eq info e.kept) (opens info e) (other_ua e.sapi e) (one_notice _ _) (few-other_ua e.sapi e)
+few-state S.Opening b (Ua true info) e =
+    by_test 2 2 (bytes_eq info e.kept) (opens info e) (other_ua e.sapi e) (one_notice _ _) (few-other_ua e.sapi e)
 few-state S.Opening b (Ua false info) e = nothing 2 2 e
 few-state S.Opening b (Dm true) e = one_notice _ _
 few-state S.Opening b (Dm false) e = nothing 2 2 e
@@ -152,8 +162,10 @@ few-state S.Opening b other e = nothing 2 2 e
 few-state S.Open b (I ns nr p more info) e = few-i ns nr p (info, more) e
 few-state S.Open b (Rr nr pf) e = few-rr nr (b && pf) e
 few-state S.Open b (Rej nr pf) e = few-rej nr (b && pf) e
-few-state S.Open b (Sabm p info) e = by_test 2 2 (answers_sabm e.sapi e.role && bytes_eq info e.kept) (says_ua info e) (stays e) (one_frame _ e) (nothing 2 2 e)
-few-state S.Open b (Disc p) e = more 1 1 2 2 _ (omega arith) (omega arith) (both 0 1 1 0 (closes _ e) (says_ua []) (a_notice 0 _ _) (a_frame 0 _ _))
+few-state S.Open b (Sabm p info) e =
+    by_test 2 2 (answers_sabm e.sapi e.role && bytes_eq info e.kept) (says_ua info e) (stays e) (one_frame _ e) (nothing 2 2 e)
+few-state S.Open b (Disc p) e =
+    more 1 1 2 2 _ (omega arith) (omega arith) (both 0 1 1 0 (closes _ e) (says_ua []) (a_notice 0 _ _) (a_frame 0 _ _))
 few-state S.Open b (Dm f) e = one_notice _ _
 few-state S.Open b other e = nothing 2 2 e
 few-state S.Closing b (Ua true []) e = one_notice _ _
@@ -180,7 +192,8 @@ few-content b (Disc p) e = few-state e.state b (Disc p) e
 few-content b (Ua f info) e = few-state e.state b (Ua f info) e
 
 few-frame : (f : Frame) (e : EndState) → AtMost 2 2 (after_frame f e)
-few-frame f e = by_test 2 2 _ (after_content (is_command e f) f.content e) (stays e) (few-content (is_command e f) f.content e) (nothing 2 2 e)
+few-frame f e = by_test 2 2 _ (after_content (is_command e f) f.content e) (stays e) (few-content (is_command e f) f.content e)
+    (nothing 2 2 e)
 
 few-call : (call : Call) (e : EndState) → AtMost 2 2 (after_call call e)
 few-call (Opens info) e = one_frame _ _
@@ -201,7 +214,8 @@ few-does : (r : Role) (s : Sapi) (o : Outcome) (es : Ends) → AtMost 2 2 o → 
 few-does r s o es h = record { frames = h.frames; notices = h.notices }
 
 few-takes : (r : Role) (f : Frame) (es : Ends) (zero three : Bool) →
-    IsFew (if zero then does r Zero (after_frame f (end_in r Zero es)) es else (if three then does r Three (after_frame f (end_in r Three es)) es else does_nothing (End r) es))
+    IsFew (if zero then does r Zero (after_frame f (end_in r Zero es)) es else
+    (if three then does r Three (after_frame f (end_in r Three es)) es else does_nothing (End r) es))
 few-takes r f es true three = few-does r Zero _ es (few-frame f (end_in r Zero es))
 few-takes r f es false true = few-does r Three _ es (few-frame f (end_in r Three es))
 few-takes r f es false false = record { frames = omega arith; notices = omega arith }
@@ -224,24 +238,31 @@ way_more : (r : Role) (fs : List Frame) (ws : Ways Frame) → way r (with_more r
 way_more Mobile fs ws = refl
 way_more Network fs ws = refl
 
-deed-fits_by : (channel : Channel) (w : World) (event : Event) (o : Option Why) → o ≡ None → IsFitting channel (after_by o event w) → AllFit channel (deed event w.ends).frames
+deed-fits_by : (channel : Channel) (w : World) (event : Event) (o : Option Why) → o ≡ None → IsFitting channel (after_by o event w) →
+    AllFit channel (deed event w.ends).frames
 deed-fits_by channel w event o none h =
     let d : Deed = deed event w.ends in
-    let g : IsFitting channel (next d (record w { ways = taken event w.ways })) = subst (λ (q : Option Why). IsFitting channel (after_by q event w)) none h in
-    fit-later channel (way (sender_of d.who) (taken event w.ways)) d.frames (subst (AllFit channel) (way_more (sender_of d.who) d.frames (taken event w.ways)) (g.ways (sender_of d.who)))
+    let g : IsFitting channel (next d (record w { ways = taken event w.ways })) =
+    subst (λ (q : Option Why). IsFitting channel (after_by q event w)) none h in
+    fit-later channel (way (sender_of d.who) (taken event w.ways)) d.frames
+    (subst (AllFit channel) (way_more (sender_of d.who) d.frames (taken event w.ways)) (g.ways (sender_of d.who)))
 
 -- the frames of a deed fit, where what is read does
-pub deed-fits : (channel : Channel) (w : World) (ls : List Line) (event : Event) → AllReported w ls → KnowsBy (refusal event w) (λ sender f. Fits channel f) event → IsFitting channel w → refusal event w ≡ None →
+pub deed-fits : (channel : Channel) (w : World) (ls : List Line) (event : Event) → AllReported w ls →
+    KnowsBy (refusal event w) (λ sender f. Fits channel f) event → IsFitting channel w → refusal event w ≡ None →
     AllFit channel (deed event w.ends).frames
-deed-fits channel w ls event reported known h none = deed-fits_by channel w event (refusal event w) none (fits-step channel w ls event reported known h)
+deed-fits channel w ls event reported known h none =
+    deed-fits_by channel w event (refusal event w) none (fits-step channel w ls event reported known h)
 
 all-fit : (channel : Channel) (fs : List Frame) → AllFit channel fs → All (Fits channel) fs
 all-fit channel [] h = All-nil (Fits channel)
 all-fit channel (f ∷ fs) h = All-cons (Fits channel) f fs h.0 (all-fit channel fs h.1)
 
-sendable : (channel : Channel) (w : World) (event : Event) (o : Option Why) → IsFitting channel (after_by o event w) → IsSendable channel (answer_by o (deed event w.ends))
+sendable : (channel : Channel) (w : World) (event : Event) (o : Option Why) → IsFitting channel (after_by o event w) →
+    IsSendable channel (answer_by o (deed event w.ends))
 sendable channel w event (Some why) h = tt
-sendable channel w event None h = ((few-deed event w.ends).frames, all-fit channel _ (deed-fits_by channel w event None refl h), (few-deed event w.ends).notices)
+sendable channel w event None h =
+    ((few-deed event w.ends).frames, all-fit channel _ (deed-fits_by channel w event None refl h), (few-deed event w.ends).notices)
 
 readable : (channel : Channel) (event : Event) (o : Option Why) → IsReadable channel event → KnowsBy o (λ sender f. Fits channel f) event
 readable channel event (Some why) h = tt
@@ -253,12 +274,17 @@ readable channel (Ask r s request) None h = tt
 readable channel (Lose sender) None h = tt
 readable channel (Rival info) None h = tt
 
-small-run : (channel : Channel) (events : List Event) (w : World) (ls : List Line) → All (IsReadable channel) events → AllReported w ls → IsFitting channel w → All (IsSendable channel) (answers events w)
+small-run : (channel : Channel) (events : List Event) (w : World) (ls : List Line) → All (IsReadable channel) events → AllReported w ls →
+    IsFitting channel w → All (IsSendable channel) (answers events w)
 small-run channel [] w ls h reported fit = All-nil (IsSendable channel)
 small-run channel (event ∷ events) w ls h reported fit =
-    let fit' : IsFitting channel (after event w) = fits-step channel w ls event reported (readable channel event (refusal event w) (All-head (IsReadable channel) event events h)) fit in
+    let fit' : IsFitting channel (after event w) =
+    fits-step channel w ls event reported (readable channel event (refusal event w) (All-head (IsReadable channel) event events h)) fit
+    in
     All-cons (IsSendable channel) (answer event w) (answers events (after event w)) (sendable channel w event (refusal event w) fit')
-    (small-run channel events (after event w) (ls ++ answer_lines event (answer event w)) (All-tail (IsReadable channel) event events h) (in_order-step w ls event reported).0 fit')
+    (small-run channel events (after event w) (ls ++ answer_lines event (answer event w)) (All-tail (IsReadable channel) event events h)
+    (in_order-step w ls event reported).0 fit')
 
-pub small_answers : (channel : Channel) (events : List Event) → All (IsReadable channel) events → All (IsSendable channel) (answers events (start_on channel))
+pub small_answers : (channel : Channel) (events : List Event) → All (IsReadable channel) events →
+    All (IsSendable channel) (answers events (start_on channel))
 small_answers channel events h = small-run channel events (start_on channel) [] h (start-reported channel) (start-fits channel)

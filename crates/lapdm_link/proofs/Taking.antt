@@ -87,7 +87,8 @@ numbered-answers x z (Rr nr pf) h g = g
 numbered-answers x z (Rej nr pf) h g = g
 numbered-answers x z other h g = absurd h
 
-all-answers : (x z : EndState) (s : Sapi) (fs : List Frame) → AllFrames IsNumbered s fs → AllFrames (SaysWell (all_pieces x)) s fs → AllFrames (Answers x z) s fs
+all-answers : (x z : EndState) (s : Sapi) (fs : List Frame) → AllFrames IsNumbered s fs → AllFrames (SaysWell (all_pieces x)) s fs →
+    AllFrames (Answers x z) s fs
 all-answers x z s [] h g = tt
 all-answers x z s (f ∷ fs) h g = (h.0, numbered-answers x z f.content h.1 g.1, all-answers x z s fs h.2 g.2)
 
@@ -125,28 +126,43 @@ no_opened s (n ∷ ns) t h w =
 taken-open : (c : Content) (x : EndState) (o : Outcome) → x.state ≡ Open → IsEnd x → InOpen x o → IsTaken c x o
 taken-open c x o is_now e h = record {
   frames = all-answers x o.after x.sapi o.frames h.frames (h.well e);
-  goes = inl (inl (record { state = h.state; kept = h.kept; none = no_opened x.state o.notices o.after.state (late Open x.state is_now tt) h.tells.walks }));
+  goes = inl (inl (record {
+    state = h.state;
+    kept = h.kept;
+    none = no_opened x.state o.notices o.after.state
+        (late Open x.state is_now tt) h.tells.walks;
+  }));
   unit = inl h.no_units;
 }
 
 -- the tables
-taken-quiet : (c : Content) (x : EndState) (fs : List Frame) → AllFrames (Answers x x) x.sapi fs → IsTaken c x (record { after = x; frames = fs; notices = [] })
+taken-quiet : (c : Content) (x : EndState) (fs : List Frame) → AllFrames (Answers x x) x.sapi fs →
+    IsTaken c x (record { after = x; frames = fs; notices = [] })
 taken-quiet c x fs h = record { frames = h; goes = inl (inl (record { state = refl; kept = refl; none = refl })); unit = inl refl }
 
-taken-over : (c : Content) (x : EndState) (reason : Reason) (fs : List Frame) → AllFrames (Answers x (record x { state = Closed })) x.sapi fs → IsTaken c x (record { after = record x { state = Closed }; frames = fs; notices = N.Closed reason ∷ [] })
+taken-over : (c : Content) (x : EndState) (reason : Reason) (fs : List Frame) →
+    AllFrames (Answers x (record x { state = Closed })) x.sapi fs →
+    IsTaken c x (record { after = record x { state = Closed }; frames = fs; notices = N.Closed reason ∷ [] })
 taken-over c x reason fs h = record { frames = h; goes = inl (inr (record { state = refl; kept = refl; none = refl })); unit = inl refl }
 
-taken-opened : (c : Content) (x : EndState) (k : Message) (info : Message) (fs : List Frame) → k ≡ info → AllFrames (Answers x (record x { state = Open; kept = k })) x.sapi fs → OpensBy c x info → IsTaken c x (record { after = record x { state = Open; kept = k }; frames = fs; notices = N.Opened info ∷ [] })
-taken-opened c x k info fs e h cause = record { frames = h; goes = inr (record { info = info; notices = refl; state = refl; kept = e; cause = cause }); unit = inl refl }
+taken-opened : (c : Content) (x : EndState) (k : Message) (info : Message) (fs : List Frame) → k ≡ info →
+    AllFrames (Answers x (record x { state = Open; kept = k })) x.sapi fs → OpensBy c x info →
+    IsTaken c x (record { after = record x { state = Open; kept = k }; frames = fs; notices = N.Opened info ∷ [] })
+taken-opened c x k info fs e h cause =
+    record { frames = h; goes = inr (record { info = info; notices = refl; state = refl; kept = e; cause = cause }); unit = inl refl }
 
 begun : (x : EndState) (s : State) → x.state ≡ s → HasBegun s → HasBegun x.state
 begun x s e h = subst HasBegun (sym e) h
 
-taken-sabm_in_idle : (p : Bool) (s : Sapi) (r : Role) (info : Message) (x : EndState) → x.state ≡ Idle → x.sapi ≡ s → x.role ≡ r → IsTaken (Sabm p info) x (sabm_in_idle s r info x)
+taken-sabm_in_idle : (p : Bool) (s : Sapi) (r : Role) (info : Message) (x : EndState) → x.state ≡ Idle → x.sapi ≡ s → x.role ≡ r →
+    IsTaken (Sabm p info) x (sabm_in_idle s r info x)
 taken-sabm_in_idle p Zero Mobile info x e a b = taken-quiet _ x _ (refl, tt, tt)
 taken-sabm_in_idle p Zero Network [] x e a b = taken-quiet _ x _ tt
-taken-sabm_in_idle p Zero Network (i ∷ is) x e a b = taken-opened _ x (i ∷ is) (i ∷ is) _ refl (refl, inl (refl, refl), tt) (refl, e, subst (λ (s : Sapi). MayOpen s x.role (i ∷ is)) (sym a) (subst (λ (r : Role). MayOpen Zero r (i ∷ is)) (sym b) tt))
-taken-sabm_in_idle p Three r [] x e a b = taken-opened _ x [] [] _ refl (refl, inl (refl, refl), tt) (refl, e, subst (λ (s : Sapi). MayOpen s x.role []) (sym a) (three x.role))
+taken-sabm_in_idle p Zero Network (i ∷ is) x e a b =
+    taken-opened _ x (i ∷ is) (i ∷ is) _ refl (refl, inl (refl, refl), tt)
+    (refl, e, subst (λ (s : Sapi). MayOpen s x.role (i ∷ is)) (sym a) (subst (λ (r : Role). MayOpen Zero r (i ∷ is)) (sym b) tt))
+taken-sabm_in_idle p Three r [] x e a b =
+    taken-opened _ x [] [] _ refl (refl, inl (refl, refl), tt) (refl, e, subst (λ (s : Sapi). MayOpen s x.role []) (sym a) (three x.role))
   where
     three : (r : Role) → MayOpen Three r []
     three Mobile = tt
@@ -162,7 +178,8 @@ taken-in_idle poll (Sabm p info) x e = taken-sabm_in_idle p x.sapi x.role info x
 taken-in_idle poll (Disc p) x e = taken-quiet _ x _ (refl, tt, tt)
 taken-in_idle poll other x e = taken-dm_to_poll poll other x
 
-taken-sabm_in_opening : (p : Bool) (s : Sapi) (info : Message) (x : EndState) → x.state ≡ Opening → IsTaken (Sabm p info) x (sabm_in_opening s info x)
+taken-sabm_in_opening : (p : Bool) (s : Sapi) (info : Message) (x : EndState) → x.state ≡ Opening →
+    IsTaken (Sabm p info) x (sabm_in_opening s info x)
 taken-sabm_in_opening p Zero info x e = taken-quiet _ x _ tt
 taken-sabm_in_opening p Three [] x e = taken-quiet _ x _ (refl, inr (refl, begun x Opening e tt), tt)
 taken-sabm_in_opening p Three (i ∷ is) x e = taken-quiet _ x _ tt
@@ -171,7 +188,8 @@ taken-other_ua : (c : Content) (s : Sapi) (x : EndState) → IsTaken c x (other_
 taken-other_ua c Zero x = taken-over c x R.Contention [] tt
 taken-other_ua c Three x = taken-quiet c x _ tt
 
-taken-ua_in_opening : (same : Bool) (info : Message) (x : EndState) → x.state ≡ Opening → bytes_eq info x.kept ≡ same → IsTaken (Ua true info) x (if same then opens info x else other_ua x.sapi x)
+taken-ua_in_opening : (same : Bool) (info : Message) (x : EndState) → x.state ≡ Opening → bytes_eq info x.kept ≡ same →
+    IsTaken (Ua true info) x (if same then opens info x else other_ua x.sapi x)
 taken-ua_in_opening true info x e same =
     let as_kept : info ≡ x.kept = (bytes_eq-Decides info x.kept).0 same in
     taken-opened _ x x.kept info [] (sym as_kept) tt (refl, e, as_kept)
@@ -186,7 +204,8 @@ taken-in_opening (Dm false) x e = taken-quiet _ x _ tt
 taken-in_opening (Disc p) x e = taken-quiet _ x _ (refl, tt, tt)
 taken-in_opening other x e = taken-quiet other x _ tt
 
-taken-ua_if : (p : Bool) (answers same : Bool) (info : Message) (x : EndState) → x.state ≡ Open → bytes_eq info x.kept ≡ same → IsTaken (Sabm p info) x (if answers && same then says_ua info x else stays x)
+taken-ua_if : (p : Bool) (answers same : Bool) (info : Message) (x : EndState) → x.state ≡ Open → bytes_eq info x.kept ≡ same →
+    IsTaken (Sabm p info) x (if answers && same then says_ua info x else stays x)
 taken-ua_if p true true info x e same = taken-quiet _ x _ (refl, inl (e, sym ((bytes_eq-Decides info x.kept).0 same)), tt)
 taken-ua_if p true false info x e same = taken-quiet _ x _ tt
 taken-ua_if p false s info x e same = taken-quiet _ x _ tt
@@ -225,7 +244,8 @@ taken-in_state Closed cmd c x e h = taken-in_closed (is_poll cmd c) c x
 
 taken-content : (cmd : Bool) (c : Content) (x : EndState) → IsEnd x → IsTaken c x (after_content cmd c x)
 taken-content cmd (Ui p []) x h = taken-quiet _ x _ tt
-taken-content cmd (Ui p (i ∷ is)) x h = record { frames = tt; goes = inl (inl (record { state = refl; kept = refl; none = refl })); unit = inr (i ∷ is, refl, refl) }
+taken-content cmd (Ui p (i ∷ is)) x h =
+    record { frames = tt; goes = inl (inl (record { state = refl; kept = refl; none = refl })); unit = inr (i ∷ is, refl, refl) }
 taken-content cmd other x h = taken-in_state x.state cmd other x refl h
 
 taken-if : (b cmd : Bool) (c : Content) (x : EndState) → IsEnd x → IsTaken c x (if b then after_content cmd c x else stays x)

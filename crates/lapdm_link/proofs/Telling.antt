@@ -60,33 +60,54 @@ pub record Tells (x : EndState) (ns : List Notice) (z : EndState) : Type 0 where
 
 numbers-append : (k : ℕ) (ns ms : List Notice) → Numbers k ns → Numbers (k + length (filter_map acked_in ns)) ms → Numbers k (ns ++ ms)
 numbers-append k [] ms h g = subst (λ (i : ℕ). Numbers i ms) (let e : k + 0 ≡ k = omega arith in e) g
-numbers-append k (N.Acked n ∷ ns) ms h g =
-    (h.0, numbers-append (k + 1) ns ms h.1 (subst (λ (i : ℕ). Numbers i ms) (let e : k + length (filter_map acked_in (N.Acked n ∷ ns)) ≡ k + 1 + length (filter_map acked_in ns) = omega arith in e) g))
+numbers-append k (N.Acked n ∷ ns) ms h g = (
+  h.0,
+  numbers-append (k + 1) ns ms h.1
+      (subst (λ (i : ℕ). Numbers i ms)
+      (let e : k + length (filter_map acked_in (N.Acked n ∷ ns)) ≡ k + 1 + length (filter_map acked_in ns) = omega arith in e) g),
+)
 numbers-append k (other ∷ ns) ms h g = numbers-append k ns ms h g
 
-walks-append : (s : State) (ns : List Notice) (t : State) (ms : List Notice) (u : State) → Walks s ns t → Walks t ms u → Walks s (ns ++ ms) u
+walks-append : (s : State) (ns : List Notice) (t : State) (ms : List Notice) (u : State) → Walks s ns t → Walks t ms u →
+    Walks s (ns ++ ms) u
 walks-append s [] t ms u h g = subst (λ (v : State). Walks v ms u) h g
 walks-append s (n ∷ ns) t ms u h g = (h.0, h.1, walks-append h.0 ns t ms u h.2 g)
 
 pub tells-then : (x y z : EndState) (ns ms : List Notice) → Tells x ns y → Tells y ms z → Tells x (ns ++ ms) z
 tells-then x y z ns ms h g = record {
   taken = g.taken ∙ h.taken;
-  got = g.got ∙ ap (λ xs. xs ++ filter_map ending_in ms) h.got ∙ append_assoc (endings [] x.accepted) (filter_map ending_in ns) (filter_map ending_in ms) ∙ ap (λ xs. endings [] x.accepted ++ xs) (sym (filter_map-append ending_in ns ms));
-  acked = omega (arith, g.acked, h.acked, ap length (filter_map-append acked_in ns ms), length-append (filter_map acked_in ns) (filter_map acked_in ms));
+  got = g.got ∙ ap (λ xs. xs ++ filter_map ending_in ms) h.got ∙ append_assoc (endings [] x.accepted) (filter_map ending_in ns)
+      (filter_map ending_in ms) ∙ ap (λ xs. endings [] x.accepted ++ xs) (sym (filter_map-append ending_in ns ms));
+  acked = omega (
+    arith,
+    g.acked,
+    h.acked,
+    ap length (filter_map-append acked_in ns ms),
+    length-append (filter_map acked_in ns) (filter_map acked_in ms),
+  );
   numbers = numbers-append (wholly_acked x) ns ms h.numbers (subst (λ (i : ℕ). Numbers i ms) h.acked g.numbers);
   walks = walks-append x.state ns y.state ms z.state h.walks g.walks;
 }
 
 -- nothing is told
-pub silent : (x z : EndState) → z.taken ≡ x.taken → endings [] z.accepted ≡ endings [] x.accepted → wholly_acked z ≡ wholly_acked x → z.state ≡ x.state → Tells x [] z
-silent x z taken got acked state = record { taken = taken; got = got ∙ sym (append-nil (endings [] x.accepted)); acked = omega (arith, acked); numbers = tt; walks = state }
+pub silent : (x z : EndState) → z.taken ≡ x.taken → endings [] z.accepted ≡ endings [] x.accepted → wholly_acked z ≡ wholly_acked x →
+    z.state ≡ x.state → Tells x [] z
+silent x z taken got acked state =
+    record {
+      taken = taken;
+      got = got ∙ sym (append-nil (endings [] x.accepted));
+      acked = omega (arith, acked);
+      numbers = tt;
+      walks = state;
+    }
 
 -- all frames are of this SAPI, and so is what they say
 abbrev pub AllFrames : (Content → Type 0) → Sapi → List Frame → Type 0
 AllFrames Says s [] = Unit {0}
 AllFrames Says s (f ∷ fs) = (f.sapi ≡ sapi_number s) × Says f.content × AllFrames Says s fs
 
-pub frames-append : (Says : Content → Type 0) (s : Sapi) (fs gs : List Frame) → AllFrames Says s fs → AllFrames Says s gs → AllFrames Says s (fs ++ gs)
+pub frames-append : (Says : Content → Type 0) (s : Sapi) (fs gs : List Frame) → AllFrames Says s fs → AllFrames Says s gs →
+    AllFrames Says s (fs ++ gs)
 frames-append Says s [] gs h g = g
 frames-append Says s (f ∷ fs) gs h g = (h.0, h.1, frames-append Says s fs gs h.2 g)
 
@@ -132,16 +153,21 @@ in-then x o rule h g = record {
   channel = g.channel ∙ h.channel;
   kept = g.kept ∙ h.kept;
   state = g.state ∙ h.state;
-  frames = frames-append IsNumbered x.sapi o.frames (rule o.after).frames h.frames (subst (λ (s : Sapi). AllFrames IsNumbered s (rule o.after).frames) h.sapi g.frames);
+  frames = frames-append IsNumbered x.sapi o.frames (rule o.after).frames h.frames
+      (subst (λ (s : Sapi). AllFrames IsNumbered s (rule o.after).frames) h.sapi g.frames);
   tells = tells-then x o.after (rule o.after).after o.notices (rule o.after).notices h.tells g.tells;
   end = λ e. g.end (h.end e);
-  no_units = filter_map-append unit_got_in o.notices (rule o.after).notices ∙ ap (λ ms. ms ++ filter_map unit_got_in (rule o.after).notices) h.no_units ∙ g.no_units;
+  no_units = filter_map-append unit_got_in o.notices (rule o.after).notices
+      ∙ ap (λ ms. ms ++ filter_map unit_got_in (rule o.after).notices) h.no_units ∙ g.no_units;
   well = λ e. frames-append (SaysWell (all_pieces x)) x.sapi o.frames (rule o.after).frames (h.well e)
-      (subst (λ (ps : List Piece). AllFrames (SaysWell ps) x.sapi (rule o.after).frames) (same_pieces x o h.channel h.tells.taken) (subst (λ (s : Sapi). AllFrames (SaysWell (all_pieces o.after)) s (rule o.after).frames) h.sapi (g.well (h.end e))));
+      (subst (λ (ps : List Piece). AllFrames (SaysWell ps) x.sapi (rule o.after).frames) (same_pieces x o h.channel h.tells.taken)
+      (subst (λ (s : Sapi). AllFrames (SaysWell (all_pieces o.after)) s (rule o.after).frames) h.sapi (g.well (h.end e))));
 }
 
 -- only the reject condition and the retry count change
-plainly : (x : EndState) (b : Bool) (r : ℕ) (fs : List Frame) → AllFrames IsNumbered x.sapi fs → (IsEnd x → AllFrames (SaysWell (all_pieces x)) x.sapi fs) → InOpen x (record { after = record x { rejecting = b; retries = r }; frames = fs; notices = [] })
+plainly : (x : EndState) (b : Bool) (r : ℕ) (fs : List Frame) → AllFrames IsNumbered x.sapi fs →
+    (IsEnd x → AllFrames (SaysWell (all_pieces x)) x.sapi fs) →
+    InOpen x (record { after = record x { rejecting = b; retries = r }; frames = fs; notices = [] })
 plainly x b r fs h g = record {
   role = refl;
   sapi = refl;
@@ -189,7 +215,8 @@ in-sends_piece x has =
       well = λ e. (refl, (three_bits x.acked, three_bits (length x.accepted), (x.acked, omega arith, refl)), tt);
     }
 
-in-if : (b c : Bool) (f g : EndState → Outcome) (x : EndState) → c ≡ b → (c ≡ true → InOpen x (f x)) → InOpen x (g x) → InOpen x (if b then f x else g x)
+in-if : (b c : Bool) (f g : EndState → Outcome) (x : EndState) → c ≡ b → (c ≡ true → InOpen x (f x)) → InOpen x (g x) →
+    InOpen x (if b then f x else g x)
 in-if true c f g x e h k = h e
 in-if false c f g x e h k = k
 
@@ -203,7 +230,9 @@ waits_within x h w =
     grind (arith, nat_tests)
 
 in-sends_again : Stays sends_again
-in-sends_again x = in-if (waits x) (waits x) (λ e. sends (waiting_frame false e) e) sends_next x refl (λ w. plainly x x.rejecting x.retries _ (refl, tt, tt) (λ e. (refl, (three_bits x.acked, three_bits (length x.accepted), (x.acked, waits_within x e w, refl)), tt))) (in-sends_next x)
+in-sends_again x = in-if (waits x) (waits x) (λ e. sends (waiting_frame false e) e) sends_next x refl
+    (λ w. plainly x x.rejecting x.retries _ (refl, tt, tt)
+    (λ e. (refl, (three_bits x.acked, three_bits (length x.accepted), (x.acked, waits_within x e w, refl)), tt))) (in-sends_next x)
 
 in-answers_poll : (poll : Bool) → Stays (answers_poll poll)
 in-answers_poll poll x = in-if poll poll (says_rr true) stays x refl (λ e. in-says_rr true x) (in-stays x)
@@ -213,9 +242,22 @@ in-answers_piece true x = in-then x (says_rr true x) sends_next (in-says_rr true
 in-answers_piece false x = in-if (has_next x) (has_next x) sends_piece (says_rr false) x refl (in-sends_piece x) (in-says_rr false x)
 
 -- an N(R) is counted
-reports-acked : (more : Bool) (x : EndState) → x.state ≡ Open → (next_piece x).1 ≡ more → x.sent ≡ x.acked + 1 → x.acked < length (all_pieces x) → InOpen x (reports_acked more x)
+reports-acked : (more : Bool) (x : EndState) → x.state ≡ Open → (next_piece x).1 ≡ more → x.sent ≡ x.acked + 1 →
+    x.acked < length (all_pieces x) → InOpen x (reports_acked more x)
 reports-acked true x is_now is one within =
-    record { role = refl; sapi = refl; channel = refl; kept = refl; state = refl; frames = tt; tells = silent x (with_acked x) refl refl (wholly_acked-more x one within is) refl; end = IsEnd-acked x; no_units = refl; well = λ e. tt }
+    record {
+      role = refl;
+      sapi = refl;
+      channel = refl;
+      kept = refl;
+      state = refl;
+      frames = tt;
+      tells = silent x (with_acked x) refl refl (wholly_acked-more x one within is) refl;
+      end = IsEnd-acked x;
+      no_units = refl;
+      well =
+          λ e. tt;
+    }
 reports-acked false x is_now is one within =
     let last : wholly_acked (with_acked x) ≡ wholly_acked x + 1 = wholly_acked-last x one within is in
     record {
@@ -243,7 +285,8 @@ acknowledges_next x nr h acks =
     let high : x.sent ≤ x.acked + 1 = h.window in
     grind (arith, nat_tests)
 
-counts_if : (b : Bool) (nr : ℕ) (x : EndState) → x.state ≡ Open → IsEnd x → acknowledges nr x ≡ b → InOpen x (if b then reports_acked (next_piece x).1 x else stays x)
+counts_if : (b : Bool) (nr : ℕ) (x : EndState) → x.state ≡ Open → IsEnd x → acknowledges nr x ≡ b →
+    InOpen x (if b then reports_acked (next_piece x).1 x else stays x)
 counts_if true nr x is_now h acks =
     let one : x.sent ≡ x.acked + 1 = acknowledges_next x nr h acks in
     reports-acked (next_piece x).1 x is_now refl one (omega (arith, h.sent))
@@ -253,13 +296,16 @@ in-counts : (nr : ℕ) (x : EndState) → x.state ≡ Open → IsEnd x → InOpe
 in-counts nr x is_now h = counts_if (acknowledges nr x) nr x is_now h refl
 
 -- a piece is accepted
-ended-by : (over : Bool) (more : Bool) (m : Message) → filter_map ending_in (notices_of (if over then J.Oversize else (if more then J.More else J.Whole)) more m) ≡ (if more then [] else (if over then None else Some m) ∷ [])
+ended-by : (over : Bool) (more : Bool) (m : Message) →
+    filter_map ending_in (notices_of (if over then J.Oversize else (if more then J.More else J.Whole)) more m) ≡
+    (if more then [] else (if over then None else Some m) ∷ [])
 ended-by true true m = refl
 ended-by true false m = refl
 ended-by false true m = refl
 ended-by false false m = refl
 
-one_more : (ps : List Piece) (p : Piece) → endings [] (ps ++ p ∷ []) ≡ endings [] ps ++ (if p.1 then [] else within (open_part ps ++ p.0) ∷ [])
+one_more : (ps : List Piece) (p : Piece) →
+    endings [] (ps ++ p ∷ []) ≡ endings [] ps ++ (if p.1 then [] else within (open_part ps ++ p.0) ∷ [])
 one_more ps (octets, true) = endings-more [] ps octets ∙ sym (append-nil (endings [] ps))
 one_more ps (octets, false) = endings-last [] ps octets
 
@@ -311,7 +357,8 @@ in-accepts p x is_now =
     }
 
 -- the rules as a whole
-in-takes_i-if : (b : Bool) (nr : ℕ) (p : Bool) (piece : Piece) (x : EndState) → x.state ≡ Open → IsEnd x → InOpen x (if b then (counts nr x then accepts piece then answers_piece p) else (counts nr x then rejects p then sends_next))
+in-takes_i-if : (b : Bool) (nr : ℕ) (p : Bool) (piece : Piece) (x : EndState) → x.state ≡ Open → IsEnd x →
+    InOpen x (if b then (counts nr x then accepts piece then answers_piece p) else (counts nr x then rejects p then sends_next))
 in-takes_i-if true nr p piece x is_now h =
     let counted = in-counts nr x is_now h in
     let accepted = in-then x (counts nr x) (accepts piece) counted (in-accepts piece (counts nr x).after (counted.state ∙ is_now)) in

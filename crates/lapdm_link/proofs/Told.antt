@@ -35,43 +35,62 @@ pub record HasTold (x : EndState) (cs : List Call) (ns : List Notice) : Type 0 w
 phase-same : (s : State) (o c k o' c' : ℕ) → o' ≡ o → c' ≡ c → Phase s o c k → Phase s o' c' k
 phase-same s o c k o' c' e f h = subst (λ (i : ℕ). Phase s i c' k) (sym e) (subst (λ (i : ℕ). Phase s o i k) (sym f) h)
 
-phase-may : (s : State) (n : Notice) (u : State) (o c k : ℕ) → MayTell s n u → Phase s o c k → Phase u (o + length (filter_map opened_in (n ∷ []))) (c + length (filter_map closed_in (n ∷ []))) k
-phase-may s (N.Unit m) u o c k may h = subst (λ (v : State). Phase v (o + 0) (c + 0) k) (sym may) (phase-same s o c k (o + 0) (c + 0) (omega arith) (omega arith) h)
-phase-may S.Open (N.Got m) u o c k may h = subst (λ (v : State). Phase v (o + 0) (c + 0) k) (sym may) (phase-same S.Open o c k (o + 0) (c + 0) (omega arith) (omega arith) h)
-phase-may S.Open (N.Acked n) u o c k may h = subst (λ (v : State). Phase v (o + 0) (c + 0) k) (sym may) (phase-same S.Open o c k (o + 0) (c + 0) (omega arith) (omega arith) h)
-phase-may S.Open N.Oversize u o c k may h = subst (λ (v : State). Phase v (o + 0) (c + 0) k) (sym may) (phase-same S.Open o c k (o + 0) (c + 0) (omega arith) (omega arith) h)
-phase-may S.Idle (N.Opened info) u o c k may h = subst (λ (v : State). Phase v (o + 1) (c + 0) k) (sym may) (omega (arith, h.0), omega (arith, h.1), h.2)
-phase-may S.Opening (N.Opened info) u o c k may h = subst (λ (v : State). Phase v (o + 1) (c + 0) k) (sym may) (omega (arith, h.0), omega (arith, h.1), h.2)
+phase-may : (s : State) (n : Notice) (u : State) (o c k : ℕ) → MayTell s n u → Phase s o c k →
+    Phase u (o + length (filter_map opened_in (n ∷ []))) (c + length (filter_map closed_in (n ∷ []))) k
+phase-may s (N.Unit m) u o c k may h =
+    subst (λ (v : State). Phase v (o + 0) (c + 0) k) (sym may) (phase-same s o c k (o + 0) (c + 0) (omega arith) (omega arith) h)
+phase-may S.Open (N.Got m) u o c k may h =
+    subst (λ (v : State). Phase v (o + 0) (c + 0) k) (sym may) (phase-same S.Open o c k (o + 0) (c + 0) (omega arith) (omega arith) h)
+phase-may S.Open (N.Acked n) u o c k may h =
+    subst (λ (v : State). Phase v (o + 0) (c + 0) k) (sym may) (phase-same S.Open o c k (o + 0) (c + 0) (omega arith) (omega arith) h)
+phase-may S.Open N.Oversize u o c k may h =
+    subst (λ (v : State). Phase v (o + 0) (c + 0) k) (sym may) (phase-same S.Open o c k (o + 0) (c + 0) (omega arith) (omega arith) h)
+phase-may S.Idle (N.Opened info) u o c k may h =
+    subst (λ (v : State). Phase v (o + 1) (c + 0) k) (sym may) (omega (arith, h.0), omega (arith, h.1), h.2)
+phase-may S.Opening (N.Opened info) u o c k may h =
+    subst (λ (v : State). Phase v (o + 1) (c + 0) k) (sym may) (omega (arith, h.0), omega (arith, h.1), h.2)
 phase-may S.Closed (N.Closed reason) u o c k may h = absurd may
-phase-may S.Idle (N.Closed reason) u o c k may h = subst (λ (v : State). Phase v (o + 0) (c + 1) k) (sym may) (omega (arith, h.0), omega (arith, h.1))
-phase-may S.Opening (N.Closed reason) u o c k may h = subst (λ (v : State). Phase v (o + 0) (c + 1) k) (sym may) (omega (arith, h.0), omega (arith, h.1))
-phase-may S.Open (N.Closed reason) u o c k may h = subst (λ (v : State). Phase v (o + 0) (c + 1) k) (sym may) (omega (arith, h.0), omega (arith, h.1))
-phase-may S.Closing (N.Closed reason) u o c k may h = subst (λ (v : State). Phase v (o + 0) (c + 1) k) (sym may) (omega (arith, h.0), omega (arith, h.1))
+phase-may S.Idle (N.Closed reason) u o c k may h =
+    subst (λ (v : State). Phase v (o + 0) (c + 1) k) (sym may) (omega (arith, h.0), omega (arith, h.1))
+phase-may S.Opening (N.Closed reason) u o c k may h =
+    subst (λ (v : State). Phase v (o + 0) (c + 1) k) (sym may) (omega (arith, h.0), omega (arith, h.1))
+phase-may S.Open (N.Closed reason) u o c k may h =
+    subst (λ (v : State). Phase v (o + 0) (c + 1) k) (sym may) (omega (arith, h.0), omega (arith, h.1))
+phase-may S.Closing (N.Closed reason) u o c k may h =
+    subst (λ (v : State). Phase v (o + 0) (c + 1) k) (sym may) (omega (arith, h.0), omega (arith, h.1))
 phase-may s n u o c k may h = absurd may
 
-phase-one : (s : State) (n : Notice) (u : State) (cs : List Call) (ns : List Notice) → MayTell s n u → PhaseIn s cs ns → PhaseIn u cs (ns ++ n ∷ [])
+phase-one : (s : State) (n : Notice) (u : State) (cs : List Call) (ns : List Notice) → MayTell s n u → PhaseIn s cs ns →
+    PhaseIn u cs (ns ++ n ∷ [])
 phase-one s n u cs ns may h =
-    phase-same u _ _ (length (filter_map closes_in cs)) (length (filter_map opened_in (ns ++ n ∷ []))) (length (filter_map closed_in (ns ++ n ∷ [])))
+    phase-same u _ _ (length (filter_map closes_in cs)) (length (filter_map opened_in (ns ++ n ∷ [])))
+    (length (filter_map closed_in (ns ++ n ∷ [])))
     (ap length (filter_map-append opened_in ns (n ∷ [])) ∙ length-append (filter_map opened_in ns) (filter_map opened_in (n ∷ [])))
     (ap length (filter_map-append closed_in ns (n ∷ [])) ∙ length-append (filter_map closed_in ns) (filter_map closed_in (n ∷ [])))
     (phase-may s n u _ _ (length (filter_map closes_in cs)) may h)
 
-phase-walks : (s : State) (ms : List Notice) (t : State) (cs : List Call) (ns : List Notice) → Walks s ms t → PhaseIn s cs ns → PhaseIn t cs (ns ++ ms)
-phase-walks s [] t cs ns w h = subst (λ (v : State). PhaseIn v cs (ns ++ [])) (sym w) (subst (λ (xs : List Notice). PhaseIn s cs xs) (sym (append-nil ns)) h)
+phase-walks : (s : State) (ms : List Notice) (t : State) (cs : List Call) (ns : List Notice) → Walks s ms t → PhaseIn s cs ns →
+    PhaseIn t cs (ns ++ ms)
+phase-walks s [] t cs ns w h =
+    subst (λ (v : State). PhaseIn v cs (ns ++ [])) (sym w) (subst (λ (xs : List Notice). PhaseIn s cs xs) (sym (append-nil ns)) h)
 phase-walks s (m ∷ ms) t cs ns w h =
-    subst (λ (xs : List Notice). PhaseIn t cs xs) (append_assoc ns (m ∷ []) ms) (phase-walks w.0 ms t cs (ns ++ m ∷ []) w.2 (phase-one s m w.0 cs ns w.1 h))
+    subst (λ (xs : List Notice). PhaseIn t cs xs) (append_assoc ns (m ∷ []) ms)
+    (phase-walks w.0 ms t cs (ns ++ m ∷ []) w.2 (phase-one s m w.0 cs ns w.1 h))
 
 pub has_told-more : (x z : EndState) (cs : List Call) (ns ms : List Notice) → Tells x ms z → HasTold x cs ns → HasTold z cs (ns ++ ms)
 has_told-more x z cs ns ms t h = record {
   taken = h.taken ∙ sym t.taken;
   got = filter_map-append ending_in ns ms ∙ ap (λ xs. xs ++ filter_map ending_in ms) h.got ∙ sym t.got;
-  acked = ap length (filter_map-append acked_in ns ms) ∙ length-append (filter_map acked_in ns) (filter_map acked_in ms) ∙ ap (λ i. i + length (filter_map acked_in ms)) h.acked ∙ sym t.acked;
+  acked = ap length (filter_map-append acked_in ns ms) ∙ length-append (filter_map acked_in ns) (filter_map acked_in ms)
+      ∙ ap (λ i. i + length (filter_map acked_in ms)) h.acked ∙ sym t.acked;
   phase = phase-walks x.state ms z.state cs ns t.walks h.phase;
 }
 
 -- what a notice has before it: calls and notices of its end
 abbrev pub MaySay : List Call → List Notice → Notice → Type 0
-MaySay cs ns (N.Acked n) = (n ≡ capped (length (filter_map acked_in ns) + 1)) × (length (filter_map acked_in ns) + 1 ≤ length (filter_map sent_in cs)) × PhaseIn S.Open cs ns
+MaySay cs ns (N.Acked n) =
+    (n ≡ capped (length (filter_map acked_in ns) + 1)) × (length (filter_map acked_in ns) + 1 ≤ length (filter_map sent_in cs)) × PhaseIn
+    S.Open cs ns
 MaySay cs ns (N.Got m) = PhaseIn S.Open cs ns
 MaySay cs ns N.Oversize = PhaseIn S.Open cs ns
 MaySay cs ns other = Unit {0}
@@ -80,10 +99,13 @@ abbrev pub AllSaid : List Call → List Notice → List Notice → Type 0
 AllSaid cs ns [] = Unit {0}
 AllSaid cs ns (m ∷ ms) = MaySay cs ns m × AllSaid cs (ns ++ m ∷ []) ms
 
-acked-push : (ns : List Notice) (n : Notice) → length (filter_map acked_in (ns ++ n ∷ [])) ≡ length (filter_map acked_in ns) + length (filter_map acked_in (n ∷ []))
+acked-push : (ns : List Notice) (n : Notice) → length (filter_map acked_in (ns ++ n ∷ [])) ≡ length (filter_map acked_in ns) + length
+    (filter_map acked_in (n ∷ []))
 acked-push ns n = ap length (filter_map-append acked_in ns (n ∷ [])) ∙ length-append (filter_map acked_in ns) (filter_map acked_in (n ∷ []))
 
-may_say : (s : State) (n : Notice) (u : State) (ms : List Notice) (cs : List Call) (ns : List Notice) → MayTell s n u → Numbers (length (filter_map acked_in ns)) (n ∷ ms) → length (filter_map acked_in ns) + length (filter_map acked_in (n ∷ ms)) ≤ length (filter_map sent_in cs) → PhaseIn s cs ns → MaySay cs ns n
+may_say : (s : State) (n : Notice) (u : State) (ms : List Notice) (cs : List Call) (ns : List Notice) → MayTell s n u →
+    Numbers (length (filter_map acked_in ns)) (n ∷ ms) → length (filter_map acked_in ns) + length (filter_map acked_in (n ∷ ms)) ≤ length
+    (filter_map sent_in cs) → PhaseIn s cs ns → MaySay cs ns n
 may_say S.Open (N.Acked n) u ms cs ns may numbers room h = (numbers.0, omega (arith, room), h)
 may_say S.Open (N.Got m) u ms cs ns may numbers room h = h
 may_say S.Open N.Oversize u ms cs ns may numbers room h = h
@@ -92,19 +114,39 @@ may_say s (N.Opened info) u ms cs ns may numbers room h = tt
 may_say s (N.Closed reason) u ms cs ns may numbers room h = tt
 may_say s n u ms cs ns may numbers room h = absurd may
 
-numbers-rest : (n : Notice) (ms ns : List Notice) → Numbers (length (filter_map acked_in ns)) (n ∷ ms) → Numbers (length (filter_map acked_in (ns ++ n ∷ []))) ms
+numbers-rest : (n : Notice) (ms ns : List Notice) → Numbers (length (filter_map acked_in ns)) (n ∷ ms) →
+    Numbers (length (filter_map acked_in (ns ++ n ∷ []))) ms
 numbers-rest (N.Acked i) ms ns h = subst (λ (k : ℕ). Numbers k ms) (sym (acked-push ns (N.Acked i))) h.1
-numbers-rest (N.Got m) ms ns h = subst (λ (k : ℕ). Numbers k ms) (let e : length (filter_map acked_in ns) ≡ length (filter_map acked_in (ns ++ N.Got m ∷ [])) = omega (arith, acked-push ns (N.Got m)) in e) h
-numbers-rest (N.Unit m) ms ns h = subst (λ (k : ℕ). Numbers k ms) (let e : length (filter_map acked_in ns) ≡ length (filter_map acked_in (ns ++ N.Unit m ∷ [])) = omega (arith, acked-push ns (N.Unit m)) in e) h
-numbers-rest (N.Opened m) ms ns h = subst (λ (k : ℕ). Numbers k ms) (let e : length (filter_map acked_in ns) ≡ length (filter_map acked_in (ns ++ N.Opened m ∷ [])) = omega (arith, acked-push ns (N.Opened m)) in e) h
-numbers-rest (N.Closed r) ms ns h = subst (λ (k : ℕ). Numbers k ms) (let e : length (filter_map acked_in ns) ≡ length (filter_map acked_in (ns ++ N.Closed r ∷ [])) = omega (arith, acked-push ns (N.Closed r)) in e) h
-numbers-rest N.Oversize ms ns h = subst (λ (k : ℕ). Numbers k ms) (let e : length (filter_map acked_in ns) ≡ length (filter_map acked_in (ns ++ N.Oversize ∷ [])) = omega (arith, acked-push ns N.Oversize) in e) h
+numbers-rest (N.Got m) ms ns h =
+    subst (λ (k : ℕ). Numbers k ms) (let e : length (filter_map acked_in ns) ≡ length (filter_map acked_in (ns ++ N.Got m ∷ [])) = omega
+    (arith, acked-push ns (N.Got m)) in e) h
+numbers-rest (N.Unit m) ms ns h =
+    subst (λ (k : ℕ). Numbers k ms) (let e : length (filter_map acked_in ns) ≡ length (filter_map acked_in (ns ++ N.Unit m ∷ [])) = omega
+    (arith, acked-push ns (N.Unit m)) in e) h
+numbers-rest (N.Opened m) ms ns h =
+    subst (λ (k : ℕ). Numbers k ms) (let e : length (filter_map acked_in ns) ≡ length (filter_map acked_in (ns ++ N.Opened m ∷ [])) = omega
+    (arith, acked-push ns (N.Opened m)) in e) h
+numbers-rest (N.Closed r) ms ns h =
+    subst (λ (k : ℕ). Numbers k ms) (let e : length (filter_map acked_in ns) ≡ length (filter_map acked_in (ns ++ N.Closed r ∷ [])) = omega
+    (arith, acked-push ns (N.Closed r)) in e) h
+numbers-rest N.Oversize ms ns h =
+    subst (λ (k : ℕ). Numbers k ms) (let e : length (filter_map acked_in ns) ≡ length (filter_map acked_in (ns ++ N.Oversize ∷ [])) = omega
+    (arith, acked-push ns N.Oversize) in e) h
 
-room-rest : (n : Notice) (ms ns : List Notice) (most : ℕ) → length (filter_map acked_in ns) + length (filter_map acked_in (n ∷ ms)) ≤ most → length (filter_map acked_in (ns ++ n ∷ [])) + length (filter_map acked_in ms) ≤ most
+room-rest : (n : Notice) (ms ns : List Notice) (most : ℕ) → length (filter_map acked_in ns) + length (filter_map acked_in (n ∷ ms)) ≤ most →
+    length (filter_map acked_in (ns ++ n ∷ [])) + length (filter_map acked_in ms) ≤ most
 room-rest n ms ns most h =
-    omega (arith, h, acked-push ns n, ap length (filter_map-append acked_in (n ∷ []) ms), length-append (filter_map acked_in (n ∷ [])) (filter_map acked_in ms))
+    omega (
+      arith,
+      h,
+      acked-push ns n,
+      ap length (filter_map-append acked_in (n ∷ []) ms),
+      length-append (filter_map acked_in (n ∷ [])) (filter_map acked_in ms),
+    )
 
-all_said-walks : (s : State) (ms : List Notice) (t : State) (cs : List Call) (ns : List Notice) → Walks s ms t → Numbers (length (filter_map acked_in ns)) ms → length (filter_map acked_in ns) + length (filter_map acked_in ms) ≤ length (filter_map sent_in cs) → PhaseIn s cs ns → AllSaid cs ns ms
+all_said-walks : (s : State) (ms : List Notice) (t : State) (cs : List Call) (ns : List Notice) → Walks s ms t →
+    Numbers (length (filter_map acked_in ns)) ms → length (filter_map acked_in ns) + length (filter_map acked_in ms) ≤ length
+    (filter_map sent_in cs) → PhaseIn s cs ns → AllSaid cs ns ms
 all_said-walks s [] t cs ns w numbers room h = tt
 all_said-walks s (m ∷ ms) t cs ns w numbers room h = (
   may_say s m w.0 ms cs ns w.1 numbers room h,

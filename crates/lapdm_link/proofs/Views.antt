@@ -44,7 +44,8 @@ abbrev pub is_end : Role → Sapi → Role → Sapi → Bool
 is_end r s r' s' = is_role r r' && is_sapi s s'
 
 -- what holds of one end and of each that is another holds of all
-pub each_end : (P : Role → Sapi → Type 0) (r : Role) (s : Sapi) → P r s → ((r' : Role) (s' : Sapi) → is_end r' s' r s ≡ false → P r' s') → (r' : Role) (s' : Sapi) → P r' s'
+pub each_end : (P : Role → Sapi → Type 0) (r : Role) (s : Sapi) → P r s → ((r' : Role) (s' : Sapi) → is_end r' s' r s ≡ false → P r' s') →
+    (r' : Role) (s' : Sapi) → P r' s'
 each_end P Mobile Zero h g Mobile Zero = h
 each_end P Mobile Zero h g Mobile Three = g Mobile Three refl
 each_end P Mobile Zero h g Network Zero = g Network Zero refl
@@ -68,7 +69,8 @@ end_same Mobile Three e w = refl
 end_same Network Zero e w = refl
 end_same Network Three e w = refl
 
-pub end_else : (r : Role) (s : Sapi) (e : EndState) (w : World) (r' : Role) (s' : Sapi) → is_end r' s' r s ≡ false → end_of r' s' (with_end r s e w) ≡ end_of r' s' w
+pub end_else : (r : Role) (s : Sapi) (e : EndState) (w : World) (r' : Role) (s' : Sapi) → is_end r' s' r s ≡ false →
+    end_of r' s' (with_end r s e w) ≡ end_of r' s' w
 end_else Mobile Zero e w Mobile Zero h = absurd (false≢true (sym h))
 end_else Mobile Zero e w Mobile Three h = refl
 end_else Mobile Zero e w Network s' h = by_sapi s'
@@ -90,14 +92,7 @@ end_else Network Three e w Network Zero h = refl
 end_else Network Three e w Network Three h = absurd (false≢true (sym h))
 
 pub end_with_way : (r : Role) (s : Sapi) (sender : Role) (fs : List Frame) (w : World) → end_of r s (with_way sender fs w) ≡ end_of r s w
-end_with_way Mobile Zero Mobile fs w = refl
-end_with_way Mobile Zero Network fs w = refl
-end_with_way Mobile Three Mobile fs w = refl
-end_with_way Mobile Three Network fs w = refl
-end_with_way Network Zero Mobile fs w = refl
-end_with_way Network Zero Network fs w = refl
-end_with_way Network Three Mobile fs w = refl
-end_with_way Network Three Network fs w = refl
+end_with_way r s sender fs w = refl
 
 pub way_same : (r : Role) (fs : List Frame) (w : World) → way r (with_way r fs w) ≡ fs
 way_same Mobile fs w = refl
@@ -108,14 +103,7 @@ way_other Mobile fs w = refl
 way_other Network fs w = refl
 
 pub way_with_end : (r : Role) (r' : Role) (s' : Sapi) (e : EndState) (w : World) → way r (with_end r' s' e w) ≡ way r w
-way_with_end Mobile Mobile Zero e w = refl
-way_with_end Mobile Mobile Three e w = refl
-way_with_end Mobile Network Zero e w = refl
-way_with_end Mobile Network Three e w = refl
-way_with_end Network Mobile Zero e w = refl
-way_with_end Network Mobile Three e w = refl
-way_with_end Network Network Zero e w = refl
-way_with_end Network Network Three e w = refl
+way_with_end r r' s' e w = refl
 
 -- lines of one end, and of each other one
 is_end-self : (r : Role) (s : Sapi) → is_end r s r s ≡ true
@@ -134,7 +122,8 @@ told-same : (r : Role) (s : Sapi) (ns : List Notice) → notices r s (map (Told 
 told-same r s [] = refl
 told-same r s (n ∷ ns) = rw (is_end-self r s) (ap (λ ms. n ∷ ms) (told-same r s ns))
 
-told-else : (r : Role) (s : Sapi) (ns : List Notice) (r' : Role) (s' : Sapi) → is_end r' s' r s ≡ false → notices r' s' (map (Told r s) ns) ≡ []
+told-else : (r : Role) (s : Sapi) (ns : List Notice) (r' : Role) (s' : Sapi) → is_end r' s' r s ≡ false →
+    notices r' s' (map (Told r s) ns) ≡ []
 told-else r s [] r' s' h = refl
 told-else r s (n ∷ ns) r' s' h = rw h (told-else r s ns r' s' h)
 
@@ -145,19 +134,29 @@ told-calls r s (n ∷ ns) r' s' = told-calls r s ns r' s'
 pub notices-told : (r : Role) (s : Sapi) (ls : List Line) (ns : List Notice) → notices r s (ls ++ map (Told r s) ns) ≡ notices r s ls ++ ns
 notices-told r s ls ns = notices-append r s ls (map (Told r s) ns) ∙ ap (λ ms. notices r s ls ++ ms) (told-same r s ns)
 
-pub notices-else : (r : Role) (s : Sapi) (ls : List Line) (ns : List Notice) (r' : Role) (s' : Sapi) → is_end r' s' r s ≡ false → notices r' s' (ls ++ map (Told r s) ns) ≡ notices r' s' ls
-notices-else r s ls ns r' s' h = notices-append r' s' ls (map (Told r s) ns) ∙ ap (λ ms. notices r' s' ls ++ ms) (told-else r s ns r' s' h) ∙ append-nil (notices r' s' ls)
+pub notices-else : (r : Role) (s : Sapi) (ls : List Line) (ns : List Notice) (r' : Role) (s' : Sapi) → is_end r' s' r s ≡ false →
+    notices r' s' (ls ++ map (Told r s) ns) ≡ notices r' s' ls
+notices-else r s ls ns r' s' h = notices-append r' s' ls (map (Told r s) ns) ∙ ap (λ ms. notices r' s' ls ++ ms) (told-else r s ns r' s' h)
+    ∙ append-nil (notices r' s' ls)
 
-pub calls-told : (r : Role) (s : Sapi) (ls : List Line) (ns : List Notice) (r' : Role) (s' : Sapi) → calls r' s' (ls ++ map (Told r s) ns) ≡ calls r' s' ls
-calls-told r s ls ns r' s' = calls-append r' s' ls (map (Told r s) ns) ∙ ap (λ cs. calls r' s' ls ++ cs) (told-calls r s ns r' s') ∙ append-nil (calls r' s' ls)
+pub calls-told : (r : Role) (s : Sapi) (ls : List Line) (ns : List Notice) (r' : Role) (s' : Sapi) →
+    calls r' s' (ls ++ map (Told r s) ns) ≡ calls r' s' ls
+calls-told r s ls ns r' s' = calls-append r' s' ls (map (Told r s) ns) ∙ ap (λ cs. calls r' s' ls ++ cs) (told-calls r s ns r' s')
+    ∙ append-nil (calls r' s' ls)
 
 pub calls-asked : (r : Role) (s : Sapi) (ls : List Line) (call : Call) → calls r s (ls ++ Asked r s call ∷ []) ≡ calls r s ls ++ call ∷ []
-calls-asked r s ls call = calls-append r s ls (Asked r s call ∷ []) ∙ ap (λ cs. calls r s ls ++ cs) (let e : calls r s (Asked r s call ∷ []) ≡ call ∷ [] = rw (is_end-self r s) refl in e)
+calls-asked r s ls call =
+    calls-append r s ls (Asked r s call ∷ [])
+    ∙ ap (λ cs. calls r s ls ++ cs) (let e : calls r s (Asked r s call ∷ []) ≡ call ∷ [] = rw (is_end-self r s) refl in e)
 
-pub calls-else : (r : Role) (s : Sapi) (ls : List Line) (call : Call) (r' : Role) (s' : Sapi) → is_end r' s' r s ≡ false → calls r' s' (ls ++ Asked r s call ∷ []) ≡ calls r' s' ls
-calls-else r s ls call r' s' h = calls-append r' s' ls (Asked r s call ∷ []) ∙ ap (λ cs. calls r' s' ls ++ cs) (let e : calls r' s' (Asked r s call ∷ []) ≡ [] = rw h refl in e) ∙ append-nil (calls r' s' ls)
+pub calls-else : (r : Role) (s : Sapi) (ls : List Line) (call : Call) (r' : Role) (s' : Sapi) → is_end r' s' r s ≡ false →
+    calls r' s' (ls ++ Asked r s call ∷ []) ≡ calls r' s' ls
+calls-else r s ls call r' s' h =
+    calls-append r' s' ls (Asked r s call ∷ [])
+    ∙ ap (λ cs. calls r' s' ls ++ cs) (let e : calls r' s' (Asked r s call ∷ []) ≡ [] = rw h refl in e) ∙ append-nil (calls r' s' ls)
 
-pub notices-asked : (r : Role) (s : Sapi) (ls : List Line) (call : Call) (r' : Role) (s' : Sapi) → notices r' s' (ls ++ Asked r s call ∷ []) ≡ notices r' s' ls
+pub notices-asked : (r : Role) (s : Sapi) (ls : List Line) (call : Call) (r' : Role) (s' : Sapi) →
+    notices r' s' (ls ++ Asked r s call ∷ []) ≡ notices r' s' ls
 notices-asked r s ls call r' s' = notices-append r' s' ls (Asked r s call ∷ []) ∙ append-nil (notices r' s' ls)
 
 pub calls-rival : (r : Role) (s : Sapi) (ls : List Line) (info : List ℕ) → calls r s (ls ++ Rivals info ∷ []) ≡ calls r s ls
@@ -170,32 +169,49 @@ notices-rival r s ls info = notices-append r s ls (Rivals info ∷ []) ∙ appen
 pub end_does : (r : Role) (s : Sapi) (o : Outcome) (w : World) → end_of r s (acted r s o w) ≡ o.after
 end_does r s o w = end_with_way r s r (way r (with_end r s o.after w) ++ o.frames) (with_end r s o.after w) ∙ end_same r s o.after w
 
-pub end_does-else : (r : Role) (s : Sapi) (o : Outcome) (w : World) (r' : Role) (s' : Sapi) → is_end r' s' r s ≡ false → end_of r' s' (acted r s o w) ≡ end_of r' s' w
-end_does-else r s o w r' s' h = end_with_way r' s' r (way r (with_end r s o.after w) ++ o.frames) (with_end r s o.after w) ∙ end_else r s o.after w r' s' h
+pub end_does-else : (r : Role) (s : Sapi) (o : Outcome) (w : World) (r' : Role) (s' : Sapi) → is_end r' s' r s ≡ false →
+    end_of r' s' (acted r s o w) ≡ end_of r' s' w
+end_does-else r s o w r' s' h = end_with_way r' s' r (way r (with_end r s o.after w) ++ o.frames) (with_end r s o.after w)
+    ∙ end_else r s o.after w r' s' h
 
 pub way_does : (r : Role) (s : Sapi) (o : Outcome) (w : World) → way r (acted r s o w) ≡ way r w ++ o.frames
-way_does r s o w = way_same r (way r (with_end r s o.after w) ++ o.frames) (with_end r s o.after w) ∙ ap (λ fs. fs ++ o.frames) (way_with_end r r s o.after w)
+way_does r s o w = way_same r (way r (with_end r s o.after w) ++ o.frames) (with_end r s o.after w)
+    ∙ ap (λ fs. fs ++ o.frames) (way_with_end r r s o.after w)
 
 pub way_does-other : (r : Role) (s : Sapi) (o : Outcome) (w : World) → way (other r) (acted r s o w) ≡ way (other r) w
-way_does-other r s o w = way_other r (way r (with_end r s o.after w) ++ o.frames) (with_end r s o.after w) ∙ way_with_end (other r) r s o.after w
+way_does-other r s o w = way_other r (way r (with_end r s o.after w) ++ o.frames) (with_end r s o.after w)
+    ∙ way_with_end (other r) r s o.after w
 
 -- the lines of a call
-asked-first : (r : Role) (s : Sapi) (ls : List Line) (call : Call) (ns : List Notice) → ls ++ Asked r s call ∷ map (Told r s) ns ≡ (ls ++ Asked r s call ∷ []) ++ map (Told r s) ns
+asked-first : (r : Role) (s : Sapi) (ls : List Line) (call : Call) (ns : List Notice) →
+    ls ++ Asked r s call ∷ map (Told r s) ns ≡ (ls ++ Asked r s call ∷ []) ++ map (Told r s) ns
 asked-first r s ls call ns = sym (append_assoc ls (Asked r s call ∷ []) (map (Told r s) ns))
 
-pub calls-called : (r : Role) (s : Sapi) (ls : List Line) (call : Call) (ns : List Notice) → calls r s (ls ++ Asked r s call ∷ map (Told r s) ns) ≡ calls r s ls ++ call ∷ []
-calls-called r s ls call ns = ap (calls r s) (asked-first r s ls call ns) ∙ calls-told r s (ls ++ Asked r s call ∷ []) ns r s ∙ calls-asked r s ls call
+pub calls-called : (r : Role) (s : Sapi) (ls : List Line) (call : Call) (ns : List Notice) →
+    calls r s (ls ++ Asked r s call ∷ map (Told r s) ns) ≡ calls r s ls ++ call ∷ []
+calls-called r s ls call ns = ap (calls r s) (asked-first r s ls call ns) ∙ calls-told r s (ls ++ Asked r s call ∷ []) ns r s
+    ∙ calls-asked r s ls call
 
-pub notices-called : (r : Role) (s : Sapi) (ls : List Line) (call : Call) (ns : List Notice) → notices r s (ls ++ Asked r s call ∷ map (Told r s) ns) ≡ notices r s ls ++ ns
-notices-called r s ls call ns = ap (notices r s) (asked-first r s ls call ns) ∙ notices-told r s (ls ++ Asked r s call ∷ []) ns ∙ ap (λ ms. ms ++ ns) (notices-asked r s ls call r s)
+pub notices-called : (r : Role) (s : Sapi) (ls : List Line) (call : Call) (ns : List Notice) →
+    notices r s (ls ++ Asked r s call ∷ map (Told r s) ns) ≡ notices r s ls ++ ns
+notices-called r s ls call ns = ap (notices r s) (asked-first r s ls call ns) ∙ notices-told r s (ls ++ Asked r s call ∷ []) ns
+    ∙ ap (λ ms. ms ++ ns) (notices-asked r s ls call r s)
 
-pub calls-called_else : (r : Role) (s : Sapi) (ls : List Line) (call : Call) (ns : List Notice) (r' : Role) (s' : Sapi) → is_end r' s' r s ≡ false → calls r' s' (ls ++ Asked r s call ∷ map (Told r s) ns) ≡ calls r' s' ls
-calls-called_else r s ls call ns r' s' h = ap (calls r' s') (asked-first r s ls call ns) ∙ calls-told r s (ls ++ Asked r s call ∷ []) ns r' s' ∙ calls-else r s ls call r' s' h
+pub calls-called_else : (r : Role) (s : Sapi) (ls : List Line) (call : Call) (ns : List Notice) (r' : Role) (s' : Sapi) →
+    is_end r' s' r s ≡ false → calls r' s' (ls ++ Asked r s call ∷ map (Told r s) ns) ≡ calls r' s' ls
+calls-called_else r s ls call ns r' s' h =
+    ap (calls r' s') (asked-first r s ls call ns) ∙ calls-told r s (ls ++ Asked r s call ∷ []) ns r' s' ∙ calls-else r s ls call r' s' h
 
-pub notices-called_else : (r : Role) (s : Sapi) (ls : List Line) (call : Call) (ns : List Notice) (r' : Role) (s' : Sapi) → is_end r' s' r s ≡ false → notices r' s' (ls ++ Asked r s call ∷ map (Told r s) ns) ≡ notices r' s' ls
-notices-called_else r s ls call ns r' s' h = ap (notices r' s') (asked-first r s ls call ns) ∙ notices-else r s (ls ++ Asked r s call ∷ []) ns r' s' h ∙ notices-asked r s ls call r' s'
+pub notices-called_else : (r : Role) (s : Sapi) (ls : List Line) (call : Call) (ns : List Notice) (r' : Role) (s' : Sapi) →
+    is_end r' s' r s ≡ false → notices r' s' (ls ++ Asked r s call ∷ map (Told r s) ns) ≡ notices r' s' ls
+notices-called_else r s ls call ns r' s' h =
+    ap (notices r' s') (asked-first r s ls call ns) ∙ notices-else r s (ls ++ Asked r s call ∷ []) ns r' s' h
+    ∙ notices-asked r s ls call r' s'
 
 -- a notice among the lines
-pub notices-at : (r : Role) (s : Sapi) (before : List Line) (n : Notice) (more : List Line) → notices r s (before ++ Told r s n ∷ more) ≡ notices r s before ++ n ∷ notices r s more
+pub notices-at : (r : Role) (s : Sapi) (before : List Line) (n : Notice) (more : List Line) →
+    notices r s (before ++ Told r s n ∷ more) ≡ notices r s before ++ n ∷ notices r s more
 notices-at r s before n more =
-    notices-append r s before (Told r s n ∷ more) ∙ ap (λ ns. notices r s before ++ ns) (let e : notices r s (Told r s n ∷ more) ≡ n ∷ notices r s more = rw (is_end-self r s) refl in e)
+    notices-append r s before (Told r s n ∷ more)
+    ∙ ap (λ ns. notices r s before ++ ns)
+    (let e : notices r s (Told r s n ∷ more) ≡ n ∷ notices r s more = rw (is_end-self r s) refl in e)

@@ -1,5 +1,5 @@
 -- Sessions worked by hand, and for each claim lines that break it.
-use Rattle.std.proofs.Common.{◌≡◌, refl, arith, ℕ, ◌+◌, ◌≤◌, true, false, List, [], ◌∷◌, ◌++◌, replicate, Option, Some, None, inl, inr}
+use Rattle.std.proofs.Common.{◌≡◌, refl, arith, ℕ, false, List, [], ◌∷◌, ◌++◌, replicate, Option, Some, None}
 use Rattle.lapdm_frame.specs.declared.Channel.TheVariants.{Sdcch}
 use Rattle.lapdm_frame.specs.Content.{I, Frame}
 use Rattle.segmenting.specs.Pieces.{Message}
@@ -39,7 +39,8 @@ told moves = lines_of (played moves (start_on Sdcch))
 -- ---- opening: another mobile was first, and the mobile whose information is not the network's gives up
 
 contention : told (Happens (Rival (7 ∷ [])) ∷ Happens (Open (1 ∷ [])) ∷ Arrives Mobile ∷ Arrives Mobile ∷ Arrives Network ∷ [])
-    ≡ Rivals (7 ∷ []) ∷ Asked Mobile Zero (Opens (1 ∷ [])) ∷ Told Network Zero (N.Opened (7 ∷ [])) ∷ Told Mobile Zero (N.Closed R.Contention) ∷ []
+    ≡ Rivals (7 ∷ []) ∷ Asked Mobile Zero (Opens (1 ∷ [])) ∷ Told Network Zero (N.Opened (7 ∷ [])) ∷ Told Mobile Zero
+    (N.Closed R.Contention) ∷ []
 contention = refl
 
 abbrev opening : List Move
@@ -53,23 +54,29 @@ opened = Asked Mobile Zero (Opens (1 ∷ [])) ∷ Told Network Zero (N.Opened (1
 abbrev long : Message
 long = replicate 41 9
 
-pieces : told (opening ++ Happens (Ask Mobile Zero (Send long)) ∷ Arrives Mobile ∷ Arrives Network ∷ Happens (Lose Mobile) ∷ Happens (Ask Mobile Zero Tick) ∷ Arrives Mobile ∷ Arrives Network ∷ Arrives Mobile ∷ Arrives Network ∷ [])
-    ≡ opened ++ Asked Mobile Zero (Sends long) ∷ Asked Mobile Zero Ticks ∷ Told Network Zero (N.Got long) ∷ Told Mobile Zero (N.Acked 1) ∷ []
+pieces : told (opening ++ Happens (Ask Mobile Zero (Send long)) ∷ Arrives Mobile ∷ Arrives Network ∷ Happens (Lose Mobile) ∷ Happens
+    (Ask Mobile Zero Tick) ∷ Arrives Mobile ∷ Arrives Network ∷ Arrives Mobile ∷ Arrives Network ∷ [])
+    ≡ opened ++ Asked Mobile Zero (Sends long) ∷ Asked Mobile Zero Ticks ∷ Told Network Zero (N.Got long) ∷ Told Mobile Zero
+    (N.Acked 1) ∷ []
 pieces = refl
 
 -- ---- the timer runs out too early: each piece arrives twice, each second one is answered by a REJ, and the REJ sends
 -- the piece after it again
 
-crossing : told (opening ++ Happens (Ask Mobile Zero (Send (5 ∷ []))) ∷ Happens (Ask Mobile Zero Tick) ∷ Arrives Mobile ∷ Arrives Mobile ∷ Happens (Ask Mobile Zero (Send (6 ∷ []))) ∷ Arrives Network ∷ Arrives Network
+crossing : told (opening ++ Happens (Ask Mobile Zero (Send (5 ∷ []))) ∷ Happens (Ask Mobile Zero Tick) ∷ Arrives Mobile ∷ Arrives Mobile ∷
+    Happens (Ask Mobile Zero (Send (6 ∷ []))) ∷ Arrives Network ∷ Arrives Network
     ∷ Arrives Mobile ∷ Arrives Mobile ∷ Arrives Network ∷ Arrives Network ∷ [])
-    ≡ opened ++ Asked Mobile Zero (Sends (5 ∷ [])) ∷ Asked Mobile Zero Ticks ∷ Told Network Zero (N.Got (5 ∷ [])) ∷ Asked Mobile Zero (Sends (6 ∷ [])) ∷ Told Mobile Zero (N.Acked 1)
+    ≡ opened ++ Asked Mobile Zero (Sends (5 ∷ [])) ∷ Asked Mobile Zero Ticks ∷ Told Network Zero (N.Got (5 ∷ [])) ∷ Asked Mobile Zero
+    (Sends (6 ∷ [])) ∷ Told Mobile Zero (N.Acked 1)
     ∷ Told Network Zero (N.Got (6 ∷ [])) ∷ Told Mobile Zero (N.Acked 2) ∷ []
 crossing = refl
 
 -- ---- both ends open the link of SAPI 3 at once
 
-collision : told (Happens (OpenBare Mobile) ∷ Happens (OpenBare Network) ∷ Arrives Mobile ∷ Arrives Network ∷ Arrives Mobile ∷ Arrives Network ∷ Happens (Ask Mobile Three (Send (5 ∷ []))) ∷ Arrives Mobile ∷ Arrives Network ∷ [])
-    ≡ Asked Mobile Three OpensBare ∷ Asked Network Three OpensBare ∷ Told Network Three (N.Opened []) ∷ Told Mobile Three (N.Opened []) ∷ Asked Mobile Three (Sends (5 ∷ []))
+collision : told (Happens (OpenBare Mobile) ∷ Happens (OpenBare Network) ∷ Arrives Mobile ∷ Arrives Network ∷ Arrives Mobile ∷ Arrives
+    Network ∷ Happens (Ask Mobile Three (Send (5 ∷ []))) ∷ Arrives Mobile ∷ Arrives Network ∷ [])
+    ≡ Asked Mobile Three OpensBare ∷ Asked Network Three OpensBare ∷ Told Network Three (N.Opened []) ∷ Told Mobile Three
+    (N.Opened []) ∷ Asked Mobile Three (Sends (5 ∷ []))
     ∷ Told Network Three (N.Got (5 ∷ [])) ∷ Told Mobile Three (N.Acked 1) ∷ []
 collision = refl
 
@@ -91,7 +98,8 @@ piece octet = record { sapi = 0; cr = false; content = I 0 0 false false (octet 
 is_harmless : IsHarmless (sending ++ Deliver Mobile (Some (piece 2)) ∷ []) (start_on Sdcch)
 is_harmless = (tt, (refl, (refl, (tt, (refl, tt)))))
 
-forged : lines_of (sending ++ Deliver Mobile (Some (piece 3)) ∷ []) ≡ opened ++ Asked Mobile Zero (Sends (2 ∷ [])) ∷ Told Network Zero (N.Got (3 ∷ [])) ∷ []
+forged : lines_of (sending ++ Deliver Mobile (Some (piece 3)) ∷ []) ≡ opened ++ Asked Mobile Zero (Sends (2 ∷ [])) ∷ Told Network Zero
+    (N.Got (3 ∷ [])) ∷ []
 forged = refl
 
 forged_breaks : Claims (lines_of (sending ++ Deliver Mobile (Some (piece 3)) ∷ [])) → ⊥

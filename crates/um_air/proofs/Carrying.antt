@@ -36,7 +36,8 @@ start-carries tsc channel = record { blocks = nothing_sent; written = nothing_wr
 pub start-seen : (tsc : ℕ) (channel : Channel) → IsSeenAt (start_on tsc channel) no_ways no_ways []
 start-seen tsc channel = record { carries = start-carries tsc channel; fit = start-fits channel; reported = start-reported channel }
 
-module _ (a : AirState) (octets : Ways Octets) (fs : Ways Frame) (ls : List Line) (event : Event) (answer : Answer) (b : AirState) (h : IsSeenAt a octets fs ls) (step : AirStep a event b answer) where
+module _ (a : AirState) (octets : Ways Octets) (fs : Ways Frame) (ls : List Line) (event : Event) (answer : Answer) (b : AirState)
+    (h : IsSeenAt a octets fs ls) (step : AirStep a event b answer) where
   pub seen-now : IsSeenStep a octets fs event answer b
   seen-now = seen-step a octets fs event h.carries answer b h.fit.ways step
 
@@ -44,7 +45,8 @@ module _ (a : AirState) (octets : Ways Octets) (fs : Ways Frame) (ls : List Line
   seen-next =
       let w : World = world_of a fs in
       let e : E.Event = as_read seen-now.read event in
-      let fit : IsFitting a.channel (world_of b seen-now.ways) = subst (IsFitting a.channel) seen-now.later (fits-step a.channel w ls e h.reported seen-now.known h.fit) in
+      let fit : IsFitting a.channel (world_of b seen-now.ways) =
+      subst (IsFitting a.channel) seen-now.later (fits-step a.channel w ls e h.reported seen-now.known h.fit) in
       let now : AllReported (world_of b seen-now.ways) (ls ++ answer_lines e (W.answer e w)) =
       subst (λ (z : World). AllReported z (ls ++ answer_lines e (W.answer e w))) seen-now.later (in_order-step w ls e h.reported).0 in
       record {
@@ -54,14 +56,16 @@ module _ (a : AirState) (octets : Ways Octets) (fs : Ways Frame) (ls : List Line
       }
 
 -- a session, and how it ends
-pub record IsSeen (a : AirState) (octets : Ways Octets) (fs : Ways Frame) (events : List Event) (answers : List Answer) (b : AirState) : Type 0 where
+pub record IsSeen (a : AirState) (octets : Ways Octets) (fs : Ways Frame) (events : List Event) (answers : List Answer)
+    (b : AirState) : Type 0 where
   pub seen : List E.Event
   pub same : lines events answers ≡ C.lines seen (W.answers seen (world_of a fs))
   pub harmless : IsHarmlessAfter octets events answers → W.IsHarmless seen (world_of a fs)
   pub tsc : b.tsc ≡ a.tsc
   pub at : (last : Ways Octets) × (ways : Ways Frame) × (ls : List Line) × IsSeenAt b last ways ls
 
-seen-run : (events : List Event) (answers : List Answer) (a b : AirState) (octets : Ways Octets) (fs : Ways Frame) (ls : List Line) → IsSeenAt a octets fs ls → AirRun a events answers b → IsSeen a octets fs events answers b
+seen-run : (events : List Event) (answers : List Answer) (a b : AirState) (octets : Ways Octets) (fs : Ways Frame) (ls : List Line) →
+    IsSeenAt a octets fs ls → AirRun a events answers b → IsSeen a octets fs events answers b
 seen-run [] [] a b octets fs ls h run =
     subst (IsSeen a octets fs [] []) (sym run) (record { seen = []; same = refl; harmless = λ q. tt; tsc = refl; at = (octets, fs, ls, h) })
 seen-run [] (answer ∷ answers) a b octets fs ls h run = absurd run
@@ -73,13 +77,15 @@ seen-run (event ∷ events) (answer ∷ answers) a b octets fs ls h run =
     seen-run events answers run.0 b (after event answer octets) t.ways _ (seen-next a octets fs ls event answer run.0 h run.1) run.2 in
     record {
       seen = e ∷ r.seen;
-      same = ap (λ new. new ++ lines events answers) t.same ∙ ap (λ more. answer_lines e (W.answer e (world_of a fs)) ++ more) (r.same ∙ ap (λ z. C.lines r.seen (W.answers r.seen z)) (sym t.later));
+      same = ap (λ new. new ++ lines events answers) t.same ∙ ap (λ more. answer_lines e (W.answer e (world_of a fs)) ++ more)
+          (r.same ∙ ap (λ z. C.lines r.seen (W.answers r.seen z)) (sym t.later));
       harmless = λ q. (t.harmless q.0, subst (W.IsHarmless r.seen) (sym t.later) (r.harmless q.1));
       tsc = r.tsc ∙ t.tsc;
       at = r.at;
     }
 
-module _ (tsc : ℕ) (channel : Channel) (events : List Event) (answers : List Answer) (b : AirState) (run : AirRun (start_on tsc channel) events answers b) where
+module _ (tsc : ℕ) (channel : Channel) (events : List Event) (answers : List Answer) (b : AirState)
+    (run : AirRun (start_on tsc channel) events answers b) where
   pub seen : IsSeen (start_on tsc channel) no_ways no_ways events answers b
   seen = seen-run events answers (start_on tsc channel) b no_ways no_ways [] (start-seen tsc channel) run
 
@@ -93,16 +99,21 @@ module _ (tsc : ℕ) (channel : Channel) (events : List Event) (answers : List A
   air_order = subst OrderClaims (sym seen.same) (order_claims channel seen.seen)
 
 -- one step more
-pub longer_run : (a : AirState) (events : List Event) (answers : List Answer) (b : AirState) (event : Event) (answer : Answer) (c : AirState) → AirRun a events answers b → AirStep b event c answer →
+pub longer_run : (a : AirState) (events : List Event) (answers : List Answer) (b : AirState) (event : Event) (answer : Answer)
+    (c : AirState) → AirRun a events answers b → AirStep b event c answer →
     AirRun a (events ++ event ∷ []) (answers ++ answer ∷ []) c
 longer_run a [] [] b event answer c run step = (c, subst (λ (z : AirState). AirStep z event c answer) run step, refl)
 longer_run a [] (r ∷ rs) b event answer c run step = absurd run
 longer_run a (e ∷ es) [] b event answer c run step = absurd run
 longer_run a (e ∷ es) (r ∷ rs) b event answer c run step = (run.0, run.1, longer_run run.0 es rs b event answer c run.2 step)
 
-module _ (tsc : ℕ) (channel : Channel) (events : List Event) (answers : List Answer) (a : AirState) (event : Event) (answer : Answer) (b : AirState) (run : AirRun (start_on tsc channel) events answers a) (step : AirStep a event b answer) where
-  pub step_claims : IsHarmless (events ++ event ∷ []) (answers ++ answer ∷ []) → Claims (lines (events ++ event ∷ []) (answers ++ answer ∷ []))
-  step_claims = air_claims tsc channel (events ++ event ∷ []) (answers ++ answer ∷ []) b (longer_run (start_on tsc channel) events answers a event answer b run step)
+module _ (tsc : ℕ) (channel : Channel) (events : List Event) (answers : List Answer) (a : AirState) (event : Event) (answer : Answer)
+    (b : AirState) (run : AirRun (start_on tsc channel) events answers a) (step : AirStep a event b answer) where
+  pub step_claims : IsHarmless (events ++ event ∷ []) (answers ++ answer ∷ []) →
+      Claims (lines (events ++ event ∷ []) (answers ++ answer ∷ []))
+  step_claims = air_claims tsc channel (events ++ event ∷ []) (answers ++ answer ∷ []) b
+      (longer_run (start_on tsc channel) events answers a event answer b run step)
 
   pub step_order : OrderClaims (lines (events ++ event ∷ []) (answers ++ answer ∷ []))
-  step_order = air_order tsc channel (events ++ event ∷ []) (answers ++ answer ∷ []) b (longer_run (start_on tsc channel) events answers a event answer b run step)
+  step_order = air_order tsc channel (events ++ event ∷ []) (answers ++ answer ∷ []) b
+      (longer_run (start_on tsc channel) events answers a event answer b run step)

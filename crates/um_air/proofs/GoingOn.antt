@@ -46,14 +46,17 @@ set-whole block i j x h =
     let same : length new ≡ length block = length-set block i (set burst j x) in (
       same ∙ h.0,
       λ k d l. (elim (cases_eq k i) [
-        | inl here ↦ ap (λ n. length (get_or new n d)) here ∙ ap length (get_or-set_same block i (set burst j x) d (omega (arith, l, same, here))) ∙ length-set burst j x ∙ h.1 i [] (omega (arith, l, same, here))
+        | inl here ↦ ap (λ n. length (get_or new n d)) here
+            ∙ ap length (get_or-set_same block i (set burst j x) d (omega (arith, l, same, here))) ∙ length-set burst j x
+            ∙ h.1 i [] (omega (arith, l, same, here))
         | inr there ↦ ap length (get_or-set_other block i k (set burst j x) d there) ∙ h.1 k d (omega (arith, l, same))
       ]),
     )
 
 turned-whole : (places : List ℕ) (block : Block) → IsWhole block → IsWhole (turned places block)
 turned-whole [] block h = h
-turned-whole (p ∷ ps) block h = turned-whole ps (turned_at p block) (set-whole block (p / 148) (p % 148) (1 - get_or (get_or block (p / 148) []) (p % 148) 0) h)
+turned-whole (p ∷ ps) block h =
+    turned-whole ps (turned_at p block) (set-whole block (p / 148) (p % 148) (1 - get_or (get_or block (p / 148) []) (p % 148) 0) h)
 
 some_report : (places : List ℕ) (block : Block) → IsWhole block → (r : Received) × IsReceivedBlock (map softened (turned places block)) r
 some_report places block h =
@@ -61,7 +64,8 @@ some_report places block h =
     let whole : IsWhole bursts = turned-whole places block h in
     some_received_block (map softened bursts) (length-map bursts softened ∙ whole.0)
     (λ k d l. (let within : k < length bursts = omega (arith, l, length-map bursts softened) in
-    ap length (get_or_default (map softened bursts) k d (softened []) l) ∙ ap length (get_or-map softened bursts k []) ∙ length-map (get_or bursts k []) _ ∙ whole.1 k [] within))
+    ap length (get_or_default (map softened bursts) k d (softened []) l) ∙ ap length (get_or-map softened bursts k [])
+    ∙ length-map (get_or bursts k []) _ ∙ whole.1 k [] within))
 
 some_reading : (channel : Channel) (o : Option Octets) → IfSome o (λ octets. length octets ≡ 23) → (f : Option Frame) × Reads channel o f
 some_reading channel None h = (None, tt)
@@ -86,19 +90,26 @@ is_there : (blocks : List Block) (more : Option Why) → unless (is_empty (lengt
 is_there [] more h = absurd (cc h)
 is_there (b ∷ bs) more h = record { block = b; others = bs; first = refl }
 
-first-whole : (channel : Channel) (tsc : ℕ) (fs : List Frame) (blocks others : List Block) (block : Block) → blocks ≡ block ∷ others → AreSent channel tsc fs blocks → IsWhole block
+first-whole : (channel : Channel) (tsc : ℕ) (fs : List Frame) (blocks others : List Block) (block : Block) → blocks ≡ block ∷ others →
+    AreSent channel tsc fs blocks → IsWhole block
 first-whole channel tsc fs blocks others block e h = by_frames fs (subst (AreSent channel tsc fs) e h)
   where
     by_frames : (fs : List Frame) → AreSent channel tsc fs (block ∷ others) → IsWhole block
     by_frames [] h = absurd h
     by_frames (f ∷ fs) h = sent-whole (octets_of channel f) tsc block h.0
 
-some_arrival : (a : AirState) (fs : Ways Frame) (event : Event) → ((r : Role) → AreSent a.channel a.tsc (way r fs) (way r a.ways)) → refusal event a ≡ None → SomeArrival a event
+some_arrival : (a : AirState) (fs : Ways Frame) (event : Event) → ((r : Role) → AreSent a.channel a.tsc (way r fs) (way r a.ways)) →
+    refusal event a ≡ None → SomeArrival a event
 some_arrival a fs (Deliver sender places) sent none =
     let there : IsThere (way sender a.ways) = is_there (way sender a.ways) _ none in
-    let r = some_report places there.block (first-whole a.channel a.tsc (way sender fs) (way sender a.ways) there.others there.block there.first (sent sender)) in
+    let r = some_report places there.block
+    (first-whole a.channel a.tsc (way sender fs) (way sender a.ways) there.others there.block there.first (sent sender)) in
     let f = some_reading a.channel r.0.accepted (accepted_count _ r.0 r.1) in
-    record { report = Some r.0; read = f.0; arrives = record { block = there.block; others = there.others; first = there.first; received = r.1; reads = f.1 } }
+    record {
+      report = Some r.0;
+      read = f.0;
+      arrives = record { block = there.block; others = there.others; first = there.first; received = r.1; reads = f.1 };
+    }
 some_arrival a fs (Open info) sent none = record { report = None; read = None; arrives = tt }
 some_arrival a fs (OpenBare r) sent none = record { report = None; read = None; arrives = tt }
 some_arrival a fs (Ask r s request) sent none = record { report = None; read = None; arrives = tt }
@@ -119,7 +130,8 @@ record SomeAnswer (a : AirState) (event : Event) : Type 0 where
   answer : Answer
   step : AirStep a event after answer
 
-answer_at : (a : AirState) (octets : Ways Octets) (fs : Ways Frame) (ls : List Line) (event : Event) (o : Option Why) → refusal event a ≡ o → a.tsc ≤ 7 → IsSeenAt a octets fs ls → SomeAnswer a event
+answer_at : (a : AirState) (octets : Ways Octets) (fs : Ways Frame) (ls : List Line) (event : Event) (o : Option Why) →
+    refusal event a ≡ o → a.tsc ≤ 7 → IsSeenAt a octets fs ls → SomeAnswer a event
 answer_at a octets fs ls event (Some why) is known h = record { after = a; answer = Refuses why; step = (is, refl) }
 answer_at a octets fs ls event None is known h =
     let t : SomeArrival a event = some_arrival a fs event h.carries.blocks is in
@@ -127,28 +139,52 @@ answer_at a octets fs ls event None is known h =
     let w : World = world_of a fs in
     let d : Deed = deed e a.ends in
     let none : W.refusal e w ≡ None = refusal-same a fs t.read event h.carries.blocks ∙ is in
-    let reads : KnowsBy (W.refusal e w) (λ sender f. Fits a.channel f) e = subst (λ (q : Option Why). KnowsBy q (λ sender f. Fits a.channel f) e) (sym none) (known-read a event t.report t.read t.arrives) in
+    let reads : KnowsBy (W.refusal e w) (λ sender f. Fits a.channel f) e =
+    subst (λ (q : Option Why). KnowsBy q (λ sender f. Fits a.channel f) e) (sym none) (known-read a event t.report t.read t.arrives) in
     let bs = some_blocks a.channel a.tsc d.frames known (deed-fits a.channel w ls e h.reported reads h.fit none) in
     record {
       after = record a { ends = d.after; ways = with_more (sender_of d.who) bs.0 (taken event a.ways) };
-      answer = Does (record { who = d.who; sapi = d.sapi; received = t.report; frames = map (octets_of a.channel) d.frames; notices = d.notices });
-      step = (is, record { read = t.read; blocks = bs.0; arrives = t.arrives; sent = bs.1; after = refl; who = refl; sapi = refl; frames = refl; notices = refl });
+      answer = Does (record {
+        who = d.who;
+        sapi = d.sapi;
+        received = t.report;
+        frames = map (octets_of a.channel) d.frames;
+        notices = d.notices;
+      });
+      step = (
+        is,
+        record {
+          read = t.read;
+          blocks = bs.0;
+          arrives = t.arrives;
+          sent = bs.1;
+          after = refl;
+          who = refl;
+          sapi = refl;
+          frames = refl;
+          notices = refl;
+        },
+      );
     }
 
-pub some_answer : (tsc : ℕ) (channel : Channel) (events : List Event) (answers : List Answer) (a : AirState) → tsc ≤ 7 → AirRun (start_on tsc channel) events answers a →
+pub some_answer : (tsc : ℕ) (channel : Channel) (events : List Event) (answers : List Answer) (a : AirState) → tsc ≤ 7 →
+    AirRun (start_on tsc channel) events answers a →
     (event : Event) → (b : AirState) × (answer : Answer) × AirStep a event b answer
 some_answer tsc channel events answers a known run event =
     let i : IsSeen (start_on tsc channel) no_ways no_ways events answers a = seen tsc channel events answers a run in
     let s : SomeAnswer a event = answer_at a i.at.0 i.at.1 i.at.2 event (refusal event a) refl (omega (arith, known, i.tsc)) i.at.3 in
     (s.after, s.answer, s.step)
 
-run_from : (events : List Event) (a : AirState) (octets : Ways Octets) (fs : Ways Frame) (ls : List Line) → a.tsc ≤ 7 → IsSeenAt a octets fs ls → (answers : List Answer) × (b : AirState) × AirRun a events answers b
+run_from : (events : List Event) (a : AirState) (octets : Ways Octets) (fs : Ways Frame) (ls : List Line) → a.tsc ≤ 7 →
+    IsSeenAt a octets fs ls → (answers : List Answer) × (b : AirState) × AirRun a events answers b
 run_from [] a octets fs ls known h = ([], a, refl)
 run_from (event ∷ events) a octets fs ls known h =
     let s : SomeAnswer a event = answer_at a octets fs ls event (refusal event a) refl known h in
     let now = seen-now a octets fs ls event s.answer s.after h s.step in
-    let r = run_from events s.after (after event s.answer octets) now.ways _ (omega (arith, known, now.tsc)) (seen-next a octets fs ls event s.answer s.after h s.step) in
+    let r = run_from events s.after (after event s.answer octets) now.ways _ (omega (arith, known, now.tsc))
+    (seen-next a octets fs ls event s.answer s.after h s.step) in
     (s.answer ∷ r.0, r.1, (s.after, s.step, r.2))
 
-pub some_run : (tsc : ℕ) (channel : Channel) (events : List Event) → tsc ≤ 7 → (answers : List Answer) × (b : AirState) × AirRun (start_on tsc channel) events answers b
+pub some_run : (tsc : ℕ) (channel : Channel) (events : List Event) → tsc ≤ 7 → (answers : List Answer) × (b : AirState) × AirRun
+    (start_on tsc channel) events answers b
 some_run tsc channel events known = run_from events (start_on tsc channel) no_ways no_ways [] known (start-seen tsc channel)

@@ -47,28 +47,43 @@ octets_small channel f h info =
     let small : ℕ → Type 0 = λ octet. octet < 256 in
     let size : ℕ = n201 channel - length (information f.content) in
     let most : length (information f.content) ≤ n201 channel = information_bound channel f.content h.information in
-    let third : AreOctets (length_octet f.content ∷ []) = All-cons small (length_octet f.content) [] (omega (arith, most, room_small channel, bit_bound (goes_on f.content))) (All-nil small) in
-    let second : AreOctets (control f.content ∷ length_octet f.content ∷ []) = All-cons small (control f.content) (length_octet f.content ∷ []) (control_small f.content h.numbers) third in
+    let third : AreOctets (length_octet f.content ∷ []) =
+    All-cons small (length_octet f.content) [] (omega (arith, most, room_small channel, bit_bound (goes_on f.content)))
+    (All-nil small) in
+    let second : AreOctets (control f.content ∷ length_octet f.content ∷ []) =
+    All-cons small (control f.content) (length_octet f.content ∷ []) (control_small f.content h.numbers) third in
     let head : List ℕ = address f ∷ control f.content ∷ length_octet f.content ∷ [] in
-    let heads : AreOctets head = All-cons small (address f) (control f.content ∷ length_octet f.content ∷ []) (omega (arith, h.sapi, bit_bound f.cr)) second in
-    let front : AreOctets (replicate (header channel) 0 ++ head) = All-append small (replicate (header channel) 0) head (All-replicate small (header channel) 0 (omega arith)) heads in
-    let said : AreOctets ((replicate (header channel) 0 ++ head) ++ information f.content) = All-append small (replicate (header channel) 0 ++ head) (information f.content) front info in
-    All-append small ((replicate (header channel) 0 ++ head) ++ information f.content) (replicate size 0x2b) said (All-replicate small size 0x2b (omega arith))
+    let heads : AreOctets head =
+    All-cons small (address f) (control f.content ∷ length_octet f.content ∷ []) (omega (arith, h.sapi, bit_bound f.cr)) second in
+    let front : AreOctets (replicate (header channel) 0 ++ head) =
+    All-append small (replicate (header channel) 0) head (All-replicate small (header channel) 0 (omega arith)) heads in
+    let said : AreOctets ((replicate (header channel) 0 ++ head) ++ information f.content) =
+    All-append small (replicate (header channel) 0 ++ head) (information f.content) front info in
+    All-append small ((replicate (header channel) 0 ++ head) ++ information f.content) (replicate size 0x2b) said
+    (All-replicate small size 0x2b (omega arith))
 
 -- a block of few turned bits is accepted as it was sent
-kind_block : (channel : Channel) (tsc : ℕ) (fs : List Frame) (blocks others : List Block) (places : List ℕ) (report : Received) (block : Block) → blocks ≡ block ∷ others → AreSent channel tsc fs blocks → AllFit channel fs → AllSay fs → length places ≤ 3 → IsReceivedBlock (map softened (turned places block)) report → IsAsSent report.accepted (map (octets_of channel) fs)
-kind_block channel tsc fs blocks others places report block e sent fit say few received = by_first fs (subst (AreSent channel tsc fs) e sent) fit say
+kind_block : (channel : Channel) (tsc : ℕ) (fs : List Frame) (blocks others : List Block) (places : List ℕ) (report : Received)
+    (block : Block) → blocks ≡ block ∷ others → AreSent channel tsc fs blocks → AllFit channel fs → AllSay fs → length places ≤ 3 →
+    IsReceivedBlock (map softened (turned places block)) report → IsAsSent report.accepted (map (octets_of channel) fs)
+kind_block channel tsc fs blocks others places report block e sent fit say few received =
+    by_first fs (subst (AreSent channel tsc fs) e sent) fit say
   where
-    by_first : (fs : List Frame) → AreSent channel tsc fs (block ∷ others) → AllFit channel fs → AllSay fs → IsAsSent report.accepted (map (octets_of channel) fs)
+    by_first : (fs : List Frame) → AreSent channel tsc fs (block ∷ others) → AllFit channel fs → AllSay fs →
+        IsAsSent report.accepted (map (octets_of channel) fs)
     by_first [] s fit say = absurd s
     by_first (g ∷ gs) s fit say =
-        subst (λ (o : Option Octets). IsAsSent o (octets_of channel g ∷ map (octets_of channel) gs)) (sym (accepted_as_sent (octets_of channel g) tsc block places report (octets_small channel g fit.0 say.0) s.0 few received)) refl
+        subst (λ (o : Option Octets). IsAsSent o (octets_of channel g ∷ map (octets_of channel) gs))
+        (sym (accepted_as_sent (octets_of channel g) tsc block places report (octets_small channel g fit.0 say.0) s.0 few received))
+        refl
 
-kind_takes : (a : AirState) (octets : Ways Octets) (fs : Ways Frame) (ls : List Line) (event : Event) (report : Option Received) (read : Option Frame) → IsSeenAt a octets fs ls → WorldOctets (world_of a fs) → IsKindEvent event →
+kind_takes : (a : AirState) (octets : Ways Octets) (fs : Ways Frame) (ls : List Line) (event : Event) (report : Option Received)
+    (read : Option Frame) → IsSeenAt a octets fs ls → WorldOctets (world_of a fs) → IsKindEvent event →
     Arrives a event report read → ArrivesAsSent event report octets
 kind_takes a octets fs ls (Deliver sender places) (Some report) read h small kind t =
     subst (λ (os : List Octets). IsAsSent report.accepted os) (sym (h.carries.written sender))
-    (kind_block a.channel a.tsc (way sender fs) (way sender a.ways) t.others places report t.block t.first (h.carries.blocks sender) (h.fit.ways sender) (small.ways sender) kind t.received)
+    (kind_block a.channel a.tsc (way sender fs) (way sender a.ways) t.others places report t.block t.first (h.carries.blocks sender)
+    (h.fit.ways sender) (small.ways sender) kind t.received)
 kind_takes a octets fs ls (Deliver sender places) None read h small kind t = absurd t
 kind_takes a octets fs ls (Open info) report read h small kind t = tt
 kind_takes a octets fs ls (OpenBare r) report read h small kind t = tt
@@ -76,10 +91,12 @@ kind_takes a octets fs ls (Ask r q request) report read h small kind t = tt
 kind_takes a octets fs ls (Lose sender) report read h small kind t = tt
 kind_takes a octets fs ls (Rival info) report read h small kind t = tt
 
-kind_step : (a b : AirState) (octets : Ways Octets) (fs : Ways Frame) (ls : List Line) (event : Event) (answer : Answer) → IsSeenAt a octets fs ls → WorldOctets (world_of a fs) → IsKindEvent event →
+kind_step : (a b : AirState) (octets : Ways Octets) (fs : Ways Frame) (ls : List Line) (event : Event) (answer : Answer) →
+    IsSeenAt a octets fs ls → WorldOctets (world_of a fs) → IsKindEvent event →
     AirStep a event b answer → IsHarmlessStep event answer octets
 kind_step a b octets fs ls event (Refuses why) h small kind t = tt
-kind_step a b octets fs ls event (Does step) h small kind t = kind_takes a octets fs ls event step.received t.1.read h small kind t.1.arrives
+kind_step a b octets fs ls event (Does step) h small kind t =
+    kind_takes a octets fs ls event step.received t.1.read h small kind t.1.arrives
 
 -- the lines of such an event
 told_octets : (who : Who) (s : Sapi) (ns : List Notice) → LineOctets (notice_lines who s ns)
@@ -101,7 +118,8 @@ line_octets (Deliver sender places) (Does step) h = told_octets step.who step.sa
 line_octets (Lose sender) (Does step) h = told_octets step.who step.sapi step.notices
 line_octets (Rival info) (Does step) h = (h, told_octets step.who step.sapi step.notices)
 
-kind_run : (events : List Event) (answers : List Answer) (a b : AirState) (octets : Ways Octets) (fs : Ways Frame) (ls : List Line) → IsSeenAt a octets fs ls → WorldOctets (world_of a fs) → IsKind events →
+kind_run : (events : List Event) (answers : List Answer) (a b : AirState) (octets : Ways Octets) (fs : Ways Frame) (ls : List Line) →
+    IsSeenAt a octets fs ls → WorldOctets (world_of a fs) → IsKind events →
     AirRun a events answers b → IsHarmlessAfter octets events answers
 kind_run [] answers a b octets fs ls h small kind run = tt
 kind_run (event ∷ events) [] a b octets fs ls h small kind run = tt
@@ -111,9 +129,14 @@ kind_run (event ∷ events) (answer ∷ answers) a b octets fs ls h small kind r
     let e : E.Event = as_read t.read event in
     let here : IsHarmlessStep event answer octets = kind_step a run.0 octets fs ls event answer h small kind.0 run.1 in
     let said : LineOctets (answer_lines e (W.answer e w)) = subst LineOctets t.same (line_octets event answer kind.1) in
-    let small' : WorldOctets (world_of run.0 t.ways) = subst WorldOctets t.later (octets-step w ls e h.reported (t.harmless here) small said) in
-    (here, kind_run events answers run.0 b (after event answer octets) t.ways _ (seen-next a octets fs ls event answer run.0 h run.1) small' kind.2 run.2)
+    let small' : WorldOctets (world_of run.0 t.ways) =
+    subst WorldOctets t.later (octets-step w ls e h.reported (t.harmless here) small said) in (
+      here,
+      kind_run events answers run.0 b (after event answer octets) t.ways _ (seen-next a octets fs ls event answer run.0 h run.1) small'
+          kind.2 run.2,
+    )
 
-pub kind_is_harmless : (tsc : ℕ) (channel : Channel) (events : List Event) (answers : List Answer) (b : AirState) → AirRun (start_on tsc channel) events answers b → IsKind events → IsHarmless events answers
+pub kind_is_harmless : (tsc : ℕ) (channel : Channel) (events : List Event) (answers : List Answer) (b : AirState) →
+    AirRun (start_on tsc channel) events answers b → IsKind events → IsHarmless events answers
 kind_is_harmless tsc channel events answers b run kind =
     kind_run events answers (start_on tsc channel) b no_ways no_ways [] (start-seen tsc channel) (start-octets channel) kind run

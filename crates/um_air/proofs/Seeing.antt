@@ -25,13 +25,15 @@ abbrev pub AreAlike : {X Y : Type 0} → (List X → List Y → Type 0) → Ways
 AreAlike R xs ys = (r : Role) → R (way r xs) (way r ys)
 
 module _ {X Y : Type 0} (R : List X → List Y → Type 0) where
-  alike-with : (sender : Role) (x : List X) (y : List Y) (xs : Ways X) (ys : Ways Y) → R x y → AreAlike R xs ys → AreAlike R (with_way sender x xs) (with_way sender y ys)
+  alike-with : (sender : Role) (x : List X) (y : List Y) (xs : Ways X) (ys : Ways Y) → R x y → AreAlike R xs ys →
+      AreAlike R (with_way sender x xs) (with_way sender y ys)
   alike-with Mobile x y xs ys h g Mobile = h
   alike-with Mobile x y xs ys h g Network = g Network
   alike-with Network x y xs ys h g Mobile = g Mobile
   alike-with Network x y xs ys h g Network = h
 
-  alike-taken : ((x : List X) (y : List Y) → R x y → R (drop 1 x) (drop 1 y)) → (read : Option Frame) (event : Event) (xs : Ways X) (ys : Ways Y) → AreAlike R xs ys →
+  alike-taken : ((x : List X) (y : List Y) → R x y → R (drop 1 x) (drop 1 y)) → (read : Option Frame) (event : Event) (xs : Ways X)
+      (ys : Ways Y) → AreAlike R xs ys →
       AreAlike R (taken (as_read read event) xs) (taken event ys)
   alike-taken shorter read (Deliver sender places) xs ys h = alike-with sender _ _ xs ys (shorter _ _ (h sender)) h
   alike-taken shorter read (Lose sender) xs ys h = alike-with sender _ _ xs ys (shorter _ _ (h sender)) h
@@ -41,13 +43,15 @@ module _ {X Y : Type 0} (R : List X → List Y → Type 0) where
   alike-taken shorter read (Rival info) xs ys h = h
 
 -- the blocks are the frames, coded
-sent-drop : (channel : Channel) (tsc : ℕ) (fs : List Frame) (bs : List Block) → AreSent channel tsc fs bs → AreSent channel tsc (drop 1 fs) (drop 1 bs)
+sent-drop : (channel : Channel) (tsc : ℕ) (fs : List Frame) (bs : List Block) → AreSent channel tsc fs bs →
+    AreSent channel tsc (drop 1 fs) (drop 1 bs)
 sent-drop channel tsc [] [] h = h
 sent-drop channel tsc [] (b ∷ bs) h = absurd h
 sent-drop channel tsc (f ∷ fs) [] h = absurd h
 sent-drop channel tsc (f ∷ fs) (b ∷ bs) h = h.1
 
-sent-append : (channel : Channel) (tsc : ℕ) (fs gs : List Frame) (bs cs : List Block) → AreSent channel tsc fs bs → AreSent channel tsc gs cs → AreSent channel tsc (fs ++ gs) (bs ++ cs)
+sent-append : (channel : Channel) (tsc : ℕ) (fs gs : List Frame) (bs cs : List Block) → AreSent channel tsc fs bs →
+    AreSent channel tsc gs cs → AreSent channel tsc (fs ++ gs) (bs ++ cs)
 sent-append channel tsc [] gs [] cs h g = g
 sent-append channel tsc [] gs (b ∷ bs) cs h g = absurd h
 sent-append channel tsc (f ∷ fs) gs [] cs h g = absurd h
@@ -63,12 +67,15 @@ sent-length channel tsc (f ∷ fs) (b ∷ bs) h = ap suc (sent-length channel ts
 abbrev pub AreOctetsOf : Channel → List Frame → List Octets → Type 0
 AreOctetsOf channel fs os = os ≡ map (octets_of channel) fs
 
-octets-drop : (channel : Channel) (fs : List Frame) (os : List Octets) → AreOctetsOf channel fs os → AreOctetsOf channel (drop 1 fs) (drop 1 os)
+octets-drop : (channel : Channel) (fs : List Frame) (os : List Octets) → AreOctetsOf channel fs os →
+    AreOctetsOf channel (drop 1 fs) (drop 1 os)
 octets-drop channel [] os h = ap (drop 1) h
 octets-drop channel (f ∷ fs) os h = ap (drop 1) h
 
-octets-append : (channel : Channel) (fs gs : List Frame) (os ps : List Octets) → AreOctetsOf channel fs os → AreOctetsOf channel gs ps → AreOctetsOf channel (fs ++ gs) (os ++ ps)
-octets-append channel fs gs os ps h g = ap (λ xs. xs ++ ps) h ∙ ap (λ xs. map (octets_of channel) fs ++ xs) g ∙ sym (map-append (octets_of channel) fs gs)
+octets-append : (channel : Channel) (fs gs : List Frame) (os ps : List Octets) → AreOctetsOf channel fs os → AreOctetsOf channel gs ps →
+    AreOctetsOf channel (fs ++ gs) (os ++ ps)
+octets-append channel fs gs os ps h g = ap (λ xs. xs ++ ps) h ∙ ap (λ xs. map (octets_of channel) fs ++ xs) g
+    ∙ sym (map-append (octets_of channel) fs gs)
 
 -- ---- an air, as the session of the frames on its ways
 
@@ -80,7 +87,8 @@ pub record Carries (a : AirState) (octets : Ways Octets) (fs : Ways Frame) : Typ
   pub written : AreAlike (AreOctetsOf a.channel) fs octets
 
 -- the refusals are the same
-refusal-read : (read : Option Frame) (event : Event) (channel : Channel) (n : Role → ℕ) (es : Ends) → refusal_by channel n (as_read read event) es ≡ refusal_by channel n event es
+refusal-read : (read : Option Frame) (event : Event) (channel : Channel) (n : Role → ℕ) (es : Ends) →
+    refusal_by channel n (as_read read event) es ≡ refusal_by channel n event es
 refusal-read read (Open info) channel n es = refl
 refusal-read read (OpenBare r) channel n es = refl
 refusal-read read (Ask r s request) channel n es = refl
@@ -91,7 +99,8 @@ refusal-read read (Rival info) channel n es = refl
 full : (k m : ℕ) (o : Option Why) → k ≡ m → unless (is_full k) AirFull o ≡ unless (is_full m) AirFull o
 full k m o e = ap (λ i. unless (is_full i) AirFull o) e
 
-refusal-count : (event : Event) (channel : Channel) (n m : Role → ℕ) (es : Ends) → ((r : Role) → n r ≡ m r) → refusal_by channel n event es ≡ refusal_by channel m event es
+refusal-count : (event : Event) (channel : Channel) (n m : Role → ℕ) (es : Ends) → ((r : Role) → n r ≡ m r) →
+    refusal_by channel n event es ≡ refusal_by channel m event es
 refusal-count (Open info) channel n m es h = full _ _ _ (h Mobile)
 refusal-count (OpenBare r) channel n m es h = full _ _ _ (h r)
 refusal-count (Ask r s request) channel n m es h = full _ _ _ (h r)
@@ -105,7 +114,8 @@ pub refusal-same : (a : AirState) (fs : Ways Frame) (read : Option Frame) (event
     W.refusal (as_read read event) (world_of a fs) ≡ refusal event a
 refusal-same a fs read event h =
     refusal-read read event a.channel (count fs) a.ends
-    ∙ refusal-count event a.channel (count fs) (count a.ways) a.ends (λ r. sym (sent-length a.channel a.tsc (way r fs) (way r a.ways) (h r)))
+    ∙ refusal-count event a.channel (count fs) (count a.ways) a.ends
+    (λ r. sym (sent-length a.channel a.tsc (way r fs) (way r a.ways) (h r)))
 
 -- the lines of an event do not hang on what is read
 same_lines : (read : Option Frame) (event : Event) → event_lines event ≡ event_lines (as_read read event)
@@ -123,7 +133,8 @@ reads-fit : (channel : Channel) (accepted : Option Octets) (f : Frame) → Reads
 reads-fit channel (Some octets) f h = h.fits
 reads-fit channel None f h = absurd h
 
-pub known-read : (a : AirState) (event : Event) (report : Option Received) (read : Option Frame) → Arrives a event report read → Knows (λ sender f. Fits a.channel f) (as_read read event)
+pub known-read : (a : AirState) (event : Event) (report : Option Received) (read : Option Frame) → Arrives a event report read →
+    Knows (λ sender f. Fits a.channel f) (as_read read event)
 known-read a (Deliver sender places) (Some report) (Some f) h = reads-fit a.channel report.accepted f h.reads
 known-read a (Deliver sender places) (Some report) None h = tt
 known-read a (Deliver sender places) None read h = absurd h
@@ -134,7 +145,8 @@ known-read a (Lose sender) report read h = tt
 known-read a (Rival info) report read h = tt
 
 -- a frame that was sent is read as itself
-read_back : (channel : Channel) (accepted : Option Octets) (read : Option Frame) (fs : List Frame) → Reads channel accepted read → AllFit channel fs →
+read_back : (channel : Channel) (accepted : Option Octets) (read : Option Frame) (fs : List Frame) → Reads channel accepted read →
+    AllFit channel fs →
     IsAsSent accepted (map (octets_of channel) fs) → IsAsSent read fs
 read_back channel None None fs h fit s = tt
 read_back channel None (Some f) fs h fit s = absurd h
@@ -144,10 +156,13 @@ read_back channel (Some octets) (Some f) (g ∷ gs) h fit s =
     let sent : IsFrame channel g (octets_of channel g) = (octets_canonical channel g fit.0).frame in
     same_frame channel (octets_of channel g) f g (subst (IsFrame channel f) s h) sent
 
-harmless-read : (a : AirState) (octets : Ways Octets) (fs : Ways Frame) (event : Event) (report : Option Received) (read : Option Frame) → AreAlike (AreOctetsOf a.channel) fs octets →
-    ((r : Role) → AllFit a.channel (way r fs)) → Arrives a event report read → ArrivesAsSent event report octets → W.ArrivesAsSent (as_read read event) (world_of a fs)
+harmless-read : (a : AirState) (octets : Ways Octets) (fs : Ways Frame) (event : Event) (report : Option Received) (read : Option Frame) →
+    AreAlike (AreOctetsOf a.channel) fs octets →
+    ((r : Role) → AllFit a.channel (way r fs)) → Arrives a event report read → ArrivesAsSent event report octets →
+    W.ArrivesAsSent (as_read read event) (world_of a fs)
 harmless-read a octets fs (Deliver sender places) (Some report) read on_way fit t h =
-    read_back a.channel report.accepted read (way sender fs) t.reads (fit sender) (subst (λ (os : List Octets). IsAsSent report.accepted os) (on_way sender) h)
+    read_back a.channel report.accepted read (way sender fs) t.reads (fit sender)
+    (subst (λ (os : List Octets). IsAsSent report.accepted os) (on_way sender) h)
 harmless-read a octets fs (Deliver sender places) None read on_way fit t h = absurd t
 harmless-read a octets fs (Open info) report read on_way fit t h = tt
 harmless-read a octets fs (OpenBare r) report read on_way fit t h = tt
@@ -157,7 +172,8 @@ harmless-read a octets fs (Rival info) report read on_way fit t h = tt
 
 -- ---- one step
 
-pub record IsSeenStep (a : AirState) (octets : Ways Octets) (fs : Ways Frame) (event : Event) (answer : Answer) (b : AirState) : Type 0 where
+pub record IsSeenStep (a : AirState) (octets : Ways Octets) (fs : Ways Frame) (event : Event) (answer : Answer)
+    (b : AirState) : Type 0 where
   pub read : Option Frame
   pub ways : Ways Frame
   pub later : W.after (as_read read event) (world_of a fs) ≡ world_of b ways
@@ -165,7 +181,8 @@ pub record IsSeenStep (a : AirState) (octets : Ways Octets) (fs : Ways Frame) (e
   pub tsc : b.tsc ≡ a.tsc
   pub same : answer_lines event (told answer) ≡ answer_lines (as_read read event) (W.answer (as_read read event) (world_of a fs))
   pub known : KnowsBy (W.refusal (as_read read event) (world_of a fs)) (λ sender f. Fits a.channel f) (as_read read event)
-  pub harmless : IsHarmlessStep event answer octets → W.IsHarmlessBy (W.refusal (as_read read event) (world_of a fs)) (as_read read event) (world_of a fs)
+  pub harmless : IsHarmlessStep event answer octets → W.IsHarmlessBy (W.refusal (as_read read event) (world_of a fs)) (as_read read event)
+      (world_of a fs)
 
 module _ (a : AirState) (octets : Ways Octets) (fs : Ways Frame) (event : Event) (h : Carries a octets fs) where
   seen-refused : (why : Why) → refusal event a ≡ Some why → IsSeenStep a octets fs event (Refuses why) a
@@ -184,7 +201,8 @@ module _ (a : AirState) (octets : Ways Octets) (fs : Ways Frame) (event : Event)
         harmless = λ q. subst (λ (o : Option Why). W.IsHarmlessBy o e w) (sym refused) tt;
       }
 
-  seen-done : (step : Step) (b : AirState) → ((r : Role) → AllFit a.channel (way r fs)) → refusal event a ≡ None → Happens a event b step → IsSeenStep a octets fs event (Does step) b
+  seen-done : (step : Step) (b : AirState) → ((r : Role) → AllFit a.channel (way r fs)) → refusal event a ≡ None → Happens a event b step →
+      IsSeenStep a octets fs event (Does step) b
   seen-done step b fit is t =
       let e : E.Event = as_read t.read event in
       let w : World = world_of a fs in
@@ -193,25 +211,38 @@ module _ (a : AirState) (octets : Ways Octets) (fs : Ways Frame) (event : Event)
       let none : W.refusal e w ≡ None = refusal-same a fs t.read event h.blocks ∙ is in
       let fs' : Ways Frame = with_more r d.frames (taken e fs) in
       let b' : AirState = record a { ends = d.after; ways = with_more r t.blocks (taken event a.ways) } in
-      let blocks : AreAlike (AreSent a.channel a.tsc) (taken e fs) (taken event a.ways) = alike-taken (AreSent a.channel a.tsc) (sent-drop a.channel a.tsc) t.read event fs a.ways h.blocks in
-      let os : AreAlike (AreOctetsOf a.channel) (taken e fs) (taken event octets) = alike-taken (AreOctetsOf a.channel) (octets-drop a.channel) t.read event fs octets h.written in
+      let blocks : AreAlike (AreSent a.channel a.tsc) (taken e fs) (taken event a.ways) =
+      alike-taken (AreSent a.channel a.tsc) (sent-drop a.channel a.tsc) t.read event fs a.ways h.blocks in
+      let os : AreAlike (AreOctetsOf a.channel) (taken e fs) (taken event octets) =
+      alike-taken (AreOctetsOf a.channel) (octets-drop a.channel) t.read event fs octets h.written in
       let octets' : AreAlike (AreOctetsOf a.channel) fs' (with_more r step.frames (taken event octets)) =
-      alike-with (AreOctetsOf a.channel) r _ _ (taken e fs) (taken event octets) (octets-append a.channel (way r (taken e fs)) d.frames (way r (taken event octets)) step.frames (os r) t.frames) os in
+      alike-with (AreOctetsOf a.channel) r _ _ (taken e fs) (taken event octets)
+      (octets-append a.channel (way r (taken e fs)) d.frames (way r (taken event octets)) step.frames (os r) t.frames) os in
       let blocks' : AreAlike (AreSent a.channel a.tsc) fs' b'.ways =
-      alike-with (AreSent a.channel a.tsc) r _ _ (taken e fs) (taken event a.ways) (sent-append a.channel a.tsc (way r (taken e fs)) d.frames (way r (taken event a.ways)) t.blocks (blocks r) t.sent) blocks in
+      alike-with (AreSent a.channel a.tsc) r _ _ (taken e fs) (taken event a.ways)
+      (sent-append a.channel a.tsc (way r (taken e fs)) d.frames (way r (taken event a.ways)) t.blocks (blocks r) t.sent) blocks in
       subst (IsSeenStep a octets fs event (Does step)) (sym t.after) (record {
         read = t.read;
         ways = fs';
         later = ap (λ o. after_by o e w) none;
-        carries = record { blocks = blocks'; written = subst (λ (q : Who). AreAlike (AreOctetsOf a.channel) fs' (with_more (sender_of q) step.frames (taken event octets))) (sym t.who) octets' };
+        carries = record {
+          blocks = blocks';
+          written = subst (λ (q : Who). AreAlike (AreOctetsOf a.channel) fs' (with_more (sender_of q) step.frames (taken event octets)))
+              (sym t.who) octets';
+        };
         tsc = refl;
-        same = ap (λ ls. ls ++ notice_lines step.who step.sapi step.notices) (same_lines t.read event) ∙ ap (λ (q : Who). event_lines e ++ notice_lines q step.sapi step.notices) t.who
-            ∙ ap (λ q. event_lines e ++ notice_lines d.who q step.notices) t.sapi ∙ ap (λ q. event_lines e ++ notice_lines d.who d.sapi q) t.notices
+        same = ap (λ ls. ls ++ notice_lines step.who step.sapi step.notices) (same_lines t.read event)
+            ∙ ap (λ (q : Who). event_lines e ++ notice_lines q step.sapi step.notices) t.who
+            ∙ ap (λ q. event_lines e ++ notice_lines d.who q step.notices) t.sapi
+            ∙ ap (λ q. event_lines e ++ notice_lines d.who d.sapi q) t.notices
             ∙ sym (ap (λ o. answer_lines e (answer_by o d)) none);
-        known = subst (λ (o : Option Why). KnowsBy o (λ sender f. Fits a.channel f) e) (sym none) (known-read a event step.received t.read t.arrives);
-        harmless = λ q. subst (λ (o : Option Why). W.IsHarmlessBy o e w) (sym none) (harmless-read a octets fs event step.received t.read h.written fit t.arrives q);
+        known = subst (λ (o : Option Why). KnowsBy o (λ sender f. Fits a.channel f) e) (sym none)
+            (known-read a event step.received t.read t.arrives);
+        harmless = λ q. subst (λ (o : Option Why). W.IsHarmlessBy o e w) (sym none)
+            (harmless-read a octets fs event step.received t.read h.written fit t.arrives q);
       })
 
-  pub seen-step : (answer : Answer) (b : AirState) → ((r : Role) → AllFit a.channel (way r fs)) → AirStep a event b answer → IsSeenStep a octets fs event answer b
+  pub seen-step : (answer : Answer) (b : AirState) → ((r : Role) → AllFit a.channel (way r fs)) → AirStep a event b answer →
+      IsSeenStep a octets fs event answer b
   seen-step (Refuses why) b fit t = subst (IsSeenStep a octets fs event (Refuses why)) (sym t.1) (seen-refused why t.0)
   seen-step (Does step) b fit t = seen-done step b fit t.0 t.1
