@@ -1,8 +1,8 @@
 -- The place that loses least, one place more at a time.
-use Rattle.std.proofs.Common.{◌≡◌, ◌≢◌, ◌⊎◌, ℕ, zero, suc, ◌+◌, ◌<◌, ◌≤◌, inl, inr, ℤ, List, [], ◌∷◌, length, get_or, take, refl, ◌∙◌, arith, below_more}
-use Rattle.std.specs.Prelude.{◌<ℤ◌}
+use Rattle.std.proofs.Common.{◌≡◌, ◌≢◌, ◌⊎◌, ℕ, zero, suc, ◌+◌, ◌<◌, ◌≤◌, inl, inr, ℤ, pos, ◌+ℤ◌, ◌-ℤ◌, List, [], ◌∷◌, length, get_or, take, refl, ap, ap₂, sym, ◌∙◌, subst, arith, below_more}
+use Rattle.std.specs.Prelude.{◌<ℤ◌, ◌≤ℤ◌}
 use Rattle.std.proofs.lemmas.Bool.{cases_lt}
-use Rattle.std.proofs.lemmas.Int.{ints}
+use Rattle.std.proofs.lemmas.Int.{ints, by_lt_z}
 use Rattle.trellis_decode.specs.Trellis.{next}
 use Rattle.list_decode.specs.Detours.{reached, loss_at, IsLeastLoss}
 use Rattle.list_decode.specs.declared.leaving.Leave.{Leave}
@@ -13,6 +13,7 @@ pub record IsBestLeave (u : List ℕ) (losses : List (List ℤ)) (k : ℕ) (best
   pub within : best.place + 4 < length u
   pub state : best.state ≡ reached 0 (take best.place u)
   pub least : IsLeastLoss u losses k best.place best.loss
+  pub limit : best.limit ≡ best.loss +ℤ pos 1 -ℤ pos (get_or u best.place 0)
 
 pub reached_more : (u : List ℕ) (k state : ℕ) → k < length u → reached state (take (k + 1) u) ≡ next (reached state (take k u)) (get_or u k 0)
 reached_more [] k state within = absurd (omega arith)
@@ -24,6 +25,17 @@ reached_more (x ∷ u) (suc k) state within =
 pub reached_small : (state : ℕ) (u : List ℕ) → state < 16 → reached state u < 16
 reached_small state [] small = small
 reached_small state (x ∷ u) small = reached_small (next state x) u (omega arith)
+
+pub leave_at : (u : List ℕ) (losses : List (List ℤ)) (k state : ℕ) (loss : ℤ) (new : Leave) → k + 4 < length u → state ≡ reached 0 (take k u) →
+    loss ≡ loss_at 0 u losses k → IsLeastLoss u losses (k + 1) k (loss_at 0 u losses k) →
+    new.place ≡ k → new.state ≡ state → new.loss ≡ loss → new.limit ≡ loss +ℤ pos 1 -ℤ pos (get_or u k 0) → IsBestLeave u losses (k + 1) new
+leave_at u losses k state loss new inside reached_is loss_is least at s l m = record {
+  found = omega arith;
+  within = omega arith;
+  state = s ∙ reached_is ∙ ap (λ k. reached 0 (take k u)) (sym at);
+  least = subst (λ place. IsLeastLoss u losses (k + 1) place new.loss) (sym at) (subst (IsLeastLoss u losses (k + 1) k) (sym (l ∙ loss_is)) least);
+  limit = m ∙ ap₂ (λ loss place. loss +ℤ pos 1 -ℤ pos (get_or u place 0)) (sym l) (sym at);
+}
 
 pub least_kept : (u : List ℕ) (losses : List (List ℤ)) (k place : ℕ) (loss : ℤ) → get_or u place 0 ≤ 1 → IsLeastLoss u losses k place loss →
     (loss <ℤ loss_at 0 u losses k) ⊎ ((loss_at 0 u losses k ≡ loss) × (get_or u place 0 ≢ 0)) → IsLeastLoss u losses (k + 1) place loss
@@ -60,3 +72,14 @@ least_taken u losses k place loss found old less = record {
   ];
   after = λ j late lt equal. absurd (omega arith);
 }
+
+-- below the limit a later place comes first, and else it does not
+pub below_limit : (loss least : ℤ) (bit : ℕ) → bit ≤ 1 → loss <ℤ (least +ℤ pos 1 -ℤ pos bit) → (loss <ℤ least) ⊎ ((loss ≡ least) × (bit ≡ 0))
+below_limit loss least zero one h = by_lt_z loss least (λ less. inl less) (λ not_less. inr (omega (arith, ints), refl))
+below_limit loss least (suc zero) one h = inl (omega (arith, ints))
+below_limit loss least (suc (suc bit)) one h = absurd (omega arith)
+
+pub not_below_limit : (loss least : ℤ) (bit : ℕ) → bit ≤ 1 → (least +ℤ pos 1 -ℤ pos bit) ≤ℤ loss → (least <ℤ loss) ⊎ ((loss ≡ least) × (bit ≢ 0))
+not_below_limit loss least zero one h = inl (omega (arith, ints))
+not_below_limit loss least (suc zero) one h = by_lt_z least loss (λ less. inl less) (λ not_less. inr (omega (arith, ints), (λ e. omega arith)))
+not_below_limit loss least (suc (suc bit)) one h = absurd (omega arith)

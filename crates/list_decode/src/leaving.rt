@@ -1,6 +1,6 @@
 //! Where a list is best left, and the best list that leaves it there.
 
-ghost use Rattle.std.specs.Prelude.{◌≡◌, ◌≢◌, ◌⊎◌, true, false, ◌<ℤ◌, ℕ, ◌+◌, ◌-◌, ◌*◌, ◌%◌, ◌<◌, ◌≤◌, length, slice_index, ◌++◌, ◌∷◌};
+ghost use Rattle.std.specs.Prelude.{◌≡◌, true, false, pos, ◌+ℤ◌, ◌-ℤ◌, ◌<ℤ◌, ◌≤ℤ◌, ℕ, ◌+◌, ◌-◌, ◌*◌, ◌%◌, ◌<◌, ◌≤◌, length, slice_index, ◌++◌, ◌∷◌};
 ghost use Rattle.std.proofs.Common.{take, drop};
 ghost use Rattle.bit_blocks.specs.Bits.{AllBits};
 ghost use Rattle.list_decode.specs.Detours.{IsLeastLoss, reached};
@@ -14,6 +14,33 @@ pub(crate) struct Leave {
     pub(crate) place: usize,
     pub(crate) state: usize,
     pub(crate) loss: i32,
+    /// A later place is better where it loses less than this: as much counts as less where the list has a 0 here.
+    pub(crate) limit: i64,
+}
+
+impl Leave {
+    fn new(place: usize, state: usize, loss: i32, bit: u8) -> Leave
+        requires { bit ≤ 1 }
+        ensures place { result.place ≡ place }
+        ensures state { result.state ≡ state }
+        ensures loss { result.loss ≡ loss }
+        ensures limit { result.limit ≡ loss +ℤ pos 1 -ℤ pos bit }
+    {
+        Leave {
+            place,
+            state,
+            loss,
+            limit: i64::from(loss) + 1 - i64::from(bit),
+        }
+    }
+
+    /// Whether a later place that loses so much is better.
+    fn comes_after(&self, loss: i32) -> bool
+        ensures after { result ≡ true → loss <ℤ self.now.limit }
+        ensures not_after { result ≡ false → self.now.limit ≤ℤ loss }
+    {
+        i64::from(loss) < self.limit
+    }
 }
 
 /// Where the least is lost by the other bit; of equal places that whose list comes first in the order of words.
@@ -26,32 +53,16 @@ pub(crate) fn least_loss(u: &[u8], losses: &[[i32; 16]]) -> Leave
     ensures state { result.state ≡ reached 0 (take result.place u.now) }
     ensures within { result.place + 4 < length u.now }
 {
-    let mut best = Leave {
-        place: 0,
-        state: 0,
-        loss: losses[0][0],
-    };
+    let mut best = Leave::new(0, 0, losses[0][0], u[0]);
     let mut state = 0;
     for k in 0..u.len() - 4 {
         let loss = losses[k][state];
-        if comes_first(loss, u[best.place], best.loss) {
-            best = Leave {
-                place: k,
-                state,
-                loss,
-            };
+        if best.comes_after(loss) {
+            best = Leave::new(k, state, loss, u[k]);
         }
         state = (2 * state + usize::from(u[k])) % 16;
     }
     best
-}
-
-/// Whether a later place is better to leave a list at than one with this bit.
-fn comes_first(loss: i32, bit: u8, least: i32) -> bool
-    ensures first { result ≡ true → (loss <ℤ least) ⊎ ((loss ≡ least) × (bit ≡ 0)) }
-    ensures not_first { result ≡ false → (least <ℤ loss) ⊎ ((loss ≡ least) × (bit ≢ 0)) }
-{
-    loss < least || loss == least && bit == 0
 }
 
 /// Writes `u` up to a place, the other bit there, and then what the rows choose.
