@@ -1,0 +1,6 @@
+pub mod LineLaws
+pub mod PackedOctets
+pub mod Pigeonholes
+pub mod PlaceLaws
+pub mod ReadingLaws
+pub mod WordSizes

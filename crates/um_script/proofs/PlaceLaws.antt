@@ -1,0 +1,204 @@
+-- Words of places.
+use Rattle.std.proofs.Common.{◌≡◌, ℕ, zero, suc, ◌+◌, ◌-◌, ◌*◌, ◌<◌, ◌≤◌, ◌==◌, min, nat_lt, Bool, true, false, not, ◌||◌, List, [], ◌∷◌, length, replicate, drop, get_or, add-one, inl, inr, IsTrue, Ok, refl, ap, sym, ◌∙◌, subst, arith}
+use Rattle.std.specs.Prelude.{slice_set, All}
+use Rattle.std.specs.List.{list_any}
+use Rattle.std.specs.Str.{all_ascii_digits}
+use Rattle.std.specs.Char.{is_ascii_digit, digit_value}
+use Rattle.std.specs.Str.Parse.{digits_value, digits_value_after}
+use Rattle.std.proofs.Math.Seq.{drop-cons}
+use Rattle.std.proofs.lemmas.Bool.{cases_Bool, and_parts, or_parts, eq-eqb, ne_eqb, cases_eq, ltb-true, ltb-false}
+use Rattle.std.proofs.lemmas.Bool.Decides.{nat_tests}
+use Rattle.std.proofs.lemmas.List.{length-set, get_or-replicate, get_or-set_same, get_or-set_other}
+use Rattle.std.proofs.lemmas.List.Elements.{All-cons, All-nil}
+use Rattle.um_script.proofs.Pigeonholes.{pigeonhole}
+use Rattle.um_lines.specs.Fields.{is_decimal}
+use Rattle.um_lines.specs.Forms.{is_repeated}
+use Rattle.um_script.specs.ScriptReading.{is_above, places_read}
+use Rattle.um_script.specs.Held.{numbers_of, is_named_again}
+
+-- ---- the value of digits
+
+-- digits make a number no less
+grows : (n : ℕ) (ds : List ℕ) → n ≤ digits_value_after 10 n ds
+grows n [] = omega arith
+grows n (d ∷ ds) = let rest = grows (n * 10 + digit_value d) ds in omega arith
+
+-- a number that is cut off at 592 is cut off at 592 behind further digits
+cut_off : (n : ℕ) (ds : List ℕ) → min (digits_value_after 10 (min n 592) ds) 592 ≡ min (digits_value_after 10 n ds) 592
+cut_off n ds =
+    elim (cases_Bool (nat_lt 592 n)) [
+      | inl above ↦
+          let over : 592 < n = ltb-true 592 n above in
+          let most : min n 592 ≡ 592 = omega arith in
+          let a = grows 592 ds in
+          let b = grows n ds in
+          rw most (omega arith)
+      | inr within ↦
+          let under : n ≤ 592 = ltb-false 592 n within in
+          let same : min n 592 ≡ n = omega arith in
+          rw same refl
+    ]
+
+digit_is : (d : ℕ) → is_ascii_digit d ≡ true → digit_value d ≡ d - 48
+digit_is d h = grind (arith, nat_tests)
+
+pub record IsNextPlace (word : List ℕ) (i place new : ℕ) : Type 0 where
+  pub within : new ≤ 592
+  pub digits : IsTrue (all_ascii_digits (drop (i + 1) word))
+  pub same : min (digits_value_after 10 new (drop (i + 1) word)) 592 ≡ min (digits_value_after 10 place (drop i word)) 592
+
+-- one digit further
+pub next_place : (word : List ℕ) (i place new : ℕ) → i < length word → IsTrue (all_ascii_digits (drop i word))
+    → new ≡ min (10 * place + (get_or word i 0 - 48)) 592 → IsNextPlace word i place new
+next_place word i place new within digits is =
+    let cut : drop i word ≡ get_or word i 0 ∷ drop (i + 1) word = rw add-one (drop-cons word i 0 within) in
+    let split : all_ascii_digits (get_or word i 0 ∷ drop (i + 1) word) ≡ true = subst (λ ds. all_ascii_digits ds ≡ true) cut digits in
+    let parts = and_parts (is_ascii_digit (get_or word i 0)) (all_ascii_digits (drop (i + 1) word)) split in
+    let digit = digit_is (get_or word i 0) parts.0 in
+    let value : 10 * place + (get_or word i 0 - 48) ≡ place * 10 + digit_value (get_or word i 0) = omega arith in
+    record {
+      within = omega arith;
+      digits = parts.1;
+      same =
+          ap (λ n. min (digits_value_after 10 n (drop (i + 1) word)) 592) (is ∙ ap (λ n. min n 592) value)
+          ∙ cut_off (place * 10 + digit_value (get_or word i 0)) (drop (i + 1) word)
+          ∙ ap (λ ds. min (digits_value_after 10 place ds) 592) (sym cut);
+    }
+
+-- ---- places named twice
+
+-- whether a number is among some
+abbrev is_among : List ℕ → ℕ → Bool
+is_among before n = list_any (λ m. n == m) before
+
+-- whether a number is named that is among some, or was named before
+abbrev names_among : List ℕ → List ℕ → Bool
+names_among before [] = false
+names_among before (n ∷ ns) = is_among before n || names_among (n ∷ before) ns
+
+or_apart : (ns before : List ℕ) (n : ℕ) → list_any (is_among (n ∷ before)) ns ≡ (list_any (λ m. m == n) ns || list_any (is_among before) ns)
+or_apart [] before n = refl
+or_apart (m ∷ ns) before n =
+    rw (or_apart ns before n) (swapped (m == n) (is_among before m) (list_any (λ m. m == n) ns) (list_any (is_among before) ns))
+  where
+    swapped : (a b c d : Bool) → ((a || b) || (c || d)) ≡ ((a || c) || (b || d))
+    swapped true b c d = refl
+    swapped false true true d = refl
+    swapped false true false d = refl
+    swapped false false c d = refl
+
+names_apart : (ns before : List ℕ) → names_among before ns ≡ (list_any (is_among before) ns || is_repeated ns)
+names_apart [] before = refl
+names_apart (n ∷ ns) before =
+    rw (names_apart ns (n ∷ before), or_apart ns before n)
+    (regrouped (is_among before n) (list_any (λ m. m == n) ns) (list_any (is_among before) ns) (is_repeated ns))
+  where
+    regrouped : (a b c d : Bool) → (a || ((b || c) || d)) ≡ ((a || c) || (b || d))
+    regrouped true b c d = refl
+    regrouped false true true d = refl
+    regrouped false true false d = refl
+    regrouped false false c d = refl
+
+none_among : (ns : List ℕ) → list_any (is_among []) ns ≡ false
+none_among [] = refl
+none_among (n ∷ ns) = none_among ns
+
+-- marks stand for the numbers that were named
+record Marks (marks : List Bool) (before : List ℕ) : Type 0 where
+  pub many : length marks ≡ 592
+  pub each : (k : ℕ) → k < 592 → get_or marks k false ≡ is_among before k
+
+mark : (marks : List Bool) (before : List ℕ) (n : ℕ) → n < 592 → Marks marks before → Marks (slice_set marks n true) (n ∷ before)
+mark marks before n small m =
+    record {
+      many = length-set marks n true ∙ m.many;
+      each = λ k within.
+          elim (cases_eq k n) [
+            | inl same ↦
+                let room : n < length marks = omega arith in
+                let yes = eq-eqb k n same in
+                rw yes (subst (λ j. get_or (slice_set marks n true) j false ≡ true) (sym same) (get_or-set_same marks n true false room))
+            | inr other ↦
+                let no = ne_eqb k n other in
+                rw no (get_or-set_other marks n k true false other ∙ m.each k within)
+          ];
+    }
+
+again : (ws : List (List ℕ)) (marks : List Bool) (before : List ℕ) → list_any is_above ws ≡ false → Marks marks before
+    → is_named_again marks (numbers_of ws) ≡ names_among before (numbers_of ws)
+again [] marks before within m = refl
+again (w ∷ ws) marks before within m =
+    let parts = or_parts (is_above w) (list_any is_above ws) within in
+    let small : digits_value 10 w ≤ 591 = ltb-false 591 (digits_value 10 w) parts.0 in
+    let first = m.each (digits_value 10 w) (omega arith) in
+    let rest = again ws (slice_set marks (digits_value 10 w) true) (digits_value 10 w ∷ before) parts.1 (mark marks before (digits_value 10 w) (omega arith) m) in
+    rw (first, rest) refl
+
+unmarked : Marks (replicate 592 false) []
+unmarked = record { many = refl; each = λ k within. get_or-replicate 592 k false false within }
+
+-- whether places are named twice is whether one is named that is marked, where none is at first
+pub named_twice : (ws : List (List ℕ)) → list_any is_above ws ≡ false
+    → is_named_again (replicate 592 false) (numbers_of ws) ≡ is_repeated (numbers_of ws)
+named_twice ws within =
+    again ws (replicate 592 false) [] within unmarked ∙ names_apart (numbers_of ws) [] ∙ rw (none_among (numbers_of ws)) refl
+
+-- a place that is marked is named again
+pub named_here : (marks : List Bool) (ws others : List (List ℕ)) (w : List ℕ) (n : ℕ) → ws ≡ w ∷ others → n ≡ min (digits_value 10 w) 592
+    → list_any is_above ws ≡ false → get_or marks n false ≡ true → true ≡ is_named_again marks (numbers_of ws)
+named_here marks ws others w n is value within marked =
+    let first : list_any is_above (w ∷ others) ≡ false = subst (λ xs. list_any is_above xs ≡ false) is within in
+    let small : digits_value 10 w ≤ 591 = ltb-false 591 (digits_value 10 w) (or_parts (is_above w) (list_any is_above others) first).0 in
+    let same : n ≡ digits_value 10 w = omega arith in
+    let here : get_or marks (digits_value 10 w) false ≡ true = subst (λ k. get_or marks k false ≡ true) same marked in
+    rw is (rw here refl)
+
+-- what is read of places that nothing is against
+pub places_held : (ws : List (List ℕ)) (ns : List ℕ) → list_any (λ w. not (is_decimal w)) ws ≡ false → list_any is_above ws ≡ false
+    → is_repeated (numbers_of ws) ≡ false → ns ≡ numbers_of ws → Ok ns ≡ places_read ws
+places_held ws ns decimal within once same = rw (decimal, within, once, same) refl
+
+-- ---- no more places than a block has
+
+not_found : (ns : List ℕ) (n j : ℕ) → list_any (λ m. m == n) ns ≡ false → j < length ns → get_or ns j 0 ≡ n → ⊥
+not_found [] n j none within same = omega arith
+not_found (m ∷ ns) n zero none within same =
+    let parts = or_parts (m == n) (list_any (λ m. m == n) ns) none in
+    let yes = eq-eqb m n same in
+    let no = parts.0 in
+    cc
+not_found (m ∷ ns) n (suc j) none within same =
+    not_found ns n j (or_parts (m == n) (list_any (λ m. m == n) ns) none).1 (omega arith) same
+
+apart_at : (ns : List ℕ) → is_repeated ns ≡ false → (i j : ℕ) → i < length ns → j < length ns → get_or ns i 0 ≡ get_or ns j 0 → i ≡ j
+apart_at [] once i j a b same = absurd (omega arith)
+apart_at (n ∷ ns) once zero zero a b same = refl
+apart_at (n ∷ ns) once zero (suc j) a b same =
+    absurd (not_found ns n j (or_parts (list_any (λ m. m == n) ns) (is_repeated ns) once).0 (omega arith) (sym same))
+apart_at (n ∷ ns) once (suc i) zero a b same =
+    absurd (not_found ns n i (or_parts (list_any (λ m. m == n) ns) (is_repeated ns) once).0 (omega arith) same)
+apart_at (n ∷ ns) once (suc i) (suc j) a b same =
+    ap suc (apart_at ns (or_parts (list_any (λ m. m == n) ns) (is_repeated ns) once).1 i j (omega arith) (omega arith) same)
+
+small_at : (ws : List (List ℕ)) → list_any is_above ws ≡ false → (i : ℕ) → i < length (numbers_of ws) → get_or (numbers_of ws) i 0 < 592
+small_at [] within i low = absurd (omega arith)
+small_at (w ∷ ws) within zero low =
+    let small : digits_value 10 w ≤ 591 = ltb-false 591 (digits_value 10 w) (or_parts (is_above w) (list_any is_above ws) within).0 in
+    omega arith
+small_at (w ∷ ws) within (suc i) low = small_at ws (or_parts (is_above w) (list_any is_above ws) within).1 i (omega arith)
+
+numbers_many : (ws : List (List ℕ)) → length (numbers_of ws) ≡ length ws
+numbers_many [] = refl
+numbers_many (w ∷ ws) = ap suc (numbers_many ws)
+
+pub few_places : (ws : List (List ℕ)) → list_any is_above ws ≡ false → is_repeated (numbers_of ws) ≡ false → length ws ≤ 592
+few_places ws within once =
+    let few = pigeonhole (length (numbers_of ws)) 592 (λ i. get_or (numbers_of ws) i 0) (small_at ws within) (apart_at (numbers_of ws) once) in
+    omega (arith, few, numbers_many ws)
+
+pub are_places : (ws : List (List ℕ)) → list_any is_above ws ≡ false → All (λ place. place < 592) (numbers_of ws)
+are_places [] within = All-nil (λ place. place < 592)
+are_places (w ∷ ws) within =
+    let parts = or_parts (is_above w) (list_any is_above ws) within in
+    let small : digits_value 10 w ≤ 591 = ltb-false 591 (digits_value 10 w) parts.0 in
+    All-cons (λ place. place < 592) (digits_value 10 w) (numbers_of ws) (omega arith) (are_places ws parts.1)

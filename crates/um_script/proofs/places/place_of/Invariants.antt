@@ -1,0 +1,13 @@
+use Rattle.std.proofs.Common.{◌≡◌, ◌≤◌, min, drop, IsTrue}
+use Rattle.std.specs.Str.{all_ascii_digits}
+use Rattle.std.specs.Str.Parse.{digits_value, digits_value_after}
+use Rattle.um_script.proofs.places.place_of.Given as goal
+
+-- the digits that are left make of the place so far what all make of 0
+abbrev pub invariant-loop-digit : goal.invariant-loop-digit
+invariant-loop-digit l =
+    record {
+      within : l.place ≤ 592;
+      digits : IsTrue (all_ascii_digits (drop l.digit-index l.word));
+      same : min (digits_value_after 10 l.place (drop l.digit-index l.word)) 592 ≡ min (digits_value 10 l.word) 592;
+    }

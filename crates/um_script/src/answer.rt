@@ -1,0 +1,254 @@
+//! The lines that answer a line of a script.
+ghost use Rattle.std.specs.Prelude.{◌≡◌, ◌+◌, ◌*◌, ◌-◌, ◌<◌, ◌≤◌, [], ◌++◌, length, take, drop, codes, IfOk};
+ghost use Rattle.std.specs.Fmt.{decimal};
+ghost use Rattle.hex.specs.Hex.{encode_lower};
+ghost use Rattle.bit_blocks.specs.Octets.{bits_of};
+ghost use Rattle.um_block.specs.Packed.{octets_of};
+ghost use Rattle.um_link.specs.Naming.{answer_of, step_of, who_of, why_of};
+ghost use Rattle.um_link.specs.Standing.{FitsWho};
+ghost use Rattle.um_script.specs.StepLines.{who_word, link_word, refusal_word, closing_word, octets_word, heard_text, dropped_text, block_text, arrival_text, notice_text, notices_text, frames_text, answer_text};
+
+use bit_blocks::{Bits, to_octets};
+use lapdm_window::{Notice, Reason, Sapi};
+use um_block::Received;
+use um_lines::Text;
+use um_link::{No, Step, Who};
+
+/// Writes the lines that answer a line of a script: what arrived, what is reported and what is sent, or why nothing happened.
+pub fn step_lines(out: &mut Text, answer: &Result<Step, No>)
+    requires empty { out.old ≡ [] }
+    requires fits { IfOk answer.now (λ step. FitsWho (step_of step)) }
+    ensures text { out.new ≡ answer_text (answer_of answer.now) }
+    ensures short { length out.new < 2000 }
+{
+    match answer {
+        Ok(step) => push_step(out, step),
+        Err(reason) => push_refusal(out, *reason),
+    }
+}
+
+fn push_refusal(out: &mut Text, reason: No)
+    requires { out.old ≡ [] }
+    ensures text { out.new ≡ codes "no " ++ refusal_word (why_of reason) ++ codes "\n" }
+    ensures short { length out.new ≤ 20 }
+{
+    out.push(b"no ");
+    out.push(refusal(reason));
+    out.push(b"\n");
+}
+
+fn refusal(reason: No) -> &'static [u8]
+    ensures word { result.now ≡ refusal_word (why_of reason) }
+    ensures short { length result.now ≤ 10 }
+{
+    match reason {
+        No::NotIdle => b"notidle",
+        No::NotOpen => b"notopen",
+        No::NotRunning => b"notrunning",
+        No::Empty => b"empty",
+        No::TooLong => b"toolong",
+        No::Full => b"full",
+        No::Nothing => b"nothing",
+        No::AirFull => b"airfull",
+    }
+}
+
+fn push_step(out: &mut Text, step: &Step)
+    requires { out.old ≡ [] }
+    ensures text { out.new ≡ answer_text (answer_of (Ok step.now)) }
+    ensures short { length out.new < 2000 }
+{
+    push_arrival(out, step.who, &step.received);
+    push_notices(out, step.who, step.sapi, step.effects.notices.as_slice());
+    push_frames(out, step.who, step.effects.frames.as_slice());
+    out.push(b"ok\n");
+}
+
+fn push_arrival(out: &mut Text, who: Who, received: &Option<Received>)
+    requires { out.old ≡ [] }
+    ensures text { out.new ≡ arrival_text (who_of who) received.now }
+    ensures short { length out.new ≤ 300 }
+{
+    match received {
+        Some(r) => {
+            out.push(name(who));
+            push_block(out, r);
+        }
+        None => {}
+    }
+}
+
+fn name(who: Who) -> &'static [u8]
+    ensures word { result.now ≡ who_word (who_of who) }
+    ensures short { length result.now ≤ 5 }
+{
+    match who {
+        Who::Mobile => b"mob",
+        Who::Network => b"net",
+        Who::Rival => b"rival",
+        Who::Nobody => b"",
+    }
+}
+
+fn push_block(out: &mut Text, r: &Received)
+    requires { length out.old ≤ 5 }
+    ensures text { out.new ≡ out.old ++ block_text r.now.accepted r.now }
+    ensures short { length out.new ≤ 300 }
+{
+    match &r.accepted {
+        Some(octets) => {
+            out.push(b" takes ");
+            out.push_hex(octets);
+            out.push(b" ");
+            push_heard(out, r);
+        }
+        None => {
+            out.push(b" drops ");
+            push_heard(out, r);
+            push_dropped(out, r);
+        }
+    }
+    out.push(b"\n");
+}
+
+fn push_heard(out: &mut Text, r: &Received)
+    requires { length out.old ≤ 60 }
+    ensures text { out.new ≡ out.old ++ heard_text r.now }
+    ensures short { length out.new ≤ length out.old + 120 }
+{
+    out.push(b"tsc ");
+    push_decimal(out, u64::from(r.tsc));
+    out.push(b" train ");
+    push_decimal(out, u64::from(r.wrong_training));
+    out.push(b" metric ");
+    out.push(itoa::Buffer::new().format(r.metric).as_bytes());
+}
+
+fn push_decimal(out: &mut Text, number: u64)
+    requires { length out.old + 20 ≤ 4096 }
+    ensures text { out.new ≡ out.old ++ decimal number }
+    ensures short { length out.new ≤ length out.old + 20 }
+{
+    out.push(itoa::Buffer::new().format(number).as_bytes());
+}
+
+fn push_dropped(out: &mut Text, r: &Received)
+    requires { length out.old ≤ 180 }
+    ensures text { out.new ≡ out.old ++ dropped_text r.now.u }
+    ensures short { length out.new ≡ length out.old + 69 }
+{
+    push_parts(out, &packed::<23>(&r.u, 0), &packed::<5>(&r.u, 184));
+}
+
+fn push_parts(out: &mut Text, octets: &[u8], check: &[u8])
+    requires room { length out.old ≤ 180 }
+    requires many { length octets.now + length check.now ≡ 28 }
+    ensures text { out.new ≡ out.old ++ (codes " data " ++ encode_lower octets.now ++ codes " check " ++ encode_lower check.now) }
+    ensures short { length out.new ≡ length out.old + 69 }
+
+    // Both are what their own bits give, as octets are.
+    ensures octets { octets_of (bits_of octets.now) ≡ octets.now }
+    ensures check { octets_of (bits_of check.now) ≡ check.now }
+{
+    out.push(b" data ");
+    out.push_hex(octets);
+    out.push(b" check ");
+    out.push_hex(check);
+}
+
+// The octets of the bits from this place on.
+fn packed<const N: usize>(word: &Bits<228>, place: usize) -> [u8; N]
+    requires { place + 8 * N ≤ 228 }
+    ensures { bits_of result ≡ take (8 * N) (drop place word.now) }
+{
+    let bits = &word.as_slice()[place..place + 8 * N];
+    let mut octets = [0; N];
+    to_octets(bits, &mut octets);
+    octets
+}
+
+fn push_notices(out: &mut Text, who: Who, sapi: Sapi, notices: &[Notice])
+    requires room { length out.old ≤ 300 }
+    requires few { length notices.now ≤ 3 }
+    ensures text { out.new ≡ out.old ++ notices_text (who_of who) sapi notices.now }
+    ensures short { length out.new ≤ length out.old + 520 * length notices.now }
+{
+    for notice in notices {
+        out.push(name(who));
+        out.push(link(sapi));
+        push_notice(out, notice);
+        out.push(b"\n");
+    }
+}
+
+fn link(sapi: Sapi) -> &'static [u8]
+    ensures word { result.now ≡ link_word sapi }
+    ensures short { length result.now ≤ 1 }
+{
+    match sapi {
+        Sapi::Zero => b"",
+        Sapi::Three => b"3",
+    }
+}
+
+fn push_notice(out: &mut Text, notice: &Notice)
+    requires { length out.old ≤ 1400 }
+    ensures text { out.new ≡ out.old ++ notice_text notice.now }
+    ensures short { length out.new ≤ length out.old + 512 }
+{
+    match notice {
+        Notice::Opened(message) => push_octets(out, b" opened ", message.octets()),
+        Notice::Got(message) => push_octets(out, b" got ", message.octets()),
+        Notice::Unit(message) => push_octets(out, b" unit ", message.octets()),
+        Notice::Acked(number) => {
+            out.push(b" acked ");
+            push_decimal(out, *number);
+        }
+        Notice::Oversize => out.push(b" oversize"),
+        Notice::Closed(reason) => {
+            out.push(b" closed ");
+            out.push(closing(*reason));
+        }
+    }
+}
+
+fn push_octets(out: &mut Text, word: &[u8], octets: &[u8])
+    requires room { length out.old ≤ 1400 }
+    requires word { length word.now ≤ 8 }
+    requires octets { length octets.now ≤ 251 }
+    ensures text { out.new ≡ out.old ++ word.now ++ octets_word octets.now }
+    ensures short { length out.new ≤ length out.old + 510 }
+{
+    out.push(word);
+    if octets.is_empty() {
+        out.push(b"-");
+    } else {
+        out.push_hex(octets);
+    }
+}
+
+fn closing(reason: Reason) -> &'static [u8]
+    ensures word { result.now ≡ closing_word reason }
+    ensures short { length result.now ≤ 10 }
+{
+    match reason {
+        Reason::Contention => b"contention",
+        Reason::Failed => b"failed",
+        Reason::Refused => b"refused",
+        Reason::Released => b"released",
+    }
+}
+
+fn push_frames(out: &mut Text, who: Who, frames: &[[u8; 23]])
+    requires room { length out.old ≤ 1870 }
+    requires few { length frames.now ≤ 2 }
+    ensures text { out.new ≡ out.old ++ frames_text (who_of who) frames.now }
+    ensures short { length out.new ≤ length out.old + 60 * length frames.now }
+{
+    for frame in frames {
+        out.push(name(who));
+        out.push(b" sends ");
+        out.push_hex(frame);
+        out.push(b"\n");
+    }
+}

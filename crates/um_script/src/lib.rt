@@ -1,0 +1,14 @@
+//! The lines of a script, which say what happens to both ends of a link and to the air between them, and the lines
+//! that answer them.
+#![tactic(auto)]
+
+mod answer;
+mod names;
+mod octets;
+mod places;
+mod room;
+mod script;
+
+pub use answer::step_lines;
+pub use room::Room;
+pub use script::{ScriptLine, law_script, parse_script};

@@ -1,0 +1,107 @@
+//! The words that name who does something, and what.
+ghost use Rattle.std.specs.Prelude.{◌≡◌, ◌≤◌, ◌∷◌, [], length, IfSome, MatchOption};
+ghost use Rattle.std.specs.Str.{bytes_eq};
+ghost use Rattle.um_lines.specs.Words.{words};
+ghost use Rattle.um_script.specs.Names.{actor_said, request_said, act_said};
+
+use lapdm_window::Sapi;
+use um_lines::first_word;
+use um_link::{End, Way};
+
+/// Who a line speaks of.
+#[derive(Clone, Copy, PartialEq, Eq, Debug)]
+pub(crate) enum Actor {
+    End(End, Sapi),
+    Way(Way),
+    Rival,
+}
+
+/// What an end is asked.
+#[derive(Clone, Copy, PartialEq, Eq, Debug)]
+pub(crate) enum Request {
+    Open,
+    Send,
+    Unit,
+    Close,
+    Tick,
+    Idle,
+}
+
+/// What the air does.
+#[derive(Clone, Copy, PartialEq, Eq, Debug)]
+pub(crate) enum Act {
+    Deliver,
+    Lose,
+    Flip,
+}
+
+fn is(word: &[u8], name: &[u8]) -> bool
+    ensures { result ≡ bytes_eq word.now name.now }
+{
+    word == name
+}
+
+pub(crate) fn actor_of(word: &[u8]) -> Option<Actor>
+    ensures { result ≡ actor_said word.now }
+{
+    if is(word, b"mob") {
+        Some(Actor::End(End::Mobile, Sapi::Zero))
+    } else if is(word, b"mob3") {
+        Some(Actor::End(End::Mobile, Sapi::Three))
+    } else if is(word, b"net") {
+        Some(Actor::End(End::Network, Sapi::Zero))
+    } else if is(word, b"net3") {
+        Some(Actor::End(End::Network, Sapi::Three))
+    } else if is(word, b"up") {
+        Some(Actor::Way(Way::Up))
+    } else if is(word, b"down") {
+        Some(Actor::Way(Way::Down))
+    } else if is(word, b"rival") {
+        Some(Actor::Rival)
+    } else {
+        None
+    }
+}
+
+pub(crate) fn request_of(word: &[u8]) -> Option<Request>
+    ensures { result ≡ request_said word.now }
+{
+    if is(word, b"open") {
+        Some(Request::Open)
+    } else if is(word, b"send") {
+        Some(Request::Send)
+    } else if is(word, b"unit") {
+        Some(Request::Unit)
+    } else if is(word, b"close") {
+        Some(Request::Close)
+    } else if is(word, b"tick") {
+        Some(Request::Tick)
+    } else if is(word, b"idle") {
+        Some(Request::Idle)
+    } else {
+        None
+    }
+}
+
+pub(crate) fn act_of(word: &[u8]) -> Option<Act>
+    ensures { result ≡ act_said word.now }
+{
+    if is(word, b"deliver") {
+        Some(Act::Deliver)
+    } else if is(word, b"lose") {
+        Some(Act::Lose)
+    } else if is(word, b"flip") {
+        Some(Act::Flip)
+    } else {
+        None
+    }
+}
+
+/// The word before the first space, and what stands after that space, which is no longer than the text.
+pub(crate) fn cut(text: &[u8]) -> Option<(&[u8], &[u8])>
+    ensures parts { MatchOption result (words text.now ≡ text.now ∷ []) (λ parts. words text.now ≡ parts.0.now ∷ words parts.1.now) }
+    ensures short { IfSome result (λ parts. length parts.1.now ≤ length text.now) }
+{
+    let (word, rest) = first_word(text)?;
+    Some((word, rest))
+}
