@@ -1,13 +1,12 @@
 -- The command `code` answers each good line in one way.
-use Rattle.std.proofs.Common.{◌≡◌, ℕ, zero, suc, ◌*◌, List, [], ◌∷◌, length, Option, None, Some, refl, sym, ap, ◌∙◌, subst, arith}
+use Rattle.std.proofs.Common.{◌≡◌, ℕ, List, [], ◌∷◌, Option, None, Some, refl, sym, ap, ◌∙◌, subst}
 use Rattle.um_lines.specs.declared.fault.LineFault.{LineFault}
 use Rattle.um_text.specs.declared.code.CodeLine.{CodeLine}
 use Rattle.um_text.specs.declared.code.CodeLine.TheVariants.{Skip, Block, Rach, Sch}
 use Rattle.um_text.specs.CodeLines.{code_fault, CodeMeans}
-use Rattle.um_lines.specs.Fields.{hex_octets}
 use Rattle.um_lines.specs.Meanings.{HasOneMeaningUnless}
 use Rattle.um_text.specs.BurstTexts.{block_text, access_text, sync_text}
-use Rattle.um_text.proofs.CodeLaws.{one_meaning}
+use Rattle.um_text.proofs.CodeLaws.{one_meaning, can_be_sent}
 use Rattle.um_block.proofs.SentOnce.{one_sent_block, one_access_burst, one_sync_burst}
 use Rattle.um_block.proofs.SentExists.{some_sent_block, some_access_burst, some_sync_burst}
 use Rattle.um_driver.specs.Rules.{IsDetermined, IsTotal}
@@ -41,31 +40,20 @@ code_is_determined a line y y' b b' step step' =
     let same = same_meaning line step.0 step'.0 step.1 step'.1 in
     (same_answer step'.0 y y' (subst (λ m. IsCodeAnswer m y) same step.2) step'.2, same_state b b')
 
-length-hex_octets : (digits : List ℕ) (n : ℕ) → length digits ≡ 2 * n → length (hex_octets digits) ≡ n
-length-hex_octets [] n e = omega arith
-length-hex_octets (d ∷ []) n e = absurd (omega arith)
-length-hex_octets (d ∷ d' ∷ digits) zero e = absurd (omega arith)
-length-hex_octets (d ∷ d' ∷ digits) (suc n) e =
-    let rest : length digits ≡ 2 * n = omega arith in
-    ap suc (length-hex_octets digits n rest)
-
 -- what a line means can be answered
 some_answer : (line : List ℕ) (m : CodeLine) → CodeMeans line m → (answer : List ℕ) × IsCodeAnswer m answer
 some_answer line Skip means = ([], refl)
 some_answer line (Block tsc octets) means =
-    let spelled = means.1.4 in
-    let number = means.1.3 in
-    let count : length octets ≡ 23 = ap length spelled.spelled ∙ length-hex_octets means.1.1 23 spelled.many in
-    let sent = some_sent_block octets tsc count number.within in
+    let known = can_be_sent line (Block tsc octets) means in
+    let sent = some_sent_block octets tsc known.1.0 known.0 in
     (block_text sent.0, (sent.0, sent.1, refl))
 some_answer line (Rach info bsic) means =
-    let first = means.1.3 in
-    let second = means.1.4 in
-    let sent = some_access_burst info bsic first.many first.each second.many second.each in
+    let known = can_be_sent line (Rach info bsic) means in
+    let sent = some_access_burst info bsic known.0.0 known.0.1 known.1.0 known.1.1 in
     (access_text bsic sent.0, (sent.0, sent.1, refl))
 some_answer line (Sch info) means =
-    let digits = means.1.2 in
-    let sent = some_sync_burst info digits.many digits.each in
+    let known = can_be_sent line (Sch info) means in
+    let sent = some_sync_burst info known.0 known.1 in
     (sync_text sent.0, (sent.0, sent.1, refl))
 
 pub code_is_total : IsTotal code_rules tt

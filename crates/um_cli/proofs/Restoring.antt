@@ -22,10 +22,10 @@ use Rattle.um_text.specs.BurstTexts.{normal_text, block_text, access_text, sync_
 use Rattle.um_text.specs.CodeLines.{CodeMeans}
 use Rattle.um_lines.specs.Meanings.{HasOneMeaningUnless}
 use Rattle.um_text.specs.Reports.{IsBlockReport, access_report_text, sync_report_text}
-use Rattle.um_text.proofs.BurstLaws.{one_meaning}
+use Rattle.um_text.proofs.BurstLaws.{one_meaning, short}
 use Rattle.um_text.proofs.WrittenBursts.{normal_line, access_line, sync_line, normal_restored, access_restored, sync_restored, normal_whole, access_whole, sync_whole}
 use Rattle.um_text.proofs.ReportLaws.{some_block_report}
-use Rattle.um_text.proofs.SmallOctets.{small_octets}
+use Rattle.um_text.proofs.CodeLaws.{can_be_sent}
 use Rattle.um_io.specs.Reading.{input_limit, line_limit}
 use Rattle.um_driver.specs.Rules.{Runs, IsGood, joined}
 use Rattle.um_driver.specs.Outputs.{IsOutput}
@@ -63,25 +63,25 @@ both_read x x' y y' r r' = record {
 }
 
 -- a line with a meaning has no reason
-good_line : (held : List (List ℤ)) (line : List ℕ) (m : BurstLine) → length line ≤ line_limit → BurstMeans (length held) line m → IsGood replay_rules held line
-good_line held line m short means = go (burst_fault (length held) line) refl (one_meaning (length held) line)
+good_line : (held : List (List ℤ)) (line : List ℕ) (m : BurstLine) → BurstMeans (length held) line m → IsGood replay_rules held line
+good_line held line m means = go (burst_fault (length held) line) refl (one_meaning (length held) line)
   where
     go : (fault : Option LineFault) → burst_fault (length held) line ≡ fault → HasOneMeaningUnless fault (BurstMeans (length held) line) →
         IsGood replay_rules held line
-    go None e only = record { short = short; no_fault = e }
+    go None e only = record { short = short (length held) line m means; no_fault = e }
     go (Some fault) e none = absurd (none m means)
 
 -- one good line and its answer before others
-then : (held mid after : List (List ℤ)) (line answer : List ℕ) (lines others : List (List ℕ)) (m : BurstLine) → length line ≤ line_limit →
+then : (held mid after : List (List ℤ)) (line answer : List ℕ) (lines others : List (List ℕ)) (m : BurstLine) →
     BurstMeans (length held) line m → IsReplayAnswer held m answer mid → Runs replay_rules mid lines others after →
     Runs replay_rules held (line ∷ lines) (answer ∷ others) after
-then held mid after line answer lines others m short means answers runs =
-    (mid, good_line held line m short means, (m, means, answers), runs)
+then held mid after line answer lines others m means answers runs =
+    (mid, good_line held line m means, (m, means, answers), runs)
 
-last_line : (held : List (List ℤ)) (line answer : List ℕ) (m : BurstLine) → length line ≤ line_limit → BurstMeans (length held) line m →
+last_line : (held : List (List ℤ)) (line answer : List ℕ) (m : BurstLine) → BurstMeans (length held) line m →
     IsReplayAnswer held m answer [] → Runs replay_rules held (line ∷ []) (answer ∷ []) []
-last_line held line answer m short means answers =
-    ([], good_line held line m short means, (m, means, answers), refl)
+last_line held line answer m means answers =
+    ([], good_line held line m means, (m, means, answers), refl)
 
 length-softened : (bits : List ℕ) (n : ℕ) → length bits ≡ n → length (softened bits) ≡ n
 length-softened bits n e = length-map bits soft_value ∙ e
@@ -106,9 +106,9 @@ access_back info bsic burst count bits sent =
       read = record {
         lines = access_line bsic burst ∷ [];
         answers = access_report_text bsic received.0 ∷ [];
-        plain = All-cons IsLine (access_line bsic burst) [] (access_whole bsic burst).uncut (All-nil IsLine);
+        plain = All-cons IsLine (access_line bsic burst) [] (access_whole bsic burst count bits b.many b.each).uncut (All-nil IsLine);
         whole = refl;
-        runs = last_line [] (access_line bsic burst) (access_report_text bsic received.0) (Access bsic (softened burst)) means.0 means
+        runs = last_line [] (access_line bsic burst) (access_report_text bsic received.0) (Access bsic (softened burst)) means
             (refl, (received.0, received.1, refl));
         reports_are = sym (append-nil (access_report_text bsic received.0));
       };
@@ -125,9 +125,9 @@ sync_back info burst sent =
       read = record {
         lines = sync_line burst ∷ [];
         answers = sync_report_text received.0 ∷ [];
-        plain = All-cons IsLine (sync_line burst) [] (sync_whole burst).uncut (All-nil IsLine);
+        plain = All-cons IsLine (sync_line burst) [] (sync_whole burst b.many b.each).uncut (All-nil IsLine);
         whole = refl;
-        runs = last_line [] (sync_line burst) (sync_report_text received.0) (Sync (softened burst)) means.0 means
+        runs = last_line [] (sync_line burst) (sync_report_text received.0) (Sync (softened burst)) means
             (refl, (received.0, received.1, refl));
         reports_are = sym (append-nil (sync_report_text received.0));
       };
@@ -144,7 +144,8 @@ block_text-lines (burst ∷ bursts) =
 plain_lines : (bursts : List (List ℕ)) → All (AreBits 148) bursts → All IsLine (map normal_line bursts)
 plain_lines [] each = All-nil IsLine
 plain_lines (burst ∷ bursts) each =
-    All-cons IsLine (normal_line burst) (map normal_line bursts) (normal_whole burst).uncut
+    let b = All-head (AreBits 148) burst bursts each in
+    All-cons IsLine (normal_line burst) (map normal_line bursts) (normal_whole burst b.many b.each).uncut
     (plain_lines bursts (All-tail (AreBits 148) burst bursts each))
 
 softened_counts : (bursts : List (List ℕ)) → All (AreBits 148) bursts → All (λ soft. length soft ≡ 148) (map softened bursts)
@@ -175,12 +176,12 @@ four_runs a b c d report r each received text =
     let mb = normal_restored 1 b second.many second.each in
     let mc = normal_restored 2 c third.many third.each in
     let md = normal_restored 3 d fourth.many fourth.each in
-    let at_last = last_line (sa ∷ sb ∷ sc ∷ []) (normal_line d) report (Normal sd) md.0 md (inr (refl, refl, (r, received, text))) in
-    let from_third = then (sa ∷ sb ∷ []) (sa ∷ sb ∷ sc ∷ []) [] (normal_line c) [] (normal_line d ∷ []) (report ∷ []) (Normal sc) mc.0 mc
+    let at_last = last_line (sa ∷ sb ∷ sc ∷ []) (normal_line d) report (Normal sd) md (inr (refl, refl, (r, received, text))) in
+    let from_third = then (sa ∷ sb ∷ []) (sa ∷ sb ∷ sc ∷ []) [] (normal_line c) [] (normal_line d ∷ []) (report ∷ []) (Normal sc) mc
     (inl (lit< tt, refl, refl)) at_last in
-    let from_second = then (sa ∷ []) (sa ∷ sb ∷ []) [] (normal_line b) [] (normal_line c ∷ normal_line d ∷ []) ([] ∷ report ∷ []) (Normal sb) mb.0 mb
+    let from_second = then (sa ∷ []) (sa ∷ sb ∷ []) [] (normal_line b) [] (normal_line c ∷ normal_line d ∷ []) ([] ∷ report ∷ []) (Normal sb) mb
     (inl (lit< tt, refl, refl)) from_third in
-    then [] (sa ∷ []) [] (normal_line a) [] (normal_line b ∷ normal_line c ∷ normal_line d ∷ []) ([] ∷ [] ∷ report ∷ []) (Normal sa) ma.0 ma
+    then [] (sa ∷ []) [] (normal_line a) [] (normal_line b ∷ normal_line c ∷ normal_line d ∷ []) ([] ∷ [] ∷ report ∷ []) (Normal sa) ma
     (inl (lit< tt, refl, refl)) from_second
 
 block_runs : (bursts : List (List ℕ)) (report : List ℕ) (r : Received) → length bursts ≡ 4 → All (AreBits 148) bursts →
@@ -217,10 +218,10 @@ block_back octets tsc bursts small sent =
 brought_back : (line : List ℕ) (m : CodeLine) (answer : List ℕ) → CodeMeans line m → IsCodeAnswer m answer → IsBroughtBack m answer
 brought_back line C.Skip answer means a = record { report = []; restored = refl; read = subst (λ w. IsRead w []) (sym a) nothing_read }
 brought_back line (C.Block tsc octets) answer means (bursts, sent, text) =
-    subst (IsBroughtBack (C.Block tsc octets)) (sym text) (block_back octets tsc bursts (small_octets 46 means.1.1 octets means.1.4) sent)
+    subst (IsBroughtBack (C.Block tsc octets)) (sym text) (block_back octets tsc bursts (can_be_sent line (C.Block tsc octets) means).1.1 sent)
 brought_back line (C.Rach info bsic) answer means (burst, sent, text) =
-    let code = means.1.4 in
-    subst (IsBroughtBack (C.Rach info bsic)) (sym text) (access_back info bsic burst code.many code.each sent)
+    let code = (can_be_sent line (C.Rach info bsic) means).1 in
+    subst (IsBroughtBack (C.Rach info bsic)) (sym text) (access_back info bsic burst code.0 code.1 sent)
 brought_back line (C.Sch info) answer means (burst, sent, text) =
     subst (IsBroughtBack (C.Sch info)) (sym text) (sync_back info burst sent)
 

@@ -1,5 +1,5 @@
 //! The line that ends the output of an input that is refused.
-ghost use Rattle.std.specs.Prelude.{◌≡◌, ◌≤◌, [], length};
+ghost use Rattle.std.specs.Prelude.{◌≡◌, ◌<◌, ◌≤◌, [], length};
 ghost use Rattle.um_lines.specs.Refusals.{reason_word, refused_text};
 
 use crate::fault::LineFault;
@@ -8,7 +8,8 @@ use crate::text::Text;
 /// Writes the line that says which line of the input was refused, and why.
 pub fn refused_line(out: &mut Text, number: u64, fault: LineFault)
     requires { out.old ≡ [] }
-    ensures { out.new ≡ refused_text number fault }
+    ensures line { out.new ≡ refused_text number fault }
+    ensures few { length out.new < 2000 }
 {
     let mut decimal = itoa::Buffer::new();
     out.push(b"refused ");

@@ -3,7 +3,7 @@ use Rattle.std.proofs.Common.{◌≡◌, ◌∷◌, [], ◌++◌, pos, negsuc, S
 use Rattle.um_block.specs.Received.{softened}
 use Rattle.um_lines.specs.declared.fault.LineFault.TheVariants.{Long, Word, Order, Digits, Length, Soft}
 use Rattle.um_lines.specs.Fields.{hex_octets}
-use Rattle.um_text.specs.SoftWords.{signed_octets}
+use Rattle.um_text.specs.SoftOctets.{signed_octets}
 use Rattle.um_text.specs.BurstLines.{burst_fault}
 
 signed : signed_octets (hex_octets (codes "007F81ff80")) ≡ pos 0 ∷ pos 127 ∷ negsuc 126 ∷ negsuc 0 ∷ negsuc 127 ∷ []

@@ -1,19 +1,19 @@
 -- The lines of bursts as they are written, and that each means its burst again.
-use Rattle.std.proofs.Common.{◌≡◌, ◌≢◌, ℕ, ◌+◌, ◌<◌, ◌≤◌, List, [], ◌∷◌, ◌++◌, length, codes, refl, ap, sym, ◌∙◌, subst, inl, append_assoc, length-append, arith}
+use Rattle.std.proofs.Common.{◌≡◌, ◌≢◌, ℕ, ◌+◌, ◌≤◌, ◌==◌, Bool, true, false, ◌&&◌, not, Some, List, [], ◌∷◌, ◌++◌, length, codes, refl, ap, sym, ◌∙◌, subst, inl, inr, append_assoc, length-append, arith}
 use Rattle.std.specs.List.{All}
 use Rattle.std.proofs.lemmas.List.{append_cancel_right, length-map}
-use Rattle.std.proofs.lemmas.List.Elements.{All-nil, All-cons, All-append}
 use Rattle.bit_blocks.specs.Bits.{AllBits}
 use Rattle.um_block.specs.Received.{softened}
+use Rattle.um_lines.specs.Fields.{Field, Fixed, BitDigits, Several, bit_digits}
+use Rattle.um_lines.specs.Spelled.{spelled_line}
+use Rattle.um_lines.specs.BurstForms as F
+use Rattle.um_lines.specs.BurstForms.{burst_forms, burst_elsewhere}
+use Rattle.um_lines.proofs.KnownValues.{Fitting}
+use Rattle.um_lines.proofs.SpelledLaws.{spelled_means, spelled_uncut}
 use Rattle.um_text.specs.declared.burst_lines.BurstLine.TheVariants.{Normal, Access, Sync}
-use Rattle.um_lines.specs.Words.{IsNoSpace, words}
-use Rattle.um_lines.specs.Fields.{bit_digits}
-use Rattle.um_text.specs.Digits.{SpellsBits}
-use Rattle.um_text.specs.SoftWords.{SpellsHard}
 use Rattle.um_text.specs.BurstTexts.{normal_text, access_text, sync_text}
 use Rattle.um_text.specs.BurstLines.{BurstMeans}
 use Rattle.um_text.specs.WrittenBursts.{IsWholeLine}
-use Rattle.um_lines.proofs.WordLists.{words-join}
 
 -- the lines without their line feeds
 abbrev pub normal_line : List ℕ → List ℕ
@@ -25,97 +25,74 @@ access_line bsic burst = codes "a " ++ bit_digits bsic ++ codes " " ++ bit_digit
 abbrev pub sync_line : List ℕ → List ℕ
 sync_line burst = codes "s " ++ bit_digits burst
 
--- an octet below the digits is none of them
-digits_apart : (other : ℕ) (bits : List ℕ) → other < 48 → All (λ octet. octet ≢ other) (bit_digits bits)
-digits_apart other [] below = All-nil (λ octet. octet ≢ other)
-digits_apart other (bit ∷ bits) below =
-    All-cons (λ octet. octet ≢ other) (48 + bit) (bit_digits bits) (λ same. omega arith) (digits_apart other bits below)
-
--- a letter and a word of digits
-two_words : (letter : ℕ) (bits : List ℕ) → letter ≢ 32 → words (letter ∷ 32 ∷ bit_digits bits) ≡ (letter ∷ []) ∷ bit_digits bits ∷ []
-two_words letter bits plain =
-    words-join ((letter ∷ []) ∷ bit_digits bits ∷ []) (λ e. cc)
-    (All-cons (All IsNoSpace) (letter ∷ []) (bit_digits bits ∷ []) (All-cons IsNoSpace letter [] plain (All-nil IsNoSpace))
-    (All-cons (All IsNoSpace) (bit_digits bits) [] (digits_apart 32 bits (omega arith)) (All-nil (All IsNoSpace))))
-
-two_words_whole : (letter : ℕ) (bits : List ℕ) → letter ≢ 10 → All (λ octet. octet ≢ 10) (letter ∷ 32 ∷ bit_digits bits)
-two_words_whole letter bits plain =
-    All-cons (λ octet. octet ≢ 10) letter (32 ∷ bit_digits bits) plain
-    (All-cons (λ octet. octet ≢ 10) 32 (bit_digits bits) (λ same. omega arith) (digits_apart 10 bits (omega arith)))
-
--- digits spell their bits
-spelled : (count : ℕ) (bits : List ℕ) → length bits ≡ count → AllBits bits → SpellsBits count (bit_digits bits) bits
-spelled count bits many each = record { spelled = refl; many = many; each = each }
-
-spelled_hard : (count : ℕ) (bits : List ℕ) → length bits ≡ count → AllBits bits → SpellsHard count (bit_digits bits) (softened bits)
-spelled_hard count bits many each = record { bits = bits; digits = spelled count bits many each; sure = refl }
-
 length-bit_digits : (bits : List ℕ) → length (bit_digits bits) ≡ length bits
 length-bit_digits bits = length-map bits (λ bit. 48 + bit)
 
--- ---- each line means its burst
+-- bits at the places of their digits
+one : (letter burst : List ℕ) → AllBits burst → length burst ≡ 148 → Fitting (Fixed letter ∷ BitDigits 148 ∷ []) (Several burst ∷ [])
+one letter burst each many = (burst, [], refl, (many, each), refl)
 
-pub normal_restored : (held : ℕ) (burst : List ℕ) → length burst ≡ 148 → AllBits burst
-    → BurstMeans held (normal_line burst) (Normal (softened burst))
-normal_restored held burst many each = (
-  omega (arith, length-bit_digits burst),
-  inl (codes "n", bit_digits burst, two_words 110 burst (λ same. omega arith), inl (refl, spelled_hard 148 burst many each)),
-)
-
-pub sync_restored : (burst : List ℕ) → length burst ≡ 148 → AllBits burst → BurstMeans 0 (sync_line burst) (Sync (softened burst))
-sync_restored burst many each = (
-  omega (arith, length-bit_digits burst),
-  (refl, (codes "s", bit_digits burst, two_words 115 burst (λ same. omega arith), inl (refl, spelled_hard 148 burst many each))),
-)
+both : (bsic burst : List ℕ) → length bsic ≡ 6 → AllBits bsic → length burst ≡ 88 → AllBits burst
+    → Fitting (Fixed (codes "a") ∷ BitDigits 6 ∷ BitDigits 88 ∷ []) (Several bsic ∷ Several burst ∷ [])
+both bsic burst few bits many each = (bsic, Several burst ∷ [], refl, (few, bits), (burst, [], refl, (many, each), refl))
 
 -- the line of an access burst, from its left
 access_line_from_left : (bsic burst : List ℕ) → access_line bsic burst ≡ 97 ∷ 32 ∷ (bit_digits bsic ++ 32 ∷ bit_digits burst)
 access_line_from_left bsic burst = ap (λ rest. 97 ∷ 32 ∷ rest) (append_assoc (bit_digits bsic) (codes " ") (bit_digits burst))
 
-access_words : (bsic burst : List ℕ) → words (access_line bsic burst) ≡ codes "a" ∷ bit_digits bsic ∷ bit_digits burst ∷ []
-access_words bsic burst =
-    ap words (access_line_from_left bsic burst)
-    ∙ words-join (codes "a" ∷ bit_digits bsic ∷ bit_digits burst ∷ []) (λ e. cc)
-    (All-cons (All IsNoSpace) (codes "a") (bit_digits bsic ∷ bit_digits burst ∷ [])
-    (All-cons IsNoSpace 97 [] (λ same. omega arith) (All-nil IsNoSpace))
-    (All-cons (All IsNoSpace) (bit_digits bsic) (bit_digits burst ∷ []) (digits_apart 32 bsic (omega arith))
-    (All-cons (All IsNoSpace) (bit_digits burst) [] (digits_apart 32 burst (omega arith)) (All-nil (All IsNoSpace)))))
+and_false : (b : Bool) → (b && false) ≡ false
+and_false true = refl
+and_false false = refl
 
-access_length : (bsic burst : List ℕ) → length bsic ≡ 6 → length burst ≡ 88 → length (access_line bsic burst) ≤ 4096
-access_length bsic burst few many =
-    subst (λ line. length line ≤ 4096) (sym (access_line_from_left bsic burst))
-    (omega (arith, length-append (bit_digits bsic) (32 ∷ bit_digits burst), length-bit_digits bsic, length-bit_digits burst))
+-- a normal burst may stand anywhere
+held_normal : (held : ℕ) → burst_elsewhere held F.Normal ≡ false
+held_normal held = and_false (not (held == 0))
+
+-- ---- each line means its burst
+
+pub normal_restored : (held : ℕ) (burst : List ℕ) → length burst ≡ 148 → AllBits burst
+    → BurstMeans held (normal_line burst) (Normal (softened burst))
+normal_restored held burst many each =
+    let short : length (normal_line burst) ≤ 4096 = omega (arith, length-bit_digits burst) in (
+      Some (F.Normal, Several burst ∷ []),
+      spelled_means burst_forms (burst_elsewhere held) F.Normal (codes "n") (BitDigits 148 ∷ []) (Several burst ∷ []) (inl refl)
+          (held_normal held) refl (one (codes "n") burst each many) tt short refl,
+      refl,
+    )
+
+pub sync_restored : (burst : List ℕ) → length burst ≡ 148 → AllBits burst → BurstMeans 0 (sync_line burst) (Sync (softened burst))
+sync_restored burst many each =
+    let short : length (sync_line burst) ≤ 4096 = omega (arith, length-bit_digits burst) in (
+      Some (F.Sync, Several burst ∷ []),
+      spelled_means burst_forms (burst_elsewhere 0) F.Sync (codes "s") (BitDigits 148 ∷ []) (Several burst ∷ [])
+          (inr (inr (inr (inr (inr (inl refl)))))) refl refl (one (codes "s") burst each many) tt short refl,
+      refl,
+    )
 
 pub access_restored : (bsic burst : List ℕ) → length bsic ≡ 6 → AllBits bsic → length burst ≡ 88 → AllBits burst
     → BurstMeans 0 (access_line bsic burst) (Access bsic (softened burst))
-access_restored bsic burst few bits many each = (
-  access_length bsic burst few many,
-  (
-    refl,
-    (
-      codes "a",
-      bit_digits bsic,
-      bit_digits burst,
-      access_words bsic burst,
-      spelled 6 bsic few bits,
-      inl (refl, spelled_hard 88 burst many each),
-    ),
-  ),
-)
+access_restored bsic burst few bits many each =
+    let short : length (97 ∷ 32 ∷ (bit_digits bsic ++ 32 ∷ bit_digits burst)) ≤ 4096 =
+    omega (arith, length-append (bit_digits bsic) (32 ∷ bit_digits burst), length-bit_digits bsic, length-bit_digits burst) in
+    subst (λ line. BurstMeans 0 line (Access bsic (softened burst))) (sym (access_line_from_left bsic burst)) (
+      Some (F.Access, Several bsic ∷ Several burst ∷ []),
+      spelled_means burst_forms (burst_elsewhere 0) F.Access (codes "a") (BitDigits 6 ∷ BitDigits 88 ∷ []) (Several bsic ∷ Several burst ∷ [])
+          (inr (inr (inr (inl refl)))) refl refl (both bsic burst few bits many each) tt short refl,
+      refl,
+    )
 
 -- ---- each line is whole
 
-pub normal_whole : (burst : List ℕ) → IsWholeLine (normal_line burst)
-normal_whole burst = record { uncut = two_words_whole 110 burst (λ same. omega arith); stays = refl }
+pub normal_whole : (burst : List ℕ) → length burst ≡ 148 → AllBits burst → IsWholeLine (normal_line burst)
+normal_whole burst many each = record { uncut = spelled_uncut (Fixed (codes "n") ∷ BitDigits 148 ∷ []) (Several burst ∷ []) refl (one (codes "n") burst each many); stays = refl }
 
-pub sync_whole : (burst : List ℕ) → IsWholeLine (sync_line burst)
-sync_whole burst = record { uncut = two_words_whole 115 burst (λ same. omega arith); stays = refl }
+pub sync_whole : (burst : List ℕ) → length burst ≡ 148 → AllBits burst → IsWholeLine (sync_line burst)
+sync_whole burst many each = record { uncut = spelled_uncut (Fixed (codes "s") ∷ BitDigits 148 ∷ []) (Several burst ∷ []) refl (one (codes "s") burst each many); stays = refl }
 
-pub access_whole : (bsic burst : List ℕ) → IsWholeLine (access_line bsic burst)
-access_whole bsic burst = record {
+pub access_whole : (bsic burst : List ℕ) → length bsic ≡ 6 → AllBits bsic → length burst ≡ 88 → AllBits burst → IsWholeLine (access_line bsic burst)
+access_whole bsic burst few bits many each = record {
   uncut = subst (All (λ octet. octet ≢ 10)) (sym (access_line_from_left bsic burst))
-      (All-append (λ octet. octet ≢ 10) (97 ∷ 32 ∷ bit_digits bsic) (32 ∷ bit_digits burst) (two_words_whole 97 bsic (λ same. omega arith))
-      (All-cons (λ octet. octet ≢ 10) 32 (bit_digits burst) (λ same. omega arith) (digits_apart 10 burst (omega arith))));
+      (spelled_uncut (Fixed (codes "a") ∷ BitDigits 6 ∷ BitDigits 88 ∷ []) (Several bsic ∷ Several burst ∷ []) refl (both bsic burst few bits many each));
   stays = refl;
 }
 

@@ -1,37 +1,32 @@
 -- The lines of the command `code` (this project's own rule).
-use Rattle.std.specs.Prelude.{ℕ, ◌≡◌, ◌≤◌, List, [], ◌∷◌, length, Option, IsTrue, codes}
+use Rattle.std.specs.Prelude.{ℕ, List, [], ◌∷◌, Option, Some, None, Result}
 use Rattle.um_lines.specs.declared.fault.LineFault.{LineFault}
+use Rattle.um_lines.specs.Fields.{Value, Number, Several}
+use Rattle.um_lines.specs.Forms.{anywhere, line_fault}
+use Rattle.um_lines.specs.Reading.{LineIs, read_words}
+use Rattle.um_lines.specs.CodeForms.{CodeName, Block, Rach, Sch, code_forms}
 use Rattle.um_text.specs.declared.code.CodeLine.{CodeLine}
-use Rattle.um_text.specs.declared.code.CodeLine.TheVariants.{Skip, Block, Rach, Sch}
-use Rattle.um_lines.specs.Words.{is_skipped, words}
-use Rattle.um_text.specs.Digits.{SpellsBits, SpellsDigit}
-use Rattle.um_text.specs.HexDigits.{SpellsOctets}
-use Rattle.um_text.specs.Forms.{Form, Fixed, DigitTo, BitDigits, HexDigits, line_fault}
+use Rattle.um_text.specs.declared.code.CodeLine.TheVariants as C
 
--- `block T HEX46`, `rach DIGITS8 BSIC6` and `sch DIGITS25`
-abbrev pub code_forms : List Form
-code_forms =
-    (Fixed (codes "block") ∷ DigitTo 7 ∷ HexDigits 46 ∷ []) ∷
-    (Fixed (codes "rach") ∷ BitDigits 8 ∷ BitDigits 6 ∷ []) ∷
-    (Fixed (codes "sch") ∷ BitDigits 25 ∷ []) ∷ []
+-- the line of a form and of what its words say
+abbrev pub code_of : CodeName → List Value → CodeLine
+code_of Block (Number tsc ∷ Several octets ∷ []) = C.Block tsc octets
+code_of Rach (Several info ∷ Several bsic ∷ []) = C.Rach info bsic
+code_of Sch (Several info ∷ []) = C.Sch info
+code_of name values = C.Skip
+
+abbrev pub code_line : Option (CodeName × List Value) → CodeLine
+code_line None = C.Skip
+code_line (Some meaning) = code_of meaning.0 meaning.1
 
 -- the first reason of a line of `code`, if it has one
 abbrev pub code_fault : List ℕ → Option LineFault
-code_fault line = line_fault code_forms line
+code_fault line = line_fault code_forms anywhere line
 
--- what the words of a line mean, none of which are those of a skipped line
-abbrev pub WordsMean : List (List ℕ) → CodeLine → Type 0
-WordsMean words Skip = ⊥
-WordsMean words (Block tsc octets) =
-    (number digits : List ℕ) × (words ≡ codes "block" ∷ number ∷ digits ∷ [])
-    × SpellsDigit 7 number tsc × SpellsOctets 46 digits octets
-WordsMean words (Rach info bsic) =
-    (first second : List ℕ) × (words ≡ codes "rach" ∷ first ∷ second ∷ [])
-    × SpellsBits 8 first info × SpellsBits 6 second bsic
-WordsMean words (Sch info) =
-    (digits : List ℕ) × (words ≡ codes "sch" ∷ digits ∷ []) × SpellsBits 25 digits info
-
--- what a line of `code` means, if it is no longer than a line may be
+-- what a line of `code` means
 abbrev pub CodeMeans : List ℕ → CodeLine → Type 0
-CodeMeans line Skip = (length line ≤ 4096) × IsTrue (is_skipped line)
-CodeMeans line meaning = (length line ≤ 4096) × WordsMean (words line) meaning
+CodeMeans line = LineIs code_forms anywhere code_line line
+
+-- what is read of words: only the reader's own body needs this
+abbrev pub read_code : List (List ℕ) → Result CodeLine LineFault
+read_code words = read_words code_forms anywhere code_line words

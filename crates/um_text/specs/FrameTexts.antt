@@ -7,6 +7,7 @@ use Rattle.lapdm_frame.specs.declared.Refusal.TheVariants.{Lpd, Ea, Control, El,
 use Rattle.lapdm_frame.specs.Content.{Content, I, Rr, Rnr, Rej, Sabm, Dm, Ui, Disc, Ua, Frame}
 use Rattle.lapdm_frame.specs.Frames.{bit, IsFrame}
 use Rattle.lapdm_frame.specs.Refusals.{IsRefused}
+use Rattle.um_lines.specs.Spelled.{octets_word}
 
 -- a number of one digit
 abbrev pub digit : ℕ → List ℕ
@@ -15,11 +16,6 @@ digit number = (48 + number) ∷ []
 -- a bit as its digit
 abbrev pub flag : Bool → List ℕ
 flag set = digit (bit set)
-
--- octets as a word: `-` for none, or two hexadecimal digits for each, in lower case
-abbrev pub octets_word : List ℕ → List ℕ
-octets_word [] = codes "-"
-octets_word (octet ∷ rest) = encode_lower (octet ∷ rest)
 
 -- the kind of a frame, and what it carries, each behind its name
 abbrev pub content_text : Content → List ℕ

@@ -5,17 +5,15 @@ ghost use Rattle.bit_blocks.specs.Bits.{AllBits};
 ghost use Rattle.um_block.specs.Received.{softened};
 ghost use Rattle.um_lines.specs.Words.{words};
 ghost use Rattle.um_lines.specs.Meanings.{HasOneMeaningUnless};
-ghost use Rattle.um_text.specs.BurstLines.{burst_fault, BurstMeans};
-ghost use Rattle.um_text.specs.BurstReading.{IsBurstReadAs};
+ghost use Rattle.um_text.specs.BurstLines.{burst_fault, BurstMeans, read_burst};
 ghost use Rattle.um_text.specs.BurstTexts.{normal_text, access_text, sync_text};
 ghost use Rattle.um_text.specs.WrittenBursts.{IsWholeLine};
 
-use crate::digits::bits_of;
-use crate::soft_digits::{hard_values, has_lowest, soft_values};
+use crate::soft_digits::{hard_values, soft_values};
 use bit_blocks::Bits;
 use um_lines::{
-    LINE_LIMIT, LineFault, are_bit_digits, are_hex_digits, first_word, is_skipped, one_word,
-    two_words,
+    LINE_LIMIT, LineFault, are_bit_digits, are_hex_digits, bits_of, first_word, is_skipped,
+    one_word, two_words,
 };
 
 /// What a line of the command `replay` brings: soft values, which are positive for a 0 and negative for a 1.
@@ -50,9 +48,8 @@ pub fn parse_burst(line: &[u8], held: u8) -> Result<BurstLine, LineFault>
     parse_words(line, held)
 }
 
-#[tactic(auto, using(crate::proofs::BurstFaults::other_kind))]
 fn parse_words(line: &[u8], held: u8) -> Result<BurstLine, LineFault>
-    ensures { IsBurstReadAs held (words line.now) result }
+    ensures { result ≡ read_burst held (words line.now) }
 {
     let Some((kind, rest)) = first_word(line) else {
         return parse_lost(line);
@@ -63,9 +60,9 @@ fn parse_words(line: &[u8], held: u8) -> Result<BurstLine, LineFault>
     parse_letter(*letter, rest, held)
 }
 
-#[tactic(auto, using(crate::proofs::BurstFaults::other_letter))]
+#[tactic(auto, using(crate::proofs::OtherBursts::other_letter))]
 fn parse_letter(letter: u8, rest: &[u8], held: u8) -> Result<BurstLine, LineFault>
-    ensures { IsBurstReadAs held ((letter ∷ []) ∷ words rest.now) result }
+    ensures { result ≡ read_burst held ((letter ∷ []) ∷ words rest.now) }
 {
     match letter {
         b'n' => parse_hard_normal(rest),
@@ -79,7 +76,7 @@ fn parse_letter(letter: u8, rest: &[u8], held: u8) -> Result<BurstLine, LineFaul
 }
 
 fn parse_lost(word: &[u8]) -> Result<BurstLine, LineFault>
-    ensures { (held : ℕ) → IsBurstReadAs held (word.now ∷ []) result }
+    ensures { (held : ℕ) → result ≡ read_burst held (word.now ∷ []) }
 {
     match word {
         b"lost" => Ok(BurstLine::Normal([0; 148])),
@@ -88,7 +85,7 @@ fn parse_lost(word: &[u8]) -> Result<BurstLine, LineFault>
 }
 
 fn parse_hard_normal(rest: &[u8]) -> Result<BurstLine, LineFault>
-    ensures { (held : ℕ) → IsBurstReadAs held (codes "n" ∷ words rest.now) result }
+    ensures { (held : ℕ) → result ≡ read_burst held (codes "n" ∷ words rest.now) }
 {
     let digits = one_word(rest)?;
     if !are_bit_digits(digits) {
@@ -100,9 +97,8 @@ fn parse_hard_normal(rest: &[u8]) -> Result<BurstLine, LineFault>
     Ok(BurstLine::Normal(hard_values(digits)))
 }
 
-#[tactic(auto, using(crate::proofs::SoftLists::lowest_octets))]
 fn parse_soft_normal(rest: &[u8]) -> Result<BurstLine, LineFault>
-    ensures { (held : ℕ) → IsBurstReadAs held (codes "N" ∷ words rest.now) result }
+    ensures { (held : ℕ) → result ≡ read_burst held (codes "N" ∷ words rest.now) }
 {
     let digits = one_word(rest)?;
     if !are_hex_digits(digits) {
@@ -111,15 +107,11 @@ fn parse_soft_normal(rest: &[u8]) -> Result<BurstLine, LineFault>
     if digits.len() != 296 {
         return Err(LineFault::Length);
     }
-    let soft = soft_values(digits);
-    if has_lowest(&soft) {
-        return Err(LineFault::Soft);
-    }
-    Ok(BurstLine::Normal(soft))
+    Ok(BurstLine::Normal(soft_values(digits)?))
 }
 
 fn parse_hard_access(rest: &[u8], held: u8) -> Result<BurstLine, LineFault>
-    ensures { IsBurstReadAs held (codes "a" ∷ words rest.now) result }
+    ensures { result ≡ read_burst held (codes "a" ∷ words rest.now) }
 {
     let (bsic, digits) = two_words(rest)?;
     if held > 0 {
@@ -138,7 +130,7 @@ fn parse_hard_access(rest: &[u8], held: u8) -> Result<BurstLine, LineFault>
 }
 
 fn parse_soft_access(rest: &[u8], held: u8) -> Result<BurstLine, LineFault>
-    ensures { IsBurstReadAs held (codes "A" ∷ words rest.now) result }
+    ensures { result ≡ read_burst held (codes "A" ∷ words rest.now) }
 {
     let (bsic, digits) = two_words(rest)?;
     if held > 0 {
@@ -150,16 +142,14 @@ fn parse_soft_access(rest: &[u8], held: u8) -> Result<BurstLine, LineFault>
     if bsic.len() != 6 || digits.len() != 176 {
         return Err(LineFault::Length);
     }
-    let bsic = bits_of(bsic);
-    let soft = soft_values(digits);
-    if has_lowest(&soft) {
-        return Err(LineFault::Soft);
-    }
-    Ok(BurstLine::Access { bsic, soft })
+    Ok(BurstLine::Access {
+        bsic: bits_of(bsic),
+        soft: soft_values(digits)?,
+    })
 }
 
 fn parse_hard_sync(rest: &[u8], held: u8) -> Result<BurstLine, LineFault>
-    ensures { IsBurstReadAs held (codes "s" ∷ words rest.now) result }
+    ensures { result ≡ read_burst held (codes "s" ∷ words rest.now) }
 {
     let digits = one_word(rest)?;
     if held > 0 {
@@ -175,7 +165,7 @@ fn parse_hard_sync(rest: &[u8], held: u8) -> Result<BurstLine, LineFault>
 }
 
 fn parse_soft_sync(rest: &[u8], held: u8) -> Result<BurstLine, LineFault>
-    ensures { IsBurstReadAs held (codes "S" ∷ words rest.now) result }
+    ensures { result ≡ read_burst held (codes "S" ∷ words rest.now) }
 {
     let digits = one_word(rest)?;
     if held > 0 {
@@ -187,11 +177,7 @@ fn parse_soft_sync(rest: &[u8], held: u8) -> Result<BurstLine, LineFault>
     if digits.len() != 296 {
         return Err(LineFault::Length);
     }
-    let soft = soft_values(digits);
-    if has_lowest(&soft) {
-        return Err(LineFault::Soft);
-    }
-    Ok(BurstLine::Sync(soft))
+    Ok(BurstLine::Sync(soft_values(digits)?))
 }
 
 /// Each line has one meaning and no other where it has no reason, and none where it has one.

@@ -1,5 +1,5 @@
 //! The lines that bursts are written as.
-ghost use Rattle.std.specs.Prelude.{◌≡◌, ◌+◌, ◌≤◌, [], ◌++◌, length};
+ghost use Rattle.std.specs.Prelude.{◌≡◌, ◌+◌, ◌<◌, ◌≤◌, [], ◌++◌, length};
 ghost use Rattle.std.specs.List.{All};
 ghost use Rattle.bit_blocks.specs.Bits.{AllBits};
 ghost use Rattle.um_text.specs.BurstTexts.{normal_text, access_text, sync_text, block_text};
@@ -11,7 +11,8 @@ use um_lines::Text;
 pub fn normal_line(out: &mut Text, burst: &[u8; 148])
     requires empty { out.old ≡ [] }
     requires bits { AllBits burst.now }
-    ensures { out.new ≡ normal_text burst.now }
+    ensures line { out.new ≡ normal_text burst.now }
+    ensures few { length out.new < 2000 }
 {
     push_normal(out, burst);
 }
@@ -20,7 +21,8 @@ pub fn normal_line(out: &mut Text, burst: &[u8; 148])
 pub fn block_lines(out: &mut Text, bursts: &[[u8; 148]; 4])
     requires empty { out.old ≡ [] }
     requires bits { All AllBits bursts.now }
-    ensures { out.new ≡ block_text bursts.now }
+    ensures lines { out.new ≡ block_text bursts.now }
+    ensures few { length out.new < 2000 }
 {
     for burst in bursts {
         push_normal(out, burst);
@@ -31,7 +33,8 @@ pub fn block_lines(out: &mut Text, bursts: &[[u8; 148]; 4])
 pub fn access_line(out: &mut Text, bsic: &Bits<6>, burst: &[u8; 88])
     requires empty { out.old ≡ [] }
     requires bits { AllBits burst.now }
-    ensures { out.new ≡ access_text bsic.now burst.now }
+    ensures line { out.new ≡ access_text bsic.now burst.now }
+    ensures few { length out.new < 2000 }
 {
     out.push(b"a ");
     out.push_digits(bsic.as_slice());
@@ -44,7 +47,8 @@ pub fn access_line(out: &mut Text, bsic: &Bits<6>, burst: &[u8; 88])
 pub fn sync_line(out: &mut Text, burst: &[u8; 148])
     requires empty { out.old ≡ [] }
     requires bits { AllBits burst.now }
-    ensures { out.new ≡ sync_text burst.now }
+    ensures line { out.new ≡ sync_text burst.now }
+    ensures few { length out.new < 2000 }
 {
     out.push(b"s ");
     out.push_digits(burst);

@@ -3,14 +3,12 @@ ghost use Rattle.std.specs.Prelude.{◌≡◌, ℕ, List, ◌∷◌, IfOk, codes
 ghost use Rattle.std.specs.Result.{result_err};
 ghost use Rattle.um_lines.specs.Words.{words};
 ghost use Rattle.um_lines.specs.Meanings.{HasOneMeaningUnless};
-ghost use Rattle.um_text.specs.CodeLines.{code_fault, CodeMeans};
-ghost use Rattle.um_text.specs.CodeReading.{IsReadAs};
+ghost use Rattle.um_text.specs.CodeLines.{code_fault, CodeMeans, read_code};
 
-use crate::digits::{bits_of, digit_to};
 use bit_blocks::Bits;
 use um_lines::{
-    LINE_LIMIT, LineFault, are_bit_digits, are_hex_digits, first_word, is_skipped, octets_of,
-    one_word, two_words,
+    LINE_LIMIT, LineFault, are_bit_digits, are_hex_digits, bits_of, digit_to, first_word,
+    is_skipped, octets_of, one_word, two_words,
 };
 
 /// What a line of the command `code` asks for.
@@ -43,7 +41,7 @@ pub fn parse_code(line: &[u8]) -> Result<CodeLine, LineFault>
 }
 
 fn parse_words(line: &[u8]) -> Result<CodeLine, LineFault>
-    ensures { IsReadAs (words line.now) result }
+    ensures { result ≡ read_code (words line.now) }
 {
     let Some((command, rest)) = first_word(line) else {
         return Err(LineFault::Word);
@@ -56,9 +54,8 @@ fn parse_words(line: &[u8]) -> Result<CodeLine, LineFault>
     }
 }
 
-#[tactic(auto, using(crate::proofs::CodeFaults::block_of_other_count))]
 fn parse_block(rest: &[u8]) -> Result<CodeLine, LineFault>
-    ensures { IsReadAs (codes "block" ∷ words rest.now) result }
+    ensures { result ≡ read_code (codes "block" ∷ words rest.now) }
 {
     let (number, digits) = two_words(rest)?;
     let tsc = digit_to(7, number)?;
@@ -72,9 +69,8 @@ fn parse_block(rest: &[u8]) -> Result<CodeLine, LineFault>
     Ok(CodeLine::Block { tsc, octets })
 }
 
-#[tactic(auto, using(crate::proofs::CodeFaults::rach_of_other_count))]
 fn parse_rach(rest: &[u8]) -> Result<CodeLine, LineFault>
-    ensures { IsReadAs (codes "rach" ∷ words rest.now) result }
+    ensures { result ≡ read_code (codes "rach" ∷ words rest.now) }
 {
     let (info, bsic) = two_words(rest)?;
     if !are_bit_digits(info) || !are_bit_digits(bsic) {
@@ -89,9 +85,8 @@ fn parse_rach(rest: &[u8]) -> Result<CodeLine, LineFault>
     })
 }
 
-#[tactic(auto, using(crate::proofs::CodeFaults::sch_of_other_count))]
 fn parse_sch(rest: &[u8]) -> Result<CodeLine, LineFault>
-    ensures { IsReadAs (codes "sch" ∷ words rest.now) result }
+    ensures { result ≡ read_code (codes "sch" ∷ words rest.now) }
 {
     let info = one_word(rest)?;
     if !are_bit_digits(info) {

@@ -1,24 +1,9 @@
 //! Words of decimal digits.
-ghost use Rattle.std.specs.Prelude.{◌≡◌, ◌≤◌, false, length, IsTrue, MatchResult};
-ghost use Rattle.std.specs.List.{list_all};
-ghost use Rattle.um_lines.specs.Fields.{is_bit_digit, is_digit_to};
-ghost use Rattle.um_text.specs.Digits.{SpellsBits, SpellsDigit};
+ghost use Rattle.std.specs.Prelude.{◌≡◌, ◌≤◌, false, IsTrue, MatchResult};
+ghost use Rattle.um_lines.specs.Fields.{is_digit_to};
+ghost use Rattle.um_text.specs.Digits.{SpellsDigit};
 
-use bit_blocks::Bits;
 use um_lines::LineFault;
-
-/// The bits of `N` digits.
-pub(crate) fn bits_of<const N: usize>(digits: &[u8]) -> Bits<N>
-    requires each { IsTrue (list_all is_bit_digit digits.now) }
-    requires many { length digits.now ≡ N }
-    ensures { SpellsBits N digits.now result }
-{
-    let mut bits = Bits::zero();
-    for (i, digit) in digits.iter().enumerate() {
-        bits.set(i, *digit - b'0');
-    }
-    bits
-}
 
 /// The number of a word of one digit that is no greater than `most`, or the fault `Digits`.
 pub(crate) fn digit_to(most: u8, word: &[u8]) -> Result<u8, LineFault>

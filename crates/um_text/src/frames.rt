@@ -1,8 +1,9 @@
 //! The lines that frames are written as.
-ghost use Rattle.std.specs.Prelude.{◌≡◌, ℕ, ◌+◌, ◌≤◌, List, [], ◌∷◌, ◌++◌, length, codes};
+ghost use Rattle.std.specs.Prelude.{◌≡◌, ℕ, ◌+◌, ◌<◌, ◌≤◌, List, [], ◌∷◌, ◌++◌, length, codes};
 ghost use Rattle.lapdm_frame.specs.Content.{content_of, frame_of};
 ghost use Rattle.lapdm_frame.specs.Frames.{Fits, NumbersFit, InformationFits};
-ghost use Rattle.um_text.specs.FrameTexts.{digit, flag, octets_word, content_text, frame_text, refusal_word, unread_text, octets_text, IsFrameText};
+ghost use Rattle.um_lines.specs.Spelled.{octets_word};
+ghost use Rattle.um_text.specs.FrameTexts.{digit, flag, content_text, frame_text, refusal_word, unread_text, octets_text, IsFrameText};
 
 use lapdm_frame::{Body, Channel, FrameView, Refusal};
 use um_lines::Text;
@@ -10,7 +11,8 @@ use um_lines::Text;
 /// Writes the line of the frame that octets are on SDCCH, or `unread` and the word of the reason why they are none.
 pub fn frame_line(out: &mut Text, octets: &[u8; 23])
     requires { out.old ≡ [] }
-    ensures { IsFrameText octets.now out.new }
+    ensures line { IsFrameText octets.now out.new }
+    ensures few { length out.new < 2000 }
 {
     push_frame(out, octets);
 }
@@ -18,7 +20,8 @@ pub fn frame_line(out: &mut Text, octets: &[u8; 23])
 /// Writes the line `octets HEX46`.
 pub fn octets_line(out: &mut Text, octets: &[u8; 23])
     requires { out.old ≡ [] }
-    ensures { out.new ≡ octets_text octets.now }
+    ensures line { out.new ≡ octets_text octets.now }
+    ensures few { length out.new < 2000 }
 {
     out.push(b"octets ");
     out.push_hex(octets);
@@ -28,7 +31,8 @@ pub fn octets_line(out: &mut Text, octets: &[u8; 23])
 /// Appends what `frame_line` writes.
 pub(crate) fn push_frame(out: &mut Text, octets: &[u8; 23])
     requires { length out.old + 100 ≤ 4096 }
-    ensures { (text : List ℕ) × IsFrameText octets.now text × (out.new ≡ out.old ++ text) }
+    ensures text { (text : List ℕ) × IsFrameText octets.now text × (out.new ≡ out.old ++ text) }
+    ensures length { length out.new ≤ length out.old + 100 }
 {
     match lapdm_frame::read(octets) {
         Ok(f) => push_view(out, &f),
@@ -39,7 +43,8 @@ pub(crate) fn push_frame(out: &mut Text, octets: &[u8; 23])
 fn push_view(out: &mut Text, f: &FrameView<'_>)
     requires room { length out.old + 100 ≤ 4096 }
     requires fits { Fits Channel.Sdcch (frame_of f.now) }
-    ensures { out.new ≡ out.old ++ frame_text (frame_of f.now) }
+    ensures text { out.new ≡ out.old ++ frame_text (frame_of f.now) }
+    ensures length { length out.new ≤ length out.old + 100 }
 {
     push_number(out, b"frame sapi ", f.sapi);
     push_flag(out, b" cr ", f.cr);
@@ -134,7 +139,8 @@ fn push_info(out: &mut Text, info: &[u8])
 
 fn push_unread(out: &mut Text, reason: Refusal)
     requires { length out.old + 15 ≤ 4096 }
-    ensures { out.new ≡ out.old ++ unread_text reason }
+    ensures text { out.new ≡ out.old ++ unread_text reason }
+    ensures length { length out.new ≤ length out.old + 15 }
 {
     out.push(b"unread ");
     out.push(word_of(reason));

@@ -17,7 +17,7 @@ pub use bursts::{access_line, block_lines, normal_line, sync_line};
 pub use code::{CodeLine, law_code, parse_code};
 pub use frames::{frame_line, octets_line};
 pub use reports::{access_report, block_report, sync_report};
-pub use show::{ShowLine, law_show, parse_show};
+pub use show::{ShowLine, law_show, law_written_frames, parse_show};
 pub use um_lines::{LineFault, Text, law_words, refused_line};
 
 #[cfg(test)]

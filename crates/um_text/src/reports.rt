@@ -1,5 +1,5 @@
 //! The lines that report what is received.
-ghost use Rattle.std.specs.Prelude.{◌≡◌, ◌+◌, ◌-◌, ◌*◌, ◌≤◌, [], ◌++◌, length, take, drop};
+ghost use Rattle.std.specs.Prelude.{◌≡◌, ◌+◌, ◌-◌, ◌*◌, ◌<◌, ◌≤◌, [], ◌++◌, length, take, drop};
 ghost use Rattle.std.specs.Fmt.{decimal};
 ghost use Rattle.bit_blocks.specs.Bits.{AllBits};
 ghost use Rattle.bit_blocks.specs.Octets.{bits_of};
@@ -16,7 +16,8 @@ use um_lines::Text;
 /// Writes what four bursts of a block were received as and, exactly where the parity holds, the line of the octets' frame.
 pub fn block_report(out: &mut Text, r: &Received)
     requires { out.old ≡ [] }
-    ensures { IsBlockReport r.now out.new }
+    ensures report { IsBlockReport r.now out.new }
+    ensures few { length out.new < 2000 }
 {
     push_block(out, r);
     if let Some(octets) = &r.accepted {
@@ -27,7 +28,8 @@ pub fn block_report(out: &mut Text, r: &Received)
 /// Writes what an access burst was received as under the base station identity code of its line.
 pub fn access_report(out: &mut Text, bsic: &Bits<6>, r: &ReceivedAccess)
     requires { out.old ≡ [] }
-    ensures { out.new ≡ access_report_text bsic.now r.now }
+    ensures report { out.new ≡ access_report_text bsic.now r.now }
+    ensures few { length out.new < 2000 }
 {
     out.push(b"access ");
     out.push_digits(bsic.as_slice());
@@ -38,7 +40,8 @@ pub fn access_report(out: &mut Text, bsic: &Bits<6>, r: &ReceivedAccess)
 /// Writes what a synchronisation burst was received as.
 pub fn sync_report(out: &mut Text, r: &ReceivedSync)
     requires { out.old ≡ [] }
-    ensures { out.new ≡ sync_report_text r.now }
+    ensures report { out.new ≡ sync_report_text r.now }
+    ensures few { length out.new < 2000 }
 {
     out.push(b"sync");
     push_quality(out, r.wrong_training, r.metric, r.accepted.is_some());
@@ -89,7 +92,8 @@ fn push_bits<const N: usize>(out: &mut Text, word: &Bits<N>, place: usize, end: 
     requires room { length out.old + end + 14 ≤ 4096 }
     requires order { place ≤ end }
     requires within { end ≤ N }
-    ensures { out.new ≡ out.old ++ data_text (bit_digits (take place word.now)) (bit_digits (take (end - place) (drop place word.now))) }
+    ensures text { out.new ≡ out.old ++ data_text (bit_digits (take place word.now)) (bit_digits (take (end - place) (drop place word.now))) }
+    ensures length { length out.new ≡ length out.old + end + 14 }
 {
     let bits = word.as_slice();
     out.push(b" data ");

@@ -1,12 +1,18 @@
 //! The lines of the command `show`.
-ghost use Rattle.std.specs.Prelude.{◌≡◌, ℕ, List, ◌∷◌, IfOk, codes};
+ghost use Rattle.std.specs.Prelude.{◌≡◌, ℕ, ◌<◌, List, ◌∷◌, ◌++◌, length, IfOk, codes};
+ghost use Rattle.std.specs.List.{All};
 ghost use Rattle.std.specs.Result.{result_err};
 ghost use Rattle.um_lines.specs.Words.{words};
 ghost use Rattle.um_lines.specs.Meanings.{HasOneMeaningUnless};
-ghost use Rattle.um_text.specs.ShowLines.{show_fault, ShowMeans};
+ghost use Rattle.lapdm_frame.specs.Content.{Frame, information};
+ghost use Rattle.lapdm_frame.specs.Frames.{IsCanonical};
+ghost use Rattle.um_text.specs.FrameTexts.{frame_text, octets_text, IsFrameText};
+ghost use Rattle.um_text.specs.ShowLines.{show_fault, ShowMeans, frame_words};
+ghost use Rattle.um_text.specs.WrittenBursts.{IsWholeLine};
 ghost use Rattle.um_text.specs.ShowReading.{IsReadAs};
 
 use crate::frame_words::frame_words;
+use lapdm_frame::Channel;
 use um_lines::{
     LINE_LIMIT, LineFault, are_hex_digits, first_word, is_skipped, octets_of, one_word,
 };
@@ -81,4 +87,16 @@ fn parse_frame(rest: &[u8]) -> Result<ShowLine, LineFault>
 /// Each line has one meaning and no other where it has no reason, and none where it has one.
 pub fn law_show()
     ensures { (line : List ℕ) → HasOneMeaningUnless (show_fault line) (ShowMeans line) }
+{}
+
+/// What is written of octets means these octets again, and so does what is written of octets that are a frame's canonical ones
+/// on SDCCH. The octets that a frame's line gives are written as the line of that frame.
+pub fn law_written_frames()
+    ensures octets { (octets line : List ℕ) → length octets ≡ 23 → All (λ octet. octet < 256) octets
+        → octets_text octets ≡ line ++ codes "\n" → IsWholeLine line × ShowMeans line (ShowLine.Octets octets) }
+    ensures canonical { (f : Frame) (octets text line : List ℕ) → IsCanonical Channel.Sdcch f octets
+        → All (λ octet. octet < 256) (information f.content) → IsFrameText octets text
+        → text ≡ line ++ codes "\n" → IsWholeLine line × ShowMeans line (ShowLine.Frame octets) }
+    ensures again { (shown octets : List ℕ) → ShowMeans shown (ShowLine.Frame octets) → (f : Frame) × (word : List ℕ)
+        × (words shown ≡ frame_words f word) × ((text : List ℕ) → IsFrameText octets text → text ≡ frame_text f) }
 {}

@@ -9,14 +9,14 @@ use Rattle.um_text.proofs.burst_lines.law_written_bursts.Goals as goal
 pub returns-clause-normal : goal.returns-clause-normal
 returns-clause-normal c held burst line many each text =
     subst (λ l. IsWholeLine l × BurstMeans held l (Normal (softened burst))) (normal_line_is burst line text)
-    (normal_whole burst, normal_restored held burst many each)
+    (normal_whole burst many each, normal_restored held burst many each)
 
 pub returns-clause-access : goal.returns-clause-access
 returns-clause-access c bsic burst line few bits many each text =
     subst (λ l. IsWholeLine l × BurstMeans 0 l (Access bsic (softened burst))) (access_line_is bsic burst line text)
-    (access_whole bsic burst, access_restored bsic burst few bits many each)
+    (access_whole bsic burst few bits many each, access_restored bsic burst few bits many each)
 
 pub returns-clause-sync : goal.returns-clause-sync
 returns-clause-sync c burst line many each text =
     subst (λ l. IsWholeLine l × BurstMeans 0 l (Sync (softened burst))) (sync_line_is burst line text)
-    (sync_whole burst, sync_restored burst many each)
+    (sync_whole burst many each, sync_restored burst many each)

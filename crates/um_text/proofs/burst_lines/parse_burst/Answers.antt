@@ -1,7 +1,13 @@
 use Rattle.std.proofs.Common.{sym, ◌∙◌}
-use Rattle.um_text.proofs.BurstLaws.{read_by_words}
+use Rattle.um_lines.specs.BurstForms.{burst_forms, burst_elsewhere}
+use Rattle.um_lines.proofs.FormLaws.{read_of_words}
+use Rattle.um_text.specs.BurstLines.{burst_line}
 use Rattle.um_text.proofs.burst_lines.parse_burst.Goals as goal
+
+pub returns-clause-means : goal.returns-clause-means
+returns-clause-means c =
+    (read_of_words burst_forms (burst_elsewhere c.args.held) burst_line _ _ c.if-line-gt-LINE_LIMIT.false (sym c.is_skipped.ensures ∙ c.if-is_skipped.false) c.parse_words.ensures).0
 
 pub returns-clause-refused : goal.returns-clause-refused
 returns-clause-refused c =
-    read_by_words _ _ _ c.if-line-gt-LINE_LIMIT.false (sym c.is_skipped.ensures ∙ c.if-is_skipped.false) c.parse_words.ensures
+    (read_of_words burst_forms (burst_elsewhere c.args.held) burst_line _ _ c.if-line-gt-LINE_LIMIT.false (sym c.is_skipped.ensures ∙ c.if-is_skipped.false) c.parse_words.ensures).1

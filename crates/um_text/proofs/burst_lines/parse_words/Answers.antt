@@ -1,12 +1,7 @@
-use Rattle.std.proofs.Common.{◌≢◌, length, subst, sym, arith}
-use Rattle.um_text.specs.BurstReading.{IsBurstReadAs}
-use Rattle.um_text.proofs.BurstFaults.{other_kind}
+use Rattle.std.proofs.Common.{◌≢◌, length, sym, arith}
+use Rattle.um_text.proofs.OtherBursts.{other_kind}
 use Rattle.um_text.proofs.burst_lines.parse_words.Goals.{in_default-kind-via-then-kind-lt1, in_default-kind-via-else-kind-lt1+else-kind-lt2}
 use Rattle.um_text.proofs.burst_lines.parse_words.Goals as goal
-
-pub returns-in_default : goal.returns-in_default
-returns-in_default c =
-    subst (λ parts. IsBurstReadAs c.args.held parts c.parse_lost.result) (sym c.in_default.ensures) (c.parse_lost.ensures c.args.held)
 
 pub returns-in_default-kind : goal.returns-in_default-kind
 returns-in_default-kind c =
@@ -15,4 +10,4 @@ returns-in_default-kind c =
       | in_default-kind-via-then-kind-lt1 w ↦ grind arith
       | in_default-kind-via-else-kind-lt1+else-kind-lt2 w ↦ grind arith
     ] in
-    rw c.in-Some.ensures (other_kind c.args.held c.in-Some.kind.now c.in-Some.rest.now many)
+    rw c.in-Some.ensures (sym (other_kind c.args.held c.in-Some.kind.now c.in-Some.rest.now many))

@@ -1,7 +1,7 @@
 use Rattle.std.proofs.Common.{◌≡◌, ◌*◌, take, length}
 use Rattle.um_lines.specs.Fields.{hex_octets}
-use Rattle.um_text.specs.SoftWords.{signed_octets}
-use Rattle.um_text.proofs.soft_digits.soft_values.Given as goal
+use Rattle.um_text.specs.SoftOctets.{signed_octets}
+use Rattle.um_text.proofs.soft_digits.signed_values.Given as goal
 
 -- the values so far are those of the pairs of digits so far
 abbrev pub invariant-loop-i : goal.invariant-loop-i

@@ -3,7 +3,7 @@ use Rattle.std.proofs.lemmas.List.{length-set}
 use Rattle.std.proofs.lemmas.Int.{to_z-of_z}
 use Rattle.std.specs.Int.RustNames.{FitsSigned}
 use Rattle.um_text.proofs.SoftLists.{soft_values_more}
-use Rattle.um_text.proofs.soft_digits.soft_values.Goals as goal
+use Rattle.um_text.proofs.soft_digits.signed_values.Goals as goal
 
 pub loop-i-preserved : goal.loop-i-preserved
 loop-i-preserved g c =

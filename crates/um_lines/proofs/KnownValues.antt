@@ -1,0 +1,123 @@
+-- What is known of the values of a line that has a form.
+use Rattle.std.proofs.Common.{◌≡◌, ◌≢◌, ℕ, ◌*◌, ◌/◌, ◌<◌, ◌≤◌, Bool, true, false, ◌&&◌, ◌==◌, not, List, [], ◌∷◌, length, Option, Some, None, refl, sym, ap, ◌∙◌, subst, inl, inr, arith}
+use Rattle.std.specs.List.{All, list_all, AllByRecursion}
+use Rattle.std.proofs.lemmas.Bool.{and_parts, leb-true}
+use Rattle.std.proofs.lemmas.List.Elements.{All-nil, All-cons}
+use Rattle.bit_blocks.specs.Bits.{AllBits}
+use Rattle.um_lines.specs.Fields.{Field, Fixed, DigitTo, BitDigits, HexOctets, SoftOctets, AnyOctets, BlockPlace, Value, Number, Several, Place, hex_octets, is_within, octet_count, are_octets, Says}
+use Rattle.um_lines.specs.Forms.{Form, Table, fields_for, Fill, IsOf, WordsMean, LineMeans}
+use Rattle.um_lines.specs.Reading.{LineIs}
+use Rattle.um_lines.proofs.HexLists.{hex_octets-small, length-hex_octets}
+
+-- octets are no more than may be
+abbrev pub AreWithin : Option ℕ → List ℕ → Type 0
+AreWithin None octets = Unit {0}
+AreWithin (Some most) octets = length octets ≤ most
+
+-- so many octets
+abbrev pub AreOctets : ℕ → List ℕ → Type 0
+AreOctets count octets = (length octets ≡ count) × All (λ octet. octet < 256) octets
+
+-- values are those of words at the places of fields
+abbrev pub Fitting : List Field → List Value → Type 0
+Fitting [] values = values ≡ []
+Fitting (Fixed text ∷ fields) values = Fitting fields values
+Fitting (DigitTo most ∷ fields) values = (n : ℕ) × (rest : List Value) × (values ≡ Number n ∷ rest) × (n ≤ most) × Fitting fields rest
+Fitting (BitDigits count ∷ fields) values =
+    (bits : List ℕ) × (rest : List Value) × (values ≡ Several bits ∷ rest) × ((length bits ≡ count) × AllBits bits) × Fitting fields rest
+Fitting (HexOctets count ∷ fields) values =
+    (octets : List ℕ) × (rest : List Value) × (values ≡ Several octets ∷ rest) × AreOctets count octets × Fitting fields rest
+Fitting (SoftOctets count ∷ fields) values =
+    (octets : List ℕ) × (rest : List Value) × (values ≡ Several octets ∷ rest)
+    × (AreOctets count octets × All (λ octet. octet ≢ 128) octets) × Fitting fields rest
+Fitting (AnyOctets least most ∷ fields) values =
+    (octets : List ℕ) × (rest : List Value) × (values ≡ Several octets ∷ rest)
+    × ((least ≤ length octets) × AreWithin most octets × All (λ octet. octet < 256) octets) × Fitting fields rest
+Fitting (BlockPlace ∷ fields) values = (n : ℕ) × (rest : List Value) × (values ≡ Place n ∷ rest) × (n ≤ 591) × Fitting fields rest
+
+all_of : (P : ℕ → Type 0) (ns : List ℕ) → AllByRecursion P ns → All P ns
+all_of P [] each = All-nil P
+all_of P (n ∷ ns) each = All-cons P n ns each.0 (all_of P ns each.1)
+
+within : (most : Option ℕ) (word : List ℕ) → is_within most (octet_count word) ≡ true → AreWithin most (hex_octets word)
+within None word e = tt
+within (Some most) word e = let few = leb-true (octet_count word) most e in omega (arith, length-hex_octets word)
+
+counted : (least : ℕ) (most : Option ℕ) (word : List ℕ) → are_octets least most word ≡ true
+    → (least ≤ length (hex_octets word)) × AreWithin most (hex_octets word) × All (λ octet. octet < 256) (hex_octets word)
+counted least most word e =
+    let outer = and_parts _ _ e in
+    let inner = and_parts _ _ outer.1 in
+    let many = leb-true least (octet_count word) inner.0 in
+    (omega (arith, length-hex_octets word), within most word inner.1, hex_octets-small word)
+
+-- the values of words that fill fields are
+fill_fitting : (fields : List Field) (words : List (List ℕ)) (values : List Value) → Fill fields words values → Fitting fields values
+fill_fitting [] [] values f = f
+fill_fitting [] (word ∷ words) values f = absurd f
+fill_fitting (field ∷ fields) [] values f = absurd f
+fill_fitting (Fixed text ∷ fields) (word ∷ words) values f =
+    let rest = fill_fitting fields words f.1 f.3 in
+    let same : values ≡ f.1 = rw f.2.1 at f.4 in
+    subst (Fitting fields) (sym same) rest
+fill_fitting (DigitTo most ∷ fields) (word ∷ words) values f =
+    let s = f.2 in (s.0, f.1, rw s.3 at f.4, s.1, fill_fitting fields words f.1 f.3)
+fill_fitting (BitDigits count ∷ fields) (word ∷ words) values f =
+    let s = f.2 in (s.0, f.1, rw s.4 at f.4, (s.1, all_of (λ bit. bit ≤ 1) s.0 s.2), fill_fitting fields words f.1 f.3)
+fill_fitting (HexOctets count ∷ fields) (word ∷ words) values f =
+    let s = f.2 in
+    let many : length (hex_octets word) ≡ count = omega (arith, length-hex_octets word, s.1) in
+    (hex_octets word, f.1, rw s.2 at f.4, (many, hex_octets-small word), fill_fitting fields words f.1 f.3)
+fill_fitting (SoftOctets count ∷ fields) (word ∷ words) values f =
+    let s = f.2 in
+    let many : length (hex_octets word) ≡ count = omega (arith, length-hex_octets word, s.1) in (
+      hex_octets word,
+      f.1,
+      rw s.3 at f.4,
+      ((many, hex_octets-small word), all_of (λ octet. octet ≢ 128) (hex_octets word) s.2),
+      fill_fitting fields words f.1 f.3,
+    )
+fill_fitting (AnyOctets least most ∷ fields) (word ∷ words) values f =
+    let s = f.2 in (hex_octets word, f.1, rw s.2 at f.4, counted least most word s.1, fill_fitting fields words f.1 f.3)
+fill_fitting (BlockPlace ∷ fields) (word ∷ words) values f =
+    let s = f.2 in (s.0, f.1, rw s.3 at f.4, s.1, fill_fitting fields words f.1 f.3)
+
+module _ {Name : Type 0} (elsewhere : Name → Bool) (P : Name → List Value → Type 0) where
+  -- each form of a table, where it may stand, has only such values
+  abbrev pub Each : Table Name → Type 0
+  Each [] = Unit {0}
+  Each (entry ∷ table) =
+      ((count : ℕ) (values : List Value) → elsewhere entry.0 ≡ false → Fitting (fields_for entry.1 count) values → P entry.0 values) × Each table
+
+  each_of : (table : Table Name) → Each table → (entry : Name × Form) → IsOf table entry → elsewhere entry.0 ≡ false
+      → (count : ℕ) (values : List Value) → Fitting (fields_for entry.1 count) values → P entry.0 values
+  each_of [] each entry is here count values fits = absurd is
+  each_of (first ∷ table) each entry is here count values fits =
+      elim is [
+        | inl same ↦
+            subst (λ e. P e.0 values) (sym same)
+            (each.0 count values (subst (λ e. elsewhere e.0 ≡ false) same here) (subst (λ e. Fitting (fields_for e.1 count) values) same fits))
+        | inr later ↦ each_of table each.1 entry later here count values fits
+      ]
+
+-- so what a command makes of lines is as it is of the values of each form
+pub line_is : {Name A : Type 0} (table : Table Name) (elsewhere : Name → Bool) (make : Option (Name × List Value) → A) (Q : A → Type 0)
+    → Q (make None) → Each elsewhere (λ name values. Q (make (Some (name, values)))) table
+    → (line : List ℕ) (a : A) → LineIs table elsewhere make line a → Q a
+line_is {Name} table elsewhere make Q none each line a m = subst Q (sym m.2) (go m.0 m.1)
+  where
+    go : (meaning : Option (Name × List Value)) → LineMeans table elsewhere line meaning → Q (make meaning)
+    go None means = none
+    go (Some meaning) means =
+        let w = means.2 in
+        each_of elsewhere (λ name values. Q (make (Some (name, values)))) table each (meaning.0, w.form) w.of_table w.here _ meaning.1
+        (fill_fitting _ _ meaning.1 w.filled)
+
+-- and a line that means something is no longer than a line may be
+pub line_short : {Name A : Type 0} (table : Table Name) (elsewhere : Name → Bool) (make : Option (Name × List Value) → A) (line : List ℕ) (a : A)
+    → LineIs table elsewhere make line a → length line ≤ 4096
+line_short {Name} table elsewhere make line a m = go m.0 m.1
+  where
+    go : (meaning : Option (Name × List Value)) → LineMeans table elsewhere line meaning → length line ≤ 4096
+    go None means = means.0
+    go (Some meaning) means = means.0
