@@ -1,0 +1,54 @@
+#!/usr/bin/env bash
+# What steps of a world cost beside the work of the radio by itself. A message goes from the mobile to the network and is
+# answered, by three steps; two of them deliver a block, and one of these two sends one.
+# Needs `rt` and valgrind. Instructions repeat; of the times the least of all turns counts, on a quiet machine.
+set -eu
+here=$(cd "$(dirname "$0")" && pwd)
+top=$(cd "$here/../.." && pwd)
+work=$(mktemp -d)
+trap 'rm -rf "$work"' EXIT
+
+# A copy of the crates with a program beside them, which is proved and built like any other.
+mkdir -p "$work/copy/crates/link_cost/src"
+cp "$top/HANDLES" "$work/copy/"
+for crate in um_link $(sed -n 's/^um_link: //p' "$top/crates.txt"); do
+	[ -d "$top/crates/$crate" ] || continue
+	cp -r "$top/crates/$crate" "$work/copy/crates/"
+	grep "^$crate:" "$top/crates.txt" >> "$work/copy/crates.txt"
+done
+echo 'link_cost: lapdm_window um_block um_link anyhow' >> "$work/copy/crates.txt"
+cp "$here/program.txt" "$work/copy/crates/link_cost/src/main.rt"
+(cd "$work/copy/crates/link_cost" && rt run > "$work/build" 2>&1) || { tail -20 "$work/build"; exit 1; }
+program=$work/copy/crates/link_cost/out/link_cost
+
+# counted WORD TIMES: the instructions of a run
+counted() {
+	valgrind --tool=callgrind --callgrind-out-file="$work/cg" "$program" "$1" "$2" 2> "$work/said" > "$work/out"
+	sed -n 's/.*refs: *//p' "$work/said" | tr -d ,
+}
+
+# each WORD: the instructions of a message
+each() {
+	echo $((($(counted "$1" 600) - $(counted "$1" 100)) / 500))
+}
+
+# inside NAME: the instructions of a function with all that it calls, in the run counted last
+inside() {
+	callgrind_annotate --inclusive=yes "$work/cg" | grep -m 1 -- "$1" | awk '{ gsub(",", "", $1); print $1 }'
+}
+
+calls=$(each calls)
+steps=$(each steps)
+echo "a message: $steps instructions by steps, $calls by calls alone, ratio $(awk "BEGIN { printf \"%.2f\", $steps / $calls }")"
+counted steps 600 > "$work/all"
+deliver=$(inside 'links::Links::deliver')
+alone=$(($(inside 'receiving::receive_block') + $(inside 'sending::send_block') / 2))
+echo "a step that delivers a block: ratio $(awk "BEGIN { printf \"%.2f\", $deliver / $alone }") to receiving it and coding what is sent"
+
+for ((turn = 0; turn < ${1:-5}; turn++)); do
+	"$program" steps 5000 | cut -d' ' -f1 >> "$work/steps"
+	"$program" calls 5000 | cut -d' ' -f1 >> "$work/calls"
+done
+steps=$(sort -n "$work/steps" | head -1)
+calls=$(sort -n "$work/calls" | head -1)
+echo "time of a message: $((steps / 5000)) ns by steps, $((calls / 5000)) ns by calls alone"
