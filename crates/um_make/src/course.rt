@@ -8,9 +8,9 @@ ghost use Rattle.um_link.specs.Ways.{ArePlaces};
 ghost use Rattle.um_make.specs.declared.course.Stage.TheVariants as S;
 ghost use Rattle.um_make.specs.Generated.{generated, size_of, message, pieces_of, places, sender};
 
-use crate::room::Room;
 use lapdm_window::Sapi;
 use um_link::{Air, Call, End, Event, Way};
+use um_script::Room;
 
 /// What comes next.
 #[derive(Clone, Copy, Debug, PartialEq, Eq)]

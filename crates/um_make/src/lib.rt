@@ -7,14 +7,12 @@ ghost use Rattle.um_make.specs.Generated.{generated};
 
 mod course;
 mod end_summary;
-mod room;
 mod run;
 mod script;
 mod summary;
 mod text;
 
 pub use end_summary::EndSummary;
-pub use room::Room;
 pub use run::make;
 pub use script::Script;
 pub use summary::Summary;

@@ -4,13 +4,13 @@ ghost use Rattle.um_block.specs.Tallies.{raised_by};
 ghost use Rattle.um_make.specs.Generated.{generated};
 ghost use Rattle.um_make.specs.Runs.{SumsUp, IsDelivered};
 
-use crate::room::Room;
 use crate::script::Script;
 use crate::summary::Summary;
 use std::alloc::Global;
 use um_block::Radio;
 use um_io::NoMemory;
 use um_link::World;
+use um_script::Room;
 
 /// Steps a new world through the generated run of so many messages, over SDCCH with a training sequence 0 to 7, and sums
 /// up what came of it. All memory is taken before the first step.

@@ -5,9 +5,9 @@ ghost use Rattle.um_link.specs.Possible.{IsPossible};
 ghost use Rattle.um_make.specs.Generated.{generated};
 
 use crate::course::Course;
-use crate::room::Room;
 use std::marker::Model;
 use um_link::Event;
+use um_script::Room;
 
 /// The events of a generated run that are still to come. It keeps a place in the run alone, and no list.
 #[derive(Drop)]
