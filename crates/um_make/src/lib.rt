@@ -10,6 +10,8 @@ mod end_summary;
 mod run;
 mod script;
 mod summary;
+#[cfg(test)]
+mod tests;
 mod text;
 
 pub use end_summary::EndSummary;
