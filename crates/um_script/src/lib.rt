@@ -8,6 +8,8 @@ mod octets;
 mod places;
 mod room;
 mod script;
+#[cfg(test)]
+mod tests;
 
 pub use answer::step_lines;
 pub use room::Room;
