@@ -1,5 +1,5 @@
 -- Notices are counted one after another.
-use Rattle.std.proofs.Common.{◌≡◌, ◌∙◌, sym, ap, ℕ, ◌+◌, List, ◌++◌, length, sum, length-append, arith}
+use Rattle.std.proofs.Common.{◌≡◌, ◌∙◌, ap, ℕ, ◌+◌, List, ◌++◌, length, sum, length-append, arith}
 use Rattle.std.specs.List.{sum_by, filter_map}
 use Rattle.std.proofs.lemmas.List.Elements.{filter_map-append}
 use Rattle.std.proofs.lemmas.List.Sums.{sum_by-append}

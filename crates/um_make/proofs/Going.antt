@@ -5,7 +5,7 @@ use Rattle.lapdm_frame.specs.declared.Channel.TheVariants.{Sdcch}
 use Rattle.lapdm_window.specs.declared.Sapi.TheVariants.{Zero}
 use Rattle.lapdm_window.specs.Ends.{Mobile, Network}
 use Rattle.lapdm_link.specs.Claims.{CountsAgree}
-use Rattle.um_air.specs.Air.{Event, Answer, AirState, start_on, AirRun}
+use Rattle.um_air.specs.Air.{Event, Answer, start_on, AirRun}
 use Rattle.um_air.specs.Sessions.{lines, IsHarmless}
 use Rattle.um_air.proofs.Laws.{air_counts, kind_is_harmless, one_run}
 use Rattle.um_link.specs.declared.events.No.{No}

@@ -1,5 +1,5 @@
 -- What counting one event, or one notice, adds.
-use Rattle.std.specs.Prelude.{◌≡◌, ◌≤◌, ℕ, ◌+◌, ◌*◌, Bool, ◌&&◌, if◌then◌else◌, List, [], length, sum}
+use Rattle.std.specs.Prelude.{◌≡◌, ◌≤◌, ℕ, ◌+◌, Bool, ◌&&◌, if◌then◌else◌, List, [], length, sum}
 use Rattle.std.specs.List.{sum_by, filter_map}
 use Rattle.lapdm_window.specs.declared.Notice.{Notice}
 use Rattle.lapdm_window.specs.declared.Sapi.{Sapi}
@@ -7,10 +7,10 @@ use Rattle.lapdm_window.specs.declared.Sapi.TheVariants.{Zero}
 use Rattle.lapdm_window.specs.Ends.{Role, Mobile, Network}
 use Rattle.lapdm_link.specs.Events.{Who, End}
 use Rattle.lapdm_link.specs.Claims.{got_in, acked_in, is_role, is_sapi}
-use Rattle.um_air.specs.Air.{Event, Answer, Refuses, Does, Step}
+use Rattle.um_air.specs.Air.{Event, Answer, Refuses, Does}
 use Rattle.um_make.specs.declared.end_summary.EndSummary.{EndSummary}
 use Rattle.um_make.specs.declared.summary.Summary.{Summary}
-use Rattle.um_make.specs.Summaries.{sends, has_parity, lacks_parity, is_take, is_drop, is_loss}
+use Rattle.um_make.specs.Summaries.{sends, is_take, is_drop, is_loss}
 
 -- these notices are counted
 pub record Tells (notices : List Notice) (old new : EndSummary) : Type 0 where

@@ -1,5 +1,5 @@
 -- A session from the start to its end, summed up.
-use Rattle.std.specs.Prelude.{◌≡◌, ◌≤◌, ℕ, List}
+use Rattle.std.specs.Prelude.{◌≤◌, ℕ, List}
 use Rattle.lapdm_frame.specs.declared.Channel.TheVariants.{Sdcch}
 use Rattle.um_air.specs.Air.{Event, Answer, AirState, start_on, AirRun}
 use Rattle.um_make.specs.declared.summary.Summary.{Summary}

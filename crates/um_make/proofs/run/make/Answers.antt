@@ -1,4 +1,4 @@
-use Rattle.std.proofs.Common.{◌≡◌, ◌∙◌, ap, ℕ, ◌+◌, []}
+use Rattle.std.proofs.Common.{◌≡◌, ◌∙◌, ap, ℕ, ◌+◌}
 use Rattle.std.proofs.Common.{arith}
 use Rattle.um_block.specs.Tallies.{raised_by}
 use Rattle.um_link.specs.Standing.{frames_in, arrivals_in}
