@@ -1,7 +1,11 @@
 -- Sums of bit lists, place by place.
-use Rattle.std.proofs.Common.{◌≡◌, ◌≢◌, ℕ, zero, suc, ◌+◌, ◌%◌, ◌<◌, ◌≤◌, List, [], ◌∷◌, length, get_or, refl, ap, sym, ◌∙◌, arith, bit_xor, below_more, get_or-set_other, get_or-set_same}
+use Rattle.std.proofs.Common.{◌≡◌, ◌≢◌, ℕ, zero, suc, ◌+◌, ◌%◌, ◌<◌, ◌≤◌, leb, true, List, [], ◌∷◌, ◌++◌, length, get_or, refl, ap, sym, subst, ◌∙◌, arith, rules, tests, bit_xor, below_more, get_or-set_other, get_or-set_same}
+use Rattle.std.specs.List.{list_all}
+use Rattle.std.proofs.lemmas.List.{length-append, get_or-append-add, get_or_append_left}
+use Rattle.std.proofs.lemmas.List.Elements.{All-append}
+use Rattle.std.proofs.lemmas.List.Sums.{AllPass-from_list_all}
 use Rattle.std.proofs.Math.ListN.{set}
-use Rattle.bit_blocks.specs.Bits.{AllBits, add_bits}
+use Rattle.bit_blocks.specs.Bits.{IsBit, AllBits, add_bits}
 
 -- the sum of two bits, as the machine adds them without a carry
 pub bit_xor-bits : (x y : ℕ) → x ≤ 1 → y ≤ 1 → bit_xor x y ≡ (x + y) % 2
@@ -46,3 +50,20 @@ add_bits_more sum xs ys i e e' h bx by below =
     below_more _ i
     (λ k lt. let ne : k ≢ i = omega arith in rw get_or-set_other (below k lt))
     (rw get_or-set_same (bit_xor-bits _ _ x y ∙ sym (get_or-add_bits xs ys i e' h)))
+
+-- what a table holds is found by computing
+pub AllBits-table : (table : List ℕ) → list_all (λ bit. leb bit 1) table ≡ true → AllBits table
+AllBits-table table found k d lt =
+    let bit = AllPass-from_list_all (λ bit. leb bit 1) table found k d lt in
+    search (rules, tests)
+
+pub AllBits-append : (xs ys : List ℕ) → AllBits xs → AllBits ys → AllBits (xs ++ ys)
+AllBits-append xs ys = All-append IsBit xs ys
+
+pub AllBits-front : (xs ys : List ℕ) → AllBits (xs ++ ys) → AllBits xs
+AllBits-front xs ys bits k d within =
+    subst IsBit (get_or_append_left xs ys d k within) (bits k d (omega (arith, length-append xs ys)))
+
+pub AllBits-back : (xs ys : List ℕ) → AllBits (xs ++ ys) → AllBits ys
+AllBits-back xs ys bits k d within =
+    subst IsBit (get_or-append-add xs ys k d) (bits (length xs + k) d (omega (arith, length-append xs ys)))

@@ -1,4 +1,5 @@
-pub mod BitLists
-pub mod Multiples
-pub mod OctetLists
-pub mod Sums
+mod BitLists
+pub mod Lemmas
+mod Multiples
+mod OctetLists
+mod Sums

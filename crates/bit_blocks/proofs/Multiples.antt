@@ -5,8 +5,8 @@ use Rattle.std.proofs.lemmas.List.Elements.{All-replicate, All-append, All-cons,
 use Rattle.std.proofs.lemmas.Nat.{mul-mod_first}
 use Rattle.std.proofs.lemmas.Grind.{same_number_lists}
 use Rattle.std.proofs.Math.Seq.{get_or-append_seam}
-use Rattle.bit_blocks.specs.Bits.{AllBits, add_bits}
-use Rattle.bit_blocks.specs.Polynomials.{product_at, IsProduct, IsMultiple}
+use Rattle.bit_blocks.specs.Bits.{IsBit, AllBits, add_bits}
+use Rattle.bit_blocks.specs.Polynomials.{product_at, IsProduct, HasQuotient}
 use Rattle.bit_blocks.proofs.BitLists.{length-add_bits, get_or-add_bits}
 use Rattle.bit_blocks.proofs.Sums.{AllBits-add_bits, add_bits-append, add_bits_self, add_bits-zeros, same_from_zero_sum}
 
@@ -74,28 +74,28 @@ lower x q g qx (suc m) lt =
     let here = qx.each m lt' in
     omega arith
 
-pub IsMultiple-zeros : (n : ℕ) (g : List ℕ) → length g ≤ n + 1 → IsMultiple (replicate n 0) g
-IsMultiple-zeros n g h = (
+pub HasQuotient-zeros : (n : ℕ) (g : List ℕ) → length g ≤ n + 1 → HasQuotient (replicate n 0) g
+HasQuotient-zeros n g h = (
   replicate (n + 1 - length g) 0,
   record {
     count = simp length-replicate (omega arith);
-    bits = All-replicate (λ bit. bit ≤ 1) (n + 1 - length g) 0 (omega arith);
+    bits = All-replicate IsBit (n + 1 - length g) 0 (omega arith);
     each = λ m lt. rw (product_at-zeros (n + 1 - length g) g m) (get_or-zeros n m);
   },
 )
 
-pub IsMultiple_self : (g : List ℕ) → AllBits g → IsMultiple g g
-IsMultiple_self g b = (
+pub HasQuotient_self : (g : List ℕ) → AllBits g → HasQuotient g g
+HasQuotient_self g b = (
   1 ∷ [],
   record {
     count = omega arith;
-    bits = All-cons (λ bit. bit ≤ 1) 1 [] (omega arith) (All-nil (λ bit. bit ≤ 1));
+    bits = All-cons IsBit 1 [] (omega arith) (All-nil IsBit);
     each = λ m lt. once g m (b m 0 lt);
   },
 )
 
-pub IsMultiple-add_bits : (x y g : List ℕ) → length x ≡ length y → IsMultiple x g → IsMultiple y g → IsMultiple (add_bits x y) g
-IsMultiple-add_bits x y g same (q, qx) (r, ry) =
+pub HasQuotient-add_bits : (x y g : List ℕ) → length x ≡ length y → HasQuotient x g → HasQuotient y g → HasQuotient (add_bits x y) g
+HasQuotient-add_bits x y g same (q, qx) (r, ry) =
     let e : length q ≡ length r = omega (arith, qx.count, ry.count) in (
       add_bits q r,
       record {
@@ -111,35 +111,35 @@ IsMultiple-add_bits x y g same (q, qx) (r, ry) =
     )
 
 -- a factor D
-pub IsMultiple-append_zero : (x g : List ℕ) → IsMultiple x g → IsMultiple (x ++ 0 ∷ []) g
-IsMultiple-append_zero x g (q, qx) = (
+pub HasQuotient-append_zero : (x g : List ℕ) → HasQuotient x g → HasQuotient (x ++ 0 ∷ []) g
+HasQuotient-append_zero x g (q, qx) = (
   q ++ 0 ∷ [],
   record {
     count = simp length-append (omega (arith, qx.count));
-    bits = All-append (λ bit. bit ≤ 1) q (0 ∷ []) qx.bits (All-replicate (λ bit. bit ≤ 1) 1 0 (omega arith));
+    bits = All-append IsBit q (0 ∷ []) qx.bits (All-replicate IsBit 1 0 (omega arith));
     each = λ m lt. rw (product_at-append_zero q g m) (shifted x q g m qx (simp length-append at lt));
   },
 )
 
-pub IsMultiple-append_zeros : (n : ℕ) (x g : List ℕ) → IsMultiple x g → IsMultiple (x ++ replicate n 0) g
-IsMultiple-append_zeros zero x g h = rw append-nil h
-IsMultiple-append_zeros (suc n) x g h =
-    rw (← append_assoc x (0 ∷ []) (replicate n 0)) (IsMultiple-append_zeros n (x ++ 0 ∷ []) g (IsMultiple-append_zero x g h))
+pub HasQuotient-append_zeros : (n : ℕ) (x g : List ℕ) → HasQuotient x g → HasQuotient (x ++ replicate n 0) g
+HasQuotient-append_zeros zero x g h = rw append-nil h
+HasQuotient-append_zeros (suc n) x g h =
+    rw (← append_assoc x (0 ∷ []) (replicate n 0)) (HasQuotient-append_zeros n (x ++ 0 ∷ []) g (HasQuotient-append_zero x g h))
 
-IsMultiple-cons_zero : (x g : List ℕ) → IsMultiple x g → IsMultiple (0 ∷ x) g
-IsMultiple-cons_zero x g (q, qx) = (
+HasQuotient-cons_zero : (x g : List ℕ) → HasQuotient x g → HasQuotient (0 ∷ x) g
+HasQuotient-cons_zero x g (q, qx) = (
   0 ∷ q,
   record {
     count = omega (arith, qx.count);
-    bits = All-cons (λ bit. bit ≤ 1) 0 q (omega arith) qx.bits;
+    bits = All-cons IsBit 0 q (omega arith) qx.bits;
     each = lower x q g qx;
   },
 )
 
 -- zeros before the highest power
-pub IsMultiple-zeros_append : (n : ℕ) (x g : List ℕ) → IsMultiple x g → IsMultiple (replicate n 0 ++ x) g
-IsMultiple-zeros_append zero x g h = h
-IsMultiple-zeros_append (suc n) x g h = IsMultiple-cons_zero (replicate n 0 ++ x) g (IsMultiple-zeros_append n x g h)
+pub HasQuotient-zeros_append : (n : ℕ) (x g : List ℕ) → HasQuotient x g → HasQuotient (replicate n 0 ++ x) g
+HasQuotient-zeros_append zero x g h = h
+HasQuotient-zeros_append (suc n) x g h = HasQuotient-cons_zero (replicate n 0 ++ x) g (HasQuotient-zeros_append n x g h)
 
 without_zero_term : (x k p : ℕ) → x ≡ 0 → 0 ≡ (x * k + p) % 2 → 0 ≡ p % 2
 without_zero_term zero k p e h = omega arith
@@ -152,16 +152,16 @@ quotient_of_zeros zero [] t e b h = refl
 quotient_of_zeros zero (x ∷ q) t e b h = absurd (omega arith)
 quotient_of_zeros (suc k) [] t e b h = absurd (omega arith)
 quotient_of_zeros (suc k) (x ∷ q) t e b h =
-    let head : x ≤ 1 = All-head (λ bit. bit ≤ 1) x q b in
+    let head : x ≤ 1 = All-head IsBit x q b in
     let first : 0 ≡ x * 1 % 2 = h 0 (omega arith) in
     let none : x ≡ 0 = omega arith in
     let e' : length q ≡ k = omega arith in
     ap (λ y. y ∷ q) none ∙ ap (λ rest. 0 ∷ rest)
-    (quotient_of_zeros k q t e' (All-tail (λ bit. bit ≤ 1) x q b)
+    (quotient_of_zeros k q t e' (All-tail IsBit x q b)
     (λ m lt. without_zero_term x (get_or t m 0) (product_at q (1 ∷ t) m) none (h (suc m) (omega arith))))
 
 -- a multiple has no power below those of its generator alone
-pub zeros_of_multiple : (k : ℕ) (r t : List ℕ) → length r ≡ length t → IsMultiple (replicate k 0 ++ r) (1 ∷ t) →
+pub zeros_of_multiple : (k : ℕ) (r t : List ℕ) → length r ≡ length t → HasQuotient (replicate k 0 ++ r) (1 ∷ t) →
     r ≡ replicate (length r) 0
 zeros_of_multiple k r t e (q, qx) =
     let count : length (replicate k 0 ++ r) ≡ k + length r = simp (length-append, length-replicate) in
@@ -179,11 +179,11 @@ zeros_of_multiple k r t e (q, qx) =
 
 -- one list of as many bits as the generator has below its highest power completes a list to a multiple
 pub same_remainder : (front r s t : List ℕ) → AllBits r → AllBits s → length r ≡ length t → length s ≡ length t →
-    IsMultiple (front ++ r) (1 ∷ t) → IsMultiple (front ++ s) (1 ∷ t) → r ≡ s
+    HasQuotient (front ++ r) (1 ∷ t) → HasQuotient (front ++ s) (1 ∷ t) → r ≡ s
 same_remainder front r s t br bs er es mr ms =
     let same : length (front ++ r) ≡ length (front ++ s) = simp length-append (omega arith) in
     let e : length r ≡ length s = omega arith in
-    let sum : IsMultiple (add_bits (front ++ r) (front ++ s)) (1 ∷ t) = IsMultiple-add_bits (front ++ r) (front ++ s) (1 ∷ t) same mr ms in
+    let sum : HasQuotient (add_bits (front ++ r) (front ++ s)) (1 ∷ t) = HasQuotient-add_bits (front ++ r) (front ++ s) (1 ∷ t) same mr ms in
     let split : add_bits (front ++ r) (front ++ s) ≡ replicate (length front) 0 ++ add_bits r s =
     add_bits-append front front r s refl ∙ ap (λ zeros. zeros ++ add_bits r s) (add_bits_self front) in
     let count : length (add_bits r s) ≡ length r = length-add_bits r s e in
@@ -194,15 +194,15 @@ same_remainder front r s t br bs er es mr ms =
 -- and a multiple that begins with their sum with the next places is added.
 pub divided_more : (front out rest next start tail g : List ℕ) → AllBits front → length start ≡ length out →
     length tail ≡ length rest + length out → add_bits out start ≡ next →
-    IsMultiple (front ++ (out ++ rest)) g → IsMultiple (start ++ tail) g →
-    IsMultiple ((front ++ next) ++ add_bits (rest ++ replicate (length out) 0) tail) g
+    HasQuotient (front ++ (out ++ rest)) g → HasQuotient (start ++ tail) g →
+    HasQuotient ((front ++ next) ++ add_bits (rest ++ replicate (length out) 0) tail) g
 divided_more front out rest next start tail g bits es et sum before multiple =
     let zeros = replicate (length out) 0 in
-    let moved : IsMultiple (front ++ (out ++ (rest ++ zeros))) g =
+    let moved : HasQuotient (front ++ (out ++ (rest ++ zeros))) g =
     rw (← append_assoc out rest zeros, ← append_assoc front (out ++ rest) zeros)
-    (IsMultiple-append_zeros (length out) (front ++ (out ++ rest)) g before) in
-    let padded : IsMultiple (replicate (length front) 0 ++ (start ++ tail)) g =
-    IsMultiple-zeros_append (length front) (start ++ tail) g multiple in
+    (HasQuotient-append_zeros (length out) (front ++ (out ++ rest)) g before) in
+    let padded : HasQuotient (replicate (length front) 0 ++ (start ++ tail)) g =
+    HasQuotient-zeros_append (length front) (start ++ tail) g multiple in
     let e : length (out ++ (rest ++ zeros)) ≡ length (start ++ tail) = simp (length-append, length-replicate) (omega arith) in
     let e' : length (rest ++ zeros) ≡ length tail = simp (length-append, length-replicate) (omega arith) in
     let same : length (front ++ (out ++ (rest ++ zeros))) ≡ length (replicate (length front) 0 ++ (start ++ tail)) =
@@ -214,4 +214,4 @@ divided_more front out rest next start tail g bits es et sum before multiple =
     ∙ ap (λ end. front ++ end) (add_bits-append out start (rest ++ zeros) tail (sym es))
     ∙ ap (λ middle. front ++ (middle ++ add_bits (rest ++ zeros) tail)) sum
     ∙ sym (append_assoc front next (add_bits (rest ++ zeros) tail)) in
-    rw (← parts) (IsMultiple-add_bits _ _ g same moved padded)
+    rw (← parts) (HasQuotient-add_bits _ _ g same moved padded)

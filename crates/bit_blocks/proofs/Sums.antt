@@ -1,17 +1,17 @@
 -- Sums of bit lists: with zeros, with themselves, part by part.
 use Rattle.std.proofs.Common.{◌≡◌, ℕ, zero, suc, ◌+◌, ◌%◌, ◌≤◌, List, [], ◌∷◌, ◌++◌, length, replicate, refl, ap, sym, ◌∙◌, arith}
 use Rattle.std.proofs.lemmas.List.Elements.{All-head, All-tail, All-cons, All-nil}
-use Rattle.bit_blocks.specs.Bits.{AllBits, add_bits}
+use Rattle.bit_blocks.specs.Bits.{IsBit, AllBits, add_bits}
 
 -- two lists by their heads and tails
 same_parts : (x y : ℕ) (xs ys : List ℕ) → x ≡ y → xs ≡ ys → x ∷ xs ≡ y ∷ ys
 same_parts x y xs ys e e' = ap (λ h. h ∷ xs) e ∙ ap (λ t. y ∷ t) e'
 
 pub AllBits-add_bits : (xs ys : List ℕ) → AllBits (add_bits xs ys)
-AllBits-add_bits [] ys = All-nil (λ bit. bit ≤ 1)
-AllBits-add_bits (x ∷ xs) [] = All-nil (λ bit. bit ≤ 1)
+AllBits-add_bits [] ys = All-nil IsBit
+AllBits-add_bits (x ∷ xs) [] = All-nil IsBit
 AllBits-add_bits (x ∷ xs) (y ∷ ys) =
-    All-cons (λ bit. bit ≤ 1) ((x + y) % 2) (add_bits xs ys) (omega arith) (AllBits-add_bits xs ys)
+    All-cons IsBit ((x + y) % 2) (add_bits xs ys) (omega arith) (AllBits-add_bits xs ys)
 
 pub add_bits-append : (xs ys xs' ys' : List ℕ) → length xs ≡ length ys →
     add_bits (xs ++ xs') (ys ++ ys') ≡ add_bits xs ys ++ add_bits xs' ys'
@@ -26,10 +26,10 @@ pub add_bits-zeros : (xs : List ℕ) (n : ℕ) → AllBits xs → length xs ≡ 
 add_bits-zeros [] n b e = refl
 add_bits-zeros (x ∷ xs) zero b e = absurd (omega arith)
 add_bits-zeros (x ∷ xs) (suc n) b e =
-    let head : x ≤ 1 = All-head (λ bit. bit ≤ 1) x xs b in
+    let head : x ≤ 1 = All-head IsBit x xs b in
     let e' : length xs ≡ n = omega arith in
     same_parts ((x + 0) % 2) x (add_bits xs (replicate n 0)) xs (omega arith)
-    (add_bits-zeros xs n (All-tail (λ bit. bit ≤ 1) x xs b) e')
+    (add_bits-zeros xs n (All-tail IsBit x xs b) e')
 
 pub add_bits-comm : (xs ys : List ℕ) → add_bits xs ys ≡ add_bits ys xs
 add_bits-comm [] [] = refl

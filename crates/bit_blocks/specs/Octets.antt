@@ -1,6 +1,13 @@
 -- The order of the bits of octets on the radio path (GSM 04.04 section 6, which GSM 05.03 section 4.1 takes over).
-use Rattle.std.specs.Prelude.{ℕ, ◌/◌, ◌%◌, List, [], ◌∷◌}
-use Rattle.std.specs.List.{flat_map}
+use Rattle.std.specs.Prelude.{ℕ, ◌<◌, ◌+◌, ◌*◌, ◌/◌, ◌%◌, List, [], ◌∷◌}
+use Rattle.std.specs.List.{All, flat_map}
+
+abbrev pub IsOctet : ℕ → Type 0
+IsOctet octet = octet < 256
+
+-- every member is an octet
+abbrev pub AllOctets : List ℕ → Type 0
+AllOctets octets = All IsOctet octets
 
 -- the eight bits of an octet, the one of value 1 first
 abbrev pub octet_bits : ℕ → List ℕ
@@ -17,3 +24,9 @@ octet_bits octet =
 -- the bits of all octets, one octet after the other
 abbrev pub bits_of : List ℕ → List ℕ
 bits_of octets = flat_map octet_bits octets
+
+-- the octets of bits, eight bits an octet, the one of value 1 first; bits that fill no octet are left out
+abbrev pub octets_of : List ℕ → List ℕ
+octets_of (a ∷ b ∷ c ∷ d ∷ e ∷ f ∷ g ∷ h ∷ rest) =
+    (a + 2 * b + 4 * c + 8 * d + 16 * e + 32 * f + 64 * g + 128 * h) ∷ octets_of rest
+octets_of _ = []

@@ -1,5 +1,5 @@
 -- Bit lists as polynomials over the field of two elements, the highest power first (GSM 05.03 section 4.1.2).
-use Rattle.std.specs.Prelude.{ℕ, ◌≡◌, ◌<◌, ◌+◌, ◌*◌, ◌%◌, List, [], ◌∷◌, length, slice_index}
+use Rattle.std.specs.Prelude.{ℕ, ◌≡◌, ◌<◌, ◌≤◌, ◌+◌, ◌*◌, ◌%◌, List, [], ◌∷◌, length, slice_index}
 use Rattle.std.proofs.Common.{zero, suc}
 use Rattle.bit_blocks.specs.Bits.{AllBits}
 
@@ -15,6 +15,12 @@ pub record IsProduct (x q g : List ℕ) : Type 0 where
   pub bits : AllBits q
   pub each : (m : ℕ) → m < length x → slice_index x m ≡ product_at q g m % 2
 
--- x is a multiple of g: the product of g and some quotient
-abbrev pub IsMultiple : List ℕ → List ℕ → Type 0
-IsMultiple x g = (q : List ℕ) × IsProduct x q g
+-- x is the product of g and some quotient
+abbrev pub HasQuotient : List ℕ → List ℕ → Type 0
+HasQuotient x g = (q : List ℕ) × IsProduct x q g
+
+-- x is a multiple of g, which begins with 1 and is no longer than x
+pub record IsMultiple (x g : List ℕ) : Type 0 where
+  pub leading : slice_index g 0 ≡ 1
+  pub fits : length g ≤ length x
+  pub quotient : HasQuotient x g

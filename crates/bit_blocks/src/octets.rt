@@ -1,27 +1,37 @@
-ghost use Rattle.std.specs.Prelude.{◌≡◌, ◌*◌, length};
+//! The order in which the bits of octets go over the radio path, the lowest first (GSM 04.04, today 3GPP TS 44.004,
+//! section 6).
+ghost use Rattle.std.specs.Prelude.{◌≡◌, ℕ, ◌*◌, List, [], ◌∷◌, length};
 ghost use Rattle.bit_blocks.specs.Bits.{AllBits};
-ghost use Rattle.bit_blocks.specs.Octets.{octet_bits, bits_of};
+ghost use Rattle.bit_blocks.specs.Octets.{AllOctets, octet_bits, bits_of, octets_of};
 
 /// Writes the bits of octets, of each octet the bit of value 1 first.
 pub fn from_octets(octets: &[u8], out: &mut [u8])
     requires { length out.old ≡ 8 * length octets.now }
-    ensures { out.new ≡ bits_of octets.now }
+    ensures value { out.new ≡ bits_of octets.now }
+    ensures bits { AllBits out.new }
 {
     for (m, octet) in octets.iter().enumerate() {
         out[8 * m..8 * m + 8].copy_from_slice(&bits_of_octet(*octet));
     }
 }
 
-/// Writes the octets whose bits these are: what `from_octets` does, undone.
+/// Writes the octets of bits, the bit of value 1 first.
 pub fn to_octets(bits: &[u8], out: &mut [u8])
     requires count { length bits.now ≡ 8 * length out.old }
     requires bits { AllBits bits.now }
-    ensures { bits_of out.new ≡ bits.now }
+    ensures value { out.new ≡ octets_of bits.now }
+    ensures undone { bits_of out.new ≡ bits.now }
 {
     for m in 0..out.len() {
         out[m] = octet_of_bits(&bits[8 * m..8 * m + 8]);
     }
 }
+
+/// Law: octets come back from their bits, and bits that fill octets from these.
+pub fn law_octets()
+    ensures octets { (octets : List ℕ) → AllOctets octets → octets_of (bits_of octets) ≡ octets }
+    ensures bits { (bits : List ℕ) (n : ℕ) → length bits ≡ 8 * n → AllBits bits → bits_of (octets_of bits) ≡ bits }
+{}
 
 fn bits_of_octet(octet: u8) -> [u8; 8]
     ensures { result ≡ octet_bits octet }
@@ -41,7 +51,7 @@ fn bits_of_octet(octet: u8) -> [u8; 8]
 fn octet_of_bits(bits: &[u8]) -> u8
     requires count { length bits.now ≡ 8 }
     requires bits { AllBits bits.now }
-    ensures { octet_bits result ≡ bits.now }
+    ensures { octets_of bits.now ≡ result ∷ [] }
 {
     bits[0]
         + 2 * bits[1]

@@ -4,19 +4,13 @@ use Rattle.std.specs.List.{list_all}
 use Rattle.std.proofs.lemmas.List.{take_at, drop_at, drop-drop, drop-replicate, length-append}
 use Rattle.std.proofs.lemmas.List.Elements.{All-append, All-replicate, All-same}
 use Rattle.std.proofs.lemmas.List.Sums.{AllPass-from_list_all}
-use Rattle.bit_blocks.specs.Bits.{AllBits}
+use Rattle.bit_blocks.specs.Bits.{IsBit, AllBits}
 
 -- these bits stand in front, up to this place, and zeros after them
 pub record IsFilled (burst front : List ℕ) (at rest : ℕ) : Type 0 where
   pub list : burst ≡ front ++ replicate rest 0
   pub long : length front ≡ at
   pub bits : AllBits front
-
--- what a table holds is found by computing
-pub AllBits-table : (table : List ℕ) → list_all (λ bit. leb bit 1) table ≡ true → AllBits table
-AllBits-table table found k d lt =
-    let bit = AllPass-from_list_all (λ bit. leb bit 1) table found k d lt in
-    search (rules, tests)
 
 -- the next bits are written
 pub filled_more : {old front : List ℕ} {at rest : ℕ} (new bits : List ℕ) (next left : ℕ) → IsFilled old front at rest → AllBits bits →
@@ -34,11 +28,11 @@ filled_more {old} {front} {at} {rest} new bits next left filled are_bits follows
     record {
       list = cc;
       long = let l = filled.long in omega (arith, length-append front bits);
-      bits = All-append (λ bit. bit ≤ 1) front bits filled.bits are_bits;
+      bits = All-append IsBit front bits filled.bits are_bits;
     }
 
 pub AllBits-filled : {burst front : List ℕ} {at rest : ℕ} → IsFilled burst front at rest → AllBits burst
 AllBits-filled {burst} {front} {at} {rest} filled =
-    let zeros = All-replicate (λ bit. bit ≤ 1) rest 0 (omega arith) in
-    All-same (λ bit. bit ≤ 1) burst (front ++ replicate rest 0) filled.list
-    (All-append (λ bit. bit ≤ 1) front (replicate rest 0) filled.bits zeros)
+    let zeros = All-replicate IsBit rest 0 (omega arith) in
+    All-same IsBit burst (front ++ replicate rest 0) filled.list
+    (All-append IsBit front (replicate rest 0) filled.bits zeros)

@@ -2,7 +2,7 @@
 use Rattle.std.proofs.Common.{◌≡◌, ℕ, ◌≤◌, List, [], ◌∷◌, ◌++◌, length, replicate, refl, ap, sym, ◌∙◌, arith, take, drop}
 use Rattle.std.proofs.lemmas.List.{append_assoc, take_at, drop_at, length-append}
 use Rattle.training_seq.specs.Sequences.{training_sequence}
-use Rattle.training_seq.proofs.SequenceTable.{length-training_sequence}
+use Rattle.training_seq.proofs.Lemmas.{length-training_sequence}
 use Rattle.burst_map.specs.NormalBurst.{normal_burst}
 use Rattle.burst_map.specs.Parts.{with_part}
 use Rattle.burst_map.specs.Tails.{tail_bits}

@@ -1,6 +1,6 @@
 ghost use Rattle.std.specs.Prelude.{◌≡◌, ◌++◌, length};
 ghost use Rattle.bit_blocks.specs.Bits.{AllBits};
-ghost use Rattle.burst_map.specs.AccessBurst.{access_burst};
+ghost use Rattle.burst_map.specs.AccessBurst.{access_burst, access_sequence};
 ghost use Rattle.burst_map.specs.AccessBurst as parts;
 
 use crate::place::place;
@@ -9,10 +9,18 @@ use std::marker::Model;
 // The extended tail bits and the training bits of the access burst.
 const ACCESS_HEAD: [u8; 8] = [0, 0, 1, 1, 1, 0, 1, 0];
 
-const ACCESS_TRAINING: [u8; 41] = [
+static ACCESS_TRAINING: [u8; 41] = [
     0, 1, 0, 0, 1, 0, 1, 1, 0, 1, 1, 1, 1, 1, 1, 1, 1, 0, 0, 1, 1, 0, 0, 1, 1, 0, 1, 0, 1, 0, 1, 0,
     0, 0, 1, 1, 1, 1, 0, 0, 0,
 ];
+
+/// The 41 training bits of an access burst.
+pub fn access_sequence() -> &'static [u8; 41]
+    ensures value { result.now ≡ access_sequence }
+    ensures bits { AllBits result.now }
+{
+    &ACCESS_TRAINING
+}
 
 /// The access burst of 36 coded bits.
 pub fn access(body: &[u8]) -> [u8; 88]

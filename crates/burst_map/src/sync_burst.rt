@@ -1,15 +1,23 @@
 ghost use Rattle.std.specs.Prelude.{◌≡◌, ◌++◌, length};
 ghost use Rattle.bit_blocks.specs.Bits.{AllBits};
-ghost use Rattle.burst_map.specs.SyncBurst.{sync_burst};
+ghost use Rattle.burst_map.specs.SyncBurst.{sync_burst, sync_sequence};
 ghost use Rattle.burst_map.specs.SyncBurst as parts;
 
 use crate::place::place;
 use std::marker::Model;
 
-const SYNC_TRAINING: [u8; 64] = [
+static SYNC_TRAINING: [u8; 64] = [
     1, 0, 1, 1, 1, 0, 0, 1, 0, 1, 1, 0, 0, 0, 1, 0, 0, 0, 0, 0, 0, 1, 0, 0, 0, 0, 0, 0, 1, 1, 1, 1,
     0, 0, 1, 0, 1, 1, 0, 1, 0, 1, 0, 0, 0, 1, 0, 1, 0, 1, 1, 1, 0, 1, 1, 0, 0, 0, 0, 1, 1, 0, 1, 1,
 ];
+
+/// The 64 training bits of a synchronisation burst.
+pub fn sync_sequence() -> &'static [u8; 64]
+    ensures value { result.now ≡ sync_sequence }
+    ensures bits { AllBits result.now }
+{
+    &SYNC_TRAINING
+}
 
 /// The synchronisation burst of two halves of 39 coded bits.
 pub fn sync(first: &[u8], second: &[u8]) -> [u8; 148]

@@ -7,7 +7,7 @@ use Rattle.std.proofs.lemmas.Bool.Decides.{nat_tests}
 use Rattle.std.proofs.lemmas.List.{take_more_set, length-set, get_or_past}
 use Rattle.std.proofs.lemmas.Grind.{flat_map-append}
 use Rattle.bit_blocks.specs.Bits.{AllBits}
-use Rattle.bit_blocks.proofs.BitLists.{bit_xor-bits}
+use Rattle.bit_blocks.proofs.Lemmas.{bit_xor-bits}
 use Rattle.conv_code.specs.Code.{delayed, first_sum, second_sum, coded_pair}
 
 pub delayed-more : (u : List ℕ) (k d e : ℕ) → e ≡ d + 1 → delayed u (k + 1) e ≡ delayed u k d

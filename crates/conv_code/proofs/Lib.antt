@@ -1,2 +1,4 @@
 mod Checks
 pub mod Coding
+pub mod Lemmas
+mod Lists

@@ -1,26 +1,7 @@
--- How well a coded list fits soft values, and which information list fits best (this project's own rule; GSM 05.03 leaves decoding open).
--- A soft value is positive for a 0, negative for a 1, and the greater the surer.
-use Rattle.std.specs.Prelude.{ℕ, ◌≡◌, ◌≢◌, ◌<◌, ◌*◌, ◌⊎◌, ℤ, pos, negsuc, ◌+ℤ◌, ◌-ℤ◌, ◌*ℤ◌, ◌≤ℤ◌, ◌<ℤ◌, List, [], ◌∷◌, length, slice_index, slice_index_or}
-use Rattle.std.specs.List.{All}
+-- Which information list fits soft values best (this project's own rule; GSM 05.03 leaves decoding open).
+use Rattle.std.specs.Prelude.{ℕ, ◌≡◌, ◌≢◌, ◌<◌, ◌*◌, ◌⊎◌, ℤ, ◌<ℤ◌, List, length, slice_index}
 use Rattle.conv_code.specs.Code.{coded, IsInformation}
-
--- every value is from -127 to 127: none is -128
-abbrev pub AllSoft : List ℤ → Type 0
-AllSoft s = All (λ value. value ≢ negsuc 127) s
-
--- what a soft value counts for a bit: itself for 0, its negative for 1
-abbrev pub agreement : ℤ → ℕ → ℤ
-agreement soft bit = soft *ℤ (pos 1 -ℤ pos (2 * bit))
-
--- the sum over all places
-abbrev pub likelihood : List ℤ → List ℕ → ℤ
-likelihood [] c = pos 0
-likelihood (p ∷ s) [] = pos 0
-likelihood (p ∷ s) (x ∷ c) = agreement p x +ℤ likelihood s c
-
--- place j of s is wrong against c: its value is 0 or speaks for the other bit
-abbrev pub IsWrong : List ℤ → List ℕ → ℕ → Type 0
-IsWrong s c j = agreement (slice_index_or s j (pos 0)) (slice_index c j) ≤ℤ pos 0
+pub use Rattle.bit_blocks.specs.SoftValues.{AllSoft, agreement, likelihood}
 
 -- u stands before v in the order of words: u has 0 at the first place where they differ
 pub record IsBefore (u v : List ℕ) : Type 0 where

@@ -1,10 +1,12 @@
-pub mod OctetBits
-pub mod OctetSteps
-pub mod ParityParts
-pub mod RachWords
-pub mod RegisterBits
-pub mod SchWords
-pub mod Steps
-pub mod Tests
-pub mod WorkedWords
-pub mod XcchWords
+mod OctetBits
+mod OctetSteps
+pub mod Lemmas
+mod Parities
+mod ParityParts
+mod RachWords
+mod RegisterBits
+mod SchWords
+mod Steps
+mod Tests
+mod WorkedWords
+mod XcchWords

@@ -2,14 +2,13 @@
 use Rattle.std.proofs.Common.{◌≡◌, ℕ, ◌+◌, ◌*◌, ◌/◌, ◌^◌, ◌≤◌, ◌<◌, List, [], ◌∷◌, ◌++◌, length, replicate, get_or, take, drop, refl, ap, sym, subst, ◌∙◌, arith, bit_xor, bit_and, Bool, true, eqb, append_assoc}
 use Rattle.std.proofs.lemmas.Bool.Decides.{Decides-eqb}
 use Rattle.std.proofs.Math.Seq.{take-add}
-use Rattle.std.proofs.lemmas.List.{append-nil}
+use Rattle.std.proofs.lemmas.List.{append-nil, length-append}
 use Rattle.std.proofs.lemmas.List.Elements.{All-nil, All-head, All-tail, All-push, All-take, All-drop}
 use Rattle.std.proofs.lemmas.Nat.{and_mask, shr_below, xor_lt}
-use Rattle.bit_blocks.specs.Bits.{AllBits, add_bits}
+use Rattle.bit_blocks.specs.Bits.{IsBit, AllBits, add_bits}
 use Rattle.bit_blocks.specs.Octets.{octet_bits}
-use Rattle.bit_blocks.specs.Polynomials.{IsMultiple}
-use Rattle.bit_blocks.proofs.Sums.{add_bits_again}
-use Rattle.bit_blocks.proofs.Multiples.{IsMultiple-zeros, divided_more, same_remainder}
+use Rattle.bit_blocks.specs.Polynomials.{HasQuotient, IsMultiple}
+use Rattle.bit_blocks.proofs.Lemmas.{HasQuotient-zeros, add_bits_again, divided_more, same_remainder}
 use Rattle.fire_code.specs.declared.octets.TheConstants.{REMAINDERS}
 use Rattle.fire_code.specs.Registers.{register_bits}
 use Rattle.fire_code.specs.Words.{g40}
@@ -17,7 +16,7 @@ use Rattle.fire_code.proofs.Tests.{tested, passed}
 use Rattle.fire_code.proofs.RegisterBits.{length-register_bits, AllBits-register_bits, register_bits-zero, register_bits-mod, register_bits-xor, octet_bits-register_bits, register_bits_split, register_bits_beyond}
 use Rattle.fire_code.proofs.Steps.{remainder_more, remainder_within}
 
-taps_of_g40 : 1 ∷ register_bits 40 618479558656 ≡ g40
+pub taps_of_g40 : 1 ∷ register_bits 40 618479558656 ≡ g40
 unfolding register_bits
 taps_of_g40 = refl
 
@@ -28,22 +27,22 @@ divided (bit ∷ bits) register = divided bits (bit_xor (register / 2) (bit_and 
 
 -- what it leaves of bits completes them
 divided_multiple : (front bits : List ℕ) (register : ℕ) → AllBits front → AllBits bits → register < 2 ^ 40 →
-    IsMultiple (front ++ register_bits 40 register) g40 →
-    IsMultiple ((front ++ bits) ++ register_bits 40 (divided bits register)) g40 × (divided bits register < 2 ^ 40)
+    HasQuotient (front ++ register_bits 40 register) g40 →
+    HasQuotient ((front ++ bits) ++ register_bits 40 (divided bits register)) g40 × (divided bits register < 2 ^ 40)
 unfolding divided
 divided_multiple front [] register bf bb within before =
-    (subst (λ w. IsMultiple (w ++ register_bits 40 register) g40) (sym (append-nil front)) before, within)
+    (subst (λ w. HasQuotient (w ++ register_bits 40 register) g40) (sym (append-nil front)) before, within)
 divided_multiple front (bit ∷ bits) register bf bb within before =
-    let head : bit ≤ 1 = All-head (λ b. b ≤ 1) bit bits bb in
+    let head : bit ≤ 1 = All-head IsBit bit bits bb in
     let next = bit_xor (register / 2) (bit_and (bit_xor register bit) 1 * 618479558656) in
-    let step : IsMultiple ((front ++ bit ∷ []) ++ register_bits 40 next) g40 =
-    subst (λ g. IsMultiple ((front ++ bit ∷ []) ++ register_bits 40 next) g) taps_of_g40
+    let step : HasQuotient ((front ++ bit ∷ []) ++ register_bits 40 next) g40 =
+    subst (λ g. HasQuotient ((front ++ bit ∷ []) ++ register_bits 40 next) g) taps_of_g40
     (remainder_more 40 front register bit 618479558656 (omega arith) bf within head
-    (subst (λ g. IsMultiple (front ++ register_bits 40 register) g) (sym taps_of_g40) before)) in
+    (subst (λ g. HasQuotient (front ++ register_bits 40 register) g) (sym taps_of_g40) before)) in
     let small : next < 2 ^ 40 = remainder_within 40 register bit 618479558656 within (omega arith) in
-    let front' = All-push (λ b. b ≤ 1) front bit bf head in
-    let rest = divided_multiple (front ++ bit ∷ []) bits next front' (All-tail (λ b. b ≤ 1) bit bits bb) small step in
-    (subst (λ w. IsMultiple (w ++ register_bits 40 (divided bits next)) g40) (append_assoc front (bit ∷ []) bits) rest.0, rest.1)
+    let front' = All-push IsBit front bit bf head in
+    let rest = divided_multiple (front ++ bit ∷ []) bits next front' (All-tail IsBit bit bits bb) small step in
+    (subst (λ w. HasQuotient (w ++ register_bits 40 (divided bits next)) g40) (append_assoc front (bit ∷ []) bits) rest.0, rest.1)
 
 is_entry : ℕ → Bool
 is_entry octet = eqb (get_or REMAINDERS octet 0) (divided (register_bits 8 octet) 0)
@@ -52,24 +51,24 @@ all_entries : tested is_entry 256 ≡ true
 unfolding tested is_entry divided register_bits
 all_entries = refl
 
-pub empty_register : IsMultiple (register_bits 40 0) g40
-empty_register = subst (λ r. IsMultiple r g40) (sym (register_bits-zero 40)) (IsMultiple-zeros 40 g40 (omega arith))
+pub empty_register : HasQuotient (register_bits 40 0) g40
+empty_register = subst (λ r. HasQuotient r g40) (sym (register_bits-zero 40)) (HasQuotient-zeros 40 g40 (omega arith))
 
 -- an entry of the table completes its octet
 pub entry_multiple : (octet : ℕ) → octet < 256 →
-    IsMultiple (register_bits 8 octet ++ register_bits 40 (get_or REMAINDERS octet 0)) g40 × (get_or REMAINDERS octet 0 < 2 ^ 40)
+    HasQuotient (register_bits 8 octet ++ register_bits 40 (get_or REMAINDERS octet 0)) g40 × (get_or REMAINDERS octet 0 < 2 ^ 40)
 unfolding is_entry
 entry_multiple octet within =
     let is : get_or REMAINDERS octet 0 ≡ divided (register_bits 8 octet) 0 =
     (Decides-eqb (get_or REMAINDERS octet 0) (divided (register_bits 8 octet) 0)).0 (passed is_entry 256 all_entries octet within) in
-    let found = divided_multiple [] (register_bits 8 octet) 0 (All-nil (λ b. b ≤ 1)) (AllBits-register_bits 8 octet) (omega arith) empty_register in
-    subst (λ r. IsMultiple (register_bits 8 octet ++ register_bits 40 r) g40 × (r < 2 ^ 40)) (sym is) found
+    let found = divided_multiple [] (register_bits 8 octet) 0 (All-nil IsBit) (AllBits-register_bits 8 octet) (omega arith) empty_register in
+    subst (λ r. HasQuotient (register_bits 8 octet ++ register_bits 40 r) g40 × (r < 2 ^ 40)) (sym is) found
 
 -- eight places more
 pub octet_more : (front next : List ℕ) (register octet entry : ℕ) → AllBits front → AllBits next → register < 2 ^ 40 →
-    register_bits 8 octet ≡ next → IsMultiple (front ++ register_bits 40 register) g40 →
-    IsMultiple (register_bits 8 (bit_and (bit_xor register octet) 255) ++ register_bits 40 entry) g40 →
-    IsMultiple ((front ++ next) ++ register_bits 40 (bit_xor (register / 2 ^ 8) entry)) g40
+    register_bits 8 octet ≡ next → HasQuotient (front ++ register_bits 40 register) g40 →
+    HasQuotient (register_bits 8 (bit_and (bit_xor register octet) 255) ++ register_bits 40 entry) g40 →
+    HasQuotient ((front ++ next) ++ register_bits 40 (bit_xor (register / 2 ^ 8) entry)) g40
 octet_more front next register octet entry bf bn within is before multiple =
     let out = register_bits 8 register in
     let rest = register_bits 32 (register / 2 ^ 8) in
@@ -88,40 +87,45 @@ octet_more front next register octet entry bf bn within is before multiple =
     ap (λ n. add_bits (rest ++ replicate n 0) tail) count
     ∙ ap (λ x. add_bits x tail) (sym (register_bits_beyond 32 8 40 (register / 2 ^ 8) (omega arith) (shr_below register 32 8 within)))
     ∙ sym (register_bits-xor 40 (register / 2 ^ 8) entry) in
-    subst (λ x. IsMultiple ((front ++ next) ++ x) g40) ends
+    subst (λ x. HasQuotient ((front ++ next) ++ x) g40) ends
     (divided_more front out rest next start tail g40 bf
     (length-register_bits 8 (bit_and (bit_xor register octet) 255) ∙ sym count)
     (length-register_bits 40 entry ∙ omega (arith, length-register_bits 32 (register / 2 ^ 8)))
-    sum (subst (λ x. IsMultiple (front ++ x) g40) parts before) multiple)
+    sum (subst (λ x. HasQuotient (front ++ x) g40) parts before) multiple)
 
 pub octet_within : (register entry : ℕ) → register < 2 ^ 40 → entry < 2 ^ 40 → bit_xor (register / 2 ^ 8) entry < 2 ^ 40
 octet_within register entry within small = xor_lt 40 (register / 2 ^ 8) entry (omega arith) small
 
 -- the same along a list
 pub octet_along : (bits : List ℕ) (m n register octet entry : ℕ) → AllBits bits → n ≡ 8 → register < 2 ^ 40 →
-    register_bits 8 octet ≡ take n (drop (8 * m) bits) → IsMultiple (take (8 * m) bits ++ register_bits 40 register) g40 →
-    IsMultiple (register_bits 8 (bit_and (bit_xor register octet) 255) ++ register_bits 40 entry) g40 →
-    IsMultiple (take (8 * (m + 1)) bits ++ register_bits 40 (bit_xor (register / 2 ^ 8) entry)) g40
+    register_bits 8 octet ≡ take n (drop (8 * m) bits) → HasQuotient (take (8 * m) bits ++ register_bits 40 register) g40 →
+    HasQuotient (register_bits 8 (bit_and (bit_xor register octet) 255) ++ register_bits 40 entry) g40 →
+    HasQuotient (take (8 * (m + 1)) bits ++ register_bits 40 (bit_xor (register / 2 ^ 8) entry)) g40
 octet_along bits m n register octet entry all eight within is before multiple =
     let next = take n (drop (8 * m) bits) in
     let at : 8 * m + n ≡ 8 * (m + 1) = omega arith in
     let taken : take (8 * m) bits ++ next ≡ take (8 * (m + 1)) bits =
     sym (take-add (8 * m) n bits) ∙ ap (λ k. take k bits) at in
-    subst (λ w. IsMultiple (w ++ register_bits 40 (bit_xor (register / 2 ^ 8) entry)) g40) taken
-    (octet_more (take (8 * m) bits) next register octet entry (All-take (λ b. b ≤ 1) (8 * m) bits all)
-    (All-take (λ b. b ≤ 1) n (drop (8 * m) bits) (All-drop (λ b. b ≤ 1) (8 * m) bits all)) within is before multiple)
+    subst (λ w. HasQuotient (w ++ register_bits 40 (bit_xor (register / 2 ^ 8) entry)) g40) taken
+    (octet_more (take (8 * m) bits) next register octet entry (All-take IsBit (8 * m) bits all)
+    (All-take IsBit n (drop (8 * m) bits) (All-drop IsBit (8 * m) bits all)) within is before multiple)
 
 pub remainder_of_octet : (octet register : ℕ) (r : List ℕ) → r ≡ register_bits 40 register →
-    IsMultiple (register_bits 8 octet ++ register_bits 40 register) g40 → IsMultiple (octet_bits octet ++ r) g40
-remainder_of_octet octet register r is multiple =
-    subst (λ o. IsMultiple (o ++ r) g40) (sym (octet_bits-register_bits octet))
-    (subst (λ x. IsMultiple (register_bits 8 octet ++ x) g40) (sym is) multiple)
+    HasQuotient (register_bits 8 octet ++ register_bits 40 register) g40 → IsMultiple (octet_bits octet ++ r) g40
+remainder_of_octet octet register r is quotient =
+    let long : length r ≡ 40 = ap length is ∙ length-register_bits 40 register in
+    record {
+      leading = refl;
+      fits = omega (arith, length-append (octet_bits octet) r);
+      quotient = subst (λ o. HasQuotient (o ++ r) g40) (sym (octet_bits-register_bits octet))
+          (subst (λ x. HasQuotient (register_bits 8 octet ++ x) g40) (sym is) quotient);
+    }
 
 pub same_remainder_of_g40 : (front r s : List ℕ) → length r ≡ 40 → AllBits r → length s ≡ 40 → AllBits s →
-    IsMultiple (front ++ r) g40 → IsMultiple (front ++ s) g40 → r ≡ s
+    HasQuotient (front ++ r) g40 → HasQuotient (front ++ s) g40 → r ≡ s
 same_remainder_of_g40 front r s er br es bs mr ms =
     let t = register_bits 40 618479558656 in
     let et = length-register_bits 40 618479558656 in
     same_remainder front r s t br bs (er ∙ sym et) (es ∙ sym et)
-    (subst (λ g. IsMultiple (front ++ r) g) (sym taps_of_g40) mr)
-    (subst (λ g. IsMultiple (front ++ s) g) (sym taps_of_g40) ms)
+    (subst (λ g. HasQuotient (front ++ r) g) (sym taps_of_g40) mr)
+    (subst (λ g. HasQuotient (front ++ s) g) (sym taps_of_g40) ms)

@@ -1,12 +1,14 @@
 -- The one parity part of an information part: turned over, it completes the information part to a multiple.
-use Rattle.std.proofs.Common.{◌≡◌, ℕ, ◌+◌, ◌≤◌, List, ◌∷◌, ◌++◌, length, replicate, ap, sym, ◌∙◌, arith, subst, length-append, take, drop}
-use Rattle.std.proofs.lemmas.List.{length-replicate, get_or-append-add, get_or_append_left, take-append-drop}
+use Rattle.std.proofs.Common.{◌≡◌, ℕ, ◌+◌, ◌≤◌, List, ◌∷◌, ◌++◌, length, get_or, replicate, ap, sym, ◌∙◌, arith, subst, length-append, take, drop}
+use Rattle.std.proofs.lemmas.List.{length-replicate, take-append-drop}
 use Rattle.std.proofs.lemmas.List.Elements.{All-take, All-drop}
-use Rattle.bit_blocks.specs.Bits.{AllBits, add_bits}
-use Rattle.bit_blocks.specs.Polynomials.{IsMultiple}
-use Rattle.bit_blocks.proofs.BitLists.{length-add_bits}
-use Rattle.bit_blocks.proofs.Sums.{AllBits-add_bits, add_bits-append, add_bits-zeros, add_bits_twice}
-use Rattle.bit_blocks.proofs.Multiples.{same_remainder}
+use Rattle.bit_blocks.specs.Bits.{IsBit, AllBits, add_bits}
+use Rattle.bit_blocks.specs.Polynomials.{HasQuotient, IsMultiple}
+use Rattle.bit_blocks.proofs.Lemmas.{AllBits-add_bits, add_bits-append, add_bits-zeros, add_bits_twice, length-add_bits, same_remainder}
+
+-- bits of a known count, and their sum with others of that count
+pub count_of_sum : (k : ℕ) (p b : List ℕ) → length p ≡ k → length b ≡ k → length (add_bits p b) ≡ k
+count_of_sum k p b ep eb = length-add_bits p b (ep ∙ sym eb) ∙ ep
 
 -- what is added after the information part is added to the parity part
 pub add_after : (n : ℕ) (d p added : List ℕ) → length d ≡ n → AllBits d →
@@ -15,27 +17,26 @@ add_after n d p added count bits =
     add_bits-append d (replicate n 0) p added (count ∙ sym (length-replicate n 0))
     ∙ ap (λ front. front ++ add_bits p added) (add_bits-zeros d n bits count)
 
-pub first_bits : (xs ys : List ℕ) → AllBits (xs ++ ys) → AllBits xs
-first_bits xs ys bits k d within =
-    subst (λ bit. bit ≤ 1) (get_or_append_left xs ys d k within) (bits k d (omega (arith, length-append xs ys)))
-
-pub second_bits : (xs ys : List ℕ) → AllBits (xs ++ ys) → AllBits ys
-second_bits xs ys bits k d within =
-    subst (λ bit. bit ≤ 1) (get_or-append-add xs ys k d) (bits (length xs + k) d (omega (arith, length-append xs ys)))
-
 -- the multiple of a word of n information bits and k parity bits
-pub multiple_of_word : (n k : ℕ) (d p g : List ℕ) → length d ≡ n → AllBits d →
-    IsMultiple (d ++ add_bits p (replicate k 1)) g → IsMultiple (add_bits (d ++ p) (replicate n 0 ++ replicate k 1)) g
-multiple_of_word n k d p g count bits multiple =
-    subst (λ w. IsMultiple w g) (sym (add_after n d p (replicate k 1) count bits)) multiple
+pub multiple_of_word : (n k : ℕ) (d p g : List ℕ) → length d ≡ n → length p ≡ k → AllBits d → get_or g 0 0 ≡ 1 → length g ≤ n + k →
+    HasQuotient (d ++ add_bits p (replicate k 1)) g → IsMultiple (add_bits (d ++ p) (replicate n 0 ++ replicate k 1)) g
+multiple_of_word n k d p g ed ep bits leading fits quotient =
+    let ones = replicate k 1 in
+    let parts = add_after n d p ones ed bits in
+    let long : length (add_bits p ones) ≡ k = count_of_sum k p ones ep (length-replicate k 1) in
+    record {
+      leading = leading;
+      fits = subst (λ w. length g ≤ length w) (sym parts) (omega (arith, length-append d (add_bits p ones)));
+      quotient = subst (λ w. HasQuotient w g) (sym parts) quotient;
+    }
 
-pub multiple_of_parts : (n k : ℕ) (d p g : List ℕ) → length d ≡ n → AllBits d →
-    IsMultiple (add_bits (d ++ p) (replicate n 0 ++ replicate k 1)) g → IsMultiple (d ++ add_bits p (replicate k 1)) g
-multiple_of_parts n k d p g count bits multiple =
-    subst (λ w. IsMultiple w g) (add_after n d p (replicate k 1) count bits) multiple
+pub quotient_of_parts : (n k : ℕ) (d p g : List ℕ) → length d ≡ n → AllBits d →
+    IsMultiple (add_bits (d ++ p) (replicate n 0 ++ replicate k 1)) g → HasQuotient (d ++ add_bits p (replicate k 1)) g
+quotient_of_parts n k d p g count bits multiple =
+    subst (λ w. HasQuotient w g) (add_after n d p (replicate k 1) count bits) multiple.quotient
 
 pub same_parity : (k : ℕ) (d p p' t : List ℕ) → length t ≡ k → AllBits p → AllBits p' → length p ≡ k → length p' ≡ k →
-    IsMultiple (d ++ add_bits p (replicate k 1)) (1 ∷ t) → IsMultiple (d ++ add_bits p' (replicate k 1)) (1 ∷ t) → p ≡ p'
+    HasQuotient (d ++ add_bits p (replicate k 1)) (1 ∷ t) → HasQuotient (d ++ add_bits p' (replicate k 1)) (1 ∷ t) → p ≡ p'
 same_parity k d p p' t et bp bp' ep ep' multiple multiple' =
     let ones = replicate k 1 in
     let e : length p ≡ length ones = ep ∙ sym (length-replicate k 1) in
@@ -45,17 +46,13 @@ same_parity k d p p' t et bp bp' ep ep' multiple multiple' =
     (length-add_bits p ones e ∙ ep ∙ sym et) (length-add_bits p' ones e' ∙ ep' ∙ sym et) multiple multiple' in
     sym (add_bits_twice p ones bp e) ∙ ap (λ x. add_bits x ones) same ∙ add_bits_twice p' ones bp' e'
 
--- bits of a known count, and their sum with others of that count
-pub count_of_sum : (k : ℕ) (p b : List ℕ) → length p ≡ k → length b ≡ k → length (add_bits p b) ≡ k
-count_of_sum k p b ep eb = length-add_bits p b (ep ∙ sym eb) ∙ ep
-
 -- a list cut in two
 pub cut : (n : ℕ) (w s front back : List ℕ) → s ≡ w → front ≡ take n s → back ≡ drop n s → w ≡ front ++ back
 cut n w s front back same first second =
     sym (ap (λ x. x ++ back) first ∙ ap (λ x. take n s ++ x) second ∙ take-append-drop n s ∙ same)
 
 pub bits_of_front : (n : ℕ) (s front : List ℕ) → AllBits s → front ≡ take n s → AllBits front
-bits_of_front n s front bits first = subst AllBits (sym first) (All-take (λ bit. bit ≤ 1) n s bits)
+bits_of_front n s front bits first = subst AllBits (sym first) (All-take IsBit n s bits)
 
 pub bits_of_back : (n : ℕ) (s back : List ℕ) → AllBits s → back ≡ drop n s → AllBits back
-bits_of_back n s back bits second = subst AllBits (sym second) (All-drop (λ bit. bit ≤ 1) n s bits)
+bits_of_back n s back bits second = subst AllBits (sym second) (All-drop IsBit n s bits)

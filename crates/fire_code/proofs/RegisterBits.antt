@@ -9,9 +9,8 @@ use Rattle.std.proofs.lemmas.List.{length-replicate, get_or-replicate}
 use Rattle.std.proofs.lemmas.List.Elements.{All-cons, All-nil, All-head, All-tail}
 use Rattle.std.specs.Int.{bit_at, bit_not, w64}
 use Rattle.bit_blocks.specs.Octets.{octet_bits}
-use Rattle.bit_blocks.proofs.BitLists.{length-add_bits, get_or-add_bits}
-use Rattle.bit_blocks.proofs.Sums.{add_bits_twice}
-use Rattle.bit_blocks.specs.Bits.{AllBits, add_bits}
+use Rattle.bit_blocks.proofs.Lemmas.{add_bits_twice, get_or-add_bits, length-add_bits}
+use Rattle.bit_blocks.specs.Bits.{IsBit, AllBits, add_bits}
 use Rattle.fire_code.specs.Registers.{register_bits}
 
 pub length-register_bits : (n number : ℕ) → length (register_bits n number) ≡ n
@@ -25,9 +24,9 @@ register_bits-suc n number = refl
 
 pub AllBits-register_bits : (n number : ℕ) → AllBits (register_bits n number)
 unfolding register_bits
-AllBits-register_bits zero number = All-nil (λ bit. bit ≤ 1)
+AllBits-register_bits zero number = All-nil IsBit
 AllBits-register_bits (suc n) number =
-    All-cons (λ bit. bit ≤ 1) (number % 2) (register_bits n (number / 2)) (omega arith) (AllBits-register_bits n (number / 2))
+    All-cons IsBit (number % 2) (register_bits n (number / 2)) (omega arith) (AllBits-register_bits n (number / 2))
 
 pub get_or-register_bits : (n number i : ℕ) → i < n → get_or (register_bits n number) i 0 ≡ bit_at number i
 unfolding register_bits

@@ -6,25 +6,25 @@ use Rattle.std.proofs.lemmas.Nat.{and_mask, and_le_r, mul-le, xor_lt}
 use Rattle.std.proofs.lemmas.Nat.Bits.{shr_and_one}
 use Rattle.std.proofs.lemmas.List.{get_or-set_other, get_or-set_same, length-set, take_more}
 use Rattle.std.proofs.lemmas.List.Elements.{All-cons, All-set, All-take}
-use Rattle.bit_blocks.specs.Bits.{AllBits, add_bits}
-use Rattle.bit_blocks.specs.Polynomials.{IsMultiple}
-use Rattle.bit_blocks.proofs.Multiples.{IsMultiple_self, IsMultiple-zeros, divided_more}
+use Rattle.bit_blocks.specs.Bits.{IsBit, AllBits, add_bits}
+use Rattle.bit_blocks.specs.Polynomials.{HasQuotient}
+use Rattle.bit_blocks.proofs.Lemmas.{HasQuotient-zeros, HasQuotient_self, divided_more}
 use Rattle.fire_code.specs.Registers.{register_bits}
 use Rattle.fire_code.proofs.RegisterBits.{length-register_bits, get_or-register_bits, AllBits-register_bits, register_bits-zero, register_bits_beyond, register_bits-xor, register_bits-suc, half_below, lowest_of_xor}
 
 -- the generator or nothing
-taken_multiple : (n carry taps : ℕ) → carry ≤ 1 → IsMultiple (carry ∷ register_bits n (carry * taps)) (1 ∷ register_bits n taps)
+taken_multiple : (n carry taps : ℕ) → carry ≤ 1 → HasQuotient (carry ∷ register_bits n (carry * taps)) (1 ∷ register_bits n taps)
 taken_multiple n zero taps h =
     let g = 1 ∷ register_bits n taps in
     let nothing : 0 * taps ≡ 0 = omega arith in
     let none : register_bits n (0 * taps) ≡ replicate n 0 = ap (λ x. register_bits n x) nothing ∙ register_bits-zero n in
     let room : length g ≤ suc n + 1 = omega (arith, length-register_bits n taps) in
-    subst (λ rest. IsMultiple (0 ∷ rest) g) (sym none) (IsMultiple-zeros (suc n) g room)
+    subst (λ rest. HasQuotient (0 ∷ rest) g) (sym none) (HasQuotient-zeros (suc n) g room)
 taken_multiple n (suc zero) taps h =
     let g = 1 ∷ register_bits n taps in
     let once : 1 * taps ≡ taps = omega arith in
-    let bits = All-cons (λ bit. bit ≤ 1) 1 (register_bits n taps) (omega arith) (AllBits-register_bits n taps) in
-    subst (λ x. IsMultiple (1 ∷ register_bits n x) g) (sym once) (IsMultiple_self g bits)
+    let bits = All-cons IsBit 1 (register_bits n taps) (omega arith) (AllBits-register_bits n taps) in
+    subst (λ x. HasQuotient (1 ∷ register_bits n x) g) (sym once) (HasQuotient_self g bits)
 taken_multiple n (suc (suc carry)) taps h = absurd (omega arith)
 
 pub carry_is : (register bit : ℕ) → bit ≤ 1 → bit_and (bit_xor register bit) 1 ≡ (register % 2 + bit) % 2
@@ -35,8 +35,8 @@ cancelled lowest bit carry h e = omega arith
 
 -- one place more
 pub remainder_more : (n : ℕ) (front : List ℕ) (register bit taps : ℕ) → 0 < n → AllBits front → register < 2 ^ n → bit ≤ 1 →
-    IsMultiple (front ++ register_bits n register) (1 ∷ register_bits n taps) →
-    IsMultiple ((front ++ bit ∷ []) ++ register_bits n (bit_xor (register / 2) (bit_and (bit_xor register bit) 1 * taps))) (1 ∷ register_bits n taps)
+    HasQuotient (front ++ register_bits n register) (1 ∷ register_bits n taps) →
+    HasQuotient ((front ++ bit ∷ []) ++ register_bits n (bit_xor (register / 2) (bit_and (bit_xor register bit) 1 * taps))) (1 ∷ register_bits n taps)
 remainder_more zero front register bit taps positive bits within is_bit before = absurd (omega arith)
 remainder_more (suc n) front register bit taps positive bits within is_bit before =
     let g = 1 ∷ register_bits (suc n) taps in
@@ -52,17 +52,17 @@ remainder_more (suc n) front register bit taps positive bits within is_bit befor
     ap (λ r. add_bits r (register_bits (suc n) (carry * taps))) (sym (register_bits_beyond n 1 (suc n) half (omega arith) below))
     ∙ sym (register_bits-xor (suc n) half (carry * taps)) in
     let divided = divided_more front (register % 2 ∷ []) (register_bits n half) (bit ∷ []) (carry ∷ []) (register_bits (suc n) (carry * taps)) g
-    bits refl count next (subst (λ r. IsMultiple (front ++ r) g) split before) (taken_multiple (suc n) carry taps (omega arith)) in
-    subst (λ r. IsMultiple ((front ++ bit ∷ []) ++ r) g) rest divided
+    bits refl count next (subst (λ r. HasQuotient (front ++ r) g) split before) (taken_multiple (suc n) carry taps (omega arith)) in
+    subst (λ r. HasQuotient ((front ++ bit ∷ []) ++ r) g) rest divided
 
 -- the same along a list
 pub remainder_along : (n : ℕ) (bits : List ℕ) (i register taps : ℕ) → 0 < n → i < length bits → AllBits bits → register < 2 ^ n →
-    IsMultiple (take i bits ++ register_bits n register) (1 ∷ register_bits n taps) →
-    IsMultiple (take (i + 1) bits ++ register_bits n (bit_xor (register / 2) (bit_and (bit_xor register (get_or bits i 0)) 1 * taps))) (1 ∷ register_bits n taps)
+    HasQuotient (take i bits ++ register_bits n register) (1 ∷ register_bits n taps) →
+    HasQuotient (take (i + 1) bits ++ register_bits n (bit_xor (register / 2) (bit_and (bit_xor register (get_or bits i 0)) 1 * taps))) (1 ∷ register_bits n taps)
 remainder_along n bits i register taps positive here all within before =
     let next = register_bits n (bit_xor (register / 2) (bit_and (bit_xor register (get_or bits i 0)) 1 * taps)) in
-    subst (λ front. IsMultiple (front ++ next) (1 ∷ register_bits n taps)) (sym (take_more bits i 0 here))
-    (remainder_more n (take i bits) register (get_or bits i 0) taps positive (All-take (λ bit. bit ≤ 1) i bits all) within (all i 0 here) before)
+    subst (λ front. HasQuotient (front ++ next) (1 ∷ register_bits n taps)) (sym (take_more bits i 0 here))
+    (remainder_more n (take i bits) register (get_or bits i 0) taps positive (All-take IsBit i bits all) within (all i 0 here) before)
 
 pub remainder_within : (n register bit taps : ℕ) → register < 2 ^ n → taps < 2 ^ n →
     bit_xor (register / 2) (bit_and (bit_xor register bit) 1 * taps) < 2 ^ n

@@ -1,9 +1,8 @@
 -- The definitions at worked values.
-use Rattle.std.proofs.Common.{◌≡◌, ℕ, zero, suc, ◌+◌, ◌%◌, List, [], ◌∷◌, ◌++◌, replicate, refl, arith, ap, subst, get_or}
+use Rattle.std.proofs.Common.{◌≡◌, ℕ, zero, suc, ◌+◌, ◌%◌, List, [], ◌∷◌, ◌++◌, replicate, refl, arith, lit≤, ap, subst, get_or}
 use Rattle.bit_blocks.specs.Bits.{AllBits, add_bits}
 use Rattle.bit_blocks.specs.Polynomials.{product_at}
-use Rattle.bit_blocks.proofs.Sums.{AllBits-add_bits}
-use Rattle.bit_blocks.proofs.Multiples.{IsMultiple_self, IsMultiple-zeros, IsMultiple-zeros_append}
+use Rattle.bit_blocks.proofs.Lemmas.{AllBits-add_bits, HasQuotient-zeros, HasQuotient-zeros_append, HasQuotient_self}
 use Rattle.fire_code.specs.Registers.{register_bits}
 use Rattle.fire_code.proofs.RegisterBits.{length-register_bits}
 use Rattle.fire_code.specs.Words.{g40, g6, g10, IsXcchWord, IsRachWord, IsSchWord}
@@ -31,7 +30,7 @@ zeros_of_rach = record {
   bits = checked_bits 14 (replicate 8 0 ++ replicate 6 1) refl;
   code_count = refl;
   code_bits = checked_bits 6 (replicate 6 0) refl;
-  multiple = IsMultiple-zeros 14 g6 (omega arith);
+  multiple = record { leading = refl; fits = lit≤ tt; quotient = HasQuotient-zeros 14 g6 (omega arith) };
 }
 
 -- fourteen zeros are one where it is ones, and none where it is zeros
@@ -41,7 +40,7 @@ zeros_of_rach_under_ones = record {
   bits = checked_bits 14 (replicate 14 0) refl;
   code_count = refl;
   code_bits = checked_bits 6 (replicate 6 1) refl;
-  multiple = IsMultiple-zeros 14 g6 (omega arith);
+  multiple = record { leading = refl; fits = lit≤ tt; quotient = HasQuotient-zeros 14 g6 (omega arith) };
 }
 
 not_under_zeros : IsRachWord (replicate 14 0) (replicate 6 0) → ⊥
@@ -50,7 +49,7 @@ not_under_zeros word =
     let ones : List ℕ = 1 ∷ 1 ∷ 1 ∷ 1 ∷ 1 ∷ 1 ∷ [] in
     let same : zeros ≡ ones =
     same_rach_parity (replicate 8 0) zeros ones zeros refl refl (checked_bits 6 ones refl)
-    (IsMultiple-zeros 14 (1 ∷ register_bits 6 61) (omega (arith, length-register_bits 6 61))) word in
+    (HasQuotient-zeros 14 (1 ∷ register_bits 6 61) (omega (arith, length-register_bits 6 61))) word in
     let first : 0 ≡ 1 = ap (λ (xs : List ℕ). get_or xs 0 0) same in
     omega (arith, first)
 
@@ -58,14 +57,14 @@ zeros_of_sch : IsSchWord (replicate 25 0 ++ replicate 10 1)
 zeros_of_sch = record {
   count = refl;
   bits = checked_bits 35 (replicate 25 0 ++ replicate 10 1) refl;
-  multiple = IsMultiple-zeros 35 g10 (omega arith);
+  multiple = record { leading = refl; fits = lit≤ tt; quotient = HasQuotient-zeros 35 g10 (omega arith) };
 }
 
 zeros_of_xcch : IsXcchWord (replicate 184 0 ++ replicate 40 1)
 zeros_of_xcch = record {
   count = refl;
   bits = checked_bits 224 (replicate 184 0 ++ replicate 40 1) refl;
-  multiple = IsMultiple-zeros 224 g40 (omega arith);
+  multiple = record { leading = refl; fits = lit≤ tt; quotient = HasQuotient-zeros 224 g40 (omega arith) };
 }
 
 -- where the last bit alone is 1, the parity is all ones but the places 13, 16, 22, 36 and 39
@@ -78,5 +77,9 @@ unfolding last_of_xcch_word
 last_of_xcch = record {
   count = refl;
   bits = checked_bits 224 last_of_xcch_word refl;
-  multiple = IsMultiple-zeros_append 183 g40 g40 (IsMultiple_self g40 (checked_bits 41 g40 refl));
+  multiple = record {
+    leading = refl;
+    fits = lit≤ tt;
+    quotient = HasQuotient-zeros_append 183 g40 g40 (HasQuotient_self g40 (checked_bits 41 g40 refl));
+  };
 }

@@ -1,41 +1,40 @@
 -- Words of a control channel's block and their parity parts.
-use Rattle.std.proofs.Common.{◌≡◌, ℕ, ◌^◌, ◌≤◌, ◌<◌, List, ◌++◌, length, replicate, refl, ap, sym, ◌∙◌, arith, subst, length-append, bit_xor}
+use Rattle.std.proofs.Common.{◌≡◌, ℕ, ◌^◌, ◌<◌, List, ◌++◌, length, replicate, refl, ap, sym, ◌∙◌, arith, lit≤, subst, length-append, bit_xor}
 use Rattle.std.proofs.lemmas.Nat.{xor_lt}
 use Rattle.std.proofs.lemmas.List.Elements.{All-append}
-use Rattle.bit_blocks.specs.Bits.{AllBits, add_bits}
-use Rattle.bit_blocks.specs.Polynomials.{IsMultiple}
-use Rattle.bit_blocks.proofs.BitLists.{length-add_bits}
-use Rattle.bit_blocks.proofs.Sums.{AllBits-add_bits, add_bits-comm, add_bits_again, add_bits_twice}
+use Rattle.bit_blocks.specs.Bits.{IsBit, AllBits, add_bits}
+use Rattle.bit_blocks.specs.Polynomials.{HasQuotient}
+use Rattle.bit_blocks.proofs.Lemmas.{AllBits-front, AllBits-back, AllBits-add_bits, add_bits-comm, add_bits_again, add_bits_twice, length-add_bits}
 use Rattle.fire_code.specs.Registers.{register_bits}
 use Rattle.fire_code.specs.Words.{g40, IsXcchWord}
 use Rattle.fire_code.proofs.OctetSteps.{same_remainder_of_g40}
-use Rattle.fire_code.proofs.ParityParts.{first_bits, second_bits, multiple_of_word, multiple_of_parts}
+use Rattle.fire_code.proofs.ParityParts.{multiple_of_word, quotient_of_parts}
 use Rattle.fire_code.proofs.RegisterBits.{length-register_bits, AllBits-register_bits, register_bits-xor, same_register}
 
 pub xcch_word : (d p : List ℕ) → length d ≡ 184 → AllBits d → length p ≡ 40 → AllBits p →
-    IsMultiple (d ++ add_bits p (replicate 40 1)) g40 → IsXcchWord (d ++ p)
+    HasQuotient (d ++ add_bits p (replicate 40 1)) g40 → IsXcchWord (d ++ p)
 xcch_word d p ed bd ep bp multiple = record {
   count = length-append d p ∙ omega arith;
-  bits = All-append (λ bit. bit ≤ 1) d p bd bp;
-  multiple = multiple_of_word 184 40 d p g40 ed bd multiple;
+  bits = All-append IsBit d p bd bp;
+  multiple = multiple_of_word 184 40 d p g40 ed ep bd refl (lit≤ tt) multiple;
 }
 
 -- what completes the information bits is the parity of a word, turned over
-pub turned_parity : (d p r : List ℕ) → length d ≡ 184 → length r ≡ 40 → AllBits r → IsMultiple (d ++ r) g40 →
+pub turned_parity : (d p r : List ℕ) → length d ≡ 184 → length r ≡ 40 → AllBits r → HasQuotient (d ++ r) g40 →
     IsXcchWord (d ++ p) → add_bits p (replicate 40 1) ≡ r
 turned_parity d p r ed er br multiple word =
     let ep : length p ≡ 40 = omega (arith, word.count, length-append d p) in
     same_remainder_of_g40 d (add_bits p (replicate 40 1)) r
     (length-add_bits p (replicate 40 1) ep ∙ ep) (AllBits-add_bits p (replicate 40 1)) er br
-    (multiple_of_parts 184 40 d p g40 ed (first_bits d p word.bits) word.multiple) multiple
+    (quotient_of_parts 184 40 d p g40 ed (AllBits-front d p word.bits) word.multiple) multiple
 
 pub same_xcch_parity : (d p p' : List ℕ) (register : ℕ) → length d ≡ 184 → AllBits p' → length p' ≡ 40 →
-    add_bits p' (replicate 40 1) ≡ register_bits 40 register → IsMultiple (d ++ register_bits 40 register) g40 →
+    add_bits p' (replicate 40 1) ≡ register_bits 40 register → HasQuotient (d ++ register_bits 40 register) g40 →
     IsXcchWord (d ++ p) → p ≡ p'
 same_xcch_parity d p p' register ed bp' ep' is multiple word =
     let ep : length p ≡ 40 = omega (arith, word.count, length-append d p) in
     let turned = turned_parity d p (register_bits 40 register) ed (length-register_bits 40 register) (AllBits-register_bits 40 register) multiple word in
-    sym (add_bits_twice p (replicate 40 1) (second_bits d p word.bits) ep)
+    sym (add_bits_twice p (replicate 40 1) (AllBits-back d p word.bits) ep)
     ∙ ap (λ x. add_bits x (replicate 40 1)) (turned ∙ sym is)
     ∙ add_bits_twice p' (replicate 40 1) bp' ep'
 
@@ -45,7 +44,7 @@ forty_ones = refl
 
 -- a word is 184 bits and what completes them, turned over
 pub xcch_word_of : (w d p : List ℕ) (register check : ℕ) → w ≡ d ++ p → length d ≡ 184 → AllBits d → length p ≡ 40 → AllBits p →
-    register_bits 40 check ≡ p → IsMultiple (d ++ register_bits 40 register) g40 →
+    register_bits 40 check ≡ p → HasQuotient (d ++ register_bits 40 register) g40 →
     bit_xor register check ≡ 0xffffffffff → IsXcchWord w
 xcch_word_of w d p register check split ed bd ep bp held multiple same =
     let r = register_bits 40 register in
@@ -58,10 +57,10 @@ xcch_word_of w d p register check split ed bd ep bp held multiple same =
     ∙ forty_ones in
     let turned : r ≡ add_bits p (replicate 40 1) =
     sym (add_bits_again p r (AllBits-register_bits 40 register) (er ∙ sym ep)) ∙ ap (λ x. add_bits p x) sum in
-    subst IsXcchWord (sym split) (xcch_word d p ed bd ep bp (subst (λ x. IsMultiple (d ++ x) g40) turned multiple))
+    subst IsXcchWord (sym split) (xcch_word d p ed bd ep bp (subst (λ x. HasQuotient (d ++ x) g40) turned multiple))
 
 pub register_of_xcch_word : (w d p : List ℕ) (register check : ℕ) → w ≡ d ++ p → length d ≡ 184 → length p ≡ 40 →
-    register_bits 40 check ≡ p → register < 2 ^ 40 → check < 2 ^ 40 → IsMultiple (d ++ register_bits 40 register) g40 →
+    register_bits 40 check ≡ p → register < 2 ^ 40 → check < 2 ^ 40 → HasQuotient (d ++ register_bits 40 register) g40 →
     IsXcchWord w → bit_xor register check ≡ 0xffffffffff
 register_of_xcch_word w d p register check split ed ep held within within' multiple word =
     let r = register_bits 40 register in

@@ -1,6 +1,6 @@
 ghost use Rattle.std.specs.Prelude.{◌≡◌, ◌<◌, ◌≤◌, ◌^◌, ◌++◌, ◌∷◌, length, replicate};
 ghost use Rattle.bit_blocks.specs.Bits.{AllBits, add_bits};
-ghost use Rattle.bit_blocks.specs.Polynomials.{IsMultiple};
+ghost use Rattle.bit_blocks.specs.Polynomials.{HasQuotient};
 ghost use Rattle.fire_code.specs.Registers.{register_bits};
 
 use crate::registers::places;
@@ -13,7 +13,7 @@ pub(crate) fn parity<const N: usize>(info: &[u8], taps: u64) -> Bits<N>
     requires degree { 0 < N }
     requires fits { N ≤ 64 }
     requires taps { taps < 2 ^ N }
-    ensures multiple { IsMultiple (info.now ++ add_bits result (replicate N 1)) (1 ∷ register_bits N taps) }
+    ensures multiple { HasQuotient (info.now ++ add_bits result (replicate N 1)) (1 ∷ register_bits N taps) }
     ensures count { length result ≡ N }
     ensures bits { AllBits result }
 {
@@ -25,7 +25,7 @@ fn remainder<const N: usize>(bits: &[u8], taps: u64) -> u64
     requires bits { AllBits bits.now }
     requires degree { 0 < N }
     requires taps { taps < 2 ^ N }
-    ensures multiple { IsMultiple (bits.now ++ register_bits N result) (1 ∷ register_bits N taps) }
+    ensures multiple { HasQuotient (bits.now ++ register_bits N result) (1 ∷ register_bits N taps) }
     ensures within { result < 2 ^ N }
 {
     let mut register = 0;

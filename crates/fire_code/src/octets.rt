@@ -1,7 +1,7 @@
 ghost use Rattle.std.specs.Prelude.{◌≡◌, ℕ, ◌*◌, ◌/◌, ◌<◌, ◌^◌, ◌++◌, List, length};
 ghost use Rattle.bit_blocks.specs.Bits.{AllBits};
 ghost use Rattle.bit_blocks.specs.Octets.{octet_bits};
-ghost use Rattle.bit_blocks.specs.Polynomials.{IsMultiple};
+ghost use Rattle.bit_blocks.specs.Polynomials.{HasQuotient, IsMultiple};
 ghost use Rattle.fire_code.specs.Registers.{register_bits};
 ghost use Rattle.fire_code.specs.Words.{g40};
 
@@ -283,7 +283,7 @@ pub fn octet_remainder(octet: u8) -> Bits<40>
 pub(crate) fn remainder(bits: &[u8]) -> u64
     requires bits { AllBits bits.now }
     requires whole { length bits.now ≡ 8 * (length bits.now / 8) }
-    ensures multiple { IsMultiple (bits.now ++ register_bits 40 result) g40 }
+    ensures multiple { HasQuotient (bits.now ++ register_bits 40 result) g40 }
     ensures within { result < 2 ^ 40 }
 {
     let mut register = 0;
@@ -297,7 +297,7 @@ pub(crate) fn remainder(bits: &[u8]) -> u64
 /// What completes an octet.
 #[inline]
 fn entry(octet: u8) -> u64
-    ensures multiple { IsMultiple (register_bits 8 octet ++ register_bits 40 result) g40 }
+    ensures multiple { HasQuotient (register_bits 8 octet ++ register_bits 40 result) g40 }
     ensures within { result < 2 ^ 40 }
 {
     REMAINDERS[octet as usize]

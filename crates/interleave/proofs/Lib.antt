@@ -1,7 +1,9 @@
-pub mod Below
-pub mod Bijection
-pub mod BurstPlaces
-pub mod CodedBits
-pub mod HalfBursts
-pub mod Orders
-pub mod WholeBursts
+mod Below
+mod Bijection
+mod BurstPlaces
+mod CodedBits
+mod Existence
+mod HalfBursts
+pub mod Lemmas
+mod Orders
+mod WholeBursts

@@ -4,7 +4,7 @@ ghost use Rattle.interleave.specs.Places.{burst_of, place_of};
 
 use crate::table::coded_bits;
 
-/// The soft values of a block's coded bits, from those of its four bursts: what `spread` does, undone.
+/// The soft values of a block's coded bits, from those of its four bursts.
 pub fn gather(parts: &[[i8; 114]; 4]) -> [i8; 456]
     ensures interleaved { IsInterleaved result parts.now }
     ensures only { (coded : List ℤ) → IsInterleaved coded parts.now → coded ≡ result }

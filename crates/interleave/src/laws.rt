@@ -2,8 +2,8 @@ ghost use Rattle.std.specs.Prelude.{◌≡◌, ℕ, ℤ, ◌<◌, List, All, Con
 ghost use Rattle.interleave.specs.Bursts.{IsInterleaved, AreGathered};
 ghost use Rattle.interleave.specs.Places.{burst_of, place_of, burst_place};
 
-/// Law: the coded bits and the places of the four bursts belong to each other one by one, and among the 592 places of
-/// a block's bursts no two coded bits have the same.
+/// Law: coded bits and places of the four bursts belong to each other one by one (a bijection), and no two coded bits have
+/// the same of the 592 places of a block's bursts (an injection).
 pub fn law_places()
     ensures onto { (b i : ℕ) → b < 4 → i < 114 → (k : ℕ) × (k < 456) × (burst_of k ≡ b) × (place_of k ≡ i) }
     ensures one_to_one { (k l : ℕ) → k < 456 → l < 456 → burst_of k ≡ burst_of l → place_of k ≡ place_of l → k ≡ l }

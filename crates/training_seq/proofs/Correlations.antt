@@ -3,17 +3,17 @@ use Rattle.std.proofs.Common.{zero, suc, ◌≤◌, [], refl, ◌≡◌, ℕ, �
 use Rattle.std.proofs.lemmas.List.{drop_more}
 use Rattle.std.proofs.lemmas.Int.{ints}
 use Rattle.std.proofs.lemmas.List.Elements.{All-head, All-tail}
-use Rattle.bit_blocks.specs.Bits.{AllBits}
-use Rattle.training_seq.specs.Correlation.{agreement, correlation}
+use Rattle.bit_blocks.specs.Bits.{IsBit, AllBits}
+use Rattle.bit_blocks.specs.SoftValues.{agreement, likelihood}
 use Rattle.training_seq.specs.Sums.{add_values}
 
 pub correlation_more : (soft : List ℤ) (bits : List ℕ) (i : ℕ) (total all : ℤ) → i < length soft → i < length bits →
-    total +ℤ correlation (drop i soft) (drop i bits) ≡ all →
-    (total +ℤ agreement (get_or soft i (pos 0)) (get_or bits i 0)) +ℤ correlation (drop (i + 1) soft) (drop (i + 1) bits) ≡ all
+    total +ℤ likelihood (drop i soft) (drop i bits) ≡ all →
+    (total +ℤ agreement (get_or soft i (pos 0)) (get_or bits i 0)) +ℤ likelihood (drop (i + 1) soft) (drop (i + 1) bits) ≡ all
 correlation_more soft bits i total all hs hb before =
     let value = get_or soft i (pos 0) in
     let bit = get_or bits i 0 in
-    let next : total +ℤ (agreement value bit +ℤ correlation (drop (i + 1) soft) (drop (i + 1) bits)) ≡ all =
+    let next : total +ℤ (agreement value bit +ℤ likelihood (drop (i + 1) soft) (drop (i + 1) bits)) ≡ all =
     rw (drop_more soft i (pos 0), drop_more bits i 0) at before in
     omega (arith, ints)
 
@@ -40,13 +40,13 @@ get_or-add_values (x ∷ xs) (y ∷ ys) (suc k) e =
     get_or-add_values xs ys k e'
 
 pub correlation-add_values : (xs ys : List ℤ) (bits : List ℕ) → length xs ≡ length ys → AllBits bits →
-    correlation (add_values xs ys) bits ≡ correlation xs bits +ℤ correlation ys bits
+    likelihood (add_values xs ys) bits ≡ likelihood xs bits +ℤ likelihood ys bits
 correlation-add_values [] [] bits e b = refl
 correlation-add_values [] (y ∷ ys) bits e b = absurd (omega arith)
 correlation-add_values (x ∷ xs) [] bits e b = absurd (omega arith)
 correlation-add_values (x ∷ xs) (y ∷ ys) [] e b = refl
 correlation-add_values (x ∷ xs) (y ∷ ys) (bit ∷ bits) e b =
     let e' : length xs ≡ length ys = omega arith in
-    let here = agreement-add x y bit (All-head (λ bit. bit ≤ 1) bit bits b) in
-    let rest = correlation-add_values xs ys bits e' (All-tail (λ bit. bit ≤ 1) bit bits b) in
+    let here = agreement-add x y bit (All-head IsBit bit bits b) in
+    let rest = correlation-add_values xs ys bits e' (All-tail IsBit bit bits b) in
     omega (arith, ints, here, rest)

@@ -1,5 +1,5 @@
 -- The first of the greatest scores, one number more at a time.
-use Rattle.std.proofs.Common.{◌≡◌, ◌≢◌, ◌⊎◌, inl, inr, ℕ, ◌+◌, ◌<◌, ◌≤◌, ℤ, ◌<ℤ◌, ◌≤ℤ◌, arith}
+use Rattle.std.proofs.Common.{◌≡◌, ◌≢◌, ◌⊎◌, inl, inr, ℕ, zero, suc, sym, subst, ◌+◌, ◌<◌, ◌≤◌, ℤ, ◌<ℤ◌, ◌≤ℤ◌, arith}
 use Rattle.std.proofs.lemmas.Int.{ints, by_lt_z}
 use Rattle.std.proofs.lemmas.Bool.{cases_eq}
 use Rattle.training_seq.specs.Choice.{IsFirstGreatest}
@@ -61,3 +61,33 @@ IsFirstGreatest-same score total last best same first = record {
         | inr equal ↦ let e = equal.0 in let later = equal.1 in inr (omega (arith, ints), later)
       ];
 }
+
+leads : (score : ℕ → ℤ) (n : ℕ) → (best : ℕ) × LeadsBelow score (n + 1) best
+leads score zero = (0, LeadsBelow-one score)
+leads score (suc n) =
+    let before = leads score n in
+    let longer : n + 1 + 1 ≡ suc n + 1 = omega arith in
+    by_lt_z (score before.0) (score (n + 1))
+    (λ more. (n + 1, subst (λ k. LeadsBelow score k (n + 1)) longer (LeadsBelow-overtaken score (n + 1) before.0 before.1 more)))
+    (λ less. (before.0, subst (λ k. LeadsBelow score k before.0) longer (LeadsBelow-kept score (n + 1) before.0 before.1 less)))
+
+-- some number has the first greatest score
+pub some_first_greatest : (score : ℕ → ℤ) → (best : ℕ) × IsFirstGreatest score 7 best
+some_first_greatest score =
+    let found = leads score 7 in (found.0, IsFirstGreatest-from_LeadsBelow score found.0 found.1)
+
+-- and no other
+pub one_first_greatest : (score : ℕ → ℤ) (last m n : ℕ) → IsFirstGreatest score last m → IsFirstGreatest score last n → m ≡ n
+one_first_greatest score last m n h g = elim (cases_eq m n) [
+  | inl same ↦ same
+  | inr other ↦ elim (h.others n g.within (λ e. other (sym e))) [
+    | inl less ↦ elim (g.others m h.within other) [
+      | inl more ↦ absurd (omega (arith, ints))
+      | inr level ↦ let e = level.0 in absurd (omega (arith, ints))
+    ]
+    | inr behind ↦ elim (g.others m h.within other) [
+      | inl more ↦ let e = behind.0 in absurd (omega (arith, ints))
+      | inr ahead ↦ let e = behind.1 in let e' = ahead.1 in absurd (omega arith)
+    ]
+  ]
+]

@@ -1,4 +1,5 @@
-pub mod Correlations
-pub mod Greatest
-pub mod SequenceTable
-pub mod Widths
+mod Correlations
+mod Greatest
+pub mod Lemmas
+mod SequenceTable
+mod Widths

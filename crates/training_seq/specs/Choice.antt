@@ -1,7 +1,7 @@
 -- Which training sequence a receiver takes four bursts to have (this project's own rule).
 use Rattle.std.specs.Prelude.{ℕ, ◌≡◌, ◌≢◌, ◌+◌, ◌<◌, ◌≤◌, ◌⊎◌, ℤ, ◌+ℤ◌, ◌<ℤ◌, List}
 use Rattle.training_seq.specs.Sequences.{training_sequence}
-use Rattle.training_seq.specs.Correlation.{correlation, wrong_places}
+use Rattle.bit_blocks.specs.SoftValues.{likelihood, wrong_places}
 
 -- every other number up to the last has a smaller score, or an equal one and comes later
 pub record IsFirstGreatest (score : ℕ → ℤ) (last best : ℕ) : Type 0 where
@@ -12,7 +12,7 @@ pub record IsFirstGreatest (score : ℕ → ℤ) (last best : ℕ) : Type 0 wher
 abbrev pub total_correlation : (a b c d : List ℤ) → ℕ → ℤ
 total_correlation a b c d tsc =
     let bits = training_sequence tsc in
-    ((correlation a bits +ℤ correlation b bits) +ℤ correlation c bits) +ℤ correlation d bits
+    ((likelihood a bits +ℤ likelihood b bits) +ℤ likelihood c bits) +ℤ likelihood d bits
 
 -- the sequence with the greatest sum, and the least code among equal sums
 abbrev pub IsBestSequence : (a b c d : List ℤ) → ℕ → Type 0

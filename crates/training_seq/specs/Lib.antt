@@ -1,5 +1,4 @@
 pub mod Choice
-pub mod Correlation
 pub mod Ranges
 pub mod Sequences
 pub mod Sums

@@ -1,12 +1,13 @@
 ghost use Rattle.std.specs.Prelude.{◌≡◌, ◌<◌, ◌≤◌, ◌+ℤ◌, length, All};
 ghost use Rattle.training_seq.specs.Choice.{IsFirstGreatest, IsBestSequence, total_wrong_places};
-ghost use Rattle.training_seq.specs.Correlation.{correlation, wrong_places};
+ghost use Rattle.bit_blocks.specs.SoftValues.{likelihood, wrong_places};
 ghost use Rattle.training_seq.specs.Ranges.{IsWithin};
 ghost use Rattle.training_seq.specs.Sequences.{training_sequence};
 ghost use Rattle.training_seq.specs.Sums.{add_values, value_at};
 
-use crate::correlation::{correlate_sums, turned};
+use crate::correlation::correlate_sums;
 use crate::sequences::sequence;
+use bit_blocks::wrong_places;
 
 /// The training sequence that the training parts of four bursts agree with most, and how many of their 104 places
 /// are wrong for it.
@@ -55,7 +56,7 @@ fn sum_at(a: &[i8], b: &[i8], c: &[i8], d: &[i8], i: usize) -> i16
 
 fn strongest(sums: &[i16; 26]) -> u8
     requires small { All (IsWithin 512) sums.now }
-    ensures { IsFirstGreatest (λ tsc. correlation sums.now (training_sequence tsc)) 7 result }
+    ensures { IsFirstGreatest (λ tsc. likelihood sums.now (training_sequence tsc)) 7 result }
 {
     let mut best = 0;
     let mut greatest = correlate_sums(sums, 0);
@@ -75,12 +76,5 @@ fn count_wrong(soft: &[i8], tsc: u8) -> u32
     ensures value { result ≡ wrong_places soft.now (training_sequence tsc) }
     ensures within { result ≤ 26 }
 {
-    let bits = sequence(tsc);
-    let mut wrong = 0;
-    for (i, value) in soft.iter().enumerate() {
-        if turned(i16::from(*value), bits[i]) <= 0 {
-            wrong += 1;
-        }
-    }
-    wrong
+    wrong_places(soft, &sequence(tsc))
 }

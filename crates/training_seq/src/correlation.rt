@@ -1,5 +1,5 @@
 ghost use Rattle.std.specs.Prelude.{◌≡◌, ◌≤◌, length, All, neg_ℤ, pos, ◌≤ℤ◌};
-ghost use Rattle.training_seq.specs.Correlation.{agreement, correlation};
+ghost use Rattle.bit_blocks.specs.SoftValues.{agreement, likelihood};
 ghost use Rattle.training_seq.specs.Ranges.{IsWithin};
 ghost use Rattle.training_seq.specs.Sequences.{training_sequence};
 
@@ -9,7 +9,7 @@ use crate::sequences::sequence;
 pub fn correlate(soft: &[i8], tsc: u8) -> i32
     requires count { length soft.now ≡ 26 }
     requires known { tsc ≤ 7 }
-    ensures { result ≡ correlation soft.now (training_sequence tsc) }
+    ensures { result ≡ likelihood soft.now (training_sequence tsc) }
 {
     i32::from(correlate_sums(&widened(soft), tsc))
 }
@@ -29,7 +29,7 @@ fn widened(soft: &[i8]) -> [i16; 26]
 pub(crate) fn correlate_sums(sums: &[i16; 26], tsc: u8) -> i16
     requires small { All (IsWithin 512) sums.now }
     requires known { tsc ≤ 7 }
-    ensures { result ≡ correlation sums.now (training_sequence tsc) }
+    ensures { result ≡ likelihood sums.now (training_sequence tsc) }
 {
     let bits = sequence(tsc);
     let mut total = 0;
@@ -40,7 +40,7 @@ pub(crate) fn correlate_sums(sums: &[i16; 26], tsc: u8) -> i16
 }
 
 // A value as it is for a 0, with its sign turned for a 1.
-pub(crate) fn turned(value: i16, bit: u8) -> i16
+fn turned(value: i16, bit: u8) -> i16
     requires small { IsWithin 512 value }
     requires bit { bit ≤ 1 }
     ensures agrees { result ≡ agreement value bit }

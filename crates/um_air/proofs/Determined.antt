@@ -12,8 +12,7 @@ use Rattle.lapdm_window.specs.declared.Notice.{Notice}
 use Rattle.lapdm_window.specs.Ends.{Role}
 use Rattle.um_block.specs.declared.received.Received.{Received}
 use Rattle.um_block.specs.Received.{softened, IsReceivedBlock}
-use Rattle.um_block.proofs.ReceivedOnce.{one_received_block}
-use Rattle.um_block.proofs.SentOnce.{one_sent_block}
+use Rattle.um_block.proofs.Lemmas.{one_received_block, one_sent_block}
 use Rattle.lapdm_link.specs.Ways.{with_more}
 use Rattle.lapdm_link.specs.Events as E
 use Rattle.lapdm_link.specs.Events.{Open, OpenBare, Ask, Deliver, Lose, Rival, Who, sender_of, Deed, deed, taken, Why, Nothing}

@@ -13,10 +13,7 @@ use Rattle.lapdm_window.specs.Ends.{Role}
 use Rattle.um_block.specs.Sent.{IsSentBlock}
 use Rattle.um_block.specs.declared.received.Received.{Received}
 use Rattle.um_block.specs.Received.{softened, IsReceivedBlock}
-use Rattle.um_block.proofs.SentExists.{some_sent_block}
-use Rattle.um_block.proofs.SentShapes.{sent_block_bits}
-use Rattle.um_block.proofs.ReceivedExists.{some_received_block}
-use Rattle.um_block.proofs.AcceptedOctets.{accepted_count}
+use Rattle.um_block.proofs.Lemmas.{some_sent_block, sent_block_bits, some_received_block, accepted_count}
 use Rattle.lapdm_link.specs.Ways.{Ways, no_ways, way, with_more}
 use Rattle.lapdm_link.specs.Events as E
 use Rattle.lapdm_link.specs.Events.{Open, OpenBare, Ask, Deliver, Lose, Rival, sender_of, Deed, deed, taken, Why, Nothing, unless, is_empty}

@@ -1,26 +1,12 @@
 -- What is accepted of a block are 23 octets.
-use Rattle.std.proofs.Common.{◌≡◌, ℕ, ℤ, zero, suc, ◌*◌, List, [], ◌∷◌, length, take, Option, Some, None, refl, ap, ◌∙◌, arith}
+use Rattle.std.proofs.Common.{◌≡◌, ℕ, ℤ, List, length, take, Option, Some, None, ap, ◌∙◌, arith}
 use Rattle.std.specs.Prelude.{IfSome, MatchOption}
 use Rattle.std.proofs.lemmas.List.{length-take, length-take-le}
+use Rattle.bit_blocks.specs.Octets.{octets_of}
+use Rattle.bit_blocks.proofs.Lemmas.{length-octets_of}
 use Rattle.fire_code.specs.Words.{IsXcchWord}
-use Rattle.um_block.specs.Packed.{octets_of}
 use Rattle.um_block.specs.Received.{IsReceivedBlock}
 use Rattle.um_block.specs.declared.received.Received.{Received}
-
-length-octets_of : (n : ℕ) (bits : List ℕ) → length bits ≡ 8 * n → length (octets_of bits) ≡ n
-length-octets_of zero [] e = refl
-length-octets_of (suc n) [] e = absurd (omega arith)
-length-octets_of n (a ∷ []) e = absurd (omega arith)
-length-octets_of n (a ∷ b ∷ []) e = absurd (omega arith)
-length-octets_of n (a ∷ b ∷ c ∷ []) e = absurd (omega arith)
-length-octets_of n (a ∷ b ∷ c ∷ d ∷ []) e = absurd (omega arith)
-length-octets_of n (a ∷ b ∷ c ∷ d ∷ f ∷ []) e = absurd (omega arith)
-length-octets_of n (a ∷ b ∷ c ∷ d ∷ f ∷ g ∷ []) e = absurd (omega arith)
-length-octets_of n (a ∷ b ∷ c ∷ d ∷ f ∷ g ∷ h ∷ []) e = absurd (omega arith)
-length-octets_of zero (a ∷ b ∷ c ∷ d ∷ f ∷ g ∷ h ∷ i ∷ bits) e = absurd (omega arith)
-length-octets_of (suc n) (a ∷ b ∷ c ∷ d ∷ f ∷ g ∷ h ∷ i ∷ bits) e =
-    let fewer : length bits ≡ 8 * n = omega arith in
-    ap suc (length-octets_of n bits fewer)
 
 accepted_of : (u : List ℕ) (accepted : Option (List ℕ)) →
     MatchOption accepted (¬ IsXcchWord (take 224 u)) (λ octets. IsXcchWord (take 224 u) × (octets ≡ octets_of (take 184 u))) →

@@ -5,16 +5,13 @@ use Rattle.std.specs.List.{All}
 use Rattle.std.proofs.lemmas.Bool.{eqb-true}
 use Rattle.std.proofs.lemmas.List.{take_at, drop_at, take-map, drop-map, map-append, length-map, get_or-map, take-append-drop, length-take, length-drop}
 use Rattle.std.proofs.lemmas.List.Elements.{All-head, All-tail}
-use Rattle.bit_blocks.specs.Bits.{AllBits}
-use Rattle.interleave.specs.Bursts.{IsInterleaved}
-use Rattle.interleave.specs.Places.{burst_of, place_of}
-use Rattle.interleave.proofs.WholeBursts.{burst_of-below, place_of-below}
-use Rattle.interleave.proofs.Below.{passes_below, at_passes_below}
+use Rattle.bit_blocks.specs.Bits.{IsBit, AllBits}
+use Rattle.bit_blocks.specs.SoftValues.{wrong_places}
+use Rattle.interleave.proofs.Lemmas.{passes_below, at_passes_below}
 use Rattle.trellis_decode.proofs.Searching.{less_by_test}
 use Rattle.training_seq.specs.Choice.{IsFirstGreatest, total_correlation}
-use Rattle.training_seq.specs.Correlation.{wrong_places}
 use Rattle.training_seq.specs.Sequences.{training_sequence}
-use Rattle.training_seq.proofs.SequenceTable.{length-training_sequence}
+use Rattle.training_seq.proofs.Lemmas.{length-training_sequence}
 use Rattle.burst_map.specs.Tails.{tail_bits}
 use Rattle.burst_map.specs.NormalBurst as N
 use Rattle.burst_map.specs.AccessBurst as A
@@ -31,11 +28,16 @@ range_at front part back i j hf hp = ap (take (j - i)) (drop_at front (part ++ b
 pub softened-range : (bits : List ℕ) (i j : ℕ) → slice_range (softened bits) i j ≡ softened (slice_range bits i j)
 softened-range bits i j = ap (take (j - i)) (drop-map soft_value i bits) ∙ take-map soft_value (j - i) (drop i bits)
 
--- a part of a softened burst, which the burst has between two others
+-- a part of a burst, which the burst has between two others
+part_at : (burst front part back : List ℕ) (i j : ℕ) → burst ≡ front ++ (part ++ back) → length front ≡ i → length part ≡ j - i →
+    slice_range burst i j ≡ part
+part_at burst front part back i j whole hf hp = ap (λ b. slice_range b i j) whole ∙ range_at front part back i j hf hp
+
+-- the same part of the softened burst
 softened_part : (burst front part back : List ℕ) (i j : ℕ) → burst ≡ front ++ (part ++ back) → length front ≡ i → length part ≡ j - i →
     slice_range (softened burst) i j ≡ softened part
 softened_part burst front part back i j whole hf hp =
-    softened-range burst i j ∙ ap softened (ap (λ b. slice_range b i j) whole ∙ range_at front part back i j hf hp)
+    softened-range burst i j ∙ ap softened (part_at burst front part back i j whole hf hp)
 
 module _ (a b c d e f g : List ℕ) where
   second_of_seven : a ++ b ++ c ++ d ++ e ++ f ++ g ≡ a ++ (b ++ (c ++ d ++ e ++ f ++ g))
@@ -53,25 +55,25 @@ module _ (first second : List ℕ) (tsc : ℕ) (known : tsc ≤ 7) (hf : length 
   flag : List ℕ
   flag = 1 ∷ []
 
-  normal_first : N.first_half (softened (N.normal_burst first second tsc)) ≡ softened first
+  normal_first : slice_range (N.normal_burst first second tsc) 3 60 ≡ first
   unfolding flag
   normal_first =
-      softened_part (N.normal_burst first second tsc) tail_bits first _ 3 60
+      part_at (N.normal_burst first second tsc) tail_bits first _ 3 60
       (second_of_seven tail_bits first flag (training_sequence tsc) flag second tail_bits) refl hf
 
-  normal_training : N.training (softened (N.normal_burst first second tsc)) ≡ softened (training_sequence tsc)
+  normal_training : slice_range (N.normal_burst first second tsc) 61 87 ≡ training_sequence tsc
   unfolding flag
   normal_training =
-      softened_part (N.normal_burst first second tsc) (tail_bits ++ first ++ flag) (training_sequence tsc) _ 61 87
+      part_at (N.normal_burst first second tsc) (tail_bits ++ first ++ flag) (training_sequence tsc) _ 61 87
       (fourth_of_seven tail_bits first flag (training_sequence tsc) flag second tail_bits)
       (omega (arith, length-append (tail_bits ++ first) flag, length-append tail_bits first)) (length-training_sequence tsc known)
 
-  normal_second : N.second_half (softened (N.normal_burst first second tsc)) ≡ softened second
+  normal_second : slice_range (N.normal_burst first second tsc) 88 145 ≡ second
   unfolding flag
   normal_second =
       let sequence = training_sequence tsc in
       let long = length-training_sequence tsc known in
-      softened_part (N.normal_burst first second tsc) (tail_bits ++ first ++ flag ++ sequence ++ flag) second tail_bits 88 145
+      part_at (N.normal_burst first second tsc) (tail_bits ++ first ++ flag ++ sequence ++ flag) second tail_bits 88 145
       (sixth_of_seven tail_bits first flag sequence flag second tail_bits)
       (omega (
         arith,
@@ -80,6 +82,10 @@ module _ (first second : List ℕ) (tsc : ℕ) (known : tsc ≤ 7) (hf : length 
         length-append (tail_bits ++ first) flag,
         length-append tail_bits first,
       )) hs
+
+-- the 114 coded places of a burst
+abbrev pub halves : {X : Type 0} → List X → List X
+halves burst = slice_range burst 3 60 ++ slice_range burst 88 145
 
 -- the burst of 114 coded bits
 abbrev pub burst_of_part : ℕ → List ℕ → List ℕ
@@ -92,26 +98,35 @@ module _ (part : List ℕ) (tsc : ℕ) (known : tsc ≤ 7) (count : length part 
   back_half : length (drop 57 part) ≡ 57
   back_half = omega (arith, length-drop 57 part)
 
-  clean_places : coded_places (softened (burst_of_part tsc part)) ≡ softened part
-  clean_places =
+  part_halves : halves (burst_of_part tsc part) ≡ part
+  part_halves =
       ap₂ (λ x y. x ++ y)
       (normal_first (take 57 part) (drop 57 part) tsc known front_half back_half)
       (normal_second (take 57 part) (drop 57 part) tsc known front_half back_half)
-      ∙ sym (map-append soft_value (take 57 part) (drop 57 part))
-      ∙ ap softened (take-append-drop 57 part)
+      ∙ take-append-drop 57 part
 
   clean_training : N.training (softened (burst_of_part tsc part)) ≡ softened (training_sequence tsc)
-  clean_training = normal_training (take 57 part) (drop 57 part) tsc known front_half back_half
+  clean_training =
+      softened-range (burst_of_part tsc part) 61 87
+      ∙ ap softened (normal_training (take 57 part) (drop 57 part) tsc known front_half back_half)
 
 abbrev IsPart : List ℕ → Type 0
 IsPart part = length part ≡ 114
 
-pub clean_parts : (parts : List (List ℕ)) (tsc : ℕ) → tsc ≤ 7 → All IsPart parts →
-    map coded_places (map softened (map (burst_of_part tsc) parts)) ≡ map softened parts
-clean_parts [] tsc known each = refl
-clean_parts (part ∷ parts) tsc known each =
-    ap₂ (λ x y. x ∷ y) (clean_places part tsc known (All-head IsPart part parts each))
-    (clean_parts parts tsc known (All-tail IsPart part parts each))
+pub parts_of_bursts : (parts : List (List ℕ)) (tsc : ℕ) → tsc ≤ 7 → All IsPart parts → map halves (map (burst_of_part tsc) parts) ≡ parts
+parts_of_bursts [] tsc known each = refl
+parts_of_bursts (part ∷ parts) tsc known each =
+    ap₂ (λ x y. x ∷ y) (part_halves part tsc known (All-head IsPart part parts each))
+    (parts_of_bursts parts tsc known (All-tail IsPart part parts each))
+
+-- the coded places of softened bursts
+pub softened_halves : (bursts : List (List ℕ)) → map coded_places (map softened bursts) ≡ map softened (map halves bursts)
+softened_halves [] = refl
+softened_halves (burst ∷ bursts) =
+    ap₂ (λ x y. x ∷ y)
+    (ap₂ (λ x y. x ++ y) (softened-range burst 3 60) (softened-range burst 88 145)
+    ∙ sym (map-append soft_value (slice_range burst 3 60) (slice_range burst 88 145)))
+    (softened_halves bursts)
 
 pub clean_training_of : (parts : List (List ℕ)) (tsc b : ℕ) → tsc ≤ 7 → All IsPart parts → b < length parts →
     N.training (get_or (map softened (map (burst_of_part tsc) parts)) b []) ≡ softened (training_sequence tsc)
@@ -120,37 +135,15 @@ clean_training_of (part ∷ parts) tsc zero known each h = clean_training part t
 clean_training_of (part ∷ parts) tsc (suc b) known each h =
     clean_training_of parts tsc b known (All-tail IsPart part parts each) (omega arith)
 
--- the sure values of interleaved bits are interleaved
-pub IsInterleaved-softened : (c : List ℕ) (parts : List (List ℕ)) → IsInterleaved c parts → IsInterleaved (softened c) (map softened parts)
-IsInterleaved-softened c parts spread = record {
-  coded_count = length-map c soft_value ∙ spread.coded_count;
-  burst_count = length-map parts softened ∙ spread.burst_count;
-  each_count = λ i d h.
-      let within : i < length parts = subst (λ n. i < n) (length-map parts softened) h in
-      ap length (get_or-map softened parts i [] d within)
-      ∙ length-map (get_or parts i []) soft_value
-      ∙ spread.each_count i [] within;
-  places = λ k d h.
-      let b = burst_of k in
-      let j = place_of k in
-      let within : b < length parts = subst (λ n. b < n) (sym spread.burst_count) (burst_of-below k) in
-      let place : j < length (get_or parts b []) = subst (λ n. j < n) (sym (spread.each_count b [] within)) (place_of-below k) in
-      let here : k < length c = subst (λ n. k < n) (sym spread.coded_count) h in
-      ap (λ values. get_or values j d) (get_or-map softened parts b [] [] within)
-      ∙ get_or-map soft_value (get_or parts b []) j 0 d place
-      ∙ ap soft_value (spread.places k 0 h)
-      ∙ sym (get_or-map soft_value c k 0 d here);
-}
-
 -- ---- the training places
 
 -- no place of a sequence is wrong against itself
 pub wrong_places-own : (bits : List ℕ) → AllBits bits → wrong_places (softened bits) bits ≡ 0
 wrong_places-own [] all = refl
-wrong_places-own (zero ∷ bits) all = zero-add _ ∙ wrong_places-own bits (All-tail (λ bit. bit ≤ 1) 0 bits all)
-wrong_places-own (suc zero ∷ bits) all = zero-add _ ∙ wrong_places-own bits (All-tail (λ bit. bit ≤ 1) 1 bits all)
+wrong_places-own (zero ∷ bits) all = zero-add _ ∙ wrong_places-own bits (All-tail IsBit 0 bits all)
+wrong_places-own (suc zero ∷ bits) all = zero-add _ ∙ wrong_places-own bits (All-tail IsBit 1 bits all)
 wrong_places-own (suc (suc x) ∷ bits) all =
-    let head = All-head (λ bit. bit ≤ 1) (suc (suc x)) bits all in absurd (omega arith)
+    let head = All-head IsBit (suc (suc x)) bits all in absurd (omega arith)
 
 -- the sum of the correlations of four training parts that come as they were sent
 total : ℕ → ℕ → ℤ

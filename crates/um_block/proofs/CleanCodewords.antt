@@ -4,15 +4,14 @@ use Rattle.std.proofs.lemmas.Int.{ints}
 use Rattle.std.proofs.lemmas.Bool.{cases_eq}
 use Rattle.std.proofs.lemmas.List.{length-map}
 use Rattle.std.proofs.lemmas.List.Elements.{All-head, All-tail}
-use Rattle.bit_blocks.specs.Bits.{AllBits}
+use Rattle.bit_blocks.specs.Bits.{IsBit, AllBits}
 use Rattle.conv_code.specs.Code.{coded, IsInformation}
+use Rattle.conv_code.proofs.Lemmas.{AllBits-coded, length-coded}
 use Rattle.conv_code.specs.Likelihood.{agreement, likelihood, IsMostLikely}
 use Rattle.trellis_decode.specs.Trellis.{next, first_bit, coded_from}
 use Rattle.trellis_decode.proofs.Lists.{coded_from_start}
 use Rattle.trellis_decode.proofs.MostLikely.{IsMostLikely-only}
 use Rattle.um_block.specs.Received.{soft_value, softened}
-use Rattle.um_block.proofs.Information.{AllBits-coded}
-use Rattle.um_block.proofs.SentExists.{length-coded}
 
 -- a sure value counts 127 for its own bit, and -127 for the other
 agreement-own : (x : ℕ) → x ≤ 1 → agreement (soft_value x) x ≡ pos 127
@@ -32,8 +31,8 @@ agreement-other (suc zero) (suc (suc y)) hx hy ne = absurd (omega arith)
 likelihood-own : (c : List ℕ) → AllBits c → likelihood (softened c) c ≡ pos (127 * length c)
 likelihood-own [] bits = refl
 likelihood-own (x ∷ c) bits =
-    let here = agreement-own x (All-head (λ bit. bit ≤ 1) x c bits) in
-    let rest = likelihood-own c (All-tail (λ bit. bit ≤ 1) x c bits) in
+    let here = agreement-own x (All-head IsBit x c bits) in
+    let rest = likelihood-own c (All-tail IsBit x c bits) in
     omega (arith, ints, here, rest)
 
 -- bits are the same as those of the sure values, or agree less
@@ -43,11 +42,11 @@ agrees_less [] [] bc bd e = inl refl
 agrees_less [] (y ∷ d) bc bd e = absurd (omega arith)
 agrees_less (x ∷ c) [] bc bd e = absurd (omega arith)
 agrees_less (x ∷ c) (y ∷ d) bc bd e =
-    let hx : x ≤ 1 = All-head (λ bit. bit ≤ 1) x c bc in
-    let hy : y ≤ 1 = All-head (λ bit. bit ≤ 1) y d bd in
-    let bc' = All-tail (λ bit. bit ≤ 1) x c bc in
+    let hx : x ≤ 1 = All-head IsBit x c bc in
+    let hy : y ≤ 1 = All-head IsBit y d bd in
+    let bc' = All-tail IsBit x c bc in
     let e' : length c ≡ length d = omega arith in
-    let rest = agrees_less c d bc' (All-tail (λ bit. bit ≤ 1) y d bd) e' in
+    let rest = agrees_less c d bc' (All-tail IsBit y d bd) e' in
     elim (cases_eq x y) [
       | inl same ↦ elim rest [
         | inl all ↦ inl (ap₂ (λ z w. z ∷ w) same all)
@@ -78,10 +77,10 @@ same_information state (x ∷ u) (y ∷ v) bu bv e same =
     let first : first_bit state x ≡ first_bit state y = cc in
     let tail : coded_from (next state x) u ≡ coded_from (next state y) v = cc in
     let head : x ≡ y =
-    same_bit x y (state / 4 % 2) (state / 8 % 2) (All-head (λ bit. bit ≤ 1) x u bu) (All-head (λ bit. bit ≤ 1) y v bv) first in
+    same_bit x y (state / 4 % 2) (state / 8 % 2) (All-head IsBit x u bu) (All-head IsBit y v bv) first in
     let tail' : coded_from (next state x) u ≡ coded_from (next state x) v = tail ∙ ap (λ z. coded_from (next state z) v) (sym head) in
     ap₂ (λ z w. z ∷ w) head
-    (same_information (next state x) u v (All-tail (λ bit. bit ≤ 1) x u bu) (All-tail (λ bit. bit ≤ 1) y v bv) e' tail')
+    (same_information (next state x) u v (All-tail IsBit x u bu) (All-tail IsBit y v bv) e' tail')
 
 -- two information lists of one length have different coded lists
 pub one_information : (u v : List ℕ) → AllBits u → AllBits v → length u ≡ length v → coded u ≡ coded v → u ≡ v

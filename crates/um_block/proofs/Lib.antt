@@ -1,14 +1,15 @@
-pub mod CleanRestoring
-pub mod CleanBursts
-pub mod CleanCodewords
-pub mod ReceivedExists
-pub mod ReceivedOnce
-pub mod OctetsOfBits
-pub mod Softness
-pub mod Information
-pub mod SentOnce
-pub mod SpreadParts
-pub mod SentExists
-pub mod SentShapes
-pub mod Restoring
-pub mod AcceptedOctets
+mod AcceptedOctets
+mod BlockPlaces
+mod CleanBursts
+mod CleanCodewords
+mod CleanRestoring
+pub mod Lemmas
+mod ReceivedExists
+mod ReceivedOnce
+mod Restoring
+mod SentExists
+mod SentOnce
+mod SentShapes
+mod Softness
+mod SpreadParts
+mod Words

@@ -1,35 +1,32 @@
 -- Every burst and every block is received in some way.
-use Rattle.std.proofs.Common.{◌≡◌, ◌≢◌, ◌⊎◌, inl, inr, ℕ, zero, suc, ◌+◌, ◌-◌, ◌*◌, ◌^◌, ◌<◌, ◌≤◌, ℤ, pos, Option, Some, None, List, [], ◌++◌, map, take, drop, length, get_or, subst, ap, ap₂, sym, ◌∙◌, refl, arith, lit≤}
+use Rattle.std.proofs.Common.{◌≡◌, ◌≢◌, ◌⊎◌, inl, inr, ℕ, zero, suc, ◌+◌, ◌-◌, ◌*◌, ◌^◌, ◌<◌, ◌≤◌, ℤ, pos, Option, Some, None, List, ◌++◌, map, take, drop, length, get_or, subst, ap, ap₂, sym, ◌∙◌, refl, arith, lit≤}
 use Rattle.std.specs.Prelude.{MatchOption, slice_range}
-use Rattle.std.specs.List.{All, range_with_len}
+use Rattle.std.specs.List.{All}
 use Rattle.std.proofs.lemmas.Int.{by_lt_z}
 use Rattle.std.proofs.lemmas.Nat.{pow-add, pow_pos}
-use Rattle.std.proofs.lemmas.List.{length-take, length-drop, length-append, take-append-drop}
-use Rattle.std.proofs.lemmas.List.FromFn.{get_or-map-range_with_len, length-map-range_with_len}
-use Rattle.std.proofs.lemmas.List.Elements.{All-take}
-use Rattle.bit_blocks.specs.Bits.{AllBits}
+use Rattle.std.proofs.lemmas.List.{length-take, length-drop, length-append, length-map, take-append-drop}
+use Rattle.std.proofs.lemmas.List.Elements.{All-map, All-take}
+use Rattle.bit_blocks.specs.Bits.{IsBit, AllBits}
+use Rattle.bit_blocks.specs.Octets.{octets_of}
+use Rattle.bit_blocks.specs.SoftValues.{likelihood, wrong_places}
 use Rattle.fire_code.specs.Words.{IsXcchWord, IsRachWord, IsSchWord}
+use Rattle.fire_code.proofs.Lemmas.{some_xcch_parity, some_rach_parity, some_sch_parity, one_xcch_parity, one_rach_parity, one_sch_parity}
 use Rattle.conv_code.specs.Code.{coded}
-use Rattle.conv_code.specs.Likelihood.{likelihood, FallsBehind, IsMostLikely}
+use Rattle.conv_code.specs.Likelihood.{FallsBehind, IsMostLikely}
 use Rattle.trellis_decode.specs.Words.{word}
 use Rattle.trellis_decode.proofs.MostLikely.{same_list}
 use Rattle.trellis_decode.proofs.Searching.{new_leads, old_leads, IsMostLikely-chosen}
 use Rattle.trellis_decode.proofs.WordLists.{length-word}
-use Rattle.training_seq.specs.Choice.{IsFirstGreatest, total_wrong_places, total_correlation}
-use Rattle.training_seq.specs.Correlation.{wrong_places}
-use Rattle.training_seq.proofs.Greatest.{LeadsBelow, LeadsBelow-one, LeadsBelow-overtaken, LeadsBelow-kept, IsFirstGreatest-from_LeadsBelow}
+use Rattle.training_seq.specs.Choice.{total_correlation}
+use Rattle.training_seq.proofs.Lemmas.{some_first_greatest}
 use Rattle.interleave.specs.Bursts.{IsInterleaved}
-use Rattle.interleave.specs.Places.{burst_of, place_of}
+use Rattle.interleave.proofs.Lemmas.{some_gathered}
 use Rattle.burst_map.specs.AccessBurst as A
 use Rattle.burst_map.specs.SyncBurst as S
-use Rattle.um_block.specs.Packed.{octets_of}
-use Rattle.um_block.specs.Received.{coded_places, training_of, IsReceivedBlock, IsReceivedAccess, IsReceivedSync}
+use Rattle.um_block.specs.Received.{coded_places, access_places, sync_places, training_of, wrong_training_places, IsReceivedBlock, IsReceivedAccess, IsReceivedSync}
 use Rattle.um_block.specs.declared.received.Received.{Received}
 use Rattle.um_block.specs.declared.received.ReceivedAccess.{ReceivedAccess}
 use Rattle.um_block.specs.declared.received.ReceivedSync.{ReceivedSync}
-use Rattle.um_block.proofs.SentOnce.{one_xcch_parity, one_rach_parity, one_sch_parity}
-use Rattle.um_block.proofs.SentExists.{some_xcch_parity, some_rach_parity, some_sch_parity}
-use Rattle.um_block.proofs.Softness.{interleaved_places}
 
 -- ---- the most likely list
 
@@ -77,21 +74,6 @@ some_most_likely soft n pairs long =
       length-word n (16 * found.chosen),
     )
 
--- ---- the best training sequence
-
-leads : (score : ℕ → ℤ) (n : ℕ) → (best : ℕ) × LeadsBelow score (n + 1) best
-leads score zero = (0, LeadsBelow-one score)
-leads score (suc n) =
-    let before = leads score n in
-    let longer : n + 1 + 1 ≡ suc n + 1 = omega arith in
-    by_lt_z (score before.0) (score (n + 1))
-    (λ more. (n + 1, subst (λ k. LeadsBelow score k (n + 1)) longer (LeadsBelow-overtaken score (n + 1) before.0 before.1 more)))
-    (λ less. (before.0, subst (λ k. LeadsBelow score k before.0) longer (LeadsBelow-kept score (n + 1) before.0 before.1 less)))
-
-pub some_first_greatest : (score : ℕ → ℤ) → (best : ℕ) × IsFirstGreatest score 7 best
-some_first_greatest score =
-    let found = leads score 7 in (found.0, IsFirstGreatest-from_LeadsBelow score found.0 found.1)
-
 -- ---- whether a parity holds
 
 -- a word is the one with its information, or none
@@ -113,7 +95,7 @@ length-front : (n : ℕ) (u : List ℕ) → n ≤ length u → length (take n u)
 length-front n u h = omega (arith, length-take n u)
 
 AllBits-front : (n : ℕ) (u : List ℕ) → AllBits u → AllBits (take n u)
-AllBits-front n u bits = All-take (λ bit. bit ≤ 1) n u bits
+AllBits-front n u bits = All-take IsBit n u bits
 
 xcch_decided : (w : List ℕ) → length w ≡ 224 → AllBits w → IsXcchWord w ⊎ (¬ IsXcchWord w)
 xcch_decided w count bits =
@@ -138,49 +120,38 @@ sch_decided w count bits =
 
 -- ---- a block
 
--- the value that coded bit k has in the bursts
-held : List (List ℤ) → ℕ → ℤ
-held bursts k = get_or (coded_places (get_or bursts (burst_of k) [])) (place_of k) (pos 0)
-
 length-range : (burst : List ℤ) (i j : ℕ) → i ≤ j → j ≤ length burst → length (slice_range burst i j) ≡ j - i
 length-range burst i j ordered within = omega (arith, length-take (j - i) (drop i burst), length-drop i burst)
 
-some_gathered : (bursts : List (List ℤ)) → length bursts ≡ 4 → All (λ burst. length burst ≡ 148) bursts →
+length-coded_places : (burst : List ℤ) → length burst ≡ 148 → length (coded_places burst) ≡ 114
+length-coded_places burst long =
+    let first = length-range burst 3 60 (lit≤ tt) (omega arith) in
+    let second = length-range burst 88 145 (lit≤ tt) (omega arith) in
+    length-append (slice_range burst 3 60) (slice_range burst 88 145) ∙ ap₂ (λ m n. m + n) first second
+
+some_block_gathered : (bursts : List (List ℤ)) → length bursts ≡ 4 → All (λ burst. length burst ≡ 148) bursts →
     (soft : List ℤ) × IsInterleaved soft (map coded_places bursts)
-unfolding held
-some_gathered bursts four each =
-    let soft = map (held bursts) (range_with_len 0 456) in
-    let whole = length-map-range_with_len (held bursts) 0 456 in (
-      soft,
-      interleaved_places bursts soft four whole
-          (λ i h.
-          let burst = get_or bursts i [] in
-          let long : length burst ≡ 148 = each i [] (omega arith) in
-          let first = length-range burst 3 60 (lit≤ tt) (omega arith) in
-          let second = length-range burst 88 145 (lit≤ tt) (omega arith) in
-          length-append (slice_range burst 3 60) (slice_range burst 88 145) ∙ ap₂ (λ m n. m + n) first second)
-          (λ k h. get_or-map-range_with_len (held bursts) 0 456 k k (pos 0) h (omega arith)),
-    )
+some_block_gathered bursts four each =
+    let parts = map coded_places bursts in
+    some_gathered (pos 0) parts (length-map bursts coded_places ∙ four)
+    (All-map (λ part. length part ≡ 114) coded_places bursts (λ i d h. length-coded_places (get_or bursts i d) (each i d h)))
 
 pub some_received_block : (bursts : List (List ℤ)) → length bursts ≡ 4 → All (λ burst. length burst ≡ 148) bursts →
     (r : Received) × IsReceivedBlock bursts r
 some_received_block bursts four each =
-    let gathered = some_gathered bursts four each in
+    let gathered = some_block_gathered bursts four each in
     let soft = gathered.0 in
     let best = some_most_likely soft 228 gathered.1.coded_count (lit≤ tt) in
     let u = best.0 in
-    let a = training_of bursts 0 in
-    let b = training_of bursts 1 in
-    let c = training_of bursts 2 in
-    let d = training_of bursts 3 in
-    let tsc = some_first_greatest (total_correlation a b c d) in
+    let tsc = some_first_greatest
+    (total_correlation (training_of bursts 0) (training_of bursts 1) (training_of bursts 2) (training_of bursts 3)) in
     let answer = answered (IsXcchWord (take 224 u)) (octets_of (take 184 u))
     (xcch_decided (take 224 u) (length-front 224 u (omega (arith, best.2))) (AllBits-front 224 u best.1.information.bits)) in (
       record {
         u = u;
         metric = likelihood soft (coded u);
         tsc = tsc.0;
-        wrong_training = total_wrong_places a b c d tsc.0;
+        wrong_training = wrong_training_places bursts tsc.0;
         accepted = answer.0;
       },
       record {
@@ -199,7 +170,7 @@ some_received_block bursts four each =
 pub some_received_access : (burst : List ℤ) (bsic : List ℕ) → length burst ≡ 88 → length bsic ≡ 6 → AllBits bsic →
     (r : ReceivedAccess) × IsReceivedAccess burst bsic r
 some_received_access burst bsic count code code_bits =
-    let soft = A.body burst in
+    let soft = access_places burst in
     let best = some_most_likely soft 18 (length-range burst 49 85 (lit≤ tt) (omega arith)) (lit≤ tt) in
     let u = best.0 in
     let answer = answered (IsRachWord (take 14 u) bsic) (take 8 u)
@@ -215,7 +186,7 @@ some_received_access burst bsic count code code_bits =
 
 pub some_received_sync : (burst : List ℤ) → length burst ≡ 148 → (r : ReceivedSync) × IsReceivedSync burst r
 some_received_sync burst count =
-    let soft = S.first_half burst ++ S.second_half burst in
+    let soft = sync_places burst in
     let first = length-range burst 3 42 (lit≤ tt) (omega arith) in
     let second = length-range burst 106 145 (lit≤ tt) (omega arith) in
     let long : length soft ≡ 78 =

@@ -1,47 +1,25 @@
 -- How many places the bursts that are sent have, and that all of them are bits.
-use Rattle.std.proofs.Common.{◌≡◌, ℕ, ◌+◌, ◌*◌, ◌≤◌, List, [], ◌∷◌, ◌++◌, length, length-append, map, take, drop, replicate, refl, sym, ap, ◌∙◌, subst, arith}
-use Rattle.std.specs.List.{All, flat_map, range_with_len}
+use Rattle.std.proofs.Common.{◌≡◌, ℕ, ◌+◌, ◌≤◌, List, [], ◌∷◌, ◌++◌, length, length-append, map, take, drop, refl, sym, ap, ◌∙◌, subst, arith}
+use Rattle.std.specs.List.{All}
 use Rattle.std.proofs.lemmas.List.{length-map, length-drop, length-take-le}
 use Rattle.std.proofs.lemmas.List.Elements.{All-nil, All-cons, All-head, All-tail, All-append, All-take, All-drop}
-use Rattle.bit_blocks.specs.Bits.{AllBits}
-use Rattle.bit_blocks.specs.Octets.{bits_of}
-use Rattle.conv_code.specs.Code.{coded, coded_pair, first_sum, second_sum}
-use Rattle.interleave.proofs.Bijection.{AllBits-bursts}
+use Rattle.bit_blocks.specs.Bits.{IsBit, AllBits}
+use Rattle.bit_blocks.proofs.Lemmas.{AllBits-table}
+use Rattle.interleave.proofs.Lemmas.{AllBits-bursts}
 use Rattle.training_seq.specs.Sequences.{training_sequence}
-use Rattle.training_seq.proofs.SequenceTable.{length-training_sequence, AllBits-training_sequence}
+use Rattle.training_seq.proofs.Lemmas.{length-training_sequence, AllBits-training_sequence}
 use Rattle.burst_map.specs.Tails.{tail_bits}
 use Rattle.burst_map.specs.NormalBurst.{normal_burst}
 use Rattle.burst_map.specs.AccessBurst.{access_burst, access_sequence, extended_tail_bits}
 use Rattle.burst_map.specs.SyncBurst.{sync_burst, sync_sequence}
-use Rattle.burst_map.proofs.Filling.{AllBits-table}
-use Rattle.um_block.specs.Sent.{with_tail, IsSentBlock, IsSentAccess, IsSentSync}
-use Rattle.um_block.proofs.SentExists.{length-coded}
-
--- so many bits
-pub record AreBits (count : ℕ) (bits : List ℕ) : Type 0 where
-  pub many : length bits ≡ count
-  pub each : AllBits bits
+use Rattle.um_block.specs.Sent.{IsSentBlock, IsSentAccess, IsSentSync}
+use Rattle.um_block.proofs.Words.{AreBits, coded_block_bits, coded_access_bits, coded_sync_bits}
 
 joined : (m n : ℕ) (xs ys : List ℕ) → AreBits m xs → AreBits n ys → AreBits (m + n) (xs ++ ys)
 joined m n xs ys x y = record {
   many = omega (arith, length-append xs ys, x.many, y.many);
-  each = All-append (λ bit. bit ≤ 1) xs ys x.each y.each;
+  each = All-append IsBit xs ys x.each y.each;
 }
-
--- the sums of the code are bits
-pairs : (u ks : List ℕ) → AllBits (flat_map (coded_pair u) ks)
-pairs u [] = All-nil (λ bit. bit ≤ 1)
-pairs u (k ∷ ks) =
-    All-cons (λ bit. bit ≤ 1) (first_sum u k) (second_sum u k ∷ flat_map (coded_pair u) ks) (omega arith)
-    (All-cons (λ bit. bit ≤ 1) (second_sum u k) (flat_map (coded_pair u) ks) (omega arith) (pairs u ks))
-
-pub AllBits-coded : (u : List ℕ) → AllBits (coded u)
-AllBits-coded u = pairs u (range_with_len 0 (length u))
-
-pub coded_bits : (word : List ℕ) (n : ℕ) → length word ≡ n → AreBits (2 * (n + 4)) (coded (with_tail word))
-coded_bits word n e =
-    let whole : length (with_tail word) ≡ n + 4 = length-append word (replicate 4 0) ∙ ap (λ k. k + 4) e in
-    record { many = length-coded (with_tail word) ∙ ap (λ k. 2 * k) whole; each = AllBits-coded (with_tail word) }
 
 tail : AreBits 3 tail_bits
 tail = record { many = refl; each = AllBits-table tail_bits refl }
@@ -84,13 +62,13 @@ sync_bits first second f s =
 taken : (m n : ℕ) (bits : List ℕ) → AreBits (m + n) bits → AreBits m (take m bits)
 taken m n bits b = record {
   many = length-take-le m bits (let e = b.many in omega arith);
-  each = All-take (λ bit. bit ≤ 1) m bits b.each;
+  each = All-take IsBit m bits b.each;
 }
 
 dropped : (m n : ℕ) (bits : List ℕ) → AreBits (m + n) bits → AreBits n (drop m bits)
 dropped m n bits b = record {
   many = let e = b.many in let l = length-drop m bits in omega arith;
-  each = All-drop (λ bit. bit ≤ 1) m bits b.each;
+  each = All-drop IsBit m bits b.each;
 }
 
 bursts_of : ℕ → List (List ℕ) → List (List ℕ)
@@ -111,16 +89,16 @@ pub sent_block_bits : (octets : List ℕ) (tsc : ℕ) (bursts : List (List ℕ))
 unfolding bursts_of
 sent_block_bits octets tsc bursts s =
     let f : List ℕ → List ℕ = λ part. normal_burst (take 57 part) (drop 57 part) tsc in
-    let bits : AllBits s.coded_bits = subst AllBits (sym s.code.code) (AllBits-coded (with_tail (bits_of octets ++ s.code.parity))) in
+    let bits = (coded_block_bits octets s.coded_bits s.code).each in
     let each = each_burst tsc s.parts s.known s.spread.each_count (AllBits-bursts s.coded_bits s.parts s.spread bits) in
     (ap length s.layout ∙ length-map s.parts f ∙ s.spread.burst_count, subst (All (AreBits 148)) (sym s.layout) each)
 
 pub sent_access_bits : (info bsic burst : List ℕ) → IsSentAccess info bsic burst → AreBits 88 burst
 sent_access_bits info bsic burst s =
-    subst (AreBits 88) (sym s.burst) (access_bits (coded (with_tail (info ++ s.parity))) (coded_bits (info ++ s.parity) 14 s.word.count))
+    subst (AreBits 88) (sym s.burst) (access_bits s.coded_bits (coded_access_bits info bsic s.coded_bits s.code))
 
 pub sent_sync_bits : (info burst : List ℕ) → IsSentSync info burst → AreBits 148 burst
 sent_sync_bits info burst s =
-    let c = coded (with_tail (info ++ s.parity)) in
-    let bits : AreBits (39 + 39) c = coded_bits (info ++ s.parity) 35 s.word.count in
+    let c = s.coded_bits in
+    let bits : AreBits (39 + 39) c = coded_sync_bits info c s.code in
     subst (AreBits 148) (sym s.burst) (sync_bits (take 39 c) (drop 39 c) (taken 39 39 c bits) (dropped 39 39 c bits))

@@ -1,25 +1,22 @@
 -- Soft values: which of them a burst has, and where they stand in its block.
-use Rattle.std.proofs.Common.{◌≡◌, ◌≢◌, ℕ, ◌-◌, ◌<◌, ◌==◌, if◌then◌else◌, true, false, ℤ, pos, negsuc, List, [], ◌∷◌, ◌++◌, map, take, drop, length, get_or, ap, sym, subst, ◌∙◌, arith}
+use Rattle.std.proofs.Common.{◌≡◌, ℕ, ◌-◌, ◌<◌, ◌==◌, if◌then◌else◌, true, false, ℤ, pos, negsuc, List, [], ◌∷◌, ◌++◌, map, take, drop, length, get_or, ap, sym, subst, ◌∙◌, arith}
 use Rattle.std.specs.Prelude.{slice_range}
 use Rattle.std.proofs.lemmas.Int.{ints}
 use Rattle.std.specs.List.{All}
 use Rattle.std.proofs.lemmas.List.{get_or-map, get_or_default, length-map, take_at, drop_at, drop_all, append-nil}
 use borrow.Rule.Slice.PartMut.{put_mid}
 use Rattle.std.proofs.lemmas.List.Elements.{All-append, All-cons, All-nil, All-take, All-drop, All-map}
-use Rattle.conv_code.specs.Likelihood.{AllSoft}
+use Rattle.bit_blocks.specs.SoftValues.{IsSoft, AllSoft}
 use Rattle.interleave.specs.Bursts.{IsInterleaved}
 use Rattle.interleave.specs.Places.{burst_of, place_of}
-use Rattle.interleave.proofs.WholeBursts.{burst_of-below, place_of-below}
+use Rattle.interleave.proofs.Lemmas.{burst_of-below, place_of-below, All-interleaved}
 use Rattle.um_block.specs.Received.{soft_value, softened, coded_places}
-
-abbrev pub IsSoft : ℤ → Type 0
-IsSoft value = value ≢ negsuc 127
 
 IsSoft-soft_value : (bit : ℕ) → IsSoft (soft_value bit)
 IsSoft-soft_value bit =
     elim (bit == 0) as (λ zero. IsSoft (if zero then pos 127 else negsuc 126)) [
-      | true ↦ λ e. omega (arith, ints)
-      | false ↦ λ e. omega (arith, ints)
+      | true ↦ (omega (arith, ints), omega (arith, ints))
+      | false ↦ (omega (arith, ints), omega (arith, ints))
     ]
 
 pub AllSoft-softened : (bits : List ℕ) → AllSoft (softened bits)
@@ -54,17 +51,10 @@ interleaved_places bursts soft four whole each stands = record {
       ∙ get_or_default soft k (pos 0) d (omega arith);
 }
 
-pub AllSoft-gathered : (bursts : List (List ℤ)) (soft : List ℤ) → length bursts ≡ 4 →
-    IsInterleaved soft (map coded_places bursts) → All AllSoft bursts → AllSoft soft
-AllSoft-gathered bursts soft four gathered all k d h =
-    let parts = map coded_places bursts in
-    let within : k < 456 = subst (λ n. k < n) gathered.coded_count h in
-    let burst : burst_of k < length bursts = subst (λ n. burst_of k < n) (sym four) (burst_of-below k) in
-    let part : burst_of k < length parts = subst (λ n. burst_of k < n) (sym (length-map bursts coded_places)) burst in
-    let place : place_of k < length (get_or parts (burst_of k) []) =
-    subst (λ n. place_of k < n) (sym (gathered.each_count (burst_of k) [] part)) (place_of-below k) in
-    subst IsSoft (gathered.places k d within)
-    (All-map AllSoft coded_places bursts (λ i e lt. AllSoft-coded_places (get_or bursts i e) (all i e lt)) (burst_of k) [] part (place_of k) d place)
+pub AllSoft-gathered : (bursts : List (List ℤ)) (soft : List ℤ) → IsInterleaved soft (map coded_places bursts) → All AllSoft bursts → AllSoft soft
+AllSoft-gathered bursts soft gathered all =
+    All-interleaved IsSoft soft (map coded_places bursts) gathered
+    (All-map AllSoft coded_places bursts (λ i d h. AllSoft-coded_places (get_or bursts i d) (all i d h)))
 
 -- the second part is written behind the first
 pub put_mid-behind : {X : Type 0} (n m : ℕ) (first old second : List X) → length first ≡ n → length old ≡ m →

@@ -1,5 +1,4 @@
 -- The definitions that the contracts of this crate cite.
-pub mod Packed
 pub mod Received
 pub mod Restored
 pub mod Sent

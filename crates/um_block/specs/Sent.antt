@@ -12,26 +12,32 @@ use Rattle.burst_map.specs.SyncBurst.{sync_burst}
 abbrev pub with_tail : List ℕ → List ℕ
 with_tail word = word ++ replicate 4 0
 
+-- u is the information list of d: d, a parity with which it is a word of the channel, and the tail
+pub record Carries (IsWord : List ℕ → Type 0) (u d : List ℕ) : Type 0 where
+  pub parity : List ℕ
+  pub word : IsWord (d ++ parity)
+  pub list : u ≡ with_tail (d ++ parity)
+
 -- c are the coded bits of 23 octets (GSM 05.03 section 4.1)
 pub record IsCodedBlock (octets c : List ℕ) : Type 0 where
-  pub parity : List ℕ
+  pub u : List ℕ
   pub count : length octets ≡ 23
-  pub word : IsXcchWord (bits_of octets ++ parity)
-  pub code : c ≡ coded (with_tail (bits_of octets ++ parity))
+  pub information : Carries IsXcchWord u (bits_of octets)
+  pub code : c ≡ coded u
 
 -- c are the coded bits of eight bits d under the code b of a base station (GSM 05.03 section 4.6)
 pub record IsCodedAccess (d b c : List ℕ) : Type 0 where
-  pub parity : List ℕ
+  pub u : List ℕ
   pub count : length d ≡ 8
-  pub word : IsRachWord (d ++ parity) b
-  pub code : c ≡ coded (with_tail (d ++ parity))
+  pub information : Carries (λ w. IsRachWord w b) u d
+  pub code : c ≡ coded u
 
 -- c are the coded bits of 25 bits d (GSM 05.03 section 4.7)
 pub record IsCodedSync (d c : List ℕ) : Type 0 where
-  pub parity : List ℕ
+  pub u : List ℕ
   pub count : length d ≡ 25
-  pub word : IsSchWord (d ++ parity)
-  pub code : c ≡ coded (with_tail (d ++ parity))
+  pub information : Carries IsSchWord u d
+  pub code : c ≡ coded u
 
 -- these are the four normal bursts of 23 octets with a training sequence: the coded bits stand at their places in the
 -- bursts, half of each burst before the training sequence and half behind it (GSM 05.03 section 4.1, GSM 05.02 section 5.2.3)
@@ -45,14 +51,12 @@ pub record IsSentBlock (octets : List ℕ) (tsc : ℕ) (bursts : List (List ℕ)
 
 -- x is the access burst of eight bits d under the code b of a base station (GSM 05.03 section 4.6, GSM 05.02 section 5.2.7)
 pub record IsSentAccess (d b x : List ℕ) : Type 0 where
-  pub parity : List ℕ
-  pub count : length d ≡ 8
-  pub word : IsRachWord (d ++ parity) b
-  pub burst : x ≡ access_burst (coded (with_tail (d ++ parity)))
+  pub coded_bits : List ℕ
+  pub code : IsCodedAccess d b coded_bits
+  pub burst : x ≡ access_burst coded_bits
 
 -- x is the synchronisation burst of 25 bits d (GSM 05.03 section 4.7, GSM 05.02 section 5.2.5)
 pub record IsSentSync (d x : List ℕ) : Type 0 where
-  pub parity : List ℕ
-  pub count : length d ≡ 25
-  pub word : IsSchWord (d ++ parity)
-  pub burst : let c = coded (with_tail (d ++ parity)) in x ≡ sync_burst (take 39 c) (drop 39 c)
+  pub coded_bits : List ℕ
+  pub code : IsCodedSync d coded_bits
+  pub burst : x ≡ sync_burst (take 39 coded_bits) (drop 39 coded_bits)

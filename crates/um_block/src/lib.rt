@@ -2,14 +2,15 @@
 //! bursts, and from the soft values of bursts to what is received.
 #![tactic(auto)]
 
+mod laws;
 mod radio;
 mod received;
 mod receiving;
 mod sending;
 #[cfg(test)]
 mod tests;
-mod training;
 
+pub use laws::{law_block_places, law_few_wrong};
 pub use radio::{PlainRadio, Radio};
 pub use received::{Received, ReceivedAccess, ReceivedSync};
 pub use receiving::{receive_access, receive_block, receive_sync, soften};

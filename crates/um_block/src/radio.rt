@@ -1,9 +1,10 @@
 //! A radio: what codes and receives blocks, and counts both.
-ghost use Rattle.std.specs.Prelude.{◌≡◌, ℕ, ◌<◌, ◌≤◌, ℤ, List, Some, map, All};
+ghost use Rattle.std.specs.Prelude.{◌≡◌, ℕ, ◌≤◌, ℤ, List, Some, map, All};
 ghost use Rattle.bit_blocks.specs.Bits.{AllBits};
-ghost use Rattle.conv_code.specs.Likelihood.{AllSoft};
+ghost use Rattle.bit_blocks.specs.Octets.{AllOctets};
+ghost use Rattle.bit_blocks.specs.SoftValues.{AllSoft};
 ghost use Rattle.interleave.specs.Bursts.{IsInterleaved};
-ghost use Rattle.weight_bound.specs.Restoring.{IsHardlyDamaged};
+ghost use Rattle.weight_bound.specs.Restoring.{IsLightlyDamaged};
 ghost use Rattle.um_block.specs.Sent.{IsCodedBlock, IsSentBlock};
 ghost use Rattle.um_block.specs.Restored.{IsCleanBlock};
 ghost use Rattle.um_block.specs.Received.{coded_places, softened, IsReceivedBlock};
@@ -24,6 +25,7 @@ pub trait Radio {
     fn send(&mut self, octets: &[u8; 23], tsc: u8) -> [[u8; 148]; 4]
         requires { tsc ≤ 7 }
         ensures sent { IsSentBlock octets.now tsc result }
+        ensures only { (other : List (List ℕ)) → IsSentBlock octets.now tsc other → other ≡ result }
         ensures bits { All AllBits result }
         ensures raised { sent self.new ≡ raised (sent self.old) }
         ensures kept { heard self.new ≡ heard self.old };
@@ -33,10 +35,10 @@ pub trait Radio {
         requires { All AllSoft bursts.now }
         ensures received { IsReceivedBlock bursts.now result }
         ensures only { (other : Received) → IsReceivedBlock bursts.now other → other ≡ result }
-        ensures clean { (octets : List ℕ) (tsc : ℕ) (sent : List (List ℕ)) → All (λ octet. octet < 256) octets →
+        ensures clean { (octets : List ℕ) (tsc : ℕ) (sent : List (List ℕ)) → AllOctets octets →
             IsSentBlock octets tsc sent → bursts.now ≡ map softened sent → IsCleanBlock octets tsc result }
-        ensures restores { (octets c : List ℕ) (soft : List ℤ) → All (λ octet. octet < 256) octets → IsCodedBlock octets c →
-            IsInterleaved soft (map coded_places bursts.now) → IsHardlyDamaged soft c → result.accepted ≡ Some octets }
+        ensures restores { (octets c : List ℕ) (soft : List ℤ) → AllOctets octets → IsCodedBlock octets c →
+            IsInterleaved soft (map coded_places bursts.now) → IsLightlyDamaged soft c → result.accepted ≡ Some octets }
         ensures raised { heard self.new ≡ raised (heard self.old) }
         ensures kept { sent self.new ≡ sent self.old };
 }

@@ -1,23 +1,20 @@
-//! What bursts are received as: the most likely word of their soft values.
-ghost use Rattle.std.specs.Prelude.{◌≡◌, ℕ, ◌<◌, ◌≤◌, ◌++◌, ℤ, List, Some, length, map, take, drop, All, MatchOption};
+//! Receiving: what bursts are received as, the most likely word of their soft values (GSM 05.03, today 3GPP TS 45.003,
+//! backward; the choice of a word is this project's own, found by the Viterbi decoder).
+ghost use Rattle.std.specs.Prelude.{◌≡◌, ℕ, ◌≤◌, ◌++◌, ℤ, List, Some, length, map, take, All, MatchOption};
 ghost use Rattle.bit_blocks.specs.Bits.{AllBits};
-ghost use Rattle.bit_blocks.specs.Octets.{bits_of};
-ghost use Rattle.conv_code.specs.Likelihood.{AllSoft};
+ghost use Rattle.bit_blocks.specs.Octets.{AllOctets, octets_of};
+ghost use Rattle.bit_blocks.specs.SoftValues.{AllSoft};
 ghost use Rattle.fire_code.specs.Words.{IsXcchWord, IsRachWord, IsSchWord};
 ghost use Rattle.interleave.specs.Bursts.{IsInterleaved};
-ghost use Rattle.training_seq.specs.Choice.{IsBestSequence, total_wrong_places};
-ghost use Rattle.weight_bound.specs.Restoring.{IsHardlyDamaged};
-ghost use Rattle.burst_map.specs.AccessBurst as A;
-ghost use Rattle.burst_map.specs.SyncBurst as S;
+ghost use Rattle.weight_bound.specs.Restoring.{IsLightlyDamaged};
 ghost use Rattle.um_block.specs.Sent.{IsCodedBlock, IsCodedAccess, IsCodedSync, IsSentBlock, IsSentAccess, IsSentSync};
 ghost use Rattle.um_block.specs.Restored.{IsCleanBlock, IsCleanAccess, IsCleanSync};
-ghost use Rattle.um_block.specs.Packed.{octets_of};
-ghost use Rattle.um_block.specs.Received.{coded_places, training_of, softened, IsReceivedBlock, IsReceivedAccess, IsReceivedSync};
+ghost use Rattle.um_block.specs.Received.{coded_places, access_places, sync_places, softened};
+ghost use Rattle.um_block.specs.Received.{IsHeardSequence, wrong_training_places, IsReceivedBlock, IsReceivedAccess, IsReceivedSync};
 
 use crate::received::{Received, ReceivedAccess, ReceivedSync};
-use crate::training::{wrong_access_places, wrong_sync_places};
-use bit_blocks::{Bits, to_octets};
-use burst_map::{AccessView, NormalView, SyncView};
+use bit_blocks::{Bits, to_octets, wrong_places};
+use burst_map::{AccessView, NormalView, SyncView, access_sequence, sync_sequence};
 use fire_code::{rach_holds, sch_holds, xcch_holds};
 use interleave::gather_burst;
 use training_seq::best;
@@ -41,10 +38,10 @@ pub fn receive_block(bursts: &[[i8; 148]; 4]) -> Received
     requires { All AllSoft bursts.now }
     ensures received { IsReceivedBlock bursts.now result }
     ensures only { (other : Received) → IsReceivedBlock bursts.now other → other ≡ result }
-    ensures clean { (octets : List ℕ) (tsc : ℕ) (sent : List (List ℕ)) → All (λ octet. octet < 256) octets →
+    ensures clean { (octets : List ℕ) (tsc : ℕ) (sent : List (List ℕ)) → AllOctets octets →
         IsSentBlock octets tsc sent → bursts.now ≡ map softened sent → IsCleanBlock octets tsc result }
-    ensures restores { (octets c : List ℕ) (soft : List ℤ) → All (λ octet. octet < 256) octets → IsCodedBlock octets c →
-        IsInterleaved soft (map coded_places bursts.now) → IsHardlyDamaged soft c → result.accepted ≡ Some octets }
+    ensures restores { (octets c : List ℕ) (soft : List ℤ) → AllOctets octets → IsCodedBlock octets c →
+        IsInterleaved soft (map coded_places bursts.now) → IsLightlyDamaged soft c → result.accepted ≡ Some octets }
 {
     let soft = gather_block(bursts);
     let mut u = [0; 228];
@@ -75,10 +72,8 @@ fn gather_block(bursts: &[[i8; 148]; 4]) -> [i8; 456]
 
 /// The training sequence of four bursts, and how many of its places are wrong.
 fn best_sequence(bursts: &[[i8; 148]; 4]) -> (u8, u32)
-    ensures tsc { IsBestSequence
-        (training_of bursts.now 0) (training_of bursts.now 1) (training_of bursts.now 2) (training_of bursts.now 3) result.0 }
-    ensures wrong { result.1 ≡ total_wrong_places
-        (training_of bursts.now 0) (training_of bursts.now 1) (training_of bursts.now 2) (training_of bursts.now 3) result.0 }
+    ensures tsc { IsHeardSequence bursts.now result.0 }
+    ensures wrong { result.1 ≡ wrong_training_places bursts.now result.0 }
 {
     best(
         NormalView::new(&bursts[0]).training(),
@@ -102,14 +97,8 @@ fn block_data(u: &[u8; 228]) -> Option<[u8; 23]>
     }
     let mut octets = [0; 23];
     to_octets(&u[..184], &mut octets);
-    law_octets(&octets);
     Some(octets)
 }
-
-/// Law: octets are those of their bits.
-fn law_octets(octets: &[u8])
-    ensures { octets_of (bits_of octets.now) ≡ octets.now }
-{}
 
 /// What an access burst is received as, under the six bits of a base station's colour code
 /// (BSIC).
@@ -117,8 +106,8 @@ pub fn receive_access(burst: &[i8; 88], bsic: &Bits<6>) -> ReceivedAccess
     requires { AllSoft burst.now }
     ensures received { IsReceivedAccess burst.now bsic.now result }
     ensures only { (other : ReceivedAccess) → IsReceivedAccess burst.now bsic.now other → other ≡ result }
-    ensures clean { (info sent : List ℕ) → IsSentAccess info bsic.now sent → burst.now ≡ softened sent → IsCleanAccess info result }
-    ensures restores { (info c : List ℕ) → IsCodedAccess info bsic.now c → IsHardlyDamaged (A.body burst.now) c →
+    ensures clean { (info sent : List ℕ) → IsSentAccess info bsic.now sent → burst.now ≡ softened sent → IsCleanAccess info bsic.now result }
+    ensures restores { (info c : List ℕ) → IsCodedAccess info bsic.now c → IsLightlyDamaged (access_places burst.now) c →
         result.accepted ≡ Some info }
 {
     let parts = AccessView::new(burst);
@@ -127,7 +116,7 @@ pub fn receive_access(burst: &[i8; 88], bsic: &Bits<6>) -> ReceivedAccess
     ReceivedAccess {
         u: Bits::from_array(u),
         metric,
-        wrong_training: wrong_access_places(parts.training()),
+        wrong_training: wrong_places(parts.training(), access_sequence()),
         accepted: access_data(&u, bsic),
     }
 }
@@ -155,8 +144,8 @@ pub fn receive_sync(burst: &[i8; 148]) -> ReceivedSync
     ensures received { IsReceivedSync burst.now result }
     ensures only { (other : ReceivedSync) → IsReceivedSync burst.now other → other ≡ result }
     ensures clean { (info sent : List ℕ) → IsSentSync info sent → burst.now ≡ softened sent → IsCleanSync info result }
-    ensures restores { (info c : List ℕ) → IsCodedSync info c →
-        IsHardlyDamaged (S.first_half burst.now ++ S.second_half burst.now) c → result.accepted ≡ Some info }
+    ensures restores { (info c : List ℕ) → IsCodedSync info c → IsLightlyDamaged (sync_places burst.now) c →
+        result.accepted ≡ Some info }
 {
     let parts = SyncView::new(burst);
     let halves = join_halves(parts.first(), parts.second());
@@ -165,7 +154,7 @@ pub fn receive_sync(burst: &[i8; 148]) -> ReceivedSync
     ReceivedSync {
         u: Bits::from_array(u),
         metric,
-        wrong_training: wrong_sync_places(parts.training()),
+        wrong_training: wrong_places(parts.training(), sync_sequence()),
         accepted: sync_data(&u),
     }
 }

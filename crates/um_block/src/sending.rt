@@ -1,28 +1,29 @@
-ghost use Rattle.std.specs.Prelude.{◌≡◌, ◌+◌, ◌<◌, ◌≤◌, ◌++◌, length, take, drop, All};
+//! Sending: parity, the tail, the convolutional code, interleaving and the burst (GSM 05.03, today 3GPP TS 45.003).
+ghost use Rattle.std.specs.Prelude.{◌≡◌, ℕ, ◌+◌, ◌<◌, ◌≤◌, ◌++◌, List, [], length, take, drop, slice_index_or, All};
 ghost use Rattle.bit_blocks.specs.Bits.{AllBits};
 ghost use Rattle.burst_map.specs.NormalBurst.{normal_burst};
+ghost use Rattle.interleave.specs.Bursts.{IsInterleaved};
 ghost use Rattle.um_block.specs.Sent.{with_tail, IsCodedBlock, IsSentBlock, IsSentAccess, IsSentSync};
 
 use bit_blocks::{Bits, from_octets};
-use burst_map::{access, normal, sync};
+use burst_map::{NormalParts, access, sync};
 use conv_code::encode;
 use fire_code::{rach_parity, sch_parity, xcch_parity};
-use interleave::spread;
+use interleave::spread_burst;
 
 /// The four normal bursts of a block of 23 octets, with a training sequence 0 to 7.
 pub fn send_block(octets: &[u8; 23], tsc: u8) -> [[u8; 148]; 4]
     requires { tsc ≤ 7 }
     ensures sent { IsSentBlock octets.now tsc result }
+    ensures only { (other : List (List ℕ)) → IsSentBlock octets.now tsc other → other ≡ result }
     ensures bits { All AllBits result }
 {
     let coded = code_block(octets);
-    let parts = spread(&coded);
-    [
-        normal_of(&parts[0], tsc),
-        normal_of(&parts[1], tsc),
-        normal_of(&parts[2], tsc),
-        normal_of(&parts[3], tsc),
-    ]
+    let mut bursts = [[0; 148]; 4];
+    for b in 0..4 {
+        write_burst(&coded, b, tsc, &mut bursts[b]);
+    }
+    bursts
 }
 
 /// The 456 coded bits of 23 octets.
@@ -40,21 +41,23 @@ fn code_block(octets: &[u8; 23]) -> [u8; 456]
     coded
 }
 
-/// The normal burst of 114 coded bits.
-fn normal_of(part: &[u8; 114], tsc: u8) -> [u8; 148]
-    requires bits { AllBits part.now }
+/// Writes burst `b` of a block's coded bits, each half in its place.
+fn write_burst(coded: &[u8; 456], b: usize, tsc: u8, burst: &mut [u8; 148])
+    requires which { b < 4 }
     requires known { tsc ≤ 7 }
-    ensures layout { result ≡ normal_burst (take 57 part.now) (drop 57 part.now) tsc }
-    ensures bits { AllBits result }
+    ensures { (parts : List (List ℕ)) → IsInterleaved coded.now parts →
+        burst.new ≡ normal_burst (take 57 (slice_index_or parts b [])) (drop 57 (slice_index_or parts b [])) tsc }
 {
-    let (first, second) = part.split_at(57);
-    normal(first, second, tsc)
+    let mut parts = NormalParts::new(burst, tsc);
+    spread_burst(coded, b, 0, parts.first_mut());
+    spread_burst(coded, b, 1, parts.second_mut());
 }
 
 /// The access burst of eight bits of information under the six bits of a base station's colour
 /// code (BSIC), the highest bit of the network's part first.
 pub fn send_access(info: &Bits<8>, bsic: &Bits<6>) -> [u8; 88]
     ensures sent { IsSentAccess info.now bsic.now result }
+    ensures only { (other : List ℕ) → IsSentAccess info.now bsic.now other → other ≡ result }
     ensures bits { AllBits result }
 {
     let parity = rach_parity(info).xor(bsic);
@@ -68,6 +71,7 @@ pub fn send_access(info: &Bits<8>, bsic: &Bits<6>) -> [u8; 88]
 /// The synchronisation burst of 25 bits of information.
 pub fn send_sync(info: &Bits<25>) -> [u8; 148]
     ensures sent { IsSentSync info.now result }
+    ensures only { (other : List ℕ) → IsSentSync info.now other → other ≡ result }
     ensures bits { AllBits result }
 {
     let mut word = [0; 39];

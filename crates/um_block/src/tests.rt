@@ -1,5 +1,5 @@
 ghost use Rattle.std.specs.Prelude.{◌↔◌, IsTrue, All};
-ghost use Rattle.conv_code.specs.Likelihood.{AllSoft};
+ghost use Rattle.bit_blocks.specs.SoftValues.{AllSoft};
 
 use super::*;
 use bit_blocks::{Bits, from_octets};

@@ -7,8 +7,7 @@ use Rattle.um_text.specs.CodeLines.{code_fault, CodeMeans}
 use Rattle.um_lines.specs.Meanings.{HasOneMeaningUnless}
 use Rattle.um_text.specs.BurstTexts.{block_text, access_text, sync_text}
 use Rattle.um_text.proofs.CodeLaws.{one_meaning, can_be_sent}
-use Rattle.um_block.proofs.SentOnce.{one_sent_block, one_access_burst, one_sync_burst}
-use Rattle.um_block.proofs.SentExists.{some_sent_block, some_access_burst, some_sync_burst}
+use Rattle.um_block.proofs.Lemmas.{one_sent_block, one_access_burst, one_sync_burst, some_sent_block, some_access_burst, some_sync_burst}
 use Rattle.um_driver.specs.Rules.{IsDetermined, IsTotal}
 use Rattle.um_driver.specs.Laws.{HasOneOutput}
 use Rattle.um_driver.proofs.OutputExists.{has_one_output}

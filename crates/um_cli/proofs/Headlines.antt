@@ -8,7 +8,7 @@ use Rattle.conv_code.specs.Code.{coded}
 use Rattle.conv_code.specs.Likelihood.{likelihood, IsMostLikely, FallsBehind}
 use Rattle.burst_map.specs.AccessBurst as A
 use Rattle.burst_map.specs.SyncBurst as S
-use Rattle.um_block.proofs.SentExists.{length-coded}
+use Rattle.conv_code.proofs.Lemmas.{length-coded}
 use Rattle.um_text.specs.declared.burst_lines.BurstLine.{BurstLine}
 use Rattle.um_text.specs.declared.burst_lines.BurstLine.TheVariants.{Skip, Normal, Access, Sync}
 use Rattle.um_cli.specs.Replay.{IsBlockAnswer, IsReplayAnswer, replay_rules}

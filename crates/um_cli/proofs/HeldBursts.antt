@@ -3,11 +3,11 @@ use Rattle.std.proofs.Common.{◌≡◌, ℕ, ℤ, pos, negsuc, ◌≤◌, ◌�
 use Rattle.std.specs.List.{All}
 use Rattle.std.proofs.lemmas.Int.{ints}
 use Rattle.std.proofs.lemmas.List.Elements.{All-nil, All-cons, All-replicate}
-use Rattle.conv_code.specs.Likelihood.{AllSoft}
+use Rattle.bit_blocks.specs.SoftValues.{IsSoft, AllSoft}
 
 -- values of 0 are soft values
 pub AllSoft-zeros : (n : ℕ) → AllSoft (replicate n (pos 0))
-AllSoft-zeros n = All-replicate (λ z. z ≢ negsuc 127) n (pos 0) (λ same. omega (arith, ints))
+AllSoft-zeros n = All-replicate IsSoft n (pos 0) (omega (arith, ints), omega (arith, ints))
 
 pub four_of_zeros : (zeros : List ℤ) → AllSoft zeros → All AllSoft (zeros ∷ zeros ∷ zeros ∷ zeros ∷ [])
 four_of_zeros zeros soft =

@@ -3,9 +3,7 @@ use Rattle.std.proofs.Common.{◌≡◌, ℕ, ℤ, ◌+◌, ◌≤◌, inl, inr,
 use Rattle.std.specs.List.{All}
 use Rattle.std.proofs.lemmas.Bool.{cases_lt}
 use Rattle.std.proofs.lemmas.List.Elements.{All-nil, All-cons, All-append}
-use Rattle.um_block.proofs.AcceptedOctets.{accepted_count}
-use Rattle.um_block.proofs.ReceivedOnce.{one_received_block, one_received_access, one_received_sync}
-use Rattle.um_block.proofs.ReceivedExists.{some_received_block, some_received_access, some_received_sync}
+use Rattle.um_block.proofs.Lemmas.{accepted_count, one_received_block, one_received_access, one_received_sync, some_received_block, some_received_access, some_received_sync}
 use Rattle.um_lines.specs.declared.fault.LineFault.{LineFault}
 use Rattle.um_text.specs.declared.burst_lines.BurstLine.{BurstLine}
 use Rattle.um_text.specs.declared.burst_lines.BurstLine.TheVariants.{Skip, Normal, Access, Sync}

@@ -8,10 +8,7 @@ use Rattle.um_io.specs.Lines.{IsLine, IsDivided, text_of}
 use Rattle.um_block.specs.Sent.{IsSentBlock, IsSentAccess, IsSentSync}
 use Rattle.um_block.specs.Received.{softened, soft_value, IsReceivedBlock}
 use Rattle.um_block.specs.declared.received.Received.{Received}
-use Rattle.um_block.proofs.SentShapes.{AreBits, sent_block_bits, sent_access_bits, sent_sync_bits}
-use Rattle.um_block.proofs.ReceivedExists.{some_received_block, some_received_access, some_received_sync}
-use Rattle.um_block.proofs.AcceptedOctets.{accepted_count}
-use Rattle.um_block.proofs.CleanRestoring.{clean_block, clean_access, clean_sync}
+use Rattle.um_block.proofs.Lemmas.{AreBits, accepted_count, clean_block, clean_access, clean_sync, sent_block_bits, sent_access_bits, sent_sync_bits, some_received_block, some_received_access, some_received_sync}
 use Rattle.um_lines.specs.declared.fault.LineFault.{LineFault}
 use Rattle.um_text.specs.declared.code.CodeLine.{CodeLine}
 use Rattle.um_text.specs.declared.code.CodeLine.TheVariants as C

@@ -7,7 +7,7 @@ use Rattle.conv_code.specs.Likelihood.{likelihood}
 use Rattle.interleave.specs.Bursts.{IsInterleaved}
 use Rattle.burst_map.specs.AccessBurst as A
 use Rattle.burst_map.specs.SyncBurst as S
-use Rattle.um_block.specs.Packed.{octets_of}
+use Rattle.bit_blocks.specs.Octets.{octets_of}
 use Rattle.um_block.specs.Received.{coded_places}
 use Rattle.um_block.specs.declared.received.Received.{Received}
 use Rattle.um_block.specs.declared.received.ReceivedAccess.{ReceivedAccess}

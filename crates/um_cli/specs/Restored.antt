@@ -21,7 +21,7 @@ use Rattle.um_cli.specs.Code.{code_rules}
 abbrev pub IsRestored : CodeLine → List ℕ → Type 0
 IsRestored Skip report = report ≡ []
 IsRestored (Block tsc octets) report = (r : Received) × IsCleanBlock octets tsc r × IsBlockReport r report
-IsRestored (Rach info bsic) report = (r : ReceivedAccess) × IsCleanAccess info r × (report ≡ access_report_text bsic r)
+IsRestored (Rach info bsic) report = (r : ReceivedAccess) × IsCleanAccess info bsic r × (report ≡ access_report_text bsic r)
 IsRestored (Sch info) report = (r : ReceivedSync) × IsCleanSync info r × (report ≡ sync_report_text r)
 
 -- the reports of lines of `code`, one after the other

@@ -10,7 +10,7 @@ use Rattle.lapdm_window.specs.declared.Notice.{Notice}
 use Rattle.lapdm_window.specs.declared.Notice.TheVariants.{Opened, Got, Unit, Acked, Oversize, Closed}
 use Rattle.lapdm_window.specs.declared.Refused.TheVariants as Q
 use Rattle.lapdm_window.specs.Ends.{Mobile, Network}
-use Rattle.um_block.specs.Packed.{octets_of}
+use Rattle.bit_blocks.specs.Octets.{octets_of}
 use Rattle.um_block.specs.declared.received.Received.{Received}
 use Rattle.lapdm_link.specs.Events as E
 use Rattle.um_air.specs.Air as A

@@ -2,8 +2,7 @@
 ghost use Rattle.std.specs.Prelude.{◌≡◌, ◌+◌, ◌*◌, ◌-◌, ◌<◌, ◌≤◌, [], ◌++◌, length, take, drop, codes, IfOk};
 ghost use Rattle.std.specs.Fmt.{decimal};
 ghost use Rattle.hex.specs.Hex.{encode_lower};
-ghost use Rattle.bit_blocks.specs.Octets.{bits_of};
-ghost use Rattle.um_block.specs.Packed.{octets_of};
+ghost use Rattle.bit_blocks.specs.Octets.{bits_of, octets_of};
 ghost use Rattle.um_link.specs.Naming.{answer_of, step_of, who_of, why_of};
 ghost use Rattle.um_link.specs.Standing.{FitsWho};
 ghost use Rattle.um_script.specs.StepLines.{who_word, link_word, refusal_word, closing_word, octets_word, heard_text, dropped_text, block_text, arrival_text, notice_text, notices_text, frames_text, answer_text};

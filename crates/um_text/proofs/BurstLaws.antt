@@ -7,7 +7,7 @@ use Rattle.std.proofs.lemmas.Int.{ints}
 use Rattle.std.proofs.lemmas.List.{length-map, length-replicate}
 use Rattle.std.proofs.lemmas.List.Elements.{All-replicate}
 use Rattle.bit_blocks.specs.Bits.{AllBits}
-use Rattle.conv_code.specs.Likelihood.{AllSoft}
+use Rattle.bit_blocks.specs.SoftValues.{IsSoft, AllSoft}
 use Rattle.um_block.specs.Received.{soft_value, softened}
 use Rattle.um_lines.specs.BurstForms.{BurstName, burst_forms, burst_elsewhere}
 use Rattle.um_lines.specs.Forms.{LineMeans}
@@ -18,7 +18,8 @@ use Rattle.um_text.specs.declared.burst_lines.BurstLine.{BurstLine}
 use Rattle.um_text.specs.declared.burst_lines.BurstLine.TheVariants.{Skip, Normal, Access, Sync}
 use Rattle.um_text.specs.SoftOctets.{signed_octets}
 use Rattle.um_text.specs.BurstLines.{burst_line, burst_fault, BurstMeans}
-use Rattle.um_text.proofs.SoftLists.{softened-AllSoft, signed-AllSoft}
+use Rattle.um_block.proofs.Lemmas.{AllSoft-softened}
+use Rattle.um_text.proofs.SoftLists.{signed-AllSoft}
 
 pub one_meaning : (held : ℕ) (line : List ℕ) → HasOneMeaningUnless (burst_fault held line) (BurstMeans held line)
 one_meaning held line =
@@ -30,13 +31,13 @@ abbrev pub AreSoft : ℕ → List ℤ → Type 0
 AreSoft count values = (length values ≡ count) × AllSoft values
 
 hard : (count : ℕ) (bits : List ℕ) → (length bits ≡ count) × AllBits bits → AreSoft count (softened bits)
-hard count bits known = (length-map bits soft_value ∙ known.0, softened-AllSoft bits)
+hard count bits known = (length-map bits soft_value ∙ known.0, AllSoft-softened bits)
 
 soft : (count : ℕ) (octets : List ℕ) → AreOctets count octets × All (λ octet. octet ≢ 128) octets → AreSoft count (signed_octets octets)
-soft count octets known = (length-map octets (cast_signed w8) ∙ known.0.0, signed-AllSoft octets known.1)
+soft count octets known = (length-map octets (cast_signed w8) ∙ known.0.0, signed-AllSoft octets known.0.1 known.1)
 
 lost : AreSoft 148 (replicate 148 (pos 0))
-lost = (length-replicate 148 (pos 0), All-replicate (λ z. z ≢ negsuc 127) 148 (pos 0) (λ same. omega (arith, ints)))
+lost = (length-replicate 148 (pos 0), All-replicate IsSoft 148 (pos 0) (omega (arith, ints), omega (arith, ints)))
 
 none_held : (held : ℕ) → (not (held == 0) && true) ≡ false → held ≡ 0
 none_held held e = grind (arith, nat_tests)

@@ -10,7 +10,8 @@ use Rattle.std.proofs.lemmas.Bool.Decides.{Decides-int_eq, nat_tests}
 use Rattle.std.proofs.lemmas.Int.{ints}
 use Rattle.std.proofs.lemmas.List.Elements.{All-nil, All-cons, All-head, All-tail}
 use Rattle.hex.specs.Hex.{is_hex_digit}
-use Rattle.conv_code.specs.Likelihood.{AllSoft}
+use Rattle.bit_blocks.specs.Octets.{IsOctet, AllOctets}
+use Rattle.bit_blocks.specs.SoftValues.{IsSoft, AllSoft}
 use Rattle.um_block.specs.Received.{soft_value, softened}
 use Rattle.um_lines.specs.Fields.{is_bit_digit}
 use Rattle.um_lines.specs.Fields.{digit_value, hex_octets}
@@ -74,29 +75,13 @@ lowest_octets [] = refl
 lowest_octets (octet ∷ octets) = rw (lowest_octet octet, lowest_octets octets) refl
 
 -- octets of which none is 80 in hexadecimal are soft values
-pub signed-AllSoft : (octets : List ℕ) → All (λ octet. octet ≢ 128) octets → AllSoft (signed_octets octets)
-signed-AllSoft [] each = All-nil (λ z. z ≢ negsuc 127)
-signed-AllSoft (octet ∷ octets) each =
+soft_octet : (octet : ℕ) → octet < 256 → octet ≢ 128 → IsSoft (cast_signed w8 octet)
+soft_octet octet small other = (grind (arith, ints, nat_tests), grind (arith, ints, nat_tests))
+
+pub signed-AllSoft : (octets : List ℕ) → AllOctets octets → All (λ octet. octet ≢ 128) octets → AllSoft (signed_octets octets)
+signed-AllSoft [] small each = All-nil IsSoft
+signed-AllSoft (octet ∷ octets) small each =
     let Unlike : ℕ → Type 0 = λ o. o ≢ 128 in
-    All-cons (λ z. z ≢ negsuc 127) (cast_signed w8 octet) (signed_octets octets)
-    (λ same. All-head Unlike octet octets each
-    (eqb-true octet 128 (sym (lowest_octet octet) ∙ (Decides-int_eq (cast_signed w8 octet) (negsuc 127)).1 same)))
-    (signed-AllSoft octets (All-tail Unlike octet octets each))
-
--- a sure soft value is no -128
-soft_value-soft : (bit : ℕ) → soft_value bit ≢ negsuc 127
-soft_value-soft bit =
-    elim (cases_Bool (bit == 0)) [
-      | inl none ↦
-          let value : soft_value bit ≡ pos 127 = rw none refl in
-          λ same. let both : pos 127 ≡ negsuc 127 = sym value ∙ same in absurd (omega (arith, ints))
-      | inr one ↦
-          let value : soft_value bit ≡ negsuc 126 = rw one refl in
-          λ same. let both : negsuc 126 ≡ negsuc 127 = sym value ∙ same in absurd (omega (arith, ints))
-    ]
-
--- sure soft values are soft values
-pub softened-AllSoft : (bits : List ℕ) → AllSoft (softened bits)
-softened-AllSoft [] = All-nil (λ z. z ≢ negsuc 127)
-softened-AllSoft (bit ∷ bits) =
-    All-cons (λ z. z ≢ negsuc 127) (soft_value bit) (softened bits) (soft_value-soft bit) (softened-AllSoft bits)
+    All-cons IsSoft (cast_signed w8 octet) (signed_octets octets)
+    (soft_octet octet (All-head IsOctet octet octets small) (All-head Unlike octet octets each))
+    (signed-AllSoft octets (All-tail IsOctet octet octets small) (All-tail Unlike octet octets each))

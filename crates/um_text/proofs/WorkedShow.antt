@@ -6,7 +6,7 @@ use Rattle.lapdm_frame.specs.declared.Refusal.{Refusal}
 use Rattle.lapdm_frame.specs.declared.Refusal.TheVariants.{Lpd, Ea}
 use Rattle.lapdm_frame.specs.Content.{I, Rnr, Ui, Frame}
 use Rattle.lapdm_frame.specs.Refusals.{AppliesTo, place, IsRefused}
-use Rattle.um_block.specs.Packed.{octets_of}
+use Rattle.bit_blocks.specs.Octets.{octets_of}
 use Rattle.um_lines.specs.declared.fault.LineFault.TheVariants.{Digits}
 use Rattle.um_lines.specs.declared.fault.LineFault.TheVariants as F
 use Rattle.um_lines.specs.Words.{words}

@@ -2,7 +2,7 @@
 use Rattle.std.specs.Prelude.{ℕ, ◌≡◌, Bool, true, false, ℤ, List, ◌++◌, take, drop, codes, MatchOption, is_some}
 use Rattle.std.specs.Fmt.{decimal, signed_decimal}
 use Rattle.hex.specs.Hex.{encode_lower}
-use Rattle.um_block.specs.Packed.{octets_of}
+use Rattle.bit_blocks.specs.Octets.{octets_of}
 use Rattle.um_block.specs.declared.received.Received.{Received}
 use Rattle.um_block.specs.declared.received.ReceivedAccess.{ReceivedAccess}
 use Rattle.um_block.specs.declared.received.ReceivedSync.{ReceivedSync}

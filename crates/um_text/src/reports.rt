@@ -2,9 +2,8 @@
 ghost use Rattle.std.specs.Prelude.{◌≡◌, ◌+◌, ◌-◌, ◌*◌, ◌<◌, ◌≤◌, [], ◌++◌, length, take, drop};
 ghost use Rattle.std.specs.Fmt.{decimal};
 ghost use Rattle.bit_blocks.specs.Bits.{AllBits};
-ghost use Rattle.bit_blocks.specs.Octets.{bits_of};
+ghost use Rattle.bit_blocks.specs.Octets.{bits_of, octets_of};
 ghost use Rattle.hex.specs.Hex.{encode_lower};
-ghost use Rattle.um_block.specs.Packed.{octets_of};
 ghost use Rattle.um_lines.specs.Fields.{bit_digits};
 ghost use Rattle.um_text.specs.Reports.{parity_word, quality_text, data_text, block_line_text, IsBlockReport, access_report_text, sync_report_text};
 

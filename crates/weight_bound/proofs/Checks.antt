@@ -4,15 +4,16 @@ use Rattle.std.specs.Prelude.{unsigned_abs}
 use Rattle.std.specs.List.{list_all}
 use Rattle.std.proofs.lemmas.List.Sums.{AllPass-from_list_all}
 use Rattle.std.proofs.lemmas.Bool.{leb-true}
+use Rattle.bit_blocks.specs.SoftValues.{wrong_places}
 use Rattle.conv_code.specs.Code.{coded}
 use Rattle.weight_bound.specs.Distance.{distance}
-use Rattle.weight_bound.specs.Restoring.{wrong_bits, IsStrengths}
+use Rattle.weight_bound.specs.Restoring.{IsStrengths}
 
 distance-two : distance (0 ∷ 1 ∷ 1 ∷ []) (1 ∷ 1 ∷ 0 ∷ []) ≡ 2
 distance-two = refl
 
-wrong_bits-two : wrong_bits (pos 0 ∷ pos 3 ∷ negsuc 2 ∷ []) (0 ∷ 0 ∷ 0 ∷ []) ≡ 2
-wrong_bits-two = refl
+wrong_places-two : wrong_places (pos 0 ∷ pos 3 ∷ negsuc 2 ∷ []) (0 ∷ 0 ∷ 0 ∷ []) ≡ 2
+wrong_places-two = refl
 
 -- a one alone, at the first of eighteen places
 distance-seven : distance (coded (1 ∷ replicate 17 0)) (coded (replicate 18 0)) ≡ 7

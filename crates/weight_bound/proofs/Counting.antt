@@ -1,14 +1,10 @@
 -- Counts of places: one place more at the end, and one place more in front.
 use Rattle.std.proofs.Common.{◌≡◌, ℕ, zero, suc, ◌+◌, ◌≤◌, Bool, not, ◌==◌, cond, ℤ, List, ◌∷◌, length, refl, ap, ap₂, ◌∙◌, sym, arith}
-use Rattle.std.specs.Prelude.{int_le, pos, IsTrue, ◌↔◌}
 use Rattle.std.specs.List.{count_by, range_with_len}
 use Rattle.std.proofs.lemmas.List.FromFn.{length-range_with_len}
 use Rattle.std.proofs.lemmas.List.Sums.{count_by-le-length, sum_by-cons, sum_by_push}
-use Rattle.std.proofs.lemmas.Int.{ints}
-use Rattle.conv_code.specs.Likelihood.{agreement, IsWrong}
 use Rattle.conv_code.proofs.Coding.{range_more}
 use Rattle.weight_bound.specs.Distance.{is_different, distance}
-use Rattle.weight_bound.specs.Restoring.{is_wrong, wrong_bits}
 
 pub count_by_more : (p : ℕ → Bool) (n : ℕ) →
     count_by p (range_with_len 0 (n + 1)) ≡ count_by p (range_with_len 0 n) + cond (p n) 1 0
@@ -37,11 +33,3 @@ count_by-first p q n h =
 
 pub distance-cons : (x y : ℕ) (a b : List ℕ) → distance (x ∷ a) (y ∷ b) ≡ cond (not (x == y)) 1 0 + distance a b
 distance-cons x y a b = count_by-first (is_different (x ∷ a) (y ∷ b)) (is_different a b) (length a) (λ k. refl)
-
--- the test of a wrong place tells the fact
-pub IsWrong-test : (s : List ℤ) (c : List ℕ) (j : ℕ) → IsTrue (is_wrong s c j) ↔ IsWrong s c j
-IsWrong-test s c j = (grind (arith, ints), grind (arith, ints))
-
-pub wrong_bits-cons : (p : ℤ) (x : ℕ) (s : List ℤ) (c : List ℕ) →
-    wrong_bits (p ∷ s) (x ∷ c) ≡ cond (int_le (agreement p x) (pos 0)) 1 0 + wrong_bits s c
-wrong_bits-cons p x s c = count_by-first (is_wrong (p ∷ s) (x ∷ c)) (is_wrong s c) (length s) (λ k. refl)

@@ -2,7 +2,7 @@
 use Rattle.std.proofs.Common.{◌≡◌, ℕ, zero, suc, ◌+◌, ◌-◌, ◌%◌, ◌<◌, ◌≤◌, true, false, nat_lt, if◌then◌else◌, List, ◌∷◌, length, get_or, refl, ap, ap₂, ◌∙◌, arith}
 use Rattle.std.specs.List.{flat_map, range_with_len}
 use Rattle.bit_blocks.specs.Bits.{add_bits}
-use Rattle.bit_blocks.proofs.BitLists.{length-add_bits, get_or-add_bits}
+use Rattle.bit_blocks.proofs.Lemmas.{length-add_bits, get_or-add_bits}
 use Rattle.conv_code.specs.Code.{delayed, first_sum, second_sum, coded_pair, coded}
 
 module _ (u v : List ℕ) (same : length u ≡ length v) where

@@ -5,16 +5,17 @@ use Rattle.std.specs.List.{All}
 use Rattle.std.proofs.Math.Nat.{mul-le-mul_left}
 use Rattle.std.proofs.lemmas.Int.{ints}
 use Rattle.std.proofs.lemmas.List.Elements.{All-head, All-tail, All-weaker}
-use Rattle.bit_blocks.specs.Bits.{AllBits}
+use Rattle.bit_blocks.specs.Bits.{IsBit, AllBits}
+use Rattle.bit_blocks.specs.SoftValues.{is_wrong, wrong_places}
 use Rattle.conv_code.specs.Code.{coded, IsInformation}
 use Rattle.conv_code.specs.Likelihood.{agreement, likelihood, IsMostLikely}
 use Rattle.trellis_decode.proofs.EdgeLanes.{agreement-zero, agreement-one}
 use Rattle.trellis_decode.proofs.Likelihoods.{AllBits-coded}
 use Rattle.trellis_decode.proofs.MostLikely.{IsMostLikely-only}
 use Rattle.weight_bound.specs.Distance.{distance}
-use Rattle.weight_bound.specs.Restoring.{wrong_bits, IsHardlyDamaged, Restores}
+use Rattle.weight_bound.specs.Restoring.{IsLightlyDamaged, Restores}
 use Rattle.weight_bound.proofs.AbsoluteValues.{Between, Contains-strength}
-use Rattle.weight_bound.proofs.Counting.{distance-cons, wrong_bits-cons}
+use Rattle.weight_bound.proofs.Counting.{distance-cons}
 use Rattle.weight_bound.proofs.Distances.{at_least_seven, length-coded}
 
 -- a place is right or wrong, by the test and as a fact
@@ -67,7 +68,7 @@ one_place p (suc zero) (suc (suc y)) lo hi between hx hy = absurd (omega arith)
 
 -- the same, summed over all places
 pub all_places : (s : List ℤ) (c d : List ℕ) (lo hi : ℕ) → length s ≡ length c → length s ≡ length d → AllBits c → AllBits d →
-    All (Between lo hi) s → IsOutweighed (likelihood s c) (likelihood s d) lo hi (distance c d) (wrong_bits s c)
+    All (Between lo hi) s → IsOutweighed (likelihood s c) (likelihood s d) lo hi (distance c d) (wrong_places s c)
 all_places [] [] [] lo hi ec ed bits_c bits_d between = omega (arith, ints)
 all_places [] (x ∷ c) d lo hi ec ed bits_c bits_d between = absurd (omega arith)
 all_places [] [] (y ∷ d) lo hi ec ed bits_c bits_d between = absurd (omega arith)
@@ -76,11 +77,11 @@ all_places (p ∷ s) (x ∷ c) [] lo hi ec ed bits_c bits_d between = absurd (om
 all_places (p ∷ s) (x ∷ c) (y ∷ d) lo hi ec ed bits_c bits_d between =
     let ec' : length s ≡ length c = omega arith in
     let ed' : length s ≡ length d = omega arith in
-    let hx = All-head (λ bit. bit ≤ 1) x c bits_c in
-    let hy = All-head (λ bit. bit ≤ 1) y d bits_d in
+    let hx = All-head IsBit x c bits_c in
+    let hy = All-head IsBit y d bits_d in
     let here = one_place p x y lo hi (All-head (Between lo hi) p s between) hx hy in
-    let later = all_places s c d lo hi ec' ed' (All-tail (λ bit. bit ≤ 1) x c bits_c) (All-tail (λ bit. bit ≤ 1) y d bits_d) (All-tail (Between lo hi) p s between) in
-    rw (distance-cons x y c d, wrong_bits-cons p x s c) (joined (agreement p x) (agreement p y) (likelihood s c) (likelihood s d) lo hi _ _ _ _ here later)
+    let later = all_places s c d lo hi ec' ed' (All-tail IsBit x c bits_c) (All-tail IsBit y d bits_d) (All-tail (Between lo hi) p s between) in
+    rw (distance-cons x y c d) (joined (agreement p x) (agreement p y) (likelihood s c) (likelihood s d) lo hi _ _ _ _ here later)
   where
     joined : (a b la lb : ℤ) (lo hi d w ds ws : ℕ) → IsOutweighed a b lo hi d w → IsOutweighed la lb lo hi ds ws →
         IsOutweighed (a +ℤ la) (b +ℤ lb) lo hi (d + ds) (w + ws)
@@ -88,7 +89,7 @@ all_places (p ∷ s) (x ∷ c) (y ∷ d) lo hi ec ed bits_c bits_d between =
 
 -- seven places at strength lo outweigh what three wrong ones take back
 pub less_likely : (s : List ℤ) (u v : List ℕ) → IsInformation u → IsInformation v → length s ≡ 2 * length u → length v ≡ length u → v ≢ u →
-    IsHardlyDamaged s (coded u) → likelihood s (coded v) <ℤ likelihood s (coded u)
+    IsLightlyDamaged s (coded u) → likelihood s (coded v) <ℤ likelihood s (coded u)
 less_likely s u v information_u information_v pairs same ne damage =
     let lo = damage.lo in
     let hi = damage.hi in
@@ -96,7 +97,7 @@ less_likely s u v information_u information_v pairs same ne damage =
     let count_v : length s ≡ length (coded v) = pairs ∙ ap (λ n. 2 * n) (sym same) ∙ sym (length-coded v) in
     let sums = all_places s (coded u) (coded v) lo hi count_u count_v (AllBits-coded u information_u.bits) (AllBits-coded v information_v.bits) damage.strengths.between in
     let seven = at_least_seven u v information_u information_v (sym same) (λ e. ne (sym e)) in
-    weighed (likelihood s (coded u)) (likelihood s (coded v)) lo hi (distance (coded u) (coded v)) (wrong_bits s (coded u)) sums seven damage.few damage.even
+    weighed (likelihood s (coded u)) (likelihood s (coded v)) lo hi (distance (coded u) (coded v)) (wrong_places s (coded u)) sums seven damage.few damage.nearly_one_strength
   where
     weighed : (a b : ℤ) (lo hi d w : ℕ) → IsOutweighed a b lo hi d w → 7 ≤ d → w ≤ 3 → 3 * hi < 4 * lo → b <ℤ a
     weighed a b lo hi d w sums seven few even =
@@ -116,14 +117,14 @@ restores soft u information pairs damage = (
 )
 
 -- so whatever is most likely is the list that was sent
-pub restored : (soft : List ℤ) (u v : List ℕ) → IsInformation u → length soft ≡ 2 * length u → IsHardlyDamaged soft (coded u) →
+pub restored : (soft : List ℤ) (u v : List ℕ) → IsInformation u → length soft ≡ 2 * length u → IsLightlyDamaged soft (coded u) →
     IsMostLikely soft v → v ≡ u
 restored soft u v information pairs damage most = IsMostLikely-only soft u v (restores soft u information pairs damage).0 most
 
 -- values of one strength other than 0 are strong enough
-pub IsHardlyDamaged-equal : (soft : List ℤ) (c : List ℕ) (strength : ℕ) → 0 < length soft → 0 < strength →
-    All (λ value. unsigned_abs value ≡ strength) soft → wrong_bits soft c ≤ 3 → IsHardlyDamaged soft c
-IsHardlyDamaged-equal soft c strength any more equal few =
+pub IsLightlyDamaged-equal : (soft : List ℤ) (c : List ℕ) (strength : ℕ) → 0 < length soft → 0 < strength →
+    All (λ value. unsigned_abs value ≡ strength) soft → wrong_places soft c ≤ 3 → IsLightlyDamaged soft c
+IsLightlyDamaged-equal soft c strength any more equal few =
     let first = Contains-strength soft 0 strength any (sym (equal 0 (pos 0) any)) in
     record {
       few = few;
@@ -134,5 +135,5 @@ IsHardlyDamaged-equal soft c strength any more equal few =
         least = first;
         greatest = first;
       };
-      even = omega arith;
+      nearly_one_strength = omega arith;
     }

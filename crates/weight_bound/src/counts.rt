@@ -1,10 +1,12 @@
 //! The plain counts over lists.
 
-ghost use Rattle.std.specs.Prelude.{◌≡◌, ◌<◌, ◌≤◌, pos, int_le, length};
+ghost use Rattle.std.specs.Prelude.{◌≡◌, ◌<◌, ◌≤◌, length};
 ghost use Rattle.bit_blocks.specs.Bits.{AllBits};
-ghost use Rattle.conv_code.specs.Likelihood.{agreement, AllSoft};
+ghost use Rattle.bit_blocks.specs.SoftValues.{AllSoft, wrong_places};
 ghost use Rattle.weight_bound.specs.Distance.{distance};
-ghost use Rattle.weight_bound.specs.Restoring.{wrong_bits, IsStrengths};
+ghost use Rattle.weight_bound.specs.Restoring.{IsStrengths};
+
+use bit_blocks::wrong_places;
 
 /// How many places two lists of bits differ in.
 pub fn distance(a: &[u8], b: &[u8]) -> u32
@@ -29,23 +31,9 @@ pub fn wrong_bits(soft: &[i8], coded: &[u8]) -> u32
     requires at_most { length soft.now ≤ 456 }
     requires soft { AllSoft soft.now }
     requires bits { AllBits coded.now }
-    ensures { result ≡ wrong_bits soft.now coded.now }
+    ensures { result ≡ wrong_places soft.now coded.now }
 {
-    let mut places = 0;
-    for (k, value) in soft.iter().enumerate() {
-        if is_wrong(*value, coded[k]) {
-            places += 1;
-        }
-    }
-    places
-}
-
-/// Whether a soft value is 0 or speaks for the other bit.
-fn is_wrong(value: i8, bit: u8) -> bool
-    requires { bit ≤ 1 }
-    ensures { result ≡ int_le (agreement value bit) (pos 0) }
-{
-    if bit == 0 { value <= 0 } else { value >= 0 }
+    wrong_places(soft, coded)
 }
 
 /// The least and the greatest absolute value.

@@ -1,10 +1,11 @@
 //! What holds of all coded lists. A law does nothing: it is called for its contract.
 
 ghost use Rattle.std.specs.Prelude.{◌≡◌, ◌≢◌, ℕ, ◌*◌, ◌≤◌, length};
+ghost use Rattle.bit_blocks.specs.SoftValues.{AllSoft};
 ghost use Rattle.conv_code.specs.Code.{coded, IsInformation};
-ghost use Rattle.conv_code.specs.Likelihood.{AllSoft, IsMostLikely};
+ghost use Rattle.conv_code.specs.Likelihood.{IsMostLikely};
 ghost use Rattle.weight_bound.specs.Distance.{distance, ReachesSeven};
-ghost use Rattle.weight_bound.specs.Restoring.{IsHardlyDamaged, OthersAreLessLikely};
+ghost use Rattle.weight_bound.specs.Restoring.{IsLightlyDamaged, OthersAreLessLikely};
 
 /// Law: the coded lists of two information lists of one length differ in at least seven places.
 pub fn law_distance(u: &[u8], v: &[u8])
@@ -27,7 +28,7 @@ pub fn law_restores(soft: &[i8], u: &[u8])
     requires at_most { length u.now ≤ 228 }
     requires count { length soft.now ≡ 2 * length u.now }
     requires soft { AllSoft soft.now }
-    requires damage { IsHardlyDamaged soft.now (coded u.now) }
+    requires damage { IsLightlyDamaged soft.now (coded u.now) }
     ensures best { IsMostLikely soft.now u.now }
     ensures others { OthersAreLessLikely soft.now u.now }
 {}

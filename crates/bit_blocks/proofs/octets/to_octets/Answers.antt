@@ -1,8 +1,25 @@
-use Rattle.std.proofs.Common.{arith, ◌+◌, ◌-◌, ◌*◌}
-use Rattle.bit_blocks.proofs.OctetLists.{bits_of_more}
+use Rattle.std.proofs.Common.{◌≡◌, arith, ◌+◌, ◌-◌, ◌*◌, length, ap, ◌∙◌, sym, take}
+use Rattle.std.proofs.Math.Seq.{take-length}
+use Rattle.bit_blocks.specs.Octets.{bits_of, octets_of}
+use Rattle.bit_blocks.proofs.OctetLists.{octets_of_more, bits_of-octets_of}
 use Rattle.bit_blocks.proofs.octets.to_octets.Goals as goal
 
 pub loop-m-preserved : goal.loop-m-preserved
 loop-m-preserved c =
-    bits_of_more c.loop-m.out c.args.bits.now c.loop-m.m c.octet_of_bits.result (8 * c.loop-m.m + 8 - 8 * c.loop-m.m)
-    (omega arith) (omega arith) c.octet_of_bits.ensures c.loop-m.invariant
+    octets_of_more c.loop-m.out c.args.bits.now c.loop-m.m c.octet_of_bits.result (8 * c.loop-m.m + 8 - 8 * c.loop-m.m)
+    (omega arith) (omega arith) (omega arith) c.octet_of_bits.ensures c.loop-m.invariant
+
+pub returns-clause-value : goal.returns-clause-value
+returns-clause-value c =
+    let m : c.loop-m.m ≡ length c.loop-m.out = omega arith in
+    let whole : 8 * c.loop-m.m ≡ length c.args.bits.now = omega arith in
+    sym (take-length c.loop-m.out)
+    ∙ ap (λ n. take n c.loop-m.out) (sym m)
+    ∙ c.loop-m.invariant
+    ∙ ap (λ n. octets_of (take n c.args.bits.now)) whole
+    ∙ ap octets_of (take-length c.args.bits.now)
+
+pub returns-clause-undone : goal.returns-clause-undone
+returns-clause-undone c =
+    ap bits_of (returns-clause-value c)
+    ∙ bits_of-octets_of c.args.bits.now (length c.args.out.now) c.requires.count c.requires.bits

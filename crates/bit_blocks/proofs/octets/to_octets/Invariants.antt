@@ -1,7 +1,7 @@
 use Rattle.std.proofs.Common.{◌≡◌, ◌*◌, take}
-use Rattle.bit_blocks.specs.Octets.{bits_of}
+use Rattle.bit_blocks.specs.Octets.{octets_of}
 use Rattle.bit_blocks.proofs.octets.to_octets.Given as goal
 
--- the bits of the octets so far are the bits so far
+-- the octets so far are those of the bits so far
 abbrev pub invariant-loop-m : goal.invariant-loop-m
-invariant-loop-m l = bits_of (take l.m l.out) ≡ take (8 * l.m) l.bits
+invariant-loop-m l = take l.m l.out ≡ octets_of (take (8 * l.m) l.bits)

@@ -1,7 +1,7 @@
 use Rattle.std.proofs.Common.{arith, ◌≤◌, ◌+◌, ◌∷◌, length, get_or, subst, sym}
 use Rattle.std.proofs.lemmas.Nat.{pow_pos}
-use Rattle.bit_blocks.specs.Polynomials.{IsMultiple}
-use Rattle.bit_blocks.proofs.Multiples.{IsMultiple-zeros}
+use Rattle.bit_blocks.specs.Polynomials.{HasQuotient}
+use Rattle.bit_blocks.proofs.Lemmas.{HasQuotient-zeros}
 use Rattle.fire_code.specs.Registers.{register_bits}
 use Rattle.fire_code.proofs.RegisterBits.{length-register_bits, register_bits-zero}
 use Rattle.fire_code.proofs.Steps.{remainder_along, remainder_within}
@@ -11,7 +11,7 @@ pub loop-bit-init : goal.loop-bit-init
 loop-bit-init g c =
     let generator = 1 ∷ register_bits g.row.N c.args.taps in
     let room : length generator ≤ g.row.N + 1 = omega (arith, length-register_bits g.row.N c.args.taps) in (
-      subst (λ r. IsMultiple r generator) (sym (register_bits-zero g.row.N)) (IsMultiple-zeros g.row.N generator room),
+      subst (λ r. HasQuotient r generator) (sym (register_bits-zero g.row.N)) (HasQuotient-zeros g.row.N generator room),
       pow_pos g.row.N,
     )
 

@@ -1,10 +1,10 @@
 use Rattle.std.proofs.Common.{◌<◌, ◌^◌, ◌++◌, ◌∷◌, take}
-use Rattle.bit_blocks.specs.Polynomials.{IsMultiple}
+use Rattle.bit_blocks.specs.Polynomials.{HasQuotient}
 use Rattle.fire_code.specs.Registers.{register_bits}
 use Rattle.fire_code.proofs.division.remainder.Given as goal
 
 -- the register completes the places so far
 abbrev pub invariant-loop-bit : goal.invariant-loop-bit
 invariant-loop-bit g l =
-    IsMultiple (take l.bit-index l.bits ++ register_bits g.row.N l.register) (1 ∷ register_bits g.row.N l.taps) ×
+    HasQuotient (take l.bit-index l.bits ++ register_bits g.row.N l.register) (1 ∷ register_bits g.row.N l.taps) ×
     (l.register < 2 ^ g.row.N)

@@ -1,7 +1,7 @@
-use Rattle.std.proofs.Common.{◌++◌, ◌≤◌, arith, replicate, subst, sym, ◌∙◌}
+use Rattle.std.proofs.Common.{◌++◌, arith, replicate, subst, sym, ◌∙◌}
 use Rattle.std.proofs.lemmas.List.Elements.{All-replicate}
-use Rattle.bit_blocks.specs.Bits.{add_bits}
-use Rattle.bit_blocks.proofs.Sums.{add_bits-zeros}
+use Rattle.bit_blocks.specs.Bits.{IsBit, add_bits}
+use Rattle.bit_blocks.proofs.Lemmas.{add_bits-zeros}
 use Rattle.fire_code.specs.Words.{IsRachWord}
 use Rattle.fire_code.proofs.RachWords.{rach_word, same_rach_parity}
 use Rattle.fire_code.proofs.rach.rach_parity.Goals as goal
@@ -22,7 +22,7 @@ pub returns-clause-word : goal.returns-clause-word
 returns-clause-word c =
     subst (λ p. IsRachWord (c.args.d.now ++ p) (replicate 6 0))
     (add_bits-zeros c.parity.result 6 c.parity.ensures.bits c.parity.ensures.count)
-    (returns-clause-under_code c (replicate 6 0) (omega arith) (All-replicate (λ bit. bit ≤ 1) 6 0 (omega arith)))
+    (returns-clause-under_code c (replicate 6 0) (omega arith) (All-replicate IsBit 6 0 (omega arith)))
 
 pub returns-clause-only : goal.returns-clause-only
 returns-clause-only c p word =

@@ -1,5 +1,5 @@
 use Rattle.std.proofs.Common.{◌++◌, sym, subst, arith}
-use Rattle.bit_blocks.specs.Polynomials.{IsMultiple}
+use Rattle.bit_blocks.specs.Polynomials.{HasQuotient}
 use Rattle.fire_code.specs.Words.{g40, IsXcchWord}
 use Rattle.fire_code.proofs.RegisterBits.{turned_register}
 use Rattle.fire_code.proofs.XcchWords.{xcch_word, same_xcch_parity}
@@ -11,7 +11,7 @@ returns-clause-word c =
     let d = c.as_slice.result.now in
     subst (λ d. IsXcchWord (d ++ c.bits_of.result)) c.as_slice.ensures.value
     (xcch_word d c.bits_of.result c.as_slice.ensures.count c.as_slice.ensures.bits c.bits_of.ensures.count c.bits_of.ensures.bits
-    (subst (λ r. IsMultiple (d ++ r) g40) (sym turned) c.remainder.ensures.multiple))
+    (subst (λ r. HasQuotient (d ++ r) g40) (sym turned) c.remainder.ensures.multiple))
 
 pub returns-clause-only : goal.returns-clause-only
 returns-clause-only c p word =

@@ -1,7 +1,7 @@
 use Rattle.std.proofs.Common.{◌≡◌, ℕ, ℤ, ◌≤◌, List, length, arith}
 use Rattle.std.proofs.lemmas.Int.{ints}
 use Rattle.training_seq.specs.Choice.{total_correlation}
-use Rattle.training_seq.specs.Correlation.{correlation}
+use Rattle.bit_blocks.specs.SoftValues.{likelihood}
 use Rattle.training_seq.specs.Sequences.{training_sequence}
 use Rattle.training_seq.specs.Sums.{add_values}
 use Rattle.training_seq.proofs.Correlations.{length-add_values, correlation-add_values}
@@ -10,7 +10,7 @@ use Rattle.training_seq.proofs.SequenceTable.{AllBits-training_sequence}
 use Rattle.training_seq.proofs.choice.best.Goals as goal
 
 correlation-four : (a b c d : List ℤ) (tsc : ℕ) → length a ≡ length b → length a ≡ length c → length a ≡ length d → tsc ≤ 7 →
-    correlation (add_values (add_values (add_values a b) c) d) (training_sequence tsc) ≡ total_correlation a b c d tsc
+    likelihood (add_values (add_values (add_values a b) c) d) (training_sequence tsc) ≡ total_correlation a b c d tsc
 correlation-four a b c d tsc ab ac ad h =
     let bits = training_sequence tsc in
     let are_bits = AllBits-training_sequence tsc h in

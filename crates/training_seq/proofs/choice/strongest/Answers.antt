@@ -1,6 +1,6 @@
 use Rattle.std.proofs.Common.{◌≡◌, ℕ, ℤ, ◌<ℤ◌, ◌≤ℤ◌, arith}
 use Rattle.std.proofs.lemmas.Int.{ints}
-use Rattle.training_seq.specs.Correlation.{correlation}
+use Rattle.bit_blocks.specs.SoftValues.{likelihood}
 use Rattle.training_seq.specs.Sequences.{training_sequence}
 use Rattle.training_seq.proofs.Greatest.{LeadsBelow-overtaken, LeadsBelow-kept, IsFirstGreatest-from_LeadsBelow}
 use Rattle.training_seq.proofs.choice.strongest.Goals as goal
@@ -8,7 +8,7 @@ use Rattle.training_seq.proofs.choice.strongest.Goals.{then-total-greatest, else
 
 pub loop-tsc-preserved : goal.loop-tsc-preserved
 loop-tsc-preserved c =
-    let score : ℕ → ℤ = λ tsc. correlation c.args.sums.now (training_sequence tsc) in
+    let score : ℕ → ℤ = λ tsc. likelihood c.args.sums.now (training_sequence tsc) in
     elim c.if-total-greatest.branch [
       | then-total-greatest w ↦
           let more : score c.loop-tsc.best <ℤ score c.loop-tsc.tsc = grind (arith, ints) in
@@ -20,6 +20,6 @@ loop-tsc-preserved c =
 
 pub returns : goal.returns
 returns c =
-    let score : ℕ → ℤ = λ tsc. correlation c.args.sums.now (training_sequence tsc) in
+    let score : ℕ → ℤ = λ tsc. likelihood c.args.sums.now (training_sequence tsc) in
     let end : c.loop-tsc.tsc ≡ 8 = omega arith in
     IsFirstGreatest-from_LeadsBelow score _ (rw end at c.loop-tsc.invariant.1)

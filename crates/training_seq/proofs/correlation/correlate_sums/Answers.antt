@@ -1,6 +1,6 @@
 use Rattle.std.proofs.Common.{◌≡◌, ◌<◌, length, pos, arith, w16, to_z, of_z, get_or, ◌+ℤ◌}
 use Rattle.std.proofs.lemmas.Int.{ints}
-use Rattle.training_seq.specs.Correlation.{agreement}
+use Rattle.bit_blocks.specs.SoftValues.{agreement}
 use Rattle.training_seq.specs.Ranges.{IsWithin}
 use Rattle.training_seq.proofs.Correlations.{correlation_more}
 use Rattle.training_seq.proofs.correlation.correlate_sums.Goals as goal

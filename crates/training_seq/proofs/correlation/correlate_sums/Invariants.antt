@@ -1,10 +1,10 @@
 use Rattle.std.proofs.Common.{◌≡◌, ◌*◌, drop, ◌+ℤ◌}
-use Rattle.training_seq.specs.Correlation.{correlation}
+use Rattle.bit_blocks.specs.SoftValues.{likelihood}
 use Rattle.training_seq.specs.Ranges.{IsWithin}
 use Rattle.training_seq.proofs.correlation.correlate_sums.Given as goal
 
--- the total so far and the correlation of the rest are that of all places
+-- the total so far and the likelihood of the rest are that of all places
 abbrev pub invariant-loop-i : goal.invariant-loop-i
 invariant-loop-i l =
-    (l.total +ℤ correlation (drop l.i l.sums) (drop l.i l.bits) ≡ correlation l.sums l.bits)
+    (l.total +ℤ likelihood (drop l.i l.sums) (drop l.i l.bits) ≡ likelihood l.sums l.bits)
     × IsWithin (512 * l.i) l.total

@@ -2,7 +2,7 @@ use Rattle.std.proofs.Common.{◌≡◌, inl, inr, [], length, get_or, pos, ap, 
 use Rattle.burst_map.specs.NormalBurst.{first_half, second_half}
 use Rattle.std.proofs.lemmas.Bool.{cases_eq}
 use Rattle.interleave.specs.Places.{burst_of, place_of}
-use Rattle.interleave.proofs.WholeBursts.{burst_of-below}
+use Rattle.interleave.proofs.Lemmas.{burst_of-below}
 use Rattle.um_block.specs.Received.{coded_places}
 use Rattle.um_block.proofs.Softness.{interleaved_places, AllSoft-gathered}
 use Rattle.um_block.proofs.receiving.gather_block.Goals as goal
@@ -36,4 +36,4 @@ returns-clause-gathered c =
     (λ k h. let b = burst_of-below k in c.loop-b.invariant.2 k h (omega arith))
 
 pub returns-clause-soft : goal.returns-clause-soft
-returns-clause-soft c = AllSoft-gathered c.args.bursts.now c.loop-b.soft (omega arith) (returns-clause-gathered c) c.requires
+returns-clause-soft c = AllSoft-gathered c.args.bursts.now c.loop-b.soft (returns-clause-gathered c) c.requires

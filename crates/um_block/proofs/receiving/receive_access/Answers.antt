@@ -1,5 +1,5 @@
 use Rattle.std.proofs.Common.{◌≡◌, ℕ, ℤ, List, length, rules, ap, sym, subst, ◌∙◌}
-use Rattle.conv_code.specs.Likelihood.{AllSoft}
+use Rattle.bit_blocks.specs.SoftValues.{AllSoft}
 use Rattle.burst_map.specs.AccessBurst.{body}
 use Rattle.um_block.specs.Sent.{IsSentAccess}
 use Rattle.um_block.specs.Received.{softened, IsReceivedAccess}
@@ -11,7 +11,7 @@ use Rattle.um_block.proofs.Softness.{AllSoft-range}
 use Rattle.um_block.proofs.Restoring.{restored_access}
 use Rattle.um_block.proofs.receiving.receive_access.Goals as goal
 
-restored : (burst : List ℤ) (bsic : List ℕ) (r : ReceivedAccess) → IsReceivedAccess burst bsic r → (info sent : List ℕ) → IsSentAccess info bsic sent → burst ≡ softened sent → IsCleanAccess info r
+restored : (burst : List ℤ) (bsic : List ℕ) (r : ReceivedAccess) → IsReceivedAccess burst bsic r → (info sent : List ℕ) → IsSentAccess info bsic sent → burst ≡ softened sent → IsCleanAccess info bsic r
 restored burst bsic r received info sent s same = clean_access info bsic sent r s (subst (λ x. IsReceivedAccess x bsic r) same received)
 
 pub decode-metric-requires-clause-soft : goal.decode-metric-requires-clause-soft

@@ -1,5 +1,5 @@
-use Rattle.std.proofs.Common.{◌≡◌, ℕ, ◌<◌, ℤ, List, map, subst, rules}
-use Rattle.std.specs.List.{All}
+use Rattle.std.proofs.Common.{◌≡◌, ℕ, ℤ, List, map, subst, rules}
+use Rattle.bit_blocks.specs.Octets.{AllOctets}
 use Rattle.um_block.specs.Sent.{IsSentBlock}
 use Rattle.um_block.specs.Received.{softened, IsReceivedBlock}
 use Rattle.um_block.specs.Restored.{IsCleanBlock}
@@ -10,7 +10,7 @@ use Rattle.um_block.proofs.Restoring.{restored_block}
 use Rattle.um_block.proofs.receiving.receive_block.Goals as goal
 
 restored : (bursts : List (List ℤ)) (r : Received) → IsReceivedBlock bursts r → (octets : List ℕ) (tsc : ℕ) (sent : List (List ℕ)) →
-    All (λ octet. octet < 256) octets → IsSentBlock octets tsc sent → bursts ≡ map softened sent → IsCleanBlock octets tsc r
+    AllOctets octets → IsSentBlock octets tsc sent → bursts ≡ map softened sent → IsCleanBlock octets tsc r
 restored bursts r received octets tsc sent small s same =
     clean_block octets tsc sent r small s (subst (λ b. IsReceivedBlock b r) same received)
 

@@ -1,6 +1,6 @@
 use Rattle.std.proofs.Common.{◌≡◌, ℕ, ℤ, List, length, rules, ◌++◌, ap, ap₂, sym, subst, ◌∙◌}
 use Rattle.std.proofs.lemmas.List.Elements.{All-append}
-use Rattle.conv_code.specs.Likelihood.{AllSoft}
+use Rattle.bit_blocks.specs.SoftValues.{IsSoft, AllSoft}
 use Rattle.burst_map.specs.SyncBurst.{first_half, second_half}
 use Rattle.um_block.specs.Sent.{IsSentSync}
 use Rattle.um_block.specs.Received.{softened, IsReceivedSync}
@@ -8,7 +8,7 @@ use Rattle.um_block.specs.Restored.{IsCleanSync}
 use Rattle.um_block.specs.declared.received.ReceivedSync.{ReceivedSync}
 use Rattle.um_block.proofs.ReceivedOnce.{one_received_sync}
 use Rattle.um_block.proofs.CleanRestoring.{clean_sync}
-use Rattle.um_block.proofs.Softness.{IsSoft, AllSoft-range}
+use Rattle.um_block.proofs.Softness.{AllSoft-range}
 use Rattle.um_block.proofs.Restoring.{restored_sync}
 use Rattle.um_block.proofs.receiving.receive_sync.Goals as goal
 

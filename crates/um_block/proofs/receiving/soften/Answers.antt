@@ -1,6 +1,6 @@
 use Rattle.std.proofs.Common.{◌<◌, length, pos, sym, subst, ◌∙◌, arith}
 use Rattle.std.proofs.lemmas.List.{ext_get_or, get_or-map, length-map}
-use Rattle.conv_code.specs.Likelihood.{AllSoft}
+use Rattle.bit_blocks.specs.SoftValues.{AllSoft}
 use Rattle.um_block.specs.Received.{soft_value}
 use Rattle.um_block.proofs.Softness.{AllSoft-softened}
 use Rattle.um_block.proofs.receiving.soften.Goals as goal

@@ -1,15 +1,13 @@
-use Rattle.std.proofs.Common.{◌≡◌, ◌++◌, sym, ◌∙◌, ap, ap₂, subst, arith, lit<}
+use Rattle.std.proofs.Common.{◌≡◌, ◌<◌, ◌++◌, length, get_or, sym, ◌∙◌, ap, ap₂, subst, arith}
+use Rattle.std.proofs.lemmas.List.{get_or_default}
 use Rattle.bit_blocks.specs.Bits.{AllBits}
-use Rattle.bit_blocks.specs.Octets.{bits_of}
+use Rattle.bit_blocks.specs.Octets.{IsOctet, AllOctets, bits_of}
 use Rattle.conv_code.specs.Code.{coded}
+use Rattle.conv_code.proofs.Lemmas.{AllBits-coded}
 use Rattle.fire_code.specs.Words.{IsXcchWord}
 use Rattle.um_block.specs.Sent.{with_tail}
-use Rattle.um_block.proofs.Information.{IsInformation-joined, AllBits-bits_of, AllBits-coded}
+use Rattle.um_block.proofs.Words.{IsInformation-joined}
 use Rattle.um_block.proofs.sending.code_block.Goals as goal
-
-pub from_array-info-requires : goal.from_array-info-requires
-from_array-info-requires c =
-    (lit< tt, (lit< tt, subst AllBits (sym c.from_octets.ensures) (AllBits-bits_of c.args.octets.now)))
 
 pub encode-requires-clause-information : goal.encode-requires-clause-information
 encode-requires-clause-information c =
@@ -21,15 +19,18 @@ returns-clause-bits c = subst AllBits (sym c.encode.ensures) (AllBits-coded c.ad
 
 pub returns-clause-coded : goal.returns-clause-coded
 returns-clause-coded c =
-    let d = c.from_octets.new.out in
-    let bits_are : d ≡ bits_of c.args.octets.now = c.from_octets.ensures in
+    let d = bits_of c.args.octets.now in
     let p = c.xcch_parity.result in
-    let word_is : c.add_tail.new.word ≡ with_tail (bits_of c.args.octets.now ++ p) =
-    c.add_tail.ensures
-    ∙ ap₂ (λ x y. with_tail (x ++ y)) (c.as_slice.ensures.value ∙ c.from_array-info.ensures.value ∙ bits_are) c.as_slice-2.ensures.value in
+    let bits_are : c.from_array-info.result ≡ d = c.from_array-info.ensures.value ∙ c.from_octets.ensures.value in
+    let word_is : c.add_tail.new.word ≡ with_tail (d ++ p) =
+    c.add_tail.ensures ∙ ap₂ (λ x y. with_tail (x ++ y)) (c.as_slice.ensures.value ∙ bits_are) c.as_slice-2.ensures.value in
     record {
-      parity = p;
+      u = c.add_tail.new.word;
       count = c.told-octets;
-      word = subst (λ x. IsXcchWord (x ++ p)) (c.from_array-info.ensures.value ∙ bits_are) c.xcch_parity.ensures.word;
-      code = c.encode.ensures ∙ ap coded word_is;
+      information = record {
+        parity = p;
+        word = subst (λ x. IsXcchWord (x ++ p)) bits_are c.xcch_parity.ensures.word;
+        list = word_is;
+      };
+      code = c.encode.ensures;
     }

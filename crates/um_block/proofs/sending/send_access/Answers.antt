@@ -1,10 +1,10 @@
 use Rattle.std.proofs.Common.{◌≡◌, ◌++◌, length, sym, ◌∙◌, ap, ap₂, subst, arith}
 use Rattle.bit_blocks.specs.Bits.{AllBits}
-use Rattle.conv_code.specs.Code.{coded}
+use Rattle.conv_code.proofs.Lemmas.{AllBits-coded}
 use Rattle.fire_code.specs.Words.{IsRachWord}
-use Rattle.burst_map.specs.AccessBurst.{access_burst}
-use Rattle.um_block.specs.Sent.{with_tail}
-use Rattle.um_block.proofs.Information.{IsInformation-joined, AllBits-coded}
+use Rattle.um_block.specs.Sent.{with_tail, IsSentAccess}
+use Rattle.um_block.proofs.SentOnce.{one_access_burst}
+use Rattle.um_block.proofs.Words.{IsInformation-joined}
 use Rattle.um_block.proofs.sending.send_access.Goals as goal
 
 pub access-requires-clause-bits : goal.access-requires-clause-bits
@@ -24,8 +24,19 @@ returns-clause-sent c =
     c.add_tail.ensures ∙ ap₂ (λ x y. with_tail (x ++ y)) c.as_slice.ensures.value c.as_slice-2.ensures.value in
     let under = c.rach_parity.ensures.under_code b c.xor-parity.ensures.counts.1 c.xor-parity.ensures.operands.1 in
     record {
-      parity = p;
-      count = sym (ap length c.as_slice.ensures.value) ∙ c.as_slice.ensures.count;
-      word = subst (λ parity. IsRachWord (d ++ parity) b) (sym c.xor-parity.ensures.value) under;
-      burst = c.access.ensures.value ∙ ap access_burst (c.encode.ensures ∙ ap coded word_is);
+      coded_bits = c.encode.new.out;
+      code = record {
+        u = c.add_tail.new.word;
+        count = sym (ap length c.as_slice.ensures.value) ∙ c.as_slice.ensures.count;
+        information = record {
+          parity = p;
+          word = subst (λ parity. IsRachWord (d ++ parity) b) (sym c.xor-parity.ensures.value) under;
+          list = word_is;
+        };
+        code = c.encode.ensures;
+      };
+      burst = c.access.ensures.value;
     }
+
+pub returns-clause-only : goal.returns-clause-only
+returns-clause-only c other h = one_access_burst c.args.info.now c.args.bsic.now other _ h (returns-clause-sent c)

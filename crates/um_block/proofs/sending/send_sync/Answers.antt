@@ -1,10 +1,11 @@
-use Rattle.std.proofs.Common.{◌≡◌, ◌≤◌, ◌++◌, length, take, drop, sym, ◌∙◌, ap, ap₂, subst, arith}
+use Rattle.std.proofs.Common.{◌≡◌, ◌++◌, length, sym, ◌∙◌, ap, ap₂, subst, arith}
 use Rattle.std.proofs.lemmas.List.Elements.{All-take, All-drop}
-use Rattle.bit_blocks.specs.Bits.{AllBits}
-use Rattle.conv_code.specs.Code.{coded}
+use Rattle.bit_blocks.specs.Bits.{IsBit, AllBits}
+use Rattle.conv_code.proofs.Lemmas.{AllBits-coded}
 use Rattle.burst_map.specs.SyncBurst.{sync_burst}
-use Rattle.um_block.specs.Sent.{with_tail}
-use Rattle.um_block.proofs.Information.{IsInformation-joined, AllBits-coded}
+use Rattle.um_block.specs.Sent.{with_tail, IsSentSync}
+use Rattle.um_block.proofs.SentOnce.{one_sync_burst}
+use Rattle.um_block.proofs.Words.{IsInformation-joined}
 use Rattle.um_block.proofs.sending.send_sync.Goals as goal
 
 pub encode-requires-clause-information : goal.encode-requires-clause-information
@@ -17,9 +18,9 @@ sync-requires c =
     let bits : AllBits c.encode.new.out = subst AllBits (sym c.encode.ensures) (AllBits-coded c.add_tail.new.word) in
     record {
       first = omega (arith, c.split_at.ensures.front_len);
-      first_bits = subst AllBits (sym c.split_at.ensures.front) (All-take (λ bit. bit ≤ 1) 39 c.encode.new.out bits);
+      first_bits = subst AllBits (sym c.split_at.ensures.front) (All-take IsBit 39 c.encode.new.out bits);
       second = omega (arith, c.split_at.ensures.back_len);
-      second_bits = subst AllBits (sym c.split_at.ensures.back) (All-drop (λ bit. bit ≤ 1) 39 c.encode.new.out bits);
+      second_bits = subst AllBits (sym c.split_at.ensures.back) (All-drop IsBit 39 c.encode.new.out bits);
     }
 
 pub returns-clause-sent : goal.returns-clause-sent
@@ -28,11 +29,16 @@ returns-clause-sent c =
     let p = c.sch_parity.result in
     let word_is : c.add_tail.new.word ≡ with_tail (d ++ p) =
     c.add_tail.ensures ∙ ap₂ (λ x y. with_tail (x ++ y)) c.as_slice.ensures.value c.as_slice-2.ensures.value in
-    let coded_is : c.encode.new.out ≡ coded (with_tail (d ++ p)) = c.encode.ensures ∙ ap coded word_is in
     record {
-      parity = p;
-      count = sym (ap length c.as_slice.ensures.value) ∙ c.as_slice.ensures.count;
-      word = c.sch_parity.ensures.word;
-      burst = c.sync.ensures.value
-          ∙ ap₂ sync_burst (c.split_at.ensures.front ∙ ap (take 39) coded_is) (c.split_at.ensures.back ∙ ap (drop 39) coded_is);
+      coded_bits = c.encode.new.out;
+      code = record {
+        u = c.add_tail.new.word;
+        count = sym (ap length c.as_slice.ensures.value) ∙ c.as_slice.ensures.count;
+        information = record { parity = p; word = c.sch_parity.ensures.word; list = word_is };
+        code = c.encode.ensures;
+      };
+      burst = c.sync.ensures.value ∙ ap₂ sync_burst c.split_at.ensures.front c.split_at.ensures.back;
     }
+
+pub returns-clause-only : goal.returns-clause-only
+returns-clause-only c other h = one_sync_burst c.args.info.now other _ h (returns-clause-sent c)

@@ -1,0 +1,29 @@
+//! Soft values, which say of each bit that is received how sure it is.
+ghost use Rattle.std.specs.Prelude.{◌≡◌, ◌≤◌, length};
+ghost use Rattle.bit_blocks.specs.Bits.{AllBits};
+ghost use Rattle.bit_blocks.specs.SoftValues.{is_wrong, wrong_places};
+
+/// How many soft values are 0 or speak for the other bit.
+pub fn wrong_places(soft: &[i8], bits: &[u8]) -> u32
+    requires count { length soft.now ≡ length bits.now }
+    requires few { length soft.now ≤ 456 }
+    requires bits { AllBits bits.now }
+    ensures value { result ≡ wrong_places soft.now bits.now }
+    ensures within { result ≤ length soft.now }
+{
+    let mut wrong = 0;
+    for (i, value) in soft.iter().enumerate() {
+        if is_wrong(*value, bits[i]) {
+            wrong += 1;
+        }
+    }
+    wrong
+}
+
+#[inline]
+fn is_wrong(value: i8, bit: u8) -> bool
+    requires { bit ≤ 1 }
+    ensures { result ≡ is_wrong value bit }
+{
+    if bit == 0 { value <= 0 } else { value >= 0 }
+}

@@ -1,0 +1,7 @@
+use Rattle.std.proofs.Common.{refl}
+use Rattle.bit_blocks.proofs.Lemmas.{AllBits-table}
+use Rattle.burst_map.specs.AccessBurst.{access_sequence}
+use Rattle.burst_map.proofs.access_burst.access_sequence.Goals as goal
+
+pub returns-clause-bits : goal.returns-clause-bits
+returns-clause-bits c = AllBits-table access_sequence refl

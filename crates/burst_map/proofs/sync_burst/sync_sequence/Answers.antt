@@ -1,0 +1,7 @@
+use Rattle.std.proofs.Common.{refl}
+use Rattle.bit_blocks.proofs.Lemmas.{AllBits-table}
+use Rattle.burst_map.specs.SyncBurst.{sync_sequence}
+use Rattle.burst_map.proofs.sync_burst.sync_sequence.Goals as goal
+
+pub returns-clause-bits : goal.returns-clause-bits
+returns-clause-bits c = AllBits-table sync_sequence refl

@@ -1,0 +1,2 @@
+-- What crates above cite of information lists and coded lists.
+pub use Rattle.conv_code.proofs.Lists.{IsInformation-tail, AllBits-coded, length-coded}

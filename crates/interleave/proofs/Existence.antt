@@ -1,0 +1,114 @@
+-- Every coded list can be spread over bursts, and of every four bursts one can be gathered.
+use Rattle.std.proofs.Common.{◌≡◌, ℕ, ◌+◌, ◌*◌, ◌/◌, ◌%◌, ◌<◌, List, [], map, length, get_or, refl, ap, sym, ◌∙◌, arith, subst}
+use Rattle.std.specs.List.{All, range_with_len}
+use Rattle.std.proofs.lemmas.List.{get_or_default, get_or-map, length-map}
+use Rattle.std.proofs.lemmas.List.FromFn.{get_or-map-range_with_len, length-map-range_with_len}
+use Rattle.interleave.specs.Places.{burst_of, place_of}
+use Rattle.interleave.specs.Bursts.{IsInterleaved}
+use Rattle.interleave.proofs.CodedBits.{entry, entry-stands, same_coded_bit}
+use Rattle.interleave.proofs.WholeBursts.{burst_of-below, place_of-below}
+
+-- ---- spread
+
+-- the coded bit that stands at a place of a burst
+bit_at : ℕ → ℕ → ℕ
+bit_at b j = entry (2 * b + j / 57) (j % 57)
+
+standing_at : (k b j : ℕ) → k < 456 → b < 4 → j < 114 → burst_of k ≡ b → place_of k ≡ j → bit_at b j ≡ k
+unfolding bit_at
+standing_at k b j within hb hj in_burst at_place =
+    let stands = entry-stands (2 * b + j / 57) (j % 57) (omega arith) (omega arith) in
+    let burst : (2 * b + j / 57) / 2 ≡ b = omega arith in
+    let place : 57 * ((2 * b + j / 57) % 2) + j % 57 ≡ j = omega arith in
+    same_coded_bit (entry (2 * b + j / 57) (j % 57)) k stands.within within
+    (stands.burst ∙ burst ∙ sym in_burst) (stands.place ∙ place ∙ sym at_place)
+
+bit_at-of : (k : ℕ) → k < 456 → bit_at (burst_of k) (place_of k) ≡ k
+bit_at-of k within = standing_at k (burst_of k) (place_of k) within (burst_of-below k) (place_of-below k) refl refl
+
+-- the coded bits of a burst in the order of their places
+part_of : List ℕ → ℕ → List ℕ
+part_of c b = map (λ j. get_or c (bit_at b j) 0) (range_with_len 0 114)
+
+parts_of : List ℕ → List (List ℕ)
+parts_of c = map (part_of c) (range_with_len 0 4)
+
+pub some_spread : (c : List ℕ) → length c ≡ 456 → (parts : List (List ℕ)) × IsInterleaved c parts
+unfolding parts_of part_of
+some_spread c count = (
+  parts_of c,
+  record {
+    coded_count = count;
+    burst_count = length-map-range_with_len (part_of c) 0 4;
+    each_count = λ b d h.
+        let within : b < 4 = subst (λ n. b < n) (length-map-range_with_len (part_of c) 0 4) h in
+        ap length (get_or-map-range_with_len (part_of c) 0 4 b b d within (omega arith))
+        ∙ length-map-range_with_len (λ j. get_or c (bit_at b j) 0) 0 114;
+    places = λ k d within.
+        let b = burst_of k in
+        let j = place_of k in
+        let here : k < length c = subst (λ n. k < n) (sym count) within in
+        ap (λ bits. get_or bits j d) (get_or-map-range_with_len (part_of c) 0 4 b b [] (burst_of-below k) (omega arith))
+        ∙ get_or-map-range_with_len (λ i. get_or c (bit_at b i) 0) 0 114 j j d (place_of-below k) (omega arith)
+        ∙ ap (λ i. get_or c i 0) (bit_at-of k within)
+        ∙ get_or_default c k 0 d here;
+  },
+)
+
+-- ---- gathered
+
+module _ {X : Type 0} (none : X) (parts : List (List X)) (four : length parts ≡ 4) (each : All (λ part. length part ≡ 114) parts) where
+  -- the value that coded bit k has in the bursts
+  held : ℕ → X
+  held k = get_or (get_or parts (burst_of k) []) (place_of k) none
+
+  pub some_gathered : (c : List X) × IsInterleaved c parts
+  unfolding held
+  some_gathered = (
+    map held (range_with_len 0 456),
+    record {
+      coded_count = length-map-range_with_len held 0 456;
+      burst_count = four;
+      each_count = each;
+      places = λ k d h.
+          let within : burst_of k < length parts = subst (λ n. burst_of k < n) (sym four) (burst_of-below k) in
+          let long : length (get_or parts (burst_of k) []) ≡ 114 = each (burst_of k) [] within in
+          let inside : place_of k < length (get_or parts (burst_of k) []) = subst (λ n. place_of k < n) (sym long) (place_of-below k) in
+          get_or_default (get_or parts (burst_of k) []) (place_of k) d none inside
+          ∙ sym (get_or-map-range_with_len held 0 456 k k d h (omega arith));
+    },
+  )
+
+-- ---- what holds of a list holds of the other
+
+-- values in place of coded bits, one for each
+pub IsInterleaved-map : {X Y : Type 0} (f : X → Y) (none : X) (c : List X) (parts : List (List X)) → IsInterleaved c parts →
+    IsInterleaved (map f c) (map (map f) parts)
+IsInterleaved-map f none c parts spread = record {
+  coded_count = length-map c f ∙ spread.coded_count;
+  burst_count = length-map parts (map f) ∙ spread.burst_count;
+  each_count = λ i d h.
+      let within : i < length parts = subst (λ n. i < n) (length-map parts (map f)) h in
+      ap length (get_or-map (map f) parts i [] d within)
+      ∙ length-map (get_or parts i []) f
+      ∙ spread.each_count i [] within;
+  places = λ k d h.
+      let b = burst_of k in
+      let j = place_of k in
+      let within : b < length parts = subst (λ n. b < n) (sym spread.burst_count) (burst_of-below k) in
+      let place : j < length (get_or parts b []) = subst (λ n. j < n) (sym (spread.each_count b [] within)) (place_of-below k) in
+      let here : k < length c = subst (λ n. k < n) (sym spread.coded_count) h in
+      ap (λ values. get_or values j d) (get_or-map (map f) parts b [] [] within)
+      ∙ get_or-map f (get_or parts b []) j none d place
+      ∙ ap f (spread.places k none h)
+      ∙ sym (get_or-map f c k none d here);
+}
+
+-- what holds of all values of the bursts holds of the gathered ones
+pub All-interleaved : {X : Type 0} (P : X → Type 0) (c : List X) (parts : List (List X)) → IsInterleaved c parts → All (All P) parts → All P c
+All-interleaved P c parts spread all k d h =
+    let within : k < 456 = subst (λ n. k < n) spread.coded_count h in
+    let burst : burst_of k < length parts = subst (λ n. burst_of k < n) (sym spread.burst_count) (burst_of-below k) in
+    let place : place_of k < length (get_or parts (burst_of k) []) =
+    subst (λ n. place_of k < n) (sym (spread.each_count (burst_of k) [] burst)) (place_of-below k) in
+    subst P (spread.places k d within) (all (burst_of k) [] burst (place_of k) d place)

@@ -1,8 +1,0 @@
-use Rattle.std.proofs.Common.{◌≡◌, ◌+◌, ◌≤◌, drop}
-use Rattle.training_seq.specs.Correlation.{wrong_places}
-use Rattle.training_seq.proofs.choice.count_wrong.Given as goal
-
--- the count so far and that of the rest are that of all places
-abbrev pub invariant-loop-i : goal.invariant-loop-i
-invariant-loop-i l =
-    (l.wrong + wrong_places (drop l.i l.soft) (drop l.i l.bits) ≡ wrong_places l.soft l.bits) × (l.wrong ≤ l.i)
