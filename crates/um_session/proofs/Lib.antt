@@ -1,0 +1,5 @@
+pub mod Laws
+mod Answering
+mod Tallying
+mod Stepping
+mod Running
