@@ -10,17 +10,20 @@ use Rattle.um_cli.specs.Machines.{machine_of, IsTable, OneOutput}
 use Rattle.um_cli.specs.Replay.{replay_rules}
 use Rattle.um_cli.specs.Restored.{Restores}
 use Rattle.um_cli.specs.declared.words.Shape.{Shape}
-use Rattle.um_cli.specs.declared.words.Shape.TheVariants.{Code, Replay, Show}
+use Rattle.um_cli.specs.declared.words.Shape.TheVariants.{Code, Replay, Show, Link}
+use Rattle.um_cli.specs.Shapes.{Fits}
+use Rattle.um_session.proofs.Laws.{link_has_one_output}
 use Rattle.um_cli.proofs.CodeRules.{code_has_one_output}
 use Rattle.um_cli.proofs.Headlines.{headline_is_weaker}
 use Rattle.um_cli.proofs.ReplayRules.{replay_is_determined, replay_has_one_output}
 use Rattle.um_cli.proofs.Restoring.{restored_whole}
 use Rattle.um_cli.proofs.ShowRules.{show_has_one_output}
 
-pub one_output : (shape : Shape) → OneOutput shape
-one_output Code = code_has_one_output
-one_output Replay = replay_has_one_output
-one_output Show = show_has_one_output
+pub one_output : (shape : Shape) → Fits shape → OneOutput shape
+one_output Code fits = code_has_one_output
+one_output Replay fits = replay_has_one_output
+one_output Show fits = show_has_one_output
+one_output (Link tsc channel) fits = link_has_one_output tsc channel fits
 
 -- what holds for the shape of the words holds for whatever shape they have
 pub for_shape : (P : Shape → Type 0) (found : Option Shape) (s : Shape) → found ≡ Some s → P s → (t : Shape) → found ≡ Some t → P t

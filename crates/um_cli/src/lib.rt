@@ -3,6 +3,7 @@
 
 mod code;
 mod held;
+mod link;
 mod replay;
 mod show;
 mod top;

@@ -1,12 +1,15 @@
 //! The top call.
-ghost use Rattle.std.specs.Prelude.{◌≡◌, ◌↔◌, Some, None, []};
+ghost use Rattle.std.specs.Prelude.{◌≡◌, ◌↔◌, ℕ, Some, None, []};
 ghost use Rattle.um_driver.specs.Table.{IsRun, HasCause};
 ghost use Rattle.um_cli.specs.Headline.{headline_rules};
 ghost use Rattle.um_cli.specs.Machines.{IsTable, IsDueEnd, OneOutput};
 ghost use Rattle.um_cli.specs.Restored.{Restores};
-ghost use Rattle.um_cli.specs.Shapes.{shape_of};
+ghost use Rattle.um_cli.specs.Shapes.{shape_of, Fits, IsSilent};
+ghost use Rattle.um_session.specs.Promises.{IsLinkRun};
+ghost use Rattle.lapdm_frame.specs.declared.Channel.{Channel as ChannelOf};
 
 use crate::code::Code;
+use crate::link::run_link;
 use crate::replay::Replay;
 use crate::show::Show;
 use crate::words::{Shape, Words};
@@ -17,7 +20,7 @@ use um_io::{Sink, Source};
 
 /// Runs the command that the words name, from the octets of `input` to the octets of `output`.
 ///
-/// All memory is taken before the first octet is read. The commands built so far leave the radio as it was.
+/// All memory is taken before the first octet is read. The radio codes and receives the blocks of a session.
 pub fn run<S: Source, K: Sink, R: Radio>(
     alloc: Global,
     words: &Words,
@@ -53,18 +56,27 @@ pub fn run<S: Source, K: Sink, R: Radio>(
     ensures cause { HasCause result (S.faults input.old) (S.faults input.new)
         (K.faults output.old) (K.faults output.new) }
 
-    // The radio is not used.
-    ensures radio { radio.new ≡ radio.old }
+    // A session is a run of `link` whose blocks the radio coded and received, and what is claimed of it holds of the
+    // lines whose answers have an octet in what was written.
+    ensures session { (tsc : ℕ) (channel : ChannelOf) → shape_of words.now ≡ Some (Shape.Link tsc channel) → IsLinkRun tsc channel result
+        (S.left input.old) (S.left input.new) (K.taken output.old) (K.taken output.new)
+        (record { sent = R.sent radio.old; heard = R.heard radio.old })
+        (record { sent = R.sent radio.new; heard = R.heard radio.new }) }
+
+    // No other command uses the radio, nor does any without memory.
+    ensures silent { IsSilent (shape_of words.now) → radio.new ≡ radio.old }
+    ensures unused { result ≡ Status.NoMemory → radio.new ≡ radio.old }
 {
     match words.shape() {
         None => Status::BadWords,
         Some(Shape::Code) => drive(alloc, &mut Code, input, output),
         Some(Shape::Replay) => drive(alloc, &mut Replay::new(), input, output),
         Some(Shape::Show) => drive(alloc, &mut Show, input, output),
+        Some(Shape::Link(tsc, channel)) => run_link(alloc, tsc, channel, input, output, radio),
     }
 }
 
 /// Every list of octets, good or bad and of any length, has one output of each command and one way to end.
 pub fn law_one_output()
-    ensures { (shape : Shape) → OneOutput shape }
+    ensures { (shape : Shape) → Fits shape → OneOutput shape }
 {}

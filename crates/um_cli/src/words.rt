@@ -1,7 +1,7 @@
 //! The words that the program was called with.
-ghost use Rattle.std.specs.Prelude.{◌≡◌, ℕ, List, [], map};
+ghost use Rattle.std.specs.Prelude.{◌≡◌, ◌≤◌, ℕ, List, [], map, IfSome};
 ghost use Rattle.um_cli.specs.WordLists.{held_word, added_word};
-ghost use Rattle.um_cli.specs.Shapes.{word_shape, shape_of};
+ghost use Rattle.um_cli.specs.Shapes.{word_shape, shape_of, session_shape, tsc_of, Fits};
 
 /// What a list of words asks for.
 #[derive(Clone, Copy, Debug, PartialEq, Eq)]
@@ -12,9 +12,12 @@ pub enum Shape {
     Replay,
     /// Frames to text and back.
     Show,
+    /// Both ends over the air, with a training sequence and on a channel.
+    Link(u8, Channel),
 }
 
 use arrayvec::{ArrayString, ArrayVec};
+use lapdm_frame::Channel;
 use std::marker::Model;
 
 /// The words after the program's name.
@@ -54,10 +57,19 @@ impl Words {
 
     /// What the words ask for, if they are of any shape.
     pub fn shape(&self) -> Option<Shape>
-        ensures { result ≡ shape_of self.now }
+        ensures shape { result ≡ shape_of self.now }
+        ensures fits { IfSome result (λ shape. Fits shape) }
     {
         match self.held.as_slice() {
             [word] => word_shape(word.as_str()),
+            [word, tsc] => session_shape(word.as_str(), tsc.as_str(), Channel::Sdcch),
+            [word, tsc, last] => {
+                if last.as_str() == "sacch" {
+                    session_shape(word.as_str(), tsc.as_str(), Channel::Sacch)
+                } else {
+                    None
+                }
+            }
             _ => None,
         }
     }
@@ -76,9 +88,33 @@ fn hold(word: &str) -> ArrayString<8>
     }
 }
 
+/// What a command and a training sequence ask for, on a channel.
+fn session_shape(word: &str, tsc: &str, channel: Channel) -> Option<Shape>
+    ensures shape { result ≡ session_shape word.now tsc.now channel }
+    ensures fits { IfSome result (λ shape. Fits shape) }
+{
+    if word == "link" {
+        Some(Shape::Link(tsc_of(tsc)?, channel))
+    } else {
+        None
+    }
+}
+
+/// The training sequence that a word names: one digit 0 to 7.
+fn tsc_of(word: &str) -> Option<u8>
+    ensures value { result ≡ tsc_of word.now }
+    ensures fits { IfSome result (λ tsc. tsc ≤ 7) }
+{
+    match word.as_bytes() {
+        [digit] if *digit >= b'0' && *digit <= b'7' => Some(*digit - b'0'),
+        _ => None,
+    }
+}
+
 /// What one word asks for.
 fn word_shape(word: &str) -> Option<Shape>
-    ensures { result ≡ word_shape word.now }
+    ensures shape { result ≡ word_shape word.now }
+    ensures fits { IfSome result (λ shape. Fits shape) }
 {
     match word {
         "code" => Some(Shape::Code),

@@ -202,6 +202,7 @@ pub fn drive<C: Command, S: Source, K: Sink>(
 
     // Want of memory comes before anything is read or written.
     ensures opening { result ≡ Status.NoMemory → (input.new ≡ input.old) × (output.new ≡ output.old) }
+    ensures unasked { result ≡ Status.NoMemory → command.new ≡ command.old }
 
     ensures keeps { C.kept command.new ≡ C.kept command.old }
 {

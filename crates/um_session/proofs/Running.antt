@@ -1,18 +1,22 @@
 -- A run of the command with its radio is a run of `link`, and what is promised holds of it.
-use Rattle.std.proofs.Common.{◌≡◌, ℕ, ◌+◌, ◌≤◌, List, [], ◌∷◌, ◌++◌, Option, None, Some, refl, sym, ap, ◌∙◌, subst, arith, append_assoc, append-nil}
+use Rattle.std.proofs.Common.{◌≡◌, ℕ, ◌+◌, ◌≤◌, inl, inr, Bool, true, false, List, [], ◌∷◌, ◌++◌, Option, None, Some, refl, sym, ap, ◌∙◌, subst, arith, append_assoc, append-nil}
 use Rattle.lapdm_frame.specs.declared.Channel.{Channel}
 use Rattle.um_block.specs.Tallies.{raised_by}
 use Rattle.um_air.specs.Air.{Event, Answer}
 use Rattle.um_air.proofs.Laws.{air_claims, air_order, kind_is_harmless}
-use Rattle.um_driver.specs.Rules.{Runs}
-use Rattle.um_driver.specs.Table.{IsRun}
+use Rattle.um_lines.specs.declared.fault.LineFault.{LineFault}
+use Rattle.um_driver.specs.Rules.{Runs, IsBad, IsDetermined}
+use Rattle.um_driver.specs.Outputs.{Goes, Stops, StopsAtEnd, Gives, IsOutput}
+use Rattle.um_driver.specs.Table.{IsRun, EndsAsDue}
 use Rattle.um_driver.specs.declared.status.Status.{Status}
+use Rattle.um_driver.specs.declared.status.Status.TheVariants.{NoMemory}
+use Rattle.um_driver.proofs.Settling.{without_memory}
 use Rattle.um_driver.proofs.RunLemmas.{Runs-keep}
 use Rattle.um_driver.proofs.Weaker.{IsWeakerBy, weaker_run_by, weaker_run_state, runs_by}
 use Rattle.um_session.specs.Sessions.{Session, idle, Happened, AnswersScript, link_rules}
 use Rattle.um_session.specs.Courses.{Course, Tallies, course_rules, frames_sent, blocks_heard, frames_in, arrivals_in}
 use Rattle.um_session.specs.Promises.{IsDelivered, IsByRadio, IsLinkRun}
-use Rattle.um_session.proofs.Answering.{IsSessionOn, session_of}
+use Rattle.um_session.proofs.Answering.{IsSessionOn, session_of, link_is_determined}
 use Rattle.um_session.proofs.Tallying.{frames_sent-append, blocks_heard-append}
 
 abbrev session_in : Course → Session
@@ -84,3 +88,68 @@ link_run tsc channel before after Stands tells status left left' taken taken' h 
           (delivered tsc channel h.state.session
           (session_of tsc channel h.lines h.answers h.state.session (runs_by session_in course_rules link_rules without_radio start h.state h.lines h.answers h.runs)));
     }
+
+-- ---- a run of the command ends as a run of `link` is to
+
+-- an output of `link` is one of the command with its radio
+bad_too : (s : Session) (before : Tallies) (line : List ℕ) (fault : LineFault) → IsBad link_rules s line fault → IsBad course_rules (record { session = s; before = before }) line fault
+bad_too s before line fault (inl long) = inl long
+bad_too s before line fault (inr (short, e)) = inr (short, e)
+
+gives_too : (s : Session) (before : Tallies) (n : ℕ) (judged : List (List ℕ)) (ended : Bool) (status : Status) (z : List ℕ) →
+    Gives link_rules s n judged ended status z → Gives course_rules (record { session = s; before = before }) n judged ended status z
+gives_too s before n [] true status z (inl h) = inl h
+gives_too s before n [] true status z (inr h) = inr (record { fault = h.fault; bad = h.bad; status_is = h.status_is; output = h.output })
+gives_too s before n [] false status z h = h
+gives_too s before n (line ∷ judged) ended status z (inl h) = inl (record {
+  answer = h.answer;
+  rest = h.rest;
+  mid = record { session = h.mid; before = before };
+  good = record { short = h.good.short; no_fault = h.good.no_fault };
+  step = (h.step, refl);
+  then_ = gives_too h.mid before (n + 1) judged ended status h.rest h.then_;
+  output = h.output;
+})
+gives_too s before n (line ∷ judged) ended status z (inr h) =
+    inr (record { fault = h.fault; bad = bad_too s before line h.fault h.bad; status_is = h.status_is; output = h.output })
+
+output_too : (s : Session) (before : Tallies) (x : List ℕ) (status : Status) (z : List ℕ) → IsOutput link_rules s x status z →
+    IsOutput course_rules (record { session = s; before = before }) x status z
+output_too s before x status z (judged, ended, judges, gives) = (judged, ended, judges, gives_too s before 1 judged ended status z gives)
+
+same_course : (b c : Course) → b.session ≡ c.session → b.before ≡ c.before → b ≡ c
+same_course b c s t =
+    ap (λ (x : Session). let y : Course = record { session = x; before = b.before } in y) s
+    ∙ ap (λ (x : Tallies). let y : Course = record { session = c.session; before = x } in y) t
+
+pub course_is_determined : IsDetermined course_rules
+course_is_determined a line y y' b b' (step, kept) (step', kept') =
+    let same = link_is_determined a.session line y y' b.session b'.session step step' in
+    (same.0, same_course b b' same.1 (kept ∙ sym kept'))
+
+pub link_due : (s : Session) (before : Tallies) (status : Status) (left taken taken' : Option (List ℕ)) →
+    (IsDetermined course_rules → EndsAsDue course_rules (record { session = s; before = before }) status left taken taken') →
+    EndsAsDue link_rules s status left taken taken'
+link_due s before status left taken taken' due = go left (due course_is_determined)
+  where
+    go : (left : Option (List ℕ)) → EndsAsDue course_rules (record { session = s; before = before }) status left taken taken' →
+        EndsAsDue link_rules s status left taken taken'
+    go None h = tt
+    go (Some x) h = λ end z out. h end z (output_too s before x end z out)
+
+-- without memory nothing happens
+pub unmade_run : (tsc : ℕ) (channel : Channel) (before : Tallies) (left taken : Option (List ℕ)) → IsLinkRun tsc channel NoMemory left left taken taken before before
+unmade_run tsc channel before left taken =
+    let start : Course = record { session = idle tsc channel; before = before } in
+    link_run tsc channel before before (Tells before) (λ c stands. stands) NoMemory left left taken taken
+    (without_memory course_rules start (Tells before) left taken (refl, refl))
+
+-- the same run, said of equal things
+pub same_run : (tsc tsc' : ℕ) (channel channel' : Channel) (before before' after after' : Tallies) (status : Status) (left left' taken taken' : Option (List ℕ)) →
+    tsc ≡ tsc' → channel ≡ channel' → before ≡ before' → after ≡ after' →
+    IsLinkRun tsc channel status left left' taken taken' before after → IsLinkRun tsc' channel' status left left' taken taken' before' after'
+same_run tsc tsc' channel channel' before before' after after' status left left' taken taken' t c b a h =
+    subst (λ x. IsLinkRun x channel' status left left' taken taken' before' after') t
+    (subst (λ x. IsLinkRun tsc x status left left' taken taken' before' after') c
+    (subst (λ x. IsLinkRun tsc channel status left left' taken taken' x after') b
+    (subst (λ x. IsLinkRun tsc channel status left left' taken taken' before x) a h)))

@@ -1,17 +1,13 @@
 //! The command `link`, over the driver of all commands that read lines.
 ghost use base.Fml.{GName};
-ghost use Rattle.std.specs.Prelude.{◌≡◌, ◌≤◌, None, IfOk};
-ghost use Rattle.um_air.specs.Air.{start_on};
+ghost use Rattle.std.specs.Prelude.{◌≡◌, None};
 ghost use Rattle.um_block.specs.Tallies.{raised_by};
 ghost use Rattle.um_link.specs.Standing.{Stands};
 ghost use Rattle.um_session.specs.Sessions.{idle};
 ghost use Rattle.um_session.specs.Courses.{Course, course_rules, frames_sent, blocks_heard};
 
-use lapdm_frame::Channel;
-use std::alloc::Global;
 use um_block::Radio;
 use um_driver::Command;
-use um_io::NoMemory;
 use um_lines::{LineFault, Text};
 use um_link::World;
 use um_script::{Room, ScriptLine, parse_script, step_lines};
@@ -19,31 +15,23 @@ use um_script::{Room, ScriptLine, parse_script, step_lines};
 /// The command `link`: both ends over the air, and the radio that codes and receives what goes over it.
 #[derive(Drop)]
 pub struct Link<'a, R> {
-    pub world: World,
+    pub world: &'a mut World,
     pub radio: &'a mut R,
     room: Room,
 }
 
 impl<'a, R: Radio> Link<'a, R> {
-    /// Idle ends on a channel, whose blocks have a training sequence 0 to 7, and nothing on its way. All memory of the
-    /// command is taken here.
-    pub fn new_on(
-        alloc: Global,
-        tsc: u8,
-        channel: Channel,
-        radio: &'a mut R,
-    ) -> Result<Link<'a, R>, NoMemory>
-        requires { tsc ≤ 7 }
-        ensures world { IfOk result (λ link. Stands link.world (start_on tsc channel)) }
-        ensures radio { IfOk result (λ link. link.radio.now ≡ radio.old) }
-        ensures same_radio { IfOk result (λ link. link.radio.ghost_name ≡ radio.entry.ghost_name) }
+    /// The command over a world as it is.
+    pub fn new(world: &'a mut World, radio: &'a mut R) -> Link<'a, R>
+        ensures world { result.world.now ≡ world.old }
+        ensures radio { result.radio.now ≡ radio.old }
+        ensures same_radio { result.radio.ghost_name ≡ radio.entry.ghost_name }
     {
-        let world = World::new_on(alloc, tsc, channel)?;
-        Ok(Link {
+        Link {
             world,
             radio,
             room: Room::new(),
-        })
+        }
     }
 }
 
@@ -53,11 +41,11 @@ impl<'a, R: Radio> Command for Link<'a, R> {
     ghost rules = { course_rules };
 
     ghost start = { λ link. record {
-      session = idle link.world.tsc link.world.channel;
+      session = idle link.world.now.tsc link.world.now.channel;
       before = record { sent = R.sent link.radio.now; heard = R.heard link.radio.now };
     } };
 
-    ghost stands = { λ link course. Stands link.world course.session.air
+    ghost stands = { λ link course. Stands link.world.now course.session.air
         × (R.sent link.radio.now ≡ raised_by (frames_sent course.session.answers) course.before.sent)
         × (R.heard link.radio.now ≡ raised_by (blocks_heard course.session.answers) course.before.heard) };
 

@@ -8,7 +8,7 @@ use Rattle.um_cli.proofs.top.run.Goals as goal
 
 pub returns-in-Some-Code-clause-due : goal.returns-in-Some-Code-clause-due
 returns-in-Some-Code-clause-due g c =
-    let e = c.in-Some-Code.ensures in
+    let e = c.in-Some-Code.ensures.shape in
     let f = c.in-Some-Code.field-0-is in
     let run = c.drive in
     for_shape
@@ -17,7 +17,7 @@ returns-in-Some-Code-clause-due g c =
 
 pub returns-in-Some-Replay-clause-table : goal.returns-in-Some-Replay-clause-table
 returns-in-Some-Replay-clause-table g c =
-    let e = c.in-Some-Replay.ensures in
+    let e = c.in-Some-Replay.ensures.shape in
     let f = c.in-Some-Replay.field-0-is in
     let run = c.drive-in-Some-Replay in
     for_shape
@@ -28,7 +28,7 @@ returns-in-Some-Replay-clause-table g c =
 
 pub returns-in-Some-Replay-clause-due : goal.returns-in-Some-Replay-clause-due
 returns-in-Some-Replay-clause-due g c =
-    let e = c.in-Some-Replay.ensures in
+    let e = c.in-Some-Replay.ensures.shape in
     let f = c.in-Some-Replay.field-0-is in
     let run = c.drive-in-Some-Replay in
     for_shape
@@ -48,7 +48,7 @@ returns-in-Some-Replay-clause-restores g c = λ is.
 
 pub returns-in-Some-Show-clause-due : goal.returns-in-Some-Show-clause-due
 returns-in-Some-Show-clause-due g c =
-    let e = c.in-Some-Show.ensures in
+    let e = c.in-Some-Show.ensures.shape in
     let f = c.in-Some-Show.field-0-is in
     let run = c.drive-in-Some-Show in
     for_shape

@@ -11,4 +11,4 @@ returns-in-len1 c =
     ∙ map-single (λ word. word.bytes) c.as_slice.result.now c.word-item.result c.in-len1.len_at_least c.in-len1.len_below
     ∙ ap (λ word. word.bytes ∷ []) (sym c.word-item.is)
     ∙ ap (λ word. word ∷ []) (sym c.as_str.ensures.value) in
-    c.word_shape.ensures ∙ ap shape_of (sym words_are)
+    record { shape = c.word_shape.ensures.shape ∙ ap shape_of (sym words_are); fits = c.word_shape.ensures.fits }
