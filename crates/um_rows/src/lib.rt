@@ -8,6 +8,8 @@ mod code;
 #[cfg(test)]
 mod failing;
 #[cfg(test)]
+mod link;
+#[cfg(test)]
 mod outside;
 #[cfg(test)]
 mod replay;
