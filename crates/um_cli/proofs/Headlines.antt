@@ -9,10 +9,12 @@ use Rattle.conv_code.specs.Likelihood.{likelihood, IsMostLikely, FallsBehind}
 use Rattle.burst_map.specs.AccessBurst as A
 use Rattle.burst_map.specs.SyncBurst as S
 use Rattle.conv_code.proofs.Lemmas.{length-coded}
+use Rattle.um_block.specs.Received.{IsReceivedBlock}
+use Rattle.um_block.specs.declared.received.Received.{Received}
 use Rattle.um_text.specs.declared.burst_lines.BurstLine.{BurstLine}
 use Rattle.um_text.specs.declared.burst_lines.BurstLine.TheVariants.{Skip, Normal, Access, Sync}
 use Rattle.um_cli.specs.Replay.{IsBlockAnswer, IsReplayAnswer, replay_rules}
-use Rattle.um_cli.specs.Headline.{IsUnbeaten, ReportsBestBlock, ReportsBest, headline_rules}
+use Rattle.um_cli.specs.Headline.{IsUnbeaten, IsBestWord, ReportsBestBlock, ReportsBest, headline_rules}
 use Rattle.um_driver.proofs.Weaker.{IsWeaker}
 
 -- a list that is most likely is not beaten
@@ -37,19 +39,20 @@ unbeaten soft u best = record {
   ];
 }
 
+pub best_word : (bursts : List (List ℤ)) (r : Received) → IsReceivedBlock bursts r → IsBestWord bursts r
+best_word bursts r received = record {
+  soft = received.soft;
+  read = received.gathered;
+  best = unbeaten received.soft r.u received.best;
+  accepted = received.accepted;
+}
+
 best_block : (bursts : List (List ℤ)) (y : List ℕ) (after : List (List ℤ)) → IsBlockAnswer bursts y after → ReportsBestBlock bursts y after
 best_block bursts y after (inl waits) = inl waits
 best_block bursts y after (inr (four, s, (r, received, text))) = inr (
   four,
   s,
-  record {
-    soft = received.soft;
-    r = r;
-    read = received.gathered;
-    best = unbeaten received.soft r.u received.best;
-    accepted = received.accepted;
-    text = text;
-  },
+  record { r = r; word = best_word bursts r received; text = text },
 )
 
 best_answer : (held : List (List ℤ)) (m : BurstLine) (y : List ℕ) (after : List (List ℤ)) → IsReplayAnswer held m y after → ReportsBest held m y after

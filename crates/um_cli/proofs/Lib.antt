@@ -6,3 +6,4 @@ pub mod Restoring
 pub mod ShowRules
 pub mod Tops
 pub mod WordListsLemmas
+pub mod Arriving

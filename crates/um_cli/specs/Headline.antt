@@ -25,15 +25,19 @@ pub record IsUnbeaten (soft : List ℤ) (u : List ℕ) : Type 0 where
   pub places : length soft ≡ length (coded u)
   pub unbeaten : (c : List ℕ) → IsCodeword c (length u) → likelihood soft c ≤ℤ likelihood soft (coded u)
 
--- a block's report
-pub record IsBestBlock (bursts : List (List ℤ)) (report : List ℕ) : Type 0 where
+-- what is received of a block's bursts
+pub record IsBestWord (bursts : List (List ℤ)) (r : Received) : Type 0 where
   pub soft : List ℤ
-  pub r : Received
   pub read : IsInterleaved soft (map coded_places bursts)
   pub best : IsUnbeaten soft r.u
   pub accepted : MatchOption r.accepted
       (¬ IsXcchWord (take 224 r.u))
       (λ octets. IsXcchWord (take 224 r.u) × (octets ≡ octets_of (take 184 r.u)))
+
+-- a block's report
+pub record IsBestBlock (bursts : List (List ℤ)) (report : List ℕ) : Type 0 where
+  pub r : Received
+  pub word : IsBestWord bursts r
   pub text : IsBlockReport r report
 
 -- an access burst's report

@@ -11,3 +11,4 @@ pub mod WordLists
 pub use Rattle.um_driver.specs.Table
 pub use Rattle.um_driver.specs.Outputs
 pub use Rattle.um_driver.specs.Rules
+pub mod Arrivals

@@ -1,6 +1,7 @@
 //! A run of the command `link`: its world is made, and the driver runs the command over it.
 ghost use Rattle.std.specs.Prelude.{◌≡◌, ◌≢◌, ◌≤◌};
-ghost use Rattle.um_driver.specs.Table.{HasCause, EndsAsDue};
+ghost use Rattle.um_cli.specs.Arrivals.{arrival_rules};
+ghost use Rattle.um_driver.specs.Table.{IsRun, HasCause, EndsAsDue};
 ghost use Rattle.um_air.specs.Air.{start_on};
 ghost use Rattle.um_link.specs.Standing.{Stands};
 ghost use Rattle.um_session.specs.Sessions.{idle, link_rules};
@@ -30,6 +31,9 @@ pub(crate) fn run_link<S: Source, K: Sink, R: Radio>(
         (S.left input.old) (S.left input.new) (K.taken output.old) (K.taken output.new)
         (record { sent = R.sent radio.old; heard = R.heard radio.old })
         (record { sent = R.sent radio.new; heard = R.heard radio.new }) }
+
+    ensures arrivals { IsRun arrival_rules (idle tsc channel) (λ _. Unit {0}) result
+        (S.left input.old) (S.left input.new) (K.taken output.old) (K.taken output.new) }
 
     ensures due { EndsAsDue link_rules (idle tsc channel) result
         (S.left input.old) (K.taken output.old) (K.taken output.new) }

@@ -1,11 +1,13 @@
 //! The top call.
 ghost use Rattle.std.specs.Prelude.{◌≡◌, ◌↔◌, ℕ, Some, None, []};
 ghost use Rattle.um_driver.specs.Table.{IsRun, HasCause};
+ghost use Rattle.um_cli.specs.Arrivals.{arrival_rules};
 ghost use Rattle.um_cli.specs.Headline.{headline_rules};
 ghost use Rattle.um_cli.specs.Machines.{IsTable, IsDueEnd, OneOutput};
 ghost use Rattle.um_cli.specs.Restored.{Restores};
 ghost use Rattle.um_cli.specs.Shapes.{shape_of, Fits, IsSilent};
 ghost use Rattle.um_session.specs.Promises.{IsLinkRun};
+ghost use Rattle.um_session.specs.Sessions.{idle};
 ghost use Rattle.lapdm_frame.specs.declared.Channel.{Channel as ChannelOf};
 
 use crate::code::Code;
@@ -46,6 +48,12 @@ pub fn run<S: Source, K: Sink, R: Radio>(
     // Each reported block is a codeword that no other beats under the soft values read, and its data are accepted
     // exactly where its parity holds.
     ensures headline { shape_of words.now ≡ Some Shape.Replay → IsRun headline_rules [] (λ _. Unit {0}) result
+        (S.left input.old) (S.left input.new) (K.taken output.old) (K.taken output.new) }
+
+    // In a session each block that arrives is reported so, under the soft values that arrived, and taken exactly where its
+    // parity holds.
+    ensures arrivals { (tsc : ℕ) (channel : ChannelOf) → shape_of words.now ≡ Some (Shape.Link tsc channel) →
+        IsRun arrival_rules (idle tsc channel) (λ _. Unit {0}) result
         (S.left input.old) (S.left input.new) (K.taken output.old) (K.taken output.new) }
 
     // What `code` writes, `replay` restores.

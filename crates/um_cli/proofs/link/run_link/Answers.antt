@@ -1,6 +1,7 @@
 use Rattle.std.proofs.Common.{◌≡◌, ap, sym, ◌∙◌}
 use Rattle.um_session.specs.Courses.{Tallies}
 use Rattle.um_session.proofs.Laws.{unmade_run, same_run}
+use Rattle.um_cli.proofs.Arriving.{best_arrivals}
 use Rattle.um_cli.proofs.link.run_link.Goals as goal
 
 pub returns-in-Ok-clause-session : goal.returns-in-Ok-clause-session
@@ -14,3 +15,9 @@ returns-in-Ok-clause-session g c =
 
 pub returns-in-Err-clause-session : goal.returns-in-Err-clause-session
 returns-in-Err-clause-session g c = unmade_run c.args.tsc c.args.channel _ _ _
+
+pub returns-in-Ok-clause-arrivals : goal.returns-in-Ok-clause-arrivals
+returns-in-Ok-clause-arrivals g c = best_arrivals _ _ _ _ _ _ _ _ _ (returns-in-Ok-clause-session g c)
+
+pub returns-in-Err-clause-arrivals : goal.returns-in-Err-clause-arrivals
+returns-in-Err-clause-arrivals g c = best_arrivals _ _ _ _ _ _ _ _ _ (returns-in-Err-clause-session g c)

@@ -1,0 +1,47 @@
+-- What arrives in a session is received as a codeword that no other beats.
+use Rattle.std.proofs.Common.{◌≡◌, ℕ, List, map, Option, Some, None, refl}
+use Rattle.lapdm_frame.specs.Content.{Frame}
+use Rattle.lapdm_frame.specs.declared.Channel.{Channel}
+use Rattle.lapdm_link.specs.Events.{Open, OpenBare, Ask, Deliver, Lose, Rival}
+use Rattle.um_block.specs.Received.{softened}
+use Rattle.um_block.specs.declared.received.Received.{Received}
+use Rattle.um_air.specs.Air.{AirState, Event, Answer, Refuses, Does, AirStep, Arrives, turned}
+use Rattle.um_driver.specs.Table.{IsRun}
+use Rattle.um_driver.specs.declared.status.Status.{Status}
+use Rattle.um_driver.proofs.Weaker.{IsWeaker, weaker_run}
+use Rattle.um_session.specs.Sessions.{Session, idle, AnswersMeaning, link_rules}
+use Rattle.um_session.specs.Courses.{Tallies}
+use Rattle.um_session.specs.Promises.{IsLinkRun}
+use Rattle.um_cli.specs.Arrivals.{ReceivesBest, ReportsBestArrival, AnswersBest, arrival_rules}
+use Rattle.um_cli.proofs.Headlines.{best_word}
+
+receives_best : (a : AirState) (event : Event) (received : Option Received) (read : Option Frame) → Arrives a event received read → ReceivesBest a event received
+receives_best a (Deliver sender places) (Some r) read h =
+    record { block = h.block; others = h.others; first = h.first; word = best_word (map softened (turned places h.block)) r h.received }
+receives_best a (Deliver sender places) None read h = tt
+receives_best a (Open info) received read h = tt
+receives_best a (OpenBare role) received read h = tt
+receives_best a (Ask role sapi request) received read h = tt
+receives_best a (Lose sender) received read h = tt
+receives_best a (Rival info) received read h = tt
+
+reports_best : (a : AirState) (event : Event) (b : AirState) (answer : Answer) → AirStep a event b answer → ReportsBestArrival a event answer
+reports_best a event b (Refuses why) step = tt
+reports_best a event b (Does s) (none, happens) = receives_best a event s.received happens.read happens.arrives
+
+answers_best : (s : Session) (meaning : Option Event) (text : List ℕ) (after : Session) → AnswersMeaning s meaning text after → AnswersBest s meaning text after
+answers_best s None text after h = h
+answers_best s (Some event) text after h = record { happened = h; best = reports_best s.air event h.air h.answer h.step }
+
+arrivals_are_weaker : IsWeaker link_rules arrival_rules
+arrivals_are_weaker = record {
+  fault = λ s line. refl;
+  end_fault = λ s. refl;
+  step = λ s after line text (meaning, means, h). (meaning, means, answers_best s meaning text after h);
+}
+
+pub best_arrivals : (tsc : ℕ) (channel : Channel) (status : Status) (left left' taken taken' : Option (List ℕ)) (before after : Tallies) →
+    IsLinkRun tsc channel status left left' taken taken' before after →
+    IsRun arrival_rules (idle tsc channel) (λ last. Unit {0}) status left left' taken taken'
+best_arrivals tsc channel status left left' taken taken' before after h =
+    weaker_run link_rules arrival_rules arrivals_are_weaker (idle tsc channel) (λ last. Unit {0}) (λ last. Unit {0}) (λ last stands. stands) status left left' taken taken' h.run
