@@ -1,6 +1,5 @@
 pub mod CodeRules
 pub mod Headlines
-pub mod HeldBursts
 pub mod ReplayRules
 pub mod Restoring
 pub mod ShowRules

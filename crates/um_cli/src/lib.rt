@@ -2,7 +2,6 @@
 #![tactic(auto)]
 
 mod code;
-mod held;
 mod link;
 mod replay;
 mod show;

@@ -3,12 +3,11 @@ ghost use Rattle.std.specs.Prelude.{◌≡◌, ℤ, List, [], ◌∷◌, ◌++�
 ghost use Rattle.conv_code.specs.Likelihood.{AllSoft};
 ghost use Rattle.um_cli.specs.Replay.{replay_rules, IsBlockAnswer};
 
-use crate::held::HeldBursts;
 use std::marker::Model;
 use um_block::{receive_access, receive_block, receive_sync};
 use um_driver::Command;
 use um_lines::{LineFault, Text};
-use um_text::{BurstLine, access_report, block_report, parse_burst, sync_report};
+use um_text::{BurstLine, HeldBursts, access_report, block_report, parse_burst, sync_report};
 
 /// The command `replay`, with the normal bursts of a block that has not all its four.
 #[derive(Drop)]

@@ -1,4 +1,5 @@
 pub mod BurstLaws
+pub mod BurstRows
 pub mod CodeLaws
 pub mod OtherBursts
 pub mod PackedOctets

@@ -7,7 +7,7 @@ use std::marker::Model;
 
 /// At most three normal bursts, in the order in which they came.
 #[derive(Drop)]
-pub(crate) struct HeldBursts {
+pub struct HeldBursts {
     bursts: [[i8; 148]; 4],
     count: u8,
 }
@@ -26,7 +26,8 @@ impl Model for HeldBursts {
 }
 
 impl HeldBursts {
-    pub(crate) fn new() -> HeldBursts
+    /// No burst is held.
+    pub fn new() -> HeldBursts
         ensures { result ≡ [] }
     {
         HeldBursts {
@@ -36,7 +37,7 @@ impl HeldBursts {
     }
 
     /// How many bursts are held.
-    pub(crate) fn count(&self) -> u8
+    pub fn count(&self) -> u8
         ensures count { result ≡ length self.now }
         ensures few { result ≤ 3 }
     {
@@ -44,7 +45,7 @@ impl HeldBursts {
     }
 
     /// Holds a burst. The fourth is the last of a block, which is handed out; then none is held.
-    pub(crate) fn add(&mut self, burst: [i8; 148]) -> Option<[[i8; 148]; 4]>
+    pub fn add(&mut self, burst: [i8; 148]) -> Option<[[i8; 148]; 4]>
         requires { AllSoft burst }
         ensures held { MatchOption result
             ((self.new ≡ self.old ++ burst ∷ []) × (length self.new < 4))

@@ -1,6 +1,6 @@
 use Rattle.std.proofs.Common.{[], ◌∷◌, ◌++◌, refl, ap, ◌∙◌}
-use Rattle.um_cli.proofs.HeldBursts.{fourth_set}
-use Rattle.um_cli.proofs.held.HeldBursts.add.Goals as goal
+use Rattle.um_text.proofs.BurstRows.{fourth_set}
+use Rattle.um_text.proofs.held.HeldBursts.add.Goals as goal
 
 pub returns-else-self-lt3-clause-held : goal.returns-else-self-lt3-clause-held
 returns-else-self-lt3-clause-held c = (
