@@ -9,6 +9,6 @@ pub use Rattle.um_block.proofs.Restoring.{restored_block}
 pub use Rattle.um_block.proofs.SentExists.{some_sent_block, some_access_burst, some_sync_burst}
 pub use Rattle.um_block.proofs.SentOnce.{one_coded_block, one_sent_block, one_access_burst, one_sync_burst}
 pub use Rattle.um_block.proofs.SentShapes.{sent_block_bits, sent_access_bits, sent_sync_bits}
-pub use Rattle.um_block.proofs.Softness.{AllSoft-softened}
+pub use Rattle.um_block.proofs.Softness.{AllSoft-range, AllSoft-softened}
 pub use Rattle.um_block.proofs.Words.{AreBits, coded_block_bits}
 unfoldable pub use Rattle.um_block.proofs.BlockPlaces.{listed}

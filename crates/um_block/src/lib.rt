@@ -13,5 +13,5 @@ mod tests;
 pub use laws::{law_block_places, law_few_wrong};
 pub use radio::{PlainRadio, Radio};
 pub use received::{Received, ReceivedAccess, ReceivedSync};
-pub use receiving::{receive_access, receive_block, receive_sync, soften};
+pub use receiving::{gather_block, join_halves, receive_access, receive_block, receive_sync, soften};
 pub use sending::{send_access, send_block, send_sync};

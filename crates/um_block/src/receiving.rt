@@ -57,7 +57,7 @@ pub fn receive_block(bursts: &[[i8; 148]; 4]) -> Received
 }
 
 /// The soft values of a block's coded bits.
-fn gather_block(bursts: &[[i8; 148]; 4]) -> [i8; 456]
+pub fn gather_block(bursts: &[[i8; 148]; 4]) -> [i8; 456]
     requires { All AllSoft bursts.now }
     ensures gathered { IsInterleaved result (map coded_places bursts.now) }
     ensures soft { AllSoft result }
@@ -160,7 +160,7 @@ pub fn receive_sync(burst: &[i8; 148]) -> ReceivedSync
 }
 
 /// The 78 soft values of two halves.
-fn join_halves(first: &[i8], second: &[i8]) -> [i8; 78]
+pub fn join_halves(first: &[i8], second: &[i8]) -> [i8; 78]
     requires first { length first.now ≡ 39 }
     requires second { length second.now ≡ 39 }
     ensures { result ≡ first.now ++ second.now }

@@ -1,0 +1,149 @@
+-- Soft values have a second list beside every list: the best of all others, one list more at a time.
+use Rattle.std.proofs.Common.{◌≡◌, ◌≢◌, ◌⊎◌, ℕ, zero, suc, ◌+◌, ◌-◌, ◌*◌, ◌^◌, ◌<◌, ◌≤◌, inl, inr, ℤ, ◌<ℤ◌, ◌≤ℤ◌, List, length, get_or, ap, sym, ◌∙◌, subst, arith}
+use Rattle.std.proofs.Math.Nat.{div-eq_of_lt}
+use Rattle.std.proofs.lemmas.Bool.{cases_lt}
+use Rattle.std.proofs.lemmas.Int.{ints, by_lt_z}
+use Rattle.std.proofs.lemmas.Nat.{pow-add, pow_pos}
+use Rattle.conv_code.specs.Code.{coded, IsInformation}
+use Rattle.conv_code.specs.Likelihood.{likelihood, IsBefore, FallsBehind}
+use Rattle.trellis_decode.specs.Words.{word}
+use Rattle.trellis_decode.proofs.MostLikely.{same_number}
+use Rattle.trellis_decode.proofs.WordLists.{length-word, IsBefore-word, IsInformation-word, word-information}
+use Rattle.list_decode.specs.Ranking.{IsCandidate, IsSecond}
+
+-- words in their order differ
+differs_before : (u v : List ℕ) → IsBefore u v → u ≢ v
+differs_before u v before same = before.differs (ap (λ w. get_or w before.place 0) (sym same) ∙ before.zero)
+
+module _ (soft : List ℤ) (n passed : ℕ) where
+  abbrev list_of : ℕ → List ℕ
+  list_of m = word n (16 * m)
+
+  -- the best of the lists with a lower number, but for the one that is passed over
+  record Leads (number : ℕ) : Type 0 where
+    chosen : ℕ
+    within : chosen < number
+    other : chosen ≢ passed
+    leads : (m : ℕ) → m < number → m ≢ chosen → m ≢ passed → FallsBehind soft (list_of m) (list_of chosen)
+
+  behind_more : (a b : List ℕ) (v : List ℕ) → FallsBehind soft v a → likelihood soft (coded a) <ℤ likelihood soft (coded b) → FallsBehind soft v b
+  behind_more a b v (inl less) more = inl (omega (arith, ints))
+  behind_more a b v (inr same) more = let e = same.0 in inl (omega (arith, ints))
+
+  -- of two lists the one with the higher number is likelier, or falls behind
+  compared : (a b : ℕ) → a < b → 16 * b < 2 ^ n →
+      (likelihood soft (coded (list_of a)) <ℤ likelihood soft (coded (list_of b))) ⊎ FallsBehind soft (list_of b) (list_of a)
+  compared a b less within =
+      let lower : 16 * a < 2 ^ n = omega arith in
+      let before : IsBefore (list_of a) (list_of b) = IsBefore-word n (16 * a) (16 * b) (omega arith) (div-eq_of_lt lower ∙ sym (div-eq_of_lt within)) in
+      by_lt_z (likelihood soft (coded (list_of a))) (likelihood soft (coded (list_of b)))
+      (λ more. inl more)
+      (λ most. inr (by_lt_z (likelihood soft (coded (list_of b))) (likelihood soft (coded (list_of a)))
+      (λ below. inl below)
+      (λ equal. inr (omega (arith, ints), before))))
+
+  -- one list more is the best, or the best stays
+  one_more : (number : ℕ) → 16 * number < 2 ^ n → number ≢ passed → Leads number → Leads (suc number)
+  one_more number room other before = elim (compared before.chosen number before.within room) [
+    | inl more ↦ record {
+      chosen = number;
+      within = omega arith;
+      other = other;
+      leads = (λ m lt ne ne'. elim (same_number m before.chosen) [
+        | inl same ↦ inl (subst (λ m. likelihood soft (coded (list_of m)) <ℤ likelihood soft (coded (list_of number))) (sym same) more)
+        | inr differs ↦ behind_more (list_of before.chosen) (list_of number) (list_of m) (before.leads m (omega arith) differs ne') more
+      ]);
+    }
+    | inr behind ↦ record {
+      chosen = before.chosen;
+      within = let h = before.within in omega arith;
+      other = before.other;
+      leads = (λ m lt ne ne'. elim (same_number m number) [
+        | inl same ↦ subst (λ m. FallsBehind soft (list_of m) (list_of before.chosen)) (sym same) behind
+        | inr differs ↦ before.leads m (omega arith) ne ne'
+      ]);
+    }
+  ]
+
+  -- the list that is passed over changes nothing
+  none_more : (number : ℕ) → number ≡ passed → Leads number → Leads (suc number)
+  none_more number same before = record {
+    chosen = before.chosen;
+    within = let h = before.within in omega arith;
+    other = before.other;
+    leads = (λ m lt ne ne'. before.leads m (omega arith) ne ne');
+  }
+
+  leading : (number : ℕ) → 16 * number ≤ 2 ^ n → Leads number ⊎ ((m : ℕ) → m < number → m ≡ passed)
+  leading zero room = inr (λ m lt. absurd (omega arith))
+  leading (suc number) room = elim (same_number number passed) [
+    | inl same ↦ elim (leading number (omega arith)) [
+      | inl before ↦ inl (none_more number same before)
+      | inr none ↦ inr (λ m lt. elim (same_number m number) [ inl e ↦ e ∙ same | inr ne ↦ none m (omega arith) ])
+    ]
+    | inr other ↦ elim (leading number (omega arith)) [
+      | inl before ↦ inl (one_more number (omega arith) other before)
+      | inr none ↦ inl (record {
+        chosen = number;
+        within = omega arith;
+        other = other;
+        leads = (λ m lt ne ne'. absurd (ne' (none m (omega arith))));
+      })
+    ]
+  ]
+
+  -- the best of all others comes next after the list that was passed over
+  IsSecond-chosen : (lists : ℕ) → 5 ≤ n → length soft ≡ 2 * n → 16 * lists ≡ 2 ^ n → 16 * passed < 2 ^ n → (l : Leads lists) →
+      IsSecond soft (list_of passed) (list_of l.chosen)
+  IsSecond-chosen lists long pairs all known l = record {
+    candidate = record { information = IsInformation-word n l.chosen long; count = rw (length-word n (16 * l.chosen)) pairs };
+    differs = apart;
+    others = every;
+  } where
+    -- lists of different numbers differ
+    ordered : (a b : ℕ) → a < b → 16 * b < 2 ^ n → list_of a ≢ list_of b
+    ordered a b less within =
+        let lower : 16 * a < 2 ^ n = omega arith in
+        differs_before (list_of a) (list_of b) (IsBefore-word n (16 * a) (16 * b) (omega arith) (div-eq_of_lt lower ∙ sym (div-eq_of_lt within)))
+
+    apart : list_of l.chosen ≢ list_of passed
+    apart same =
+        let below = l.within in
+        elim (cases_lt l.chosen passed) [
+          | inl less ↦ ordered l.chosen passed less known same
+          | inr not_less ↦ let ne = l.other in ordered passed l.chosen (omega arith) (omega arith) (sym same)
+        ]
+
+    every : (w : List ℕ) → IsCandidate soft w → w ≢ list_of passed → w ≢ list_of l.chosen → FallsBehind soft w (list_of l.chosen)
+    every w candidate ne ne' =
+        let spelt = word-information w candidate.information in
+        let m = spelt.0 in
+        let count = candidate.count in
+        let long : length w ≡ n = omega arith in
+        let is : list_of m ≡ w = ap (λ n. word n (16 * m)) (sym long) ∙ spelt.2 in
+        let below : 16 * m < 2 ^ n = subst (λ n. 16 * m < 2 ^ n) long spelt.1 in
+        subst (λ w. FallsBehind soft w (list_of l.chosen)) is
+        (l.leads m (omega arith) (λ same. ne' (sym is ∙ ap list_of same)) (λ same. ne (sym is ∙ ap list_of same)))
+
+-- every list has a second one beside it
+pub some_second : (soft : List ℤ) (u : List ℕ) → IsCandidate soft u → (v : List ℕ) × IsSecond soft u v
+some_second soft u candidate =
+    let n = length u in
+    let long = candidate.information.count in
+    let spelt = word-information u candidate.information in
+    let parted : 2 ^ n ≡ 16 * 2 ^ (n - 4) =
+    ap (λ k. 2 ^ k) (let e : n ≡ 4 + (n - 4) = omega arith in e) ∙ pow-add 2 4 (n - 4) in
+    let halves : 2 ^ (n - 4) ≡ 2 * 2 ^ (n - 5) =
+    ap (λ k. 2 ^ k) (let e : n - 4 ≡ 1 + (n - 5) = omega arith in e) ∙ pow-add 2 1 (n - 5) in
+    let some = pow_pos (n - 5) in
+    elim (leading soft n spelt.0 (2 ^ (n - 4)) (omega arith)) [
+      | inl l ↦ (
+        word n (16 * l.chosen),
+        subst (λ u. IsSecond soft u (word n (16 * l.chosen))) spelt.2
+            (IsSecond-chosen soft n spelt.0 (2 ^ (n - 4)) long candidate.count (sym parted) spelt.1 l),
+      )
+      | inr none ↦
+          let first = none 0 (omega arith) in
+          let other = none 1 (omega arith) in
+          absurd (omega arith)
+    ]

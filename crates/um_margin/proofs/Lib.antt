@@ -1,0 +1,3 @@
+mod Comparing
+pub mod Lemmas
+mod MarginRules

@@ -1,0 +1,113 @@
+//! The lines that a comparison is written as.
+ghost use Rattle.std.specs.Prelude.{◌≡◌, ◌+◌, ◌-◌, ◌*◌, ◌<◌, ◌≤◌, ℤ, [], ◌++◌, length, take, drop};
+ghost use Rattle.bit_blocks.specs.Bits.{AllBits};
+ghost use Rattle.bit_blocks.specs.Octets.{octets_of};
+ghost use Rattle.hex.specs.Hex.{encode_lower};
+ghost use Rattle.um_margin.specs.Texts.{numbers_text, hex_word, digit_word, block_text, access_text, sync_text};
+
+use crate::comparison::Comparison;
+use bit_blocks::{Bits, to_octets};
+use um_lines::Text;
+
+/// Writes `block margin G metric M data HEX46 check HEX10 next HEX46 HEX10`.
+pub(crate) fn block_line(out: &mut Text, c: &Comparison<228>)
+    requires { out.old ≡ [] }
+    ensures line { out.new ≡ block_text c.now }
+    ensures few { length out.new < 2000 }
+{
+    out.push(b"block");
+    push_numbers(out, c.margin, c.metric);
+    out.push(b" data ");
+    push_hex_word(out, &c.best, b" check ");
+    out.push(b" next ");
+    push_hex_word(out, &c.next, b" ");
+    out.push(b"\n");
+}
+
+/// Writes `access BSIC6 margin G metric M data DIGITS8 check DIGITS6 next DIGITS8 DIGITS6`.
+pub(crate) fn access_line(out: &mut Text, bsic: &Bits<6>, c: &Comparison<18>)
+    requires { out.old ≡ [] }
+    ensures line { out.new ≡ access_text bsic.now c.now }
+    ensures few { length out.new < 2000 }
+{
+    out.push(b"access ");
+    out.push_digits(bsic.as_slice());
+    push_numbers(out, c.margin, c.metric);
+    out.push(b" data ");
+    push_digit_word(out, &c.best, 8, 14, b" check ");
+    out.push(b" next ");
+    push_digit_word(out, &c.next, 8, 14, b" ");
+    out.push(b"\n");
+}
+
+/// Writes `sync margin G metric M data DIGITS25 check DIGITS10 next DIGITS25 DIGITS10`.
+pub(crate) fn sync_line(out: &mut Text, c: &Comparison<39>)
+    requires { out.old ≡ [] }
+    ensures line { out.new ≡ sync_text c.now }
+    ensures few { length out.new < 2000 }
+{
+    out.push(b"sync");
+    push_numbers(out, c.margin, c.metric);
+    out.push(b" data ");
+    push_digit_word(out, &c.best, 25, 35, b" check ");
+    out.push(b" next ");
+    push_digit_word(out, &c.next, 25, 35, b" ");
+    out.push(b"\n");
+}
+
+fn push_numbers(out: &mut Text, margin: i32, metric: i32)
+    requires { length out.old + 100 ≤ 4096 }
+    ensures text { out.new ≡ out.old ++ numbers_text margin metric }
+    ensures length { length out.new ≤ length out.old + 100 }
+{
+    out.push(b" margin ");
+    out.push(itoa::Buffer::new().format(margin).as_bytes());
+    out.push(b" metric ");
+    out.push(itoa::Buffer::new().format(metric).as_bytes());
+}
+
+// Data and check of a block's word, each bit at its place of its octet.
+fn push_hex_word(out: &mut Text, word: &Bits<228>, between: &[u8])
+    requires room { length out.old + 100 ≤ 4096 }
+    requires short { length between.now ≤ 10 }
+    ensures text { out.new ≡ out.old ++ hex_word word.now between.now }
+    ensures length { length out.new ≡ length out.old + 56 + length between.now }
+{
+    push_packed::<23, _>(out, word, 0);
+    out.push(between);
+    push_packed::<5, _>(out, word, 184);
+}
+
+// The octets of the bits from this place on.
+fn push_packed<const N: usize, const M: usize>(out: &mut Text, word: &Bits<M>, place: usize)
+    requires room { length out.old + 2 * N ≤ 4096 }
+    requires within { place + 8 * N ≤ M }
+    ensures text { out.new ≡ out.old ++ encode_lower (octets_of (take (8 * N) (drop place word.now))) }
+    ensures length { length out.new ≡ length out.old + 2 * N }
+{
+    let bits = &word.as_slice()[place..place + 8 * N];
+    let mut octets = [0; N];
+    to_octets(bits, &mut octets);
+    out.push_hex(&octets);
+}
+
+// The data are the first bits of the word, up to this place, and the check those from there to the end.
+fn push_digit_word<const N: usize>(
+    out: &mut Text,
+    word: &Bits<N>,
+    place: usize,
+    end: usize,
+    between: &[u8],
+)
+    requires room { length out.old + end + 10 ≤ 4096 }
+    requires short { length between.now ≤ 10 }
+    requires order { place ≤ end }
+    requires within { end ≤ N }
+    ensures text { out.new ≡ out.old ++ digit_word word.now place (end - place) between.now }
+    ensures length { length out.new ≡ length out.old + end + length between.now }
+{
+    let bits = word.as_slice();
+    out.push_digits(&bits[..place]);
+    out.push(between);
+    out.push_digits(&bits[place..end]);
+}
