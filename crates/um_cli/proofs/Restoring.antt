@@ -23,7 +23,7 @@ use Rattle.um_text.proofs.BurstLaws.{one_meaning, short}
 use Rattle.um_text.proofs.WrittenBursts.{normal_line, access_line, sync_line, normal_restored, access_restored, sync_restored, normal_whole, access_whole, sync_whole}
 use Rattle.um_text.proofs.ReportLaws.{some_block_report}
 use Rattle.um_text.proofs.CodeLaws.{can_be_sent}
-use Rattle.um_io.specs.Reading.{input_limit, line_limit}
+use Rattle.um_io.specs.Reading.{input_limit}
 use Rattle.um_driver.specs.Rules.{Runs, IsGood, joined}
 use Rattle.um_driver.specs.Outputs.{IsOutput}
 use Rattle.um_driver.specs.declared.status.Status.TheVariants.{Done}

@@ -10,8 +10,10 @@ use Rattle.um_cli.specs.Machines.{machine_of, IsTable, OneOutput}
 use Rattle.um_cli.specs.Replay.{replay_rules}
 use Rattle.um_cli.specs.Restored.{Restores}
 use Rattle.um_cli.specs.declared.words.Shape.{Shape}
-use Rattle.um_cli.specs.declared.words.Shape.TheVariants.{Code, Replay, Show, Link}
+use Rattle.um_cli.specs.declared.words.Shape.TheVariants.{Code, Replay, Show, Margin, Link}
 use Rattle.um_cli.specs.Shapes.{Fits}
+use Rattle.um_margin.specs.Margins.{margin_rules}
+use Rattle.um_margin.proofs.Lemmas.{margin_is_determined, margin_has_one_output}
 use Rattle.um_session.proofs.Laws.{link_has_one_output}
 use Rattle.um_cli.proofs.CodeRules.{code_has_one_output}
 use Rattle.um_cli.proofs.Headlines.{headline_is_weaker}
@@ -23,6 +25,7 @@ pub one_output : (shape : Shape) → Fits shape → OneOutput shape
 one_output Code fits = code_has_one_output
 one_output Replay fits = replay_has_one_output
 one_output Show fits = show_has_one_output
+one_output Margin fits = margin_has_one_output
 one_output (Link tsc channel) fits = link_has_one_output tsc channel fits
 
 -- what holds for the shape of the words holds for whatever shape they have
@@ -57,3 +60,13 @@ pub replay_due : (start : List (List ℤ)) (status : Status) (left taken taken' 
     (IsDetermined replay_rules → EndsAsDue replay_rules start status left taken taken') → EndsAsDue replay_rules [] status left taken taken'
 replay_due start status left taken taken' none due =
     subst (λ held. EndsAsDue replay_rules held status left taken taken') none (due replay_is_determined)
+
+-- a run of `margin` that began with no burst held
+pub margin_run : (start : List (List ℤ)) (Stands : List (List ℤ) → Type 0) (status : Status) (left left' taken taken' : Option (List ℕ)) → start ≡ [] →
+    IsRun margin_rules start Stands status left left' taken taken' → IsRun margin_rules [] Stands status left left' taken taken'
+margin_run start Stands status left left' taken taken' none run = subst (λ held. IsRun margin_rules held Stands status left left' taken taken') none run
+
+pub margin_due : (start : List (List ℤ)) (status : Status) (left taken taken' : Option (List ℕ)) → start ≡ [] →
+    (IsDetermined margin_rules → EndsAsDue margin_rules start status left taken taken') → EndsAsDue margin_rules [] status left taken taken'
+margin_due start status left taken taken' none due =
+    subst (λ held. EndsAsDue margin_rules held status left taken taken') none (due margin_is_determined)

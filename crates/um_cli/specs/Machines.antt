@@ -8,7 +8,8 @@ use Rattle.um_cli.specs.Code.{code_rules}
 use Rattle.um_cli.specs.Replay.{replay_rules}
 use Rattle.um_cli.specs.Show.{show_rules}
 use Rattle.um_cli.specs.declared.words.Shape.{Shape}
-use Rattle.um_cli.specs.declared.words.Shape.TheVariants.{Code, Replay, Show, Link}
+use Rattle.um_cli.specs.declared.words.Shape.TheVariants.{Code, Replay, Show, Margin, Link}
+use Rattle.um_margin.specs.Margins.{margin_rules}
 use Rattle.um_session.specs.Sessions.{Session, idle, link_rules}
 
 -- the machine over lines that a shape of the words asks for
@@ -16,6 +17,7 @@ abbrev pub machine_of : Shape → Machine
 machine_of Code = record { State = Unit {0}; rules = code_rules; start = tt }
 machine_of Replay = record { State = _; rules = replay_rules; start = [] }
 machine_of Show = record { State = Unit {0}; rules = show_rules; start = tt }
+machine_of Margin = record { State = _; rules = margin_rules; start = [] }
 machine_of (Link tsc channel) = record { State = Session; rules = link_rules; start = idle tsc channel }
 
 -- the table of a run: what was read and written, for each way to end

@@ -4,7 +4,7 @@ use Rattle.std.specs.Str.{bytes_eq}
 use Rattle.lapdm_frame.specs.declared.Channel.{Channel}
 use Rattle.lapdm_frame.specs.declared.Channel.TheVariants.{Sdcch, Sacch}
 use Rattle.um_cli.specs.declared.words.Shape.{Shape}
-use Rattle.um_cli.specs.declared.words.Shape.TheVariants.{Code, Replay, Show, Link}
+use Rattle.um_cli.specs.declared.words.Shape.TheVariants.{Code, Replay, Show, Margin, Link}
 
 -- what one word asks for
 abbrev pub word_shape : List ℕ → Option Shape
@@ -12,6 +12,7 @@ word_shape word =
     if bytes_eq word (codes "code") then Some Code
     else if bytes_eq word (codes "replay") then Some Replay
     else if bytes_eq word (codes "show") then Some Show
+    else if bytes_eq word (codes "margin") then Some Margin
     else None
 
 -- the training sequence that a word names: one digit 0 to 7

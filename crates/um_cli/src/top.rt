@@ -19,6 +19,7 @@ use std::alloc::Global;
 use um_block::Radio;
 use um_driver::{Status, drive};
 use um_io::{Sink, Source};
+use um_margin::Margin;
 
 /// Runs the command that the words name, from the octets of `input` to the octets of `output`.
 ///
@@ -80,6 +81,7 @@ pub fn run<S: Source, K: Sink, R: Radio>(
         Some(Shape::Code) => drive(alloc, &mut Code, input, output),
         Some(Shape::Replay) => drive(alloc, &mut Replay::new(), input, output),
         Some(Shape::Show) => drive(alloc, &mut Show, input, output),
+        Some(Shape::Margin) => drive(alloc, &mut Margin::new(), input, output),
         Some(Shape::Link(tsc, channel)) => run_link(alloc, tsc, channel, input, output, radio),
     }
 }

@@ -12,6 +12,8 @@ pub enum Shape {
     Replay,
     /// Frames to text and back.
     Show,
+    /// Bursts to their two most likely words.
+    Margin,
     /// Both ends over the air, with a training sequence and on a channel.
     Link(u8, Channel),
 }
@@ -120,6 +122,7 @@ fn word_shape(word: &str) -> Option<Shape>
         "code" => Some(Shape::Code),
         "replay" => Some(Shape::Replay),
         "show" => Some(Shape::Show),
+        "margin" => Some(Shape::Margin),
         _ => None,
     }
 }

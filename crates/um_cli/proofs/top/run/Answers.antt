@@ -1,9 +1,9 @@
 use Rattle.um_cli.specs.Machines.{IsTable, IsDueEnd}
 use Rattle.um_cli.specs.Shapes.{shape_of}
-use Rattle.um_cli.specs.declared.words.Shape.TheVariants.{Code, Replay, Show}
+use Rattle.um_cli.specs.declared.words.Shape.TheVariants.{Code, Replay, Show, Margin}
 use Rattle.um_cli.proofs.CodeRules.{code_is_determined}
 use Rattle.um_cli.proofs.ShowRules.{show_is_determined}
-use Rattle.um_cli.proofs.Tops.{for_shape, table_of, restores, replay_run, replay_headline, replay_due}
+use Rattle.um_cli.proofs.Tops.{for_shape, table_of, restores, replay_run, replay_headline, replay_due, margin_run, margin_due}
 use Rattle.um_cli.proofs.top.run.Goals as goal
 
 pub returns-in-Some-Code-clause-due : goal.returns-in-Some-Code-clause-due
@@ -54,3 +54,24 @@ returns-in-Some-Show-clause-due g c =
     for_shape
     (λ shape. IsDueEnd shape run.result (g.S.Source.left c.args.input.now) (g.K.Sink.taken c.args.output.now) (g.K.Sink.taken run.new.output))
     (shape_of c.args.words.now) Show (cc (e, f)) (run.ensures.due show_is_determined)
+
+pub returns-in-Some-Margin-clause-table : goal.returns-in-Some-Margin-clause-table
+returns-in-Some-Margin-clause-table g c =
+    let e = c.in-Some-Margin.ensures.shape in
+    let f = c.in-Some-Margin.field-0-is in
+    let run = c.drive-in-Some-Margin in
+    for_shape
+    (λ shape. IsTable shape run.result (g.S.Source.left c.args.input.now) (g.S.Source.left run.new.input) (g.K.Sink.taken c.args.output.now)
+    (g.K.Sink.taken run.new.output))
+    (shape_of c.args.words.now) Margin (cc (e, f))
+    (table_of Margin _ run.result _ _ _ _ (margin_run c.new-in-Some-Margin.result _ run.result _ _ _ _ c.new-in-Some-Margin.ensures run.ensures.table))
+
+pub returns-in-Some-Margin-clause-due : goal.returns-in-Some-Margin-clause-due
+returns-in-Some-Margin-clause-due g c =
+    let e = c.in-Some-Margin.ensures.shape in
+    let f = c.in-Some-Margin.field-0-is in
+    let run = c.drive-in-Some-Margin in
+    for_shape
+    (λ shape. IsDueEnd shape run.result (g.S.Source.left c.args.input.now) (g.K.Sink.taken c.args.output.now) (g.K.Sink.taken run.new.output))
+    (shape_of c.args.words.now) Margin (cc (e, f))
+    (margin_due c.new-in-Some-Margin.result run.result _ _ _ c.new-in-Some-Margin.ensures run.ensures.due)
