@@ -1,7 +1,8 @@
 //! The command `margin`, over the lines of the command `replay`.
-ghost use Rattle.std.specs.Prelude.{◌≡◌, ℤ, List, [], ◌∷◌, ◌++◌, length, All};
+ghost use Rattle.std.specs.Prelude.{◌≡◌, ℤ, List, [], ◌∷◌, ◌++◌, ◌<◌, length, All};
 ghost use Rattle.bit_blocks.specs.SoftValues.{AllSoft};
 ghost use Rattle.um_block.specs.Received.{access_places, sync_places};
+ghost use Rattle.um_driver.specs.Rules.{Answers};
 ghost use Rattle.um_margin.specs.Compared.{IsCompared, IsComparedBlock};
 ghost use Rattle.um_margin.specs.Margins.{margin_rules, IsBlockAnswer};
 
@@ -43,7 +44,8 @@ impl Margin {
     fn hold(&mut self, burst: [i8; 148], out: &mut Text)
         requires soft { AllSoft burst }
         requires empty { out.old ≡ [] }
-        ensures { IsBlockAnswer (self.old ++ burst ∷ []) out.new self.new }
+        ensures answered { IsBlockAnswer (self.old ++ burst ∷ []) out.new self.new }
+        ensures few { length out.new < 2000 }
     {
         if let Some(block) = self.held.add(burst) {
             block_line(out, &compare_block(&block));
@@ -64,7 +66,13 @@ impl Command for Margin {
 
     ghost kept = { λ _. tt };
 
-    fn answer(&mut self, line: &[u8], out: &mut Text) -> Result<(), LineFault> {
+    fn answer(&mut self, line: &[u8], out: &mut Text) -> Result<(), LineFault>
+        requires empty { out.old ≡ [] }
+        ensures answered { (held : List (List ℤ)) → self.old ≡ held →
+            Answers margin_rules held line.now result out.new (λ after. self.new ≡ after) }
+        ensures keeps { tt {0} ≡ tt }
+        ensures few { length out.new < 2000 }
+    {
         match parse_burst(line, self.held.count())? {
             BurstLine::Skip => {}
             BurstLine::Normal(burst) => self.hold(burst, out),
