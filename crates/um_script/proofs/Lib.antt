@@ -1,4 +1,5 @@
 pub mod LineLaws
+pub mod OctetLaws
 pub mod PackedOctets
 pub mod Pigeonholes
 pub mod PlaceLaws

@@ -13,4 +13,4 @@ mod tests;
 
 pub use answer::step_lines;
 pub use room::Room;
-pub use script::{ScriptLine, law_script, parse_script};
+pub use script::{ScriptLine, law_script, law_script_octets, parse_script};

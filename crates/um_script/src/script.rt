@@ -1,6 +1,8 @@
 //! The lines of a script.
-ghost use Rattle.std.specs.Prelude.{◌≡◌, ◌≤◌, ℕ, List, length, IfOk};
+ghost use Rattle.std.specs.Prelude.{◌≡◌, ◌≤◌, ℕ, List, length, Some, IfOk};
 ghost use Rattle.std.specs.Result.{result_err};
+ghost use Rattle.um_air.specs.Air as A;
+ghost use Rattle.um_air.specs.Sessions.{IsOctetEvent};
 ghost use Rattle.um_lines.specs.Words.{words};
 ghost use Rattle.um_lines.specs.Forms.{line_fault, anywhere};
 ghost use Rattle.um_lines.specs.LinkForms.{link_forms};
@@ -155,4 +157,9 @@ fn flip<'a>(
 /// Each line of a script has one meaning and no other where it has no reason, and none where it has one.
 pub fn law_script()
     ensures { (line : List ℕ) → HasOneMeaningUnless (line_fault link_forms anywhere line) (ScriptMeans line) }
+{}
+
+/// The messages of every line of a script are octets.
+pub fn law_script_octets()
+    ensures { (line : List ℕ) (event : A.Event) → ScriptMeans line (Some event) → IsOctetEvent event }
 {}

@@ -1,5 +1,5 @@
 -- The command `link` answers each good line in one way.
-use Rattle.std.proofs.Common.{◌≡◌, ℕ, ◌≤◌, List, [], ◌∷◌, ◌++◌, Option, None, Some, refl, sym, ap, ◌∙◌, subst}
+use Rattle.std.proofs.Common.{◌≡◌, ℕ, ◌≤◌, List, [], Option, None, Some, refl, sym, ap, ◌∙◌, subst}
 use Rattle.lapdm_frame.specs.declared.Channel.{Channel}
 use Rattle.um_lines.specs.declared.fault.LineFault.{LineFault}
 use Rattle.um_lines.specs.Forms.{line_fault, anywhere, LineMeans}
@@ -8,7 +8,7 @@ use Rattle.um_lines.specs.Meanings.{HasOneMeaningUnless}
 use Rattle.um_lines.proofs.FormLaws.{one_meaning, one_made}
 use Rattle.um_script.specs.ScriptLines.{ScriptMeans, event_said}
 use Rattle.um_script.specs.StepLines.{answer_text}
-use Rattle.um_air.specs.Air.{Event, Answer, AirState, AirStep, AirRun, start_on}
+use Rattle.um_air.specs.Air.{Event, Answer, AirState, AirRun, start_on}
 use Rattle.um_air.proofs.Laws.{longer_run, one_answer, some_answer}
 use Rattle.um_driver.specs.Rules.{IsDetermined, IsTotal, Runs}
 use Rattle.um_driver.specs.Laws.{HasOneOutput}

@@ -2,4 +2,5 @@ pub mod Laws
 mod Answering
 mod Tallying
 mod Stepping
+mod Octets
 mod Running

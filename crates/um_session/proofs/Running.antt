@@ -1,21 +1,22 @@
 -- A run of the command with its radio is a run of `link`, and what is promised holds of it.
-use Rattle.std.proofs.Common.{◌≡◌, ℕ, ◌+◌, ◌≤◌, inl, inr, Bool, true, false, List, [], ◌∷◌, ◌++◌, Option, None, Some, refl, sym, ap, ◌∙◌, subst, arith, append_assoc, append-nil}
+use Rattle.std.proofs.Common.{◌≡◌, ℕ, ◌+◌, inl, inr, Bool, true, false, List, [], ◌∷◌, ◌++◌, Option, None, Some, refl, sym, ap, ◌∙◌, subst, arith, append_assoc, append-nil}
 use Rattle.lapdm_frame.specs.declared.Channel.{Channel}
 use Rattle.um_block.specs.Tallies.{raised_by}
-use Rattle.um_air.specs.Air.{Event, Answer}
+use Rattle.um_air.specs.Air.{Answer}
 use Rattle.um_air.proofs.Laws.{air_claims, air_order, kind_is_harmless}
 use Rattle.um_lines.specs.declared.fault.LineFault.{LineFault}
 use Rattle.um_driver.specs.Rules.{Runs, IsBad, IsDetermined}
-use Rattle.um_driver.specs.Outputs.{Goes, Stops, StopsAtEnd, Gives, IsOutput}
+use Rattle.um_driver.specs.Outputs.{Gives, IsOutput}
 use Rattle.um_driver.specs.Table.{IsRun, EndsAsDue}
 use Rattle.um_driver.specs.declared.status.Status.{Status}
 use Rattle.um_driver.specs.declared.status.Status.TheVariants.{NoMemory}
 use Rattle.um_driver.proofs.Settling.{without_memory}
 use Rattle.um_driver.proofs.RunLemmas.{Runs-keep}
 use Rattle.um_driver.proofs.Weaker.{IsWeakerBy, weaker_run_by, weaker_run_state, runs_by}
-use Rattle.um_session.specs.Sessions.{Session, idle, Happened, AnswersScript, link_rules}
-use Rattle.um_session.specs.Courses.{Course, Tallies, course_rules, frames_sent, blocks_heard, frames_in, arrivals_in}
+use Rattle.um_session.specs.Sessions.{Session, idle, AnswersScript, link_rules}
+use Rattle.um_session.specs.Courses.{Course, Tallies, course_rules, frames_sent, blocks_heard}
 use Rattle.um_session.specs.Promises.{IsDelivered, IsByRadio, IsLinkRun}
+use Rattle.um_session.proofs.Octets.{HasOctets, octets_of_session, kind_events}
 use Rattle.um_session.proofs.Answering.{IsSessionOn, session_of, link_is_determined}
 use Rattle.um_session.proofs.Tallying.{frames_sent-append, blocks_heard-append}
 
@@ -25,11 +26,11 @@ session_in c = c.session
 without_radio : IsWeakerBy session_in course_rules link_rules
 without_radio = record { fault = λ c line. refl; end_fault = λ c. refl; step = λ c b line y step. step.0 }
 
-pub delivered : (tsc : ℕ) (channel : Channel) (s : Session) → IsSessionOn tsc channel s → IsDelivered s
-delivered tsc channel s run = record {
+pub delivered : (tsc : ℕ) (channel : Channel) (s : Session) → IsSessionOn tsc channel s → HasOctets s → IsDelivered s
+delivered tsc channel s run octets = record {
   order = air_order tsc channel s.events s.answers s.air run;
   delivery = air_claims tsc channel s.events s.answers s.air run;
-  harmless = kind_is_harmless tsc channel s.events s.answers s.air run;
+  harmless = λ few. kind_is_harmless tsc channel s.events s.answers s.air run (kind_events s.events few octets);
 }
 
 -- the tallies before the first line stay what they were
@@ -85,8 +86,10 @@ link_run tsc channel before after Stands tells status left left' taken taken' h 
           (same_before h.state h.last h.further h.unwritten h.ahead ∙ same_before start h.state h.lines h.answers h.runs) (tells h.last h.stands));
       delivered =
           subst IsDelivered (sym same)
-          (delivered tsc channel h.state.session
-          (session_of tsc channel h.lines h.answers h.state.session (runs_by session_in course_rules link_rules without_radio start h.state h.lines h.answers h.runs)));
+          (let runs : Runs link_rules (idle tsc channel) h.lines h.answers h.state.session =
+          runs_by session_in course_rules link_rules without_radio start h.state h.lines h.answers h.runs in
+          delivered tsc channel h.state.session (session_of tsc channel h.lines h.answers h.state.session runs)
+          (octets_of_session tsc channel h.lines h.answers h.state.session runs));
     }
 
 -- ---- a run of the command ends as a run of `link` is to

@@ -4,7 +4,7 @@ use Rattle.um_block.specs.declared.received.Received.{Received}
 use Rattle.um_block.specs.Tallies.{raised_by}
 use Rattle.um_lines.specs.Forms.{line_fault, anywhere}
 use Rattle.um_lines.specs.LinkForms.{link_forms}
-use Rattle.um_air.specs.Air.{AirState, Answer}
+use Rattle.um_air.specs.Air.{Answer}
 use Rattle.um_link.specs.declared.events.Event.{Event}
 use Rattle.um_link.specs.declared.events.Step.{Step}
 use Rattle.um_link.specs.declared.events.No.{No}

@@ -1,5 +1,5 @@
 -- Tallies that rise by one for each frame and each arrival.
-use Rattle.std.proofs.Common.{◌≡◌, ℕ, zero, suc, ◌+◌, ◌≤◌, List, [], ◌∷◌, ◌++◌, refl, sym, ap, ◌∙◌, arith}
+use Rattle.std.proofs.Common.{◌≡◌, ℕ, zero, suc, ◌+◌, List, [], ◌∷◌, ◌++◌, ap, ◌∙◌, arith}
 use Rattle.um_block.specs.Tallies.{raised, raised_by}
 use Rattle.um_air.specs.Air.{Answer}
 use Rattle.um_session.specs.Courses.{frames_in, arrivals_in, frames_sent, blocks_heard}

@@ -1,0 +1,33 @@
+-- The messages of a session are octets, so it is kind where few bits are turned over.
+use Rattle.std.proofs.Common.{ℕ, List, [], ◌∷◌, Some, None, sym, subst}
+use Rattle.std.specs.List.{All}
+use Rattle.std.proofs.lemmas.List.Elements.{All-nil, All-cons, All-head, All-tail, All-append}
+use Rattle.lapdm_frame.specs.declared.Channel.{Channel}
+use Rattle.um_air.specs.Air.{Event}
+use Rattle.um_air.specs.Sessions.{IsKindEvent, IsOctetEvent, IsKind}
+use Rattle.um_driver.specs.Rules.{Runs}
+use Rattle.um_driver.proofs.RunLemmas.{Runs-keep}
+use Rattle.um_script.proofs.OctetLaws.{octet_event}
+use Rattle.um_session.specs.Sessions.{Session, idle, AnswersScript, link_rules}
+use Rattle.um_session.specs.Promises.{AreFewTurned}
+
+abbrev pub HasOctets : Session → Type 0
+HasOctets s = All IsOctetEvent s.events
+
+octets_keep : (s b : Session) (line y : List ℕ) → HasOctets s → AnswersScript s line y b → HasOctets b
+octets_keep s b line y octets (None, means, (_, same)) = subst HasOctets (sym same) octets
+octets_keep s b line y octets (Some event, means, h) =
+    subst HasOctets (sym h.after_is)
+    (All-append IsOctetEvent s.events (event ∷ []) octets (All-cons IsOctetEvent event [] (octet_event line event means) (All-nil IsOctetEvent)))
+
+pub octets_of_session : (tsc : ℕ) (channel : Channel) (lines answers : List (List ℕ)) (b : Session) → Runs link_rules (idle tsc channel) lines answers b → HasOctets b
+octets_of_session tsc channel lines answers b runs =
+    Runs-keep link_rules HasOctets octets_keep (idle tsc channel) b lines answers (All-nil IsOctetEvent) runs
+
+pub kind_events : (events : List Event) → AreFewTurned events → All IsOctetEvent events → IsKind events
+kind_events [] few octets = tt
+kind_events (event ∷ events) few octets = (
+  All-head IsKindEvent event events few,
+  All-head IsOctetEvent event events octets,
+  kind_events events (All-tail IsKindEvent event events few) (All-tail IsOctetEvent event events octets),
+)
