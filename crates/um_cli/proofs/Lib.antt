@@ -1,4 +1,5 @@
 pub mod CodeRules
+pub mod Counts
 pub mod Headlines
 pub mod ReplayRules
 pub mod Restoring

@@ -1,19 +1,21 @@
 -- What a run of the command that was named says of the shape of the words.
 use Rattle.std.proofs.Common.{◌≡◌, ℕ, ℤ, List, [], Option, Some, None, subst}
 use Rattle.um_driver.specs.Table.{IsRun, EndsAsDue}
-use Rattle.um_driver.specs.Rules.{IsDetermined}
+use Rattle.um_driver.specs.Rules.{Rules, IsDetermined}
 use Rattle.um_driver.specs.declared.status.Status.{Status}
 use Rattle.um_driver.specs.declared.status.Status.TheVariants.{Done}
 use Rattle.um_driver.proofs.Weaker.{as_weak, weaker_run}
 use Rattle.um_cli.specs.Headline.{headline_rules}
-use Rattle.um_cli.specs.Machines.{machine_of, IsTable, OneOutput}
+use Rattle.um_cli.specs.Machines.{OneOutput}
 use Rattle.um_cli.specs.Replay.{replay_rules}
 use Rattle.um_cli.specs.Restored.{Restores}
 use Rattle.um_cli.specs.declared.words.Shape.{Shape}
-use Rattle.um_cli.specs.declared.words.Shape.TheVariants.{Code, Replay, Show, Margin, Link}
+use Rattle.um_cli.specs.declared.words.Shape.TheVariants.{Code, Replay, Show, Margin, Link, Make}
 use Rattle.um_cli.specs.Shapes.{Fits}
 use Rattle.um_margin.specs.Margins.{margin_rules}
 use Rattle.um_margin.proofs.Lemmas.{margin_is_determined, margin_has_one_output}
+use Rattle.um_make.specs.Generated.{generated}
+use Rattle.um_make.proofs.Laws.{one_summary}
 use Rattle.um_session.proofs.Laws.{link_has_one_output}
 use Rattle.um_cli.proofs.CodeRules.{code_has_one_output}
 use Rattle.um_cli.proofs.Headlines.{headline_is_weaker}
@@ -27,16 +29,17 @@ one_output Replay fits = replay_has_one_output
 one_output Show fits = show_has_one_output
 one_output Margin fits = margin_has_one_output
 one_output (Link tsc channel) fits = link_has_one_output tsc channel fits
+one_output (Make n tsc) fits = one_summary tsc (generated n) fits.2
 
 -- what holds for the shape of the words holds for whatever shape they have
 pub for_shape : (P : Shape → Type 0) (found : Option Shape) (s : Shape) → found ≡ Some s → P s → (t : Shape) → found ≡ Some t → P t
 for_shape P found s h p t k = let same : s ≡ t = cc (h, k) in subst P same p
 
--- a run of a shape's machine, whatever its command stands for
-pub table_of : (shape : Shape) (Stands : (machine_of shape).State → Type 0) (status : Status) (left left' taken taken' : Option (List ℕ)) →
-    IsRun (machine_of shape).rules (machine_of shape).start Stands status left left' taken taken' → IsTable shape status left left' taken taken'
-table_of shape Stands status left left' taken taken' run =
-    let m = machine_of shape in weaker_run m.rules m.rules (as_weak m.rules) m.start Stands (λ _. Unit {0}) (λ b stands. tt) status left left' taken taken' run
+-- a run by rules, whatever its command stands for
+pub any_run : {State : Type 0} (r : Rules State) (a : State) (Stands : State → Type 0) (status : Status) (left left' taken taken' : Option (List ℕ)) →
+    IsRun r a Stands status left left' taken taken' → IsRun r a (λ _. Unit {0}) status left left' taken taken'
+any_run r a Stands status left left' taken taken' run =
+    weaker_run r r (as_weak r) a Stands (λ _. Unit {0}) (λ b stands. tt) status left left' taken taken' run
 
 -- a run that ends as due restores what `code` wrote
 pub restores : (status : Status) (left taken taken' : Option (List ℕ)) → EndsAsDue replay_rules [] status left taken taken' →

@@ -1,6 +1,7 @@
 -- The definitions that the contracts of this crate cite.
 pub mod Code
 pub mod Headline
+pub mod Make
 pub mod Replay
 pub mod Restored
 pub mod Machines

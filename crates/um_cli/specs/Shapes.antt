@@ -1,10 +1,11 @@
 -- What the words ask for: this project's own rules.
-use Rattle.std.specs.Prelude.{ℕ, ◌≤◌, ◌-◌, ◌&&◌, nat_le, List, [], ◌∷◌, Option, Some, None, codes, if◌then◌else◌}
-use Rattle.std.specs.Str.{bytes_eq}
+use Rattle.std.specs.Prelude.{ℕ, ◌≤◌, ◌-◌, ◌&&◌, nat_le, slice_index, List, [], ◌∷◌, Option, Some, None, codes, if◌then◌else◌}
+use Rattle.std.specs.Str.{bytes_eq, all_ascii_digits}
+use Rattle.std.specs.Str.Parse.{digits_value}
 use Rattle.lapdm_frame.specs.declared.Channel.{Channel}
 use Rattle.lapdm_frame.specs.declared.Channel.TheVariants.{Sdcch, Sacch}
 use Rattle.um_cli.specs.declared.words.Shape.{Shape}
-use Rattle.um_cli.specs.declared.words.Shape.TheVariants.{Code, Replay, Show, Margin, Link}
+use Rattle.um_cli.specs.declared.words.Shape.TheVariants.{Code, Replay, Show, Margin, Link, Make}
 
 -- what one word asks for
 abbrev pub word_shape : List ℕ → Option Shape
@@ -29,20 +30,39 @@ link_of (Some tsc) channel = Some (Link tsc channel)
 abbrev pub session_shape : List ℕ → List ℕ → Channel → Option Shape
 session_shape word tsc channel = if bytes_eq word (codes "link") then link_of (tsc_of tsc) channel else None
 
+-- how many messages a word names: 1 to 1000 in decimal, without a zero at its front
+abbrev pub count_of : List ℕ → Option ℕ
+count_of word =
+    let n = digits_value 10 word in
+    if nat_le 49 (slice_index word 0) && all_ascii_digits word && nat_le 1 n && nat_le n 1000 then Some n else None
+
+abbrev pub make_of : Option ℕ → Option ℕ → Option Shape
+make_of (Some n) (Some tsc) = Some (Make n tsc)
+make_of n tsc = None
+
+-- what three words ask for: `make N T` or `link T sacch`
+abbrev pub three_words_shape : List ℕ → List ℕ → List ℕ → Option Shape
+three_words_shape word second last =
+    if bytes_eq word (codes "make") then make_of (count_of second) (tsc_of last)
+    else if bytes_eq last (codes "sacch") then session_shape word second Sacch
+    else None
+
 -- what words ask for, if they are of any shape
 abbrev pub shape_of : List (List ℕ) → Option Shape
 shape_of [] = None
 shape_of (word ∷ []) = word_shape word
 shape_of (word ∷ tsc ∷ []) = session_shape word tsc Sdcch
-shape_of (word ∷ tsc ∷ last ∷ []) = if bytes_eq last (codes "sacch") then session_shape word tsc Sacch else None
-shape_of (word ∷ tsc ∷ last ∷ other ∷ words) = None
+shape_of (word ∷ second ∷ last ∷ []) = three_words_shape word second last
+shape_of (word ∷ second ∷ last ∷ other ∷ words) = None
 
--- a training sequence is 0 to 7
+-- a training sequence is 0 to 7, and there are 1 to 1000 messages
 abbrev pub Fits : Shape → Type 0
 Fits (Link tsc channel) = tsc ≤ 7
+Fits (Make n tsc) = (1 ≤ n) × (n ≤ 1000) × (tsc ≤ 7)
 Fits shape = Unit {0}
 
 -- words of no session
 abbrev pub IsSilent : Option Shape → Type 0
 IsSilent (Some (Link tsc channel)) = ⊥
+IsSilent (Some (Make n tsc)) = ⊥
 IsSilent shape = Unit {0}

@@ -3,6 +3,7 @@
 
 mod code;
 mod link;
+mod make;
 mod replay;
 mod show;
 mod top;

@@ -3,6 +3,7 @@ ghost use Rattle.std.specs.Prelude.{◌≡◌, ◌↔◌, ℕ, Some, None, []};
 ghost use Rattle.um_driver.specs.Table.{IsRun, HasCause};
 ghost use Rattle.um_cli.specs.Arrivals.{arrival_rules};
 ghost use Rattle.um_cli.specs.Headline.{headline_rules};
+ghost use Rattle.um_cli.specs.Make.{IsMakeRun};
 ghost use Rattle.um_cli.specs.Machines.{IsTable, IsDueEnd, OneOutput};
 ghost use Rattle.um_cli.specs.Restored.{Restores};
 ghost use Rattle.um_cli.specs.Shapes.{shape_of, Fits, IsSilent};
@@ -12,6 +13,7 @@ ghost use Rattle.lapdm_frame.specs.declared.Channel.{Channel as ChannelOf};
 
 use crate::code::Code;
 use crate::link::run_link;
+use crate::make::run_make;
 use crate::replay::Replay;
 use crate::show::Show;
 use crate::words::{Shape, Words};
@@ -38,7 +40,7 @@ pub fn run<S: Source, K: Sink, R: Radio>(
     // Want of memory comes before anything is read or written.
     ensures opening { result ≡ Status.NoMemory → (input.new ≡ input.old) × (output.new ≡ output.old) }
 
-    // What was read and written of a run of the command named, for each way to end.
+    // What was read and written of a run of the command named, where it reads lines, for each way to end.
     ensures table { (shape : Shape) → shape_of words.now ≡ Some shape → IsTable shape result
         (S.left input.old) (S.left input.new) (K.taken output.old) (K.taken output.new) }
 
@@ -72,6 +74,12 @@ pub fn run<S: Source, K: Sink, R: Radio>(
         (record { sent = R.sent radio.old; heard = R.heard radio.old })
         (record { sent = R.sent radio.new; heard = R.heard radio.new }) }
 
+    // `make` reads nothing. It writes what the generated session comes to, whose blocks the radio coded and received.
+    ensures unread { (n tsc : ℕ) → shape_of words.now ≡ Some (Shape.Make n tsc) → input.new ≡ input.old }
+    ensures made { (n tsc : ℕ) → shape_of words.now ≡ Some (Shape.Make n tsc) → IsMakeRun n tsc result (K.taken output.old) (K.taken output.new)
+        (record { sent = R.sent radio.old; heard = R.heard radio.old })
+        (record { sent = R.sent radio.new; heard = R.heard radio.new }) }
+
     // No other command uses the radio, nor does any without memory.
     ensures silent { IsSilent (shape_of words.now) → radio.new ≡ radio.old }
     ensures unused { result ≡ Status.NoMemory → radio.new ≡ radio.old }
@@ -83,10 +91,12 @@ pub fn run<S: Source, K: Sink, R: Radio>(
         Some(Shape::Show) => drive(alloc, &mut Show, input, output),
         Some(Shape::Margin) => drive(alloc, &mut Margin::new(), input, output),
         Some(Shape::Link(tsc, channel)) => run_link(alloc, tsc, channel, input, output, radio),
+        Some(Shape::Make(n, tsc)) => run_make(alloc, n, tsc, output, radio),
     }
 }
 
-/// Every list of octets, good or bad and of any length, has one output of each command and one way to end.
+/// Every list of octets, good or bad and of any length, has one output of each command that reads lines and one way to
+/// end; and each generated session has one summary.
 pub fn law_one_output()
     ensures { (shape : Shape) → Fits shape → OneOutput shape }
 {}

@@ -1,7 +1,7 @@
 //! The words that the program was called with.
-ghost use Rattle.std.specs.Prelude.{◌≡◌, ◌≤◌, ℕ, List, [], map, IfSome};
+ghost use Rattle.std.specs.Prelude.{◌≡◌, ◌≤◌, ℕ, List, [], map, slice_index, IfSome};
 ghost use Rattle.um_cli.specs.WordLists.{held_word, added_word};
-ghost use Rattle.um_cli.specs.Shapes.{word_shape, shape_of, session_shape, tsc_of, Fits};
+ghost use Rattle.um_cli.specs.Shapes.{word_shape, shape_of, session_shape, three_words_shape, make_of, count_of, tsc_of, Fits};
 
 /// What a list of words asks for.
 #[derive(Clone, Copy, Debug, PartialEq, Eq)]
@@ -16,6 +16,8 @@ pub enum Shape {
     Margin,
     /// Both ends over the air, with a training sequence and on a channel.
     Link(u8, Channel),
+    /// The generated session of so many messages, with a training sequence.
+    Make(u32, u8),
 }
 
 use arrayvec::{ArrayString, ArrayVec};
@@ -65,13 +67,11 @@ impl Words {
         match self.held.as_slice() {
             [word] => word_shape(word.as_str()),
             [word, tsc] => session_shape(word.as_str(), tsc.as_str(), Channel::Sdcch),
-            [word, tsc, last] => {
-                if last.as_str() == "sacch" {
-                    session_shape(word.as_str(), tsc.as_str(), Channel::Sacch)
-                } else {
-                    None
-                }
-            }
+            [word, second, last] => three_words_shape(
+                word.as_str(),
+                second.as_str(),
+                last.as_str(),
+            ),
             _ => None,
         }
     }
@@ -87,6 +87,52 @@ fn hold(word: &str) -> ArrayString<8>
             mark.push('?');
             mark
         }
+    }
+}
+
+/// What three words ask for.
+fn three_words_shape(word: &str, second: &str, last: &str) -> Option<Shape>
+    ensures shape { result ≡ three_words_shape word.now second.now last.now }
+    ensures fits { IfSome result (λ shape. Fits shape) }
+{
+    if word == "make" {
+        make_shape(second, last)
+    } else if last == "sacch" {
+        session_shape(word, second, Channel::Sacch)
+    } else {
+        None
+    }
+}
+
+/// What a number of messages and a training sequence ask for.
+fn make_shape(count: &str, tsc: &str) -> Option<Shape>
+    ensures shape { result ≡ make_of (count_of count.now) (tsc_of tsc.now) }
+    ensures fits { IfSome result (λ shape. Fits shape) }
+{
+    let count = count_of(count)?;
+    Some(Shape::Make(count, tsc_of(tsc)?))
+}
+
+/// How many messages a word names: 1 to 1000 in decimal, without a zero at its front.
+fn count_of(word: &str) -> Option<u32>
+    ensures value { result ≡ count_of word.now }
+    ensures fits { IfSome result (λ n. (1 ≤ n) × (n ≤ 1000)) }
+{
+    match word.as_bytes() {
+        [first, ..] if *first >= b'1' => number_of(word),
+        _ => None,
+    }
+}
+
+/// The number of a word that begins with no sign, if it is 1 to 1000.
+fn number_of(word: &str) -> Option<u32>
+    requires { 49 ≤ slice_index word.now 0 }
+    ensures value { result ≡ count_of word.now }
+    ensures fits { IfSome result (λ n. (1 ≤ n) × (n ≤ 1000)) }
+{
+    match word.parse::<u32>() {
+        Ok(n) if n >= 1 && n <= 1000 => Some(n),
+        _ => None,
     }
 }
 

@@ -1,4 +1,4 @@
--- What is written of a text, and what of it is gathered: only the bodies of this crate need this.
+-- What is written of a text, and what of it is gathered.
 use Rattle.std.specs.Prelude.{ℕ, ◌≡◌, ◌≤◌, List, ◌++◌, Option, Result, MatchResult}
 use Rattle.std.specs.Io.KnownBytes.{Appends}
 use Rattle.um_io.specs.Outside.{Rose}
@@ -8,7 +8,7 @@ use Rattle.um_driver.specs.Table.{TakesFront}
 abbrev pub TakesAll : {T E : Type 0} → Option (List ℕ) → Option (List ℕ) → Result T E → List ℕ → Type 0
 TakesAll taken taken' result piece = MatchResult result (λ _. Appends taken taken' piece) (λ _. TakesFront taken taken' piece)
 
--- a front of the text was taken, and the rest of it is gathered
+-- a front of the text was taken, and the rest of it is gathered: only the bodies of this crate need this
 abbrev pub Gathers : List ℕ → List ℕ → Option (List ℕ) → Option (List ℕ) → Type 0
 Gathers text gathered' taken taken' = (w : List ℕ) × (text ≡ w ++ gathered') × Appends taken taken' w
 

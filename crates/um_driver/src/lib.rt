@@ -12,6 +12,7 @@ pub use command::Command;
 pub use driver::drive;
 pub use laws::{output_exists, output_is_unique};
 pub use status::Status;
+pub use writing::put_all;
 
 #[cfg(test)]
 mod tests;

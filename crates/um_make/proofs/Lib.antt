@@ -1,3 +1,5 @@
+pub mod Laws
+mod OneSummary
 mod Worked
 pub mod KindEvents
 pub mod Courses

@@ -1,5 +1,5 @@
 -- A session from the start to its end, summed up.
-use Rattle.std.specs.Prelude.{◌≤◌, ℕ, List}
+use Rattle.std.specs.Prelude.{◌≡◌, ◌≤◌, ℕ, List}
 use Rattle.lapdm_frame.specs.declared.Channel.TheVariants.{Sdcch}
 use Rattle.um_air.specs.Air.{Event, Answer, AirState, start_on, AirRun}
 use Rattle.um_make.specs.declared.summary.Summary.{Summary}
@@ -12,6 +12,12 @@ pub record SumsUp (tsc : ℕ) (events : List Event) (s : Summary) : Type 0 where
   pub run : AirRun (start_on tsc Sdcch) events answers last
   pub summary : IsSummary events answers s
   pub only : (others : List Answer) (b : AirState) → AirRun (start_on tsc Sdcch) events others b → IsSummary events others s
+
+-- the events have a summary, and no other
+pub record HasOneSummary (tsc : ℕ) (events : List Event) : Type 0 where
+  pub summary : Summary
+  pub sums_up : SumsUp tsc events summary
+  pub one : (other : Summary) → SumsUp tsc events other → other ≡ summary
 
 -- at neither end are more messages acknowledged than the other handed up
 pub record IsDelivered (s : Summary) : Type 0 where

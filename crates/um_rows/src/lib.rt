@@ -10,6 +10,8 @@ mod failing;
 #[cfg(test)]
 mod link;
 #[cfg(test)]
+mod make;
+#[cfg(test)]
 mod margin;
 #[cfg(test)]
 mod outside;

@@ -1,9 +1,12 @@
+use Rattle.std.proofs.Common.{[]}
+use Rattle.um_cli.specs.Replay.{replay_rules}
+use Rattle.um_margin.specs.Margins.{margin_rules}
 use Rattle.um_cli.specs.Machines.{IsTable, IsDueEnd}
 use Rattle.um_cli.specs.Shapes.{shape_of}
 use Rattle.um_cli.specs.declared.words.Shape.TheVariants.{Code, Replay, Show, Margin}
 use Rattle.um_cli.proofs.CodeRules.{code_is_determined}
 use Rattle.um_cli.proofs.ShowRules.{show_is_determined}
-use Rattle.um_cli.proofs.Tops.{for_shape, table_of, restores, replay_run, replay_headline, replay_due, margin_run, margin_due}
+use Rattle.um_cli.proofs.Tops.{for_shape, any_run, restores, replay_run, replay_headline, replay_due, margin_run, margin_due}
 use Rattle.um_cli.proofs.top.run.Goals as goal
 
 pub returns-in-Some-Code-clause-due : goal.returns-in-Some-Code-clause-due
@@ -24,7 +27,7 @@ returns-in-Some-Replay-clause-table g c =
     (λ shape. IsTable shape run.result (g.S.Source.left c.args.input.now) (g.S.Source.left run.new.input) (g.K.Sink.taken c.args.output.now)
     (g.K.Sink.taken run.new.output))
     (shape_of c.args.words.now) Replay (cc (e, f))
-    (table_of Replay _ run.result _ _ _ _ (replay_run c.new.result _ run.result _ _ _ _ c.new.ensures run.ensures.table))
+    (any_run replay_rules [] _ run.result _ _ _ _ (replay_run c.new.result _ run.result _ _ _ _ c.new.ensures run.ensures.table))
 
 pub returns-in-Some-Replay-clause-due : goal.returns-in-Some-Replay-clause-due
 returns-in-Some-Replay-clause-due g c =
@@ -64,7 +67,7 @@ returns-in-Some-Margin-clause-table g c =
     (λ shape. IsTable shape run.result (g.S.Source.left c.args.input.now) (g.S.Source.left run.new.input) (g.K.Sink.taken c.args.output.now)
     (g.K.Sink.taken run.new.output))
     (shape_of c.args.words.now) Margin (cc (e, f))
-    (table_of Margin _ run.result _ _ _ _ (margin_run c.new-in-Some-Margin.result _ run.result _ _ _ _ c.new-in-Some-Margin.ensures run.ensures.table))
+    (any_run margin_rules [] _ run.result _ _ _ _ (margin_run c.new-in-Some-Margin.result _ run.result _ _ _ _ c.new-in-Some-Margin.ensures run.ensures.table))
 
 pub returns-in-Some-Margin-clause-due : goal.returns-in-Some-Margin-clause-due
 returns-in-Some-Margin-clause-due g c =

@@ -1,0 +1,6 @@
+use Rattle.um_make.specs.Generated.{generated}
+use Rattle.um_make.proofs.OneSummary.{one_summary}
+use Rattle.um_make.proofs.law_one_summary.Goals as goal
+
+pub returns : goal.returns
+returns c = λ n tsc within. one_summary tsc (generated n) within
