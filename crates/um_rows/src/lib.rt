@@ -1,4 +1,4 @@
-//! Tests that cross crates: whole runs over sources and sinks in memory, and sessions over the air.
+//! Tests that cross crates: whole runs over sources and sinks in memory.
 #![tactic(auto)]
 
 #[cfg(test)]
@@ -7,6 +7,8 @@ mod bits;
 mod code;
 #[cfg(test)]
 mod failing;
+#[cfg(test)]
+mod hostile;
 #[cfg(test)]
 mod link;
 #[cfg(test)]
@@ -18,6 +20,6 @@ mod outside;
 #[cfg(test)]
 mod replay;
 #[cfg(test)]
-mod show;
+mod script;
 #[cfg(test)]
-mod world;
+mod show;

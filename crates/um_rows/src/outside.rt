@@ -102,21 +102,25 @@ pub fn compare_in_pieces(
 
 /// What `code` writes for an input.
 pub fn coded(rt: &(impl Abort + AllocGlobal), input: &[u8]) -> Result<Vec<u8>, Fail> {
-    let mut words = Words::new();
-    words.add("code");
+    output_of(rt, &["code"], input)
+}
+
+/// What a run of the words that ends well writes for an input.
+pub fn output_of(
+    rt: &(impl Abort + AllocGlobal),
+    words: &[&str],
+    input: &[u8],
+) -> Result<Vec<u8>, Fail> {
+    let mut held = Words::new();
+    for word in words {
+        held.add(word);
+    }
     let mut source = PlainSource::new(input, 100);
     let mut sink = MemorySink::new(rt.alloc(), 10_000, 10_000, &[])
         .ok()
         .ok_or("no memory")?;
-    assert_eq!(rt;
-        run(
-            rt.alloc(),
-            &words,
-            &mut source,
-            &mut sink,
-            &mut PlainRadio::new()
-        ),
-        Status::Done
-    );
+    let mut radio = PlainRadio::new();
+    let status = run(rt.alloc(), &held, &mut source, &mut sink, &mut radio);
+    assert_eq!(rt; status, Status::Done);
     Ok(sink.octets().to_vec(rt.alloc())?)
 }

@@ -1,0 +1,77 @@
+//! Scripts of `link` and their answers, from rows in short: a line, and the lines of its answer between commas. Of a line that
+//! is `takes` or `sends` the octets stand up to the fill, and what arrived is as it was sent.
+use crate::outside::compare_in_pieces;
+use std::alloc::{AllocError, Global};
+use std::process::Abort;
+use um_cli::Status;
+
+/// A script, and the answers to its lines.
+#[derive(Drop)]
+pub struct Script {
+    input: String,
+    output: String,
+}
+
+impl Script {
+    pub fn new(alloc: Global) -> Script {
+        Script {
+            input: String::new(alloc),
+            output: String::new(alloc),
+        }
+    }
+
+    pub fn add(&mut self, line: &str, answer: &str) -> Result<(), AllocError> {
+        self.input.push_str(line)?;
+        self.input.push('\n')?;
+        for short in answer.split(", ") {
+            self.add_answer(short)?;
+        }
+        Ok(())
+    }
+
+    pub fn add_all(&mut self, rows: &[(&str, &str)]) -> Result<(), AllocError> {
+        for (line, answer) in rows {
+            self.add(line, answer)?;
+        }
+        Ok(())
+    }
+
+    pub fn add_times(&mut self, times: u32, rows: &[(&str, &str)]) -> Result<(), AllocError> {
+        for _ in 0..times {
+            self.add_all(rows)?;
+        }
+        Ok(())
+    }
+
+    /// The whole line of what stands for it in short.
+    fn add_answer(&mut self, short: &str) -> Result<(), AllocError> {
+        let mut words = short.split(' ').skip(1);
+        let verb = words.next().unwrap_or("");
+        let octets = words.next().unwrap_or("");
+        self.output.push_str(short)?;
+        if verb == "takes" || verb == "sends" {
+            for _ in 0..46_usize.saturating_sub(octets.len()) / 2 {
+                self.output.push_str("2b")?;
+            }
+        }
+        if verb == "takes" {
+            self.output.push_str(" tsc 0 train 0 metric 57912")?;
+        }
+        self.output.push('\n')
+    }
+
+    pub fn input(&self) -> &[u8] {
+        self.input.as_bytes()
+    }
+
+    /// A run of the script has these answers, however its octets come and go.
+    pub fn check(&self, rt: &(impl Abort + AllocGlobal), words: &[&str]) {
+        compare_in_pieces(
+            rt,
+            words,
+            self.input.as_bytes(),
+            Status::Done,
+            self.output.as_bytes(),
+        );
+    }
+}
