@@ -2,7 +2,7 @@ ghost use Rattle.std.specs.Prelude.{◌≡◌, ◌≤◌, take, drop};
 ghost use Rattle.bit_blocks.specs.Bits.{AllBits};
 ghost use Rattle.training_seq.specs.Sequences.{training_sequence};
 
-const SEQUENCES: [[u8; 26]; 8] = [
+static SEQUENCES: [[u8; 26]; 8] = [
     [
         0, 0, 1, 0, 0, 1, 0, 1, 1, 1, 0, 0, 0, 0, 1, 0, 0, 0, 1, 0, 0, 1, 0, 1, 1, 1,
     ],
