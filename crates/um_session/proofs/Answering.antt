@@ -1,5 +1,6 @@
 -- The command `link` answers each good line in one way.
-use Rattle.std.proofs.Common.{◌≡◌, ℕ, ◌≤◌, List, [], ◌∷◌, ◌++◌, Option, None, Some, refl, sym, ap, ◌∙◌, subst}
+use Rattle.std.proofs.Common.{◌≡◌, ℕ, ◌≤◌, List, [], ◌∷◌, ◌++◌, Option, None, Some, All, refl, sym, ap, ◌∙◌, subst}
+use Rattle.std.proofs.lemmas.List.Elements.{All-nil}
 use Rattle.lapdm_frame.specs.declared.Channel.{Channel}
 use Rattle.um_lines.specs.declared.fault.LineFault.{LineFault}
 use Rattle.um_lines.specs.Forms.{line_fault, anywhere, LineMeans}
@@ -9,11 +10,13 @@ use Rattle.um_lines.proofs.FormLaws.{one_meaning, one_made}
 use Rattle.um_script.specs.ScriptLines.{ScriptMeans, event_said}
 use Rattle.um_script.specs.StepLines.{answer_text}
 use Rattle.um_air.specs.Air.{Event, Answer, AirState, AirStep, AirRun, start_on}
+use Rattle.um_air.specs.Sessions.{IsOctetEvent}
 use Rattle.um_air.proofs.Laws.{longer_run, one_answer, some_answer}
 use Rattle.um_driver.specs.Rules.{IsDetermined, IsTotal, Runs}
 use Rattle.um_driver.specs.Laws.{HasOneOutput}
 use Rattle.um_driver.proofs.OutputExists.{has_one_output}
 use Rattle.um_driver.proofs.RunLemmas.{Runs-keep}
+use Rattle.um_session.proofs.OctetLines.{SaysOctets, says_octets, octets_more}
 use Rattle.um_session.specs.Sessions.{Session, idle, with_step, Happened, AnswersMeaning, AnswersScript, link_rules}
 
 meanings : (line : List ℕ) → HasOneMeaningUnless (line_fault link_forms anywhere line) (ScriptMeans line)
@@ -63,11 +66,22 @@ module _ (tsc : ℕ) (channel : Channel) where
   pub session_of : (lines answers : List (List ℕ)) (b : Session) → Runs link_rules (idle tsc channel) lines answers b → IsSessionOn tsc channel b
   session_of lines answers b runs = Runs-keep link_rules (IsSessionOn tsc channel) step_keeps (idle tsc channel) b lines answers refl runs
 
+  -- and all that its events bring are octets
+  octets_keep : (s b : Session) (line y : List ℕ) → All IsOctetEvent s.events → AnswersScript s line y b → All IsOctetEvent b.events
+  octets_keep s b line y h (None, means, (_, same)) = subst (λ (z : Session). All IsOctetEvent z.events) (sym same) h
+  octets_keep s b line y h (Some event, means, w) =
+      subst (λ (z : Session). All IsOctetEvent z.events) (sym w.after_is)
+      (octets_more s.events event h (says_octets line (Some event) means))
+
+  pub octets_of : (lines answers : List (List ℕ)) (b : Session) → Runs link_rules (idle tsc channel) lines answers b → All IsOctetEvent b.events
+  octets_of lines answers b runs =
+      Runs-keep link_rules (λ (z : Session). All IsOctetEvent z.events) octets_keep (idle tsc channel) b lines answers (All-nil IsOctetEvent) runs
+
   module _ (within : tsc ≤ 7) where
-    some_meaning : (s : Session) (m : Option Event) → IsSessionOn tsc channel s → (y : List ℕ) × (b : Session) × AnswersMeaning s m y b
-    some_meaning s None run = ([], s, (refl, refl))
-    some_meaning s (Some event) run =
-        let next = some_answer tsc channel s.events s.answers s.air within run event in
+    some_meaning : (s : Session) (m : Option Event) → IsSessionOn tsc channel s → All IsOctetEvent s.events → SaysOctets m → (y : List ℕ) × (b : Session) × AnswersMeaning s m y b
+    some_meaning s None run octets said = ([], s, (refl, refl))
+    some_meaning s (Some event) run octets said =
+        let next = some_answer tsc channel s.events s.answers s.air within octets run event said in
         let air : AirState = next.0 in
         let answer : Answer = next.1 in
         (answer_text answer, with_step s event answer air, record { answer = answer; air = air; step = next.2; text_is = refl; after_is = refl })
@@ -76,7 +90,8 @@ module _ (tsc : ℕ) (channel : Channel) where
     link_is_total lines answers b runs line plain good =
         let meant : HasOneMeaningUnless None (ScriptMeans line) =
         subst (λ fault. HasOneMeaningUnless fault (ScriptMeans line)) good.no_fault (meanings line) in
-        let answered = some_meaning b meant.0 (session_of lines answers b runs) in
+        let answered = some_meaning b meant.0 (session_of lines answers b runs) (octets_of lines answers b runs) (says_octets line meant.0 meant.1)
+        in
         (answered.0, answered.1, (meant.0, meant.1, answered.2))
 
     pub link_has_one_output : HasOneOutput link_rules (idle tsc channel)

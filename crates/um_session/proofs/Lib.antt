@@ -3,3 +3,4 @@ mod Answering
 mod Tallying
 mod Stepping
 mod Running
+mod OctetLines
