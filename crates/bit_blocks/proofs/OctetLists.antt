@@ -1,9 +1,9 @@
 -- The bits of octets, and the octets of bits.
-use Rattle.std.proofs.Common.{◌≡◌, ℕ, zero, suc, ◌+◌, ◌-◌, ◌*◌, ◌/◌, ◌%◌, ◌<◌, ◌≤◌, List, [], ◌∷◌, ◌++◌, map, length, get_or, take, drop, refl, ap, ap₂, sym, ◌∙◌, arith}
+use Rattle.std.proofs.Common.{◌≡◌, ℕ, zero, suc, ◌+◌, ◌-◌, ◌*◌, ◌/◌, ◌%◌, ◌<◌, ◌≤◌, List, [], ◌∷◌, ◌++◌, map, length, get_or, take, drop, refl, ap, ap₂, subst, sym, ◌∙◌, arith}
 use Rattle.std.proofs.Math.ListN.{set}
 use Rattle.std.proofs.Math.Seq.{take-add}
 use Rattle.std.proofs.lemmas.List.{take_more_set}
-use Rattle.std.proofs.lemmas.List.{length-append, length-take}
+use Rattle.std.proofs.lemmas.List.{append-nil, length-append, length-take}
 use Rattle.std.proofs.lemmas.List.Elements.{All-append, All-cons, All-drop, All-head, All-nil, All-tail}
 use Rattle.bit_blocks.specs.Bits.{IsBit, AllBits}
 use Rattle.bit_blocks.specs.Octets.{IsOctet, AllOctets, octet_bits, bits_of, octets_of}
@@ -55,6 +55,29 @@ length-octets_of zero (a ∷ b ∷ c ∷ d ∷ f ∷ g ∷ h ∷ i ∷ bits) e =
 length-octets_of (suc n) (a ∷ b ∷ c ∷ d ∷ f ∷ g ∷ h ∷ i ∷ bits) e =
     let fewer : length bits ≡ 8 * n = omega arith in
     ap suc (length-octets_of n bits fewer)
+
+-- what bits make are octets
+pub AllOctets-octets_of : (bits : List ℕ) → AllBits bits → AllOctets (octets_of bits)
+AllOctets-octets_of [] all = All-nil IsOctet
+AllOctets-octets_of (a ∷ []) all = All-nil IsOctet
+AllOctets-octets_of (a ∷ b ∷ []) all = All-nil IsOctet
+AllOctets-octets_of (a ∷ b ∷ c ∷ []) all = All-nil IsOctet
+AllOctets-octets_of (a ∷ b ∷ c ∷ d ∷ []) all = All-nil IsOctet
+AllOctets-octets_of (a ∷ b ∷ c ∷ d ∷ e ∷ []) all = All-nil IsOctet
+AllOctets-octets_of (a ∷ b ∷ c ∷ d ∷ e ∷ f ∷ []) all = All-nil IsOctet
+AllOctets-octets_of (a ∷ b ∷ c ∷ d ∷ e ∷ f ∷ g ∷ []) all = All-nil IsOctet
+AllOctets-octets_of (a ∷ b ∷ c ∷ d ∷ e ∷ f ∷ g ∷ h ∷ bits) all =
+    let la : a ≤ 1 = all 0 0 (omega arith) in
+    let lb : b ≤ 1 = all 1 0 (omega arith) in
+    let lc : c ≤ 1 = all 2 0 (omega arith) in
+    let ld : d ≤ 1 = all 3 0 (omega arith) in
+    let le : e ≤ 1 = all 4 0 (omega arith) in
+    let lf : f ≤ 1 = all 5 0 (omega arith) in
+    let lg : g ≤ 1 = all 6 0 (omega arith) in
+    let lh : h ≤ 1 = all 7 0 (omega arith) in
+    All-cons IsOctet (a + 2 * b + 4 * c + 8 * d + 16 * e + 32 * f + 64 * g + 128 * h) (octets_of bits)
+    (omega (arith, la, lb, lc, ld, le, lf, lg, lh))
+    (AllOctets-octets_of bits (All-drop IsBit 8 (a ∷ b ∷ c ∷ d ∷ e ∷ f ∷ g ∷ h ∷ bits) all))
 
 eight : (a b c d e f g h a' b' c' d' e' f' g' h' : ℕ) (xs ys : List ℕ) → a ≡ a' → b ≡ b' → c ≡ c' → d ≡ d' → e ≡ e' → f ≡ f' → g ≡ g' → h ≡ h' → xs ≡ ys →
     a ∷ b ∷ c ∷ d ∷ e ∷ f ∷ g ∷ h ∷ xs ≡ a' ∷ b' ∷ c' ∷ d' ∷ e' ∷ f' ∷ g' ∷ h' ∷ ys
@@ -111,6 +134,15 @@ octets_of-eight (a ∷ b ∷ c ∷ d ∷ f ∷ g ∷ []) e = absurd (omega arith
 octets_of-eight (a ∷ b ∷ c ∷ d ∷ f ∷ g ∷ h ∷ []) e = absurd (omega arith)
 octets_of-eight (a ∷ b ∷ c ∷ d ∷ f ∷ g ∷ h ∷ i ∷ []) e = refl
 octets_of-eight (a ∷ b ∷ c ∷ d ∷ f ∷ g ∷ h ∷ i ∷ j ∷ bits) e = absurd (omega arith)
+
+-- the octet of eight bits, whose bits they are
+pub octet_of_eight : (bits : List ℕ) → length bits ≡ 8 → AllBits bits → (n : ℕ) × (n < 256) × (octet_bits n ≡ bits) × (octets_of bits ≡ n ∷ [])
+octet_of_eight bits e all =
+    let n : ℕ = get_or bits 0 0 + 2 * get_or bits 1 0 + 4 * get_or bits 2 0 + 8 * get_or bits 3 0 + 16 * get_or bits 4 0 + 32 * get_or bits 5 0 + 64 * get_or bits 6 0 + 128 * get_or bits 7 0 in
+    let is : octets_of bits ≡ n ∷ [] = octets_of-eight bits e in
+    let small : n < 256 = subst AllOctets is (AllOctets-octets_of bits all) 0 0 (omega arith) in
+    let same : octet_bits n ++ [] ≡ bits = ap bits_of (sym is) ∙ bits_of-octets_of bits 1 e all in
+    (n, small, sym (append-nil (octet_bits n)) ∙ same, is)
 
 -- the next octet is written, that of the next eight bits
 pub octets_of_more : (octets bits : List ℕ) (m octet n : ℕ) → m < length octets → length bits ≡ 8 * length octets → n ≡ 8 →

@@ -33,32 +33,24 @@ pub fn law_octets()
     ensures bits { (bits : List ℕ) (n : ℕ) → length bits ≡ 8 * n → AllBits bits → bits_of (octets_of bits) ≡ bits }
 {}
 
+#[inline]
 fn bits_of_octet(octet: u8) -> [u8; 8]
     ensures { result ≡ octet_bits octet }
 {
-    [
-        octet & 1,
-        (octet >> 1) & 1,
-        (octet >> 2) & 1,
-        (octet >> 3) & 1,
-        (octet >> 4) & 1,
-        (octet >> 5) & 1,
-        (octet >> 6) & 1,
-        (octet >> 7) & 1,
-    ]
+    // Octet i keeps bit i, and so is not 0 where its sum with 127 has the highest bit.
+    let kept = u64::from(octet).wrapping_mul(0x0101_0101_0101_0101) & 0x8040_2010_0804_0201;
+    ((kept.wrapping_add(0x7f7f_7f7f_7f7f_7f7f) >> 7) & 0x0101_0101_0101_0101).to_le_bytes()
 }
 
+#[inline]
 fn octet_of_bits(bits: &[u8]) -> u8
     requires count { length bits.now ≡ 8 }
     requires bits { AllBits bits.now }
     ensures { octets_of bits.now ≡ result ∷ [] }
 {
-    bits[0]
-        + 2 * bits[1]
-        + 4 * bits[2]
-        + 8 * bits[3]
-        + 16 * bits[4]
-        + 32 * bits[5]
-        + 64 * bits[6]
-        + 128 * bits[7]
+    let apart = u64::from_le_bytes([
+        bits[0], bits[1], bits[2], bits[3], bits[4], bits[5], bits[6], bits[7],
+    ]);
+    // The factor moves bit i of octet i to bit 56 + i, and nothing else to the highest octet.
+    (apart.wrapping_mul(0x0102_0408_1020_4080) >> 56) as u8
 }

@@ -1,5 +1,5 @@
 -- Where messages are octets, so is what every frame on its way carries.
-use Rattle.std.proofs.Common.{◌≡◌, sym, ap, subst, arith, ℕ, zero, suc, ◌+◌, ◌<◌, Bool, true, false, not, if◌then◌else◌, nat_lt, List, [], ◌∷◌, ◌++◌, length, drop, get_or, Some, None, All, inl, inr}
+use Rattle.std.proofs.Common.{◌≡◌, sym, ap, subst, arith, ℕ, zero, suc, ◌+◌, ◌<◌, Bool, true, false, not, if◌then◌else◌, nat_lt, List, [], ◌∷◌, ◌++◌, length, drop, get_or, None, All, inl, inr}
 use Rattle.std.specs.Prelude.{◌⊎◌}
 use Rattle.std.specs.List.{flat_map}
 use Rattle.std.proofs.lemmas.Bool.{false≢true}
@@ -20,8 +20,7 @@ use Rattle.lapdm_window.specs.Tables.{after_frame, closes}
 use Rattle.lapdm_window.specs.Calls.{Call, Opens, OpensBare, Sends, SendsUnit, Closes, Ticks, Idles, refusal_of, put_refusals, with_taken, repeated, after_call}
 use Rattle.lapdm_window.proofs.Moves.{IsEnd-taken}
 use Rattle.lapdm_link.specs.Events.{Event, other, rival_frame}
-use Rattle.lapdm_link.specs.Worlds.{World, start_on, refusal, answer, after, IsHarmlessBy}
-use Rattle.lapdm_link.specs.Ways.{IsAsSent}
+use Rattle.lapdm_link.specs.Worlds.{World, start_on, refusal, answer, after}
 use Rattle.lapdm_link.proofs.Views.{end_of, way, rest, without_first, with_frames}
 use Rattle.lapdm_link.specs.Claims.{Line, Asked, Rivals, Told, answer_lines}
 use Rattle.lapdm_link.proofs.Reports.{step-frame}
@@ -29,10 +28,8 @@ use Rattle.lapdm_link.proofs.Arriving.{is_message, not_false, passes}
 use Rattle.lapdm_link.proofs.Telling.{AllFrames, IsNumbered, SaysWell, InOpen, in-sends_next, waits_within}
 use Rattle.lapdm_link.proofs.Taking.{Answers, OpensBy, Remains, IsOver, IsOpenedBy, IsTaken, taken-frame}
 use Rattle.lapdm_link.proofs.Views.{each_end, end_with_way, end_does, end_does-else, way_does, way_does-other, acted}
-use Rattle.lapdm_link.proofs.ByKind.{by_kind}
+use Rattle.lapdm_link.proofs.ByKind.{KnowsBy, by_kind}
 use Rattle.lapdm_link.proofs.Order.{AllReported}
-use Rattle.lapdm_link.proofs.Delivered.{as_sent}
-use Rattle.lapdm_link.proofs.Delivery.{IsFirst, is_first}
 use Rattle.lapdm_link.proofs.Fitting.{each_way}
 
 abbrev pub AreOctets : List ℕ → Type 0
@@ -222,25 +219,22 @@ rival-octets w h info g = record {
       (say-append w.ways.up (rival_frame info ∷ []) (h.ways Mobile) (g, tt)) (h.ways Network);
 }
 
-first-octets : (f : Frame) (fs : List Frame) → IsFirst f fs → AllSay fs → AreOctets (information f.content)
-first-octets f fs i h = let g : AllSay (f ∷ i.others) = subst AllSay i.first h in g.0
-
-pub octets-step : (w : World) (ls : List Line) (event : Event) → AllReported w ls → IsHarmlessBy (refusal event w) event w → WorldOctets w →
+pub octets-step : (w : World) (ls : List Line) (event : Event) → AllReported w ls →
+    KnowsBy (refusal event w) (λ sender f. AreOctets (information f.content)) event → WorldOctets w →
     LineOctets (answer_lines event (answer event w)) → WorldOctets (after event w)
-octets-step w ls event reported harmless h =
-    by_kind w (λ z new. LineOctets new → WorldOctets z) (λ sender f. IsAsSent (Some f) (way sender w)) (λ l. h)
+octets-step w ls event reported known h =
+    by_kind w (λ z new. LineOctets new → WorldOctets z) (λ sender f. AreOctets (information f.content)) (λ l. h)
     (λ r s call placed ok l. acted-octets r s (after_call call (end_of r s w)) w h
     (call-octets call (end_of r s w) l.0 ok (reported r s).end (h.ends r s)))
-    (λ r s f known l.
+    (λ r s f octets l.
     (let w' : World = without_first (other r) w in
     let h' : WorldOctets w' = lost-octets w h (other r) in
     let e : IsEnd (end_of r s w') = subst IsEnd (sym (end_with_way r s (other r) (rest (way (other r) w)) w)) (reported r s).end in
     acted-octets r s (after_frame f (end_of r s w')) w' h'
-    (frame-octets f (end_of r s w') (first-octets f (way (other r) w) (is_first f (way (other r) w) known) (h.ways (other r))) e
-    (h'.ends r s))))
+    (frame-octets f (end_of r s w') octets e (h'.ends r s))))
     (λ sender l. lost-octets w h sender)
     (λ info ok l. rival-octets w h info l.0)
-    event (as_sent (refusal event w) event w harmless)
+    event known
 
 pub start-octets : (channel : Channel) → WorldOctets (start_on channel)
 start-octets channel = record { ends = start_end; ways = start_way }

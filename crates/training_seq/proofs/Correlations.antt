@@ -4,8 +4,8 @@ use Rattle.std.proofs.lemmas.List.{drop_more}
 use Rattle.std.proofs.lemmas.Int.{ints}
 use Rattle.std.proofs.lemmas.List.Elements.{All-head, All-tail}
 use Rattle.bit_blocks.specs.Bits.{IsBit, AllBits}
-use Rattle.bit_blocks.specs.SoftValues.{agreement, likelihood}
-use Rattle.training_seq.specs.Sums.{add_values}
+use Rattle.bit_blocks.specs.SoftValues.{agreement, likelihood, wrong_places}
+use Rattle.training_seq.specs.Sums.{add_values, sign_of, wrong_at}
 
 pub correlation_more : (soft : List ℤ) (bits : List ℕ) (i : ℕ) (total all : ℤ) → i < length soft → i < length bits →
     total +ℤ likelihood (drop i soft) (drop i bits) ≡ all →
@@ -16,6 +16,11 @@ correlation_more soft bits i total all hs hb before =
     let next : total +ℤ (agreement value bit +ℤ likelihood (drop (i + 1) soft) (drop (i + 1) bits)) ≡ all =
     rw (drop_more soft i (pos 0), drop_more bits i 0) at before in
     omega (arith, ints)
+
+-- the wrong places from one place on
+pub wrong_more : (soft : List ℤ) (bits : List ℕ) (i : ℕ) → i < length soft → i < length bits →
+    wrong_places (drop i soft) (drop i bits) ≡ wrong_at soft i (sign_of (get_or bits i 0)) + wrong_places (drop (i + 1) soft) (drop (i + 1) bits)
+wrong_more soft bits i hs hb = rw (drop_more soft i (pos 0), drop_more bits i 0) refl
 
 agreement-add : (x y : ℤ) (bit : ℕ) → bit ≤ 1 → agreement (x +ℤ y) bit ≡ agreement x bit +ℤ agreement y bit
 agreement-add x y zero h = omega (arith, ints)

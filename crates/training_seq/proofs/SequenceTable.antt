@@ -1,8 +1,11 @@
 -- What holds of each of the eight training sequences, found by computing.
-use Rattle.std.proofs.Common.{◌≡◌, ℕ, ◌<◌, ◌≤◌, Bool, eqb, leb, List, [], length, refl, arith, rules, tests}
+use Rattle.std.proofs.Common.{◌≡◌, ℕ, zero, suc, ◌<◌, ◌≤◌, Bool, eqb, leb, pos, List, [], ◌∷◌, length, get_or, refl, sym, subst, arith, rules, tests}
+use Rattle.std.proofs.lemmas.Int.{ints}
 use Rattle.std.specs.List.{list_all}
 use Rattle.std.proofs.lemmas.List.Sums.{AllPass-from_list_all}
 use Rattle.bit_blocks.specs.Bits.{AllBits}
+use Rattle.training_seq.specs.Ranges.{IsWithin}
+use Rattle.training_seq.specs.Sums.{sign_of, signs_of}
 use Rattle.training_seq.specs.Sequences.{training_sequence, training_sequences}
 
 abbrev are_bits : List ℕ → Bool
@@ -20,3 +23,20 @@ AllBits-training_sequence tsc h k d lt =
     let found = AllPass-from_list_all are_bits training_sequences refl tsc [] within in
     let bit = AllPass-from_list_all (λ bit. leb bit 1) (training_sequence tsc) found k d lt in
     search (rules, tests)
+
+-- a sign is 1 or -1
+sign-small : (bit : ℕ) → bit ≤ 1 → IsWithin 1 (sign_of bit)
+sign-small zero h = (omega (arith, ints), omega (arith, ints))
+sign-small (suc zero) h = (omega (arith, ints), omega (arith, ints))
+sign-small (suc (suc bit)) h = absurd (omega arith)
+
+pub sign_at : (bits : List ℕ) (i : ℕ) → i < length bits → get_or (signs_of bits) i (pos 0) ≡ sign_of (get_or bits i 0)
+sign_at [] i h = absurd (omega (arith, h))
+sign_at (bit ∷ bits) zero h = refl
+sign_at (bit ∷ bits) (suc i) h = sign_at bits i (omega (arith, h))
+
+pub small_sign : (tsc i : ℕ) → tsc ≤ 7 → i < 26 → IsWithin 1 (get_or (signs_of (training_sequence tsc)) i (pos 0))
+small_sign tsc i h lt =
+    let bits = training_sequence tsc in
+    let there : i < length bits = omega (arith, lt, length-training_sequence tsc h) in
+    subst (IsWithin 1) (sym (sign_at bits i there)) (sign-small (get_or bits i 0) (AllBits-training_sequence tsc h i 0 there))

@@ -1,13 +1,12 @@
-ghost use Rattle.std.specs.Prelude.{◌≡◌, ◌<◌, ◌≤◌, ◌+ℤ◌, length, All};
+ghost use Rattle.std.specs.Prelude.{◌≡◌, ◌+◌, ◌<◌, ◌≤◌, ◌+ℤ◌, length, All};
 ghost use Rattle.training_seq.specs.Choice.{IsFirstGreatest, IsBestSequence, total_wrong_places};
-ghost use Rattle.bit_blocks.specs.SoftValues.{likelihood, wrong_places};
+ghost use Rattle.bit_blocks.specs.SoftValues.{likelihood};
 ghost use Rattle.training_seq.specs.Ranges.{IsWithin};
 ghost use Rattle.training_seq.specs.Sequences.{training_sequence};
-ghost use Rattle.training_seq.specs.Sums.{add_values, value_at};
+ghost use Rattle.training_seq.specs.Sums.{add_values, value_at, wrong_at};
 
-use crate::correlation::correlate_sums;
-use crate::sequences::sequence;
-use bit_blocks::wrong_places;
+use crate::correlation::{correlate_sums, turned};
+use crate::sequences::signs;
 
 /// The training sequence that the training parts of four bursts agree with most, and how many of their 104 places
 /// are wrong for it.
@@ -20,11 +19,7 @@ pub fn best(a: &[i8], b: &[i8], c: &[i8], d: &[i8]) -> (u8, u32)
     ensures wrong { result.1 ≡ total_wrong_places a.now b.now c.now d.now result.0 }
 {
     let tsc = strongest(&sums_of(a, b, c, d));
-    let wrong = count_wrong(a, tsc)
-        + count_wrong(b, tsc)
-        + count_wrong(c, tsc)
-        + count_wrong(d, tsc);
-    (tsc, wrong)
+    (tsc, count_wrong(a, b, c, d, tsc))
 }
 
 // One list of sums in place of four parts, so that each sequence is weighed once.
@@ -70,11 +65,40 @@ fn strongest(sums: &[i16; 26]) -> u8
     best
 }
 
-fn count_wrong(soft: &[i8], tsc: u8) -> u32
-    requires count { length soft.now ≡ 26 }
+fn count_wrong(a: &[i8], b: &[i8], c: &[i8], d: &[i8], tsc: u8) -> u32
+    requires a { length a.now ≡ 26 }
+    requires b { length b.now ≡ 26 }
+    requires c { length c.now ≡ 26 }
+    requires d { length d.now ≡ 26 }
     requires known { tsc ≤ 7 }
-    ensures value { result ≡ wrong_places soft.now (training_sequence tsc) }
-    ensures within { result ≤ 26 }
+    ensures { result ≡ total_wrong_places a.now b.now c.now d.now tsc }
 {
-    wrong_places(soft, &sequence(tsc))
+    let signs = signs(tsc);
+    let mut wrong = 0;
+    for (i, sign) in signs.iter().enumerate() {
+        wrong += wrong_in_four(a, b, c, d, i, *sign);
+    }
+    u32::from(wrong)
+}
+
+fn wrong_in_four(a: &[i8], b: &[i8], c: &[i8], d: &[i8], i: usize, sign: i16) -> u16
+    requires a { i < length a.now }
+    requires b { i < length b.now }
+    requires c { i < length c.now }
+    requires d { i < length d.now }
+    requires sign { IsWithin 1 sign }
+    ensures value { result ≡ wrong_at a.now i sign + wrong_at b.now i sign + wrong_at c.now i sign + wrong_at d.now i sign }
+    ensures within { result ≤ 4 }
+{
+    wrong_at(a, i, sign) + wrong_at(b, i, sign) + wrong_at(c, i, sign) + wrong_at(d, i, sign)
+}
+
+// Sixteen bits, as wide as the signs, so that eight places fit a vector.
+fn wrong_at(values: &[i8], i: usize, sign: i16) -> u16
+    requires within { i < length values.now }
+    requires sign { IsWithin 1 sign }
+    ensures value { result ≡ wrong_at values.now i sign }
+    ensures bit { result ≤ 1 }
+{
+    u16::from(turned(i16::from(values[i]), sign) <= 0)
 }

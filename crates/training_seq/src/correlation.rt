@@ -1,9 +1,9 @@
-ghost use Rattle.std.specs.Prelude.{◌≡◌, ◌≤◌, length, All, neg_ℤ, pos, ◌≤ℤ◌};
-ghost use Rattle.bit_blocks.specs.SoftValues.{agreement, likelihood};
+ghost use Rattle.std.specs.Prelude.{◌≡◌, ◌≤◌, length, All, neg_ℤ, pos, ◌*ℤ◌, ◌≤ℤ◌};
+ghost use Rattle.bit_blocks.specs.SoftValues.{likelihood};
 ghost use Rattle.training_seq.specs.Ranges.{IsWithin};
 ghost use Rattle.training_seq.specs.Sequences.{training_sequence};
 
-use crate::sequences::sequence;
+use crate::sequences::signs;
 
 /// The sum of the 26 soft values of a training part, each with its sign turned where the sequence has a 1.
 pub fn correlate(soft: &[i8], tsc: u8) -> i32
@@ -31,20 +31,20 @@ pub(crate) fn correlate_sums(sums: &[i16; 26], tsc: u8) -> i16
     requires known { tsc ≤ 7 }
     ensures { result ≡ likelihood sums.now (training_sequence tsc) }
 {
-    let bits = sequence(tsc);
+    let signs = signs(tsc);
     let mut total = 0;
     for (i, value) in sums.iter().enumerate() {
-        total += turned(*value, bits[i]);
+        total += turned(*value, signs[i]);
     }
     total
 }
 
-// A value as it is for a 0, with its sign turned for a 1.
-fn turned(value: i16, bit: u8) -> i16
+/// A value as it is for the sign 1, turned for -1.
+pub(crate) fn turned(value: i16, sign: i16) -> i16
     requires small { IsWithin 512 value }
-    requires bit { bit ≤ 1 }
-    ensures agrees { result ≡ agreement value bit }
+    requires sign { IsWithin 1 sign }
+    ensures value { result ≡ value *ℤ sign }
     ensures within { IsWithin 512 result }
 {
-    if bit == 0 { value } else { -value }
+    value * sign
 }

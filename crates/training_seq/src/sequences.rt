@@ -1,8 +1,9 @@
 ghost use Rattle.std.specs.Prelude.{◌≡◌, ◌≤◌, take, drop};
 ghost use Rattle.bit_blocks.specs.Bits.{AllBits};
 ghost use Rattle.training_seq.specs.Sequences.{training_sequence};
+ghost use Rattle.training_seq.specs.Sums.{signs_of};
 
-const SEQUENCES: [[u8; 26]; 8] = [
+static SEQUENCES: [[u8; 26]; 8] = [
     [
         0, 0, 1, 0, 0, 1, 0, 1, 1, 1, 0, 0, 0, 0, 1, 0, 0, 0, 1, 0, 0, 1, 0, 1, 1, 1,
     ],
@@ -29,6 +30,37 @@ const SEQUENCES: [[u8; 26]; 8] = [
     ],
 ];
 
+// The signs of the same bits: 1 for a 0, and -1 for a 1.
+static SIGNS: [[i16; 26]; 8] = [
+    [
+        1, 1, -1, 1, 1, -1, 1, -1, -1, -1, 1, 1, 1, 1, -1, 1, 1, 1, -1, 1, 1, -1, 1, -1, -1, -1,
+    ],
+    [
+        1, 1, -1, 1, -1, -1, 1, -1, -1, -1, 1, -1, -1, -1, -1, 1, 1, 1, -1, 1, -1, -1, 1, -1, -1,
+        -1,
+    ],
+    [
+        1, -1, 1, 1, 1, 1, -1, -1, -1, 1, -1, -1, -1, 1, -1, 1, 1, -1, 1, 1, 1, 1, -1, -1, -1, 1,
+    ],
+    [
+        1, -1, 1, 1, 1, -1, -1, -1, -1, 1, -1, -1, 1, -1, 1, 1, 1, -1, 1, 1, 1, -1, -1, -1, -1, 1,
+    ],
+    [
+        1, 1, 1, -1, -1, 1, -1, 1, -1, -1, -1, 1, 1, -1, 1, 1, 1, 1, 1, -1, -1, 1, -1, 1, -1, -1,
+    ],
+    [
+        1, -1, 1, 1, -1, -1, -1, 1, -1, 1, -1, -1, 1, 1, 1, 1, 1, -1, 1, 1, -1, -1, -1, 1, -1, 1,
+    ],
+    [
+        -1, 1, -1, 1, 1, -1, -1, -1, -1, -1, 1, -1, -1, 1, 1, 1, -1, 1, -1, 1, 1, -1, -1, -1, -1,
+        -1,
+    ],
+    [
+        -1, -1, -1, 1, -1, -1, -1, -1, 1, 1, 1, -1, 1, 1, -1, 1, -1, -1, -1, 1, -1, -1, -1, -1, 1,
+        1,
+    ],
+];
+
 /// The training sequence of a normal burst (GSM 05.02 section 5.2.3).
 pub fn sequence(tsc: u8) -> [u8; 26]
     requires { tsc ≤ 7 }
@@ -37,4 +69,12 @@ pub fn sequence(tsc: u8) -> [u8; 26]
     ensures repeats { take 10 result ≡ drop 16 result }
 {
     SEQUENCES[tsc as usize]
+}
+
+/// The signs of a training sequence.
+pub(crate) fn signs(tsc: u8) -> &'static [i16; 26]
+    requires { tsc ≤ 7 }
+    ensures { result.now ≡ signs_of (training_sequence tsc) }
+{
+    &SIGNS[tsc as usize]
 }

@@ -1,5 +1,5 @@
 -- A block of which at most three bits were turned over is accepted with the octets that were sent.
-use Rattle.std.proofs.Common.{◌≡◌, ◌≢◌, refl, sym, ◌∙◌, ap, arith, ℕ, zero, suc, ◌+◌, ◌-◌, ◌*◌, ◌/◌, ◌%◌, ◌<◌, ◌≤◌, Bool, true, false, ◌||◌, ◌==◌, if◌then◌else◌, nat_eq, ℤ, pos, negsuc, List, [], ◌∷◌, ◌++◌, map, length, get_or, set, take, drop, All, Some, inl, inr}
+use Rattle.std.proofs.Common.{◌≡◌, ◌≢◌, refl, sym, ◌∙◌, ap, arith, ℕ, ◌+◌, ◌-◌, ◌*◌, ◌/◌, ◌%◌, ◌<◌, ◌≤◌, Bool, true, false, ◌||◌, ◌==◌, if◌then◌else◌, nat_eq, ℤ, pos, negsuc, List, [], ◌∷◌, ◌++◌, map, length, get_or, set, take, drop, All, Some, inl, inr}
 use Rattle.std.specs.Prelude.{unsigned_abs}
 use Rattle.std.proofs.lemmas.Bool.{false≢true, cases_lt}
 use Rattle.std.proofs.lemmas.Bool.Decides.{nat_tests}
@@ -92,7 +92,7 @@ module _ (block : Block) (soft : List ℤ) (gathered : IsInterleaved soft (map c
 
 -- ---- the block
 
-module _ (octets : List ℕ) (tsc : ℕ) (block : Block) (places : List ℕ) (r : Received) (small : All (λ octet. octet < 256) octets) (s : IsSentBlock octets tsc block) (few : length places ≤ 3) (h : IsReceivedBlock (map softened (turned places block)) r) where
+module _ (octets : List ℕ) (tsc : ℕ) (block : Block) (places : List ℕ) (r : Received) (s : IsSentBlock octets tsc block) (few : length places ≤ 3) (h : IsReceivedBlock (map softened (turned places block)) r) where
   abbrev c : List ℕ
   c = s.coded_bits
 
@@ -119,4 +119,4 @@ module _ (octets : List ℕ) (tsc : ℕ) (block : Block) (places : List ℕ) (r 
       ap unsigned_abs (get_or_default h.soft k d (pos 127) l ∙ soft_at (turned places block) h.soft h.gathered k l') ∙ soft_value-strength (bit_at (turned places block) (burst_place k))
 
   pub accepted_as_sent : r.accepted ≡ Some octets
-  accepted_as_sent = restored_block (map softened (turned places block)) octets c h.soft r small s.code h.gathered (IsLightlyDamaged-equal h.soft c 127 (omega (arith, count)) (omega arith) strong few_wrong) h
+  accepted_as_sent = restored_block (map softened (turned places block)) octets c h.soft r s.code h.gathered (IsLightlyDamaged-equal h.soft c 127 (omega (arith, count)) (omega arith) strong few_wrong) h

@@ -1,12 +1,13 @@
--- There is an answer to every event: a session can always go on.
+-- There is an answer to every event, where messages are octets: a session can always go on.
 use Rattle.std.proofs.Common.{◌≡◌, refl, sym, ◌∙◌, ap, subst, arith, ℕ, ◌/◌, ◌%◌, ◌-◌, ◌<◌, ◌≤◌, List, [], ◌∷◌, map, length, get_or, set, Option, Some, None, All, inl, inr}
 use Rattle.std.specs.Prelude.{IfSome}
 use Rattle.std.proofs.lemmas.Bool.{cases_eq}
 use Rattle.std.proofs.lemmas.List.{get_or-set_other, get_or-set_same, get_or_default, length-set, length-map}
 use Rattle.std.proofs.Math.ListN.{get_or-map}
+use Rattle.std.proofs.lemmas.List.Elements.{All-head, All-tail}
 use Rattle.lapdm_frame.specs.declared.Channel.{Channel}
 use Rattle.lapdm_frame.specs.Content.{Frame}
-use Rattle.lapdm_frame.specs.Frames.{Fits, octets_of}
+use Rattle.lapdm_frame.specs.Frames.{octets_of}
 use Rattle.lapdm_frame.proofs.Canonical.{octets_canonical}
 use Rattle.lapdm_frame.proofs.Existence.{one_reading}
 use Rattle.lapdm_window.specs.Ends.{Role}
@@ -14,19 +15,20 @@ use Rattle.um_block.specs.Sent.{IsSentBlock}
 use Rattle.um_block.specs.declared.received.Received.{Received}
 use Rattle.um_block.specs.Received.{softened, IsReceivedBlock}
 use Rattle.um_block.proofs.Lemmas.{some_sent_block, sent_block_bits, some_received_block, accepted_count}
-use Rattle.lapdm_link.specs.Ways.{Ways, no_ways, way, with_more}
+use Rattle.lapdm_link.specs.Ways.{Ways, way, with_more}
 use Rattle.lapdm_link.specs.Events as E
 use Rattle.lapdm_link.specs.Events.{Open, OpenBare, Ask, Deliver, Lose, Rival, sender_of, Deed, deed, taken, Why, Nothing, unless, is_empty}
 use Rattle.lapdm_link.specs.Worlds.{World}
 use Rattle.lapdm_link.specs.Worlds as W
-use Rattle.lapdm_link.specs.Claims.{Line}
 use Rattle.lapdm_link.proofs.ByKind.{KnowsBy}
 use Rattle.lapdm_link.proofs.Fitting.{AllFit}
+use Rattle.lapdm_link.proofs.Octets.{AllSay}
 use Rattle.lapdm_link.proofs.Small.{deed-fits}
 use Rattle.um_air.specs.Air.{Octets, Block, Event, as_read, AirState, start_on, Reads, Arrives, AreSent, Answer, Refuses, Does, refusal, AirStep, AirRun, turned_at, turned}
-use Rattle.um_air.specs.Sessions.{after}
-use Rattle.um_air.proofs.Seeing.{world_of, refusal-same, known-read}
-use Rattle.um_air.proofs.Carrying.{IsSeenAt, start-seen, seen-now, seen-next, IsSeen, seen}
+use Rattle.um_air.specs.Sessions.{IsOctetEvent}
+use Rattle.um_air.proofs.Seeing.{ReadsWell, knows, world_of, refusal-same, known-read}
+use Rattle.um_air.proofs.Carrying.{seen-now, seen}
+use Rattle.um_air.proofs.OctetFrames.{octets_small, says, deed-octets, IsSpoken, start-spoken, spoken-next, AllOctetEvents, spoken-run}
 
 -- ---- a block that was sent is four bursts of 148, whatever bits are turned over
 
@@ -115,11 +117,13 @@ some_arrival a fs (Rival info) sent none = record { report = None; read = None; 
 
 -- ---- what goes out
 
-some_blocks : (channel : Channel) (tsc : ℕ) (fs : List Frame) → tsc ≤ 7 → AllFit channel fs → (bs : List Block) × AreSent channel tsc fs bs
-some_blocks channel tsc [] known h = ([], tt)
-some_blocks channel tsc (f ∷ fs) known h =
-    let b = some_sent_block (octets_of channel f) tsc (octets_canonical channel f h.0).frame.count known in
-    let bs = some_blocks channel tsc fs known h.1 in
+some_blocks : (channel : Channel) (tsc : ℕ) (fs : List Frame) → tsc ≤ 7 → AllFit channel fs → AllSay fs →
+    (bs : List Block) × AreSent channel tsc fs bs
+some_blocks channel tsc [] known h said = ([], tt)
+some_blocks channel tsc (f ∷ fs) known h said =
+    let b = some_sent_block (octets_of channel f) tsc (octets_canonical channel f h.0).frame.count (octets_small channel f h.0 said.0) known
+    in
+    let bs = some_blocks channel tsc fs known h.1 said.1 in
     (b.0 ∷ bs.0, (b.1, bs.1))
 
 record SomeAnswer (a : AirState) (event : Event) : Type 0 where
@@ -127,18 +131,22 @@ record SomeAnswer (a : AirState) (event : Event) : Type 0 where
   answer : Answer
   step : AirStep a event after answer
 
-answer_at : (a : AirState) (octets : Ways Octets) (fs : Ways Frame) (ls : List Line) (event : Event) (o : Option Why) →
-    refusal event a ≡ o → a.tsc ≤ 7 → IsSeenAt a octets fs ls → SomeAnswer a event
-answer_at a octets fs ls event (Some why) is known h = record { after = a; answer = Refuses why; step = (is, refl) }
-answer_at a octets fs ls event None is known h =
-    let t : SomeArrival a event = some_arrival a fs event h.carries.blocks is in
+answer_at : (a : AirState) (event : Event) (o : Option Why) → refusal event a ≡ o → a.tsc ≤ 7 → IsOctetEvent event → IsSpoken a →
+    SomeAnswer a event
+answer_at a event (Some why) is known said h = record { after = a; answer = Refuses why; step = (is, refl) }
+answer_at a event None is known said h =
+    let fs : Ways Frame = h.frames in
+    let t : SomeArrival a event = some_arrival a fs event h.at.carries.blocks is in
     let e : E.Event = as_read t.read event in
     let w : World = world_of a fs in
     let d : Deed = deed e a.ends in
-    let none : W.refusal e w ≡ None = refusal-same a fs t.read event h.carries.blocks ∙ is in
-    let reads : KnowsBy (W.refusal e w) (λ sender f. Fits a.channel f) e =
-    subst (λ (q : Option Why). KnowsBy q (λ sender f. Fits a.channel f) e) (sym none) (known-read a event t.report t.read t.arrives) in
-    let bs = some_blocks a.channel a.tsc d.frames known (deed-fits a.channel w ls e h.reported reads h.fit none) in
+    let none : W.refusal e w ≡ None = refusal-same a fs t.read event h.at.carries.blocks ∙ is in
+    let reads : KnowsBy (W.refusal e w) (ReadsWell a.channel) e =
+    subst (λ (q : Option Why). KnowsBy q (ReadsWell a.channel) e) (sym none) (known-read a event t.report t.read t.arrives) in
+    let fit : AllFit a.channel d.frames =
+    deed-fits a.channel w h.ls e h.at.reported (knows _ _ (λ r f k. k.0) (W.refusal e w) e reads) h.at.fit none in
+    let say : AllSay d.frames = deed-octets a.channel w h.ls e h.at.reported reads h.small (says t.read event said) none in
+    let bs = some_blocks a.channel a.tsc d.frames known fit say in
     record {
       after = record a { ends = d.after; ways = with_more (sender_of d.who) bs.0 (taken event a.ways) };
       answer = Does (record {
@@ -164,24 +172,29 @@ answer_at a octets fs ls event None is known h =
       );
     }
 
+octet_events : (events : List Event) → All IsOctetEvent events → AllOctetEvents events
+octet_events [] h = tt
+octet_events (event ∷ events) h = (All-head IsOctetEvent event events h, octet_events events (All-tail IsOctetEvent event events h))
+
 pub some_answer : (tsc : ℕ) (channel : Channel) (events : List Event) (answers : List Answer) (a : AirState) → tsc ≤ 7 →
-    AirRun (start_on tsc channel) events answers a →
-    (event : Event) → (b : AirState) × (answer : Answer) × AirStep a event b answer
-some_answer tsc channel events answers a known run event =
-    let i : IsSeen (start_on tsc channel) no_ways no_ways events answers a = seen tsc channel events answers a run in
-    let s : SomeAnswer a event = answer_at a i.at.0 i.at.1 i.at.2 event (refusal event a) refl (omega (arith, known, i.tsc)) i.at.3 in
+    All IsOctetEvent events → AirRun (start_on tsc channel) events answers a →
+    (event : Event) → IsOctetEvent event → (b : AirState) × (answer : Answer) × AirStep a event b answer
+some_answer tsc channel events answers a known spoken run event said =
+    let same : a.tsc ≡ tsc = (seen tsc channel events answers a run).tsc in
+    let s : SomeAnswer a event = answer_at a event (refusal event a) refl (omega (arith, known, same)) said
+    (spoken-run events answers (start_on tsc channel) a (octet_events events spoken) (start-spoken tsc channel) run) in
     (s.after, s.answer, s.step)
 
-run_from : (events : List Event) (a : AirState) (octets : Ways Octets) (fs : Ways Frame) (ls : List Line) → a.tsc ≤ 7 →
-    IsSeenAt a octets fs ls → (answers : List Answer) × (b : AirState) × AirRun a events answers b
-run_from [] a octets fs ls known h = ([], a, refl)
-run_from (event ∷ events) a octets fs ls known h =
-    let s : SomeAnswer a event = answer_at a octets fs ls event (refusal event a) refl known h in
-    let now = seen-now a octets fs ls event s.answer s.after h s.step in
-    let r = run_from events s.after (after event s.answer octets) now.ways _ (omega (arith, known, now.tsc))
-    (seen-next a octets fs ls event s.answer s.after h s.step) in
+run_from : (events : List Event) (a : AirState) → a.tsc ≤ 7 → AllOctetEvents events → IsSpoken a →
+    (answers : List Answer) × (b : AirState) × AirRun a events answers b
+run_from [] a known spoken h = ([], a, refl)
+run_from (event ∷ events) a known spoken h =
+    let s : SomeAnswer a event = answer_at a event (refusal event a) refl known spoken.0 h in
+    let now = seen-now a h.octets h.frames h.ls event s.answer s.after h.at s.step in
+    let r = run_from events s.after (omega (arith, known, now.tsc)) spoken.1 (spoken-next a s.after event s.answer spoken.0 h s.step) in
     (s.answer ∷ r.0, r.1, (s.after, s.step, r.2))
 
-pub some_run : (tsc : ℕ) (channel : Channel) (events : List Event) → tsc ≤ 7 → (answers : List Answer) × (b : AirState) × AirRun
-    (start_on tsc channel) events answers b
-some_run tsc channel events known = run_from events (start_on tsc channel) no_ways no_ways [] known (start-seen tsc channel)
+pub some_run : (tsc : ℕ) (channel : Channel) (events : List Event) → tsc ≤ 7 → All IsOctetEvent events →
+    (answers : List Answer) × (b : AirState) × AirRun (start_on tsc channel) events answers b
+some_run tsc channel events known spoken =
+    run_from events (start_on tsc channel) known (octet_events events spoken) (start-spoken tsc channel)

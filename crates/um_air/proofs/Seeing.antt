@@ -1,13 +1,18 @@
 -- What is coded, received and read on the air is what frames on two ways are: one step.
-use Rattle.std.proofs.Common.{◌≡◌, refl, sym, ◌∙◌, ap, subst, ℕ, suc, List, [], ◌∷◌, ◌++◌, map, length, drop, Option, Some, None}
+use Rattle.std.proofs.Common.{◌≡◌, refl, sym, ◌∙◌, ap, subst, ℕ, suc, ◌+◌, ◌-◌, ◌<◌, List, [], ◌∷◌, ◌++◌, map, length, drop, Option, Some, None}
+use Rattle.std.specs.Prelude.{IfSome}
 use Rattle.std.proofs.lemmas.List.{map-append}
+use Rattle.std.proofs.lemmas.List.Elements.{All-take, All-drop}
 use Rattle.lapdm_frame.specs.declared.Channel.{Channel}
-use Rattle.lapdm_frame.specs.Content.{Frame}
+use Rattle.lapdm_frame.specs.Layout.{header}
+use Rattle.lapdm_frame.specs.Content.{Frame, information}
 use Rattle.lapdm_frame.specs.Frames.{Fits, IsFrame, octets_of}
 use Rattle.lapdm_frame.proofs.Canonical.{octets_canonical}
 use Rattle.lapdm_frame.proofs.Uniqueness.{same_frame}
 use Rattle.lapdm_window.specs.Ends.{Role, Mobile, Network}
 use Rattle.um_block.specs.declared.received.Received.{Received}
+use Rattle.um_block.specs.Received.{softened}
+use Rattle.um_block.proofs.Lemmas.{accepted_octets}
 use Rattle.lapdm_link.specs.Ways.{Ways, way, with_way, with_more, count, IsAsSent}
 use Rattle.lapdm_link.specs.Events as E
 use Rattle.lapdm_link.specs.Events.{Open, OpenBare, Ask, Deliver, Lose, Rival, Ends, Who, sender_of, Deed, deed, taken, Why, AirFull, Nothing, unless, is_full, is_empty, refusal_by}
@@ -16,8 +21,8 @@ use Rattle.lapdm_link.specs.Worlds as W
 use Rattle.lapdm_link.specs.Claims.{event_lines, notice_lines, answer_lines}
 use Rattle.lapdm_link.proofs.ByKind.{Knows, KnowsBy}
 use Rattle.lapdm_link.proofs.Fitting.{AllFit}
-use Rattle.um_air.specs.Air.{Octets, Block, Event, as_read, AirState, Reads, Arrives, AreSent, Step, Answer, Refuses, Does, Happens, refusal, AirStep}
-use Rattle.um_air.specs.Sessions.{told, after, ArrivesAsSent, IsHarmlessStep}
+use Rattle.um_air.specs.Air.{Octets, Block, Event, as_read, AirState, Reads, Arrives, AreSent, Step, Answer, Refuses, Does, Happens, refusal, AirStep, turned}
+use Rattle.um_air.specs.Sessions.{told, after, ArrivesAsSent, IsHarmlessStep, AreOctets}
 
 -- ---- two pairs of ways, alike way by way
 
@@ -128,14 +133,35 @@ same_lines read (Rival info) = refl
 
 -- ---- what is read
 
--- a frame that is read fits
-reads-fit : (channel : Channel) (accepted : Option Octets) (f : Frame) → Reads channel accepted (Some f) → Fits channel f
-reads-fit channel (Some octets) f h = h.fits
-reads-fit channel None f h = absurd h
+-- a frame that is read fits, and carries octets
+abbrev pub ReadsWell : Channel → Role → Frame → Type 0
+ReadsWell channel sender f = Fits channel f × AreOctets (information f.content)
+
+reads-well : (channel : Channel) (accepted : Option Octets) (f : Frame) → IfSome accepted AreOctets → Reads channel accepted (Some f) →
+    Fits channel f × AreOctets (information f.content)
+reads-well channel (Some octets) f all h =
+    let small : ℕ → Type 0 = λ octet. octet < 256 in
+    let from : ℕ = header channel + 3 in
+    let size : ℕ = length (information f.content) in
+    (h.fits, subst AreOctets h.at_information (All-take small (from + size - from) (drop from octets) (All-drop small from octets all)))
+reads-well channel None f all h = absurd h
+
+-- what is known of the frames that are read, from more that is known
+pub knows : (P Q : Role → Frame → Type 0) → ((r : Role) (f : Frame) → P r f → Q r f) → (o : Option Why) (e : E.Event) →
+    KnowsBy o P e → KnowsBy o Q e
+knows P Q weaker (Some why) e h = tt
+knows P Q weaker None (Deliver sender (Some f)) h = weaker sender f h
+knows P Q weaker None (Deliver sender None) h = tt
+knows P Q weaker None (Open info) h = tt
+knows P Q weaker None (OpenBare r) h = tt
+knows P Q weaker None (Ask r s request) h = tt
+knows P Q weaker None (Lose sender) h = tt
+knows P Q weaker None (Rival info) h = tt
 
 pub known-read : (a : AirState) (event : Event) (report : Option Received) (read : Option Frame) → Arrives a event report read →
-    Knows (λ sender f. Fits a.channel f) (as_read read event)
-known-read a (Deliver sender places) (Some report) (Some f) h = reads-fit a.channel report.accepted f h.reads
+    Knows (ReadsWell a.channel) (as_read read event)
+known-read a (Deliver sender places) (Some report) (Some f) h =
+    reads-well a.channel report.accepted f (accepted_octets (map softened (turned places h.block)) report h.received) h.reads
 known-read a (Deliver sender places) (Some report) None h = tt
 known-read a (Deliver sender places) None read h = absurd h
 known-read a (Open info) report read h = tt
@@ -180,7 +206,7 @@ pub record IsSeenStep (a : AirState) (octets : Ways Octets) (fs : Ways Frame) (e
   pub carries : Carries b (after event answer octets) ways
   pub tsc : b.tsc ≡ a.tsc
   pub same : answer_lines event (told answer) ≡ answer_lines (as_read read event) (W.answer (as_read read event) (world_of a fs))
-  pub known : KnowsBy (W.refusal (as_read read event) (world_of a fs)) (λ sender f. Fits a.channel f) (as_read read event)
+  pub known : KnowsBy (W.refusal (as_read read event) (world_of a fs)) (ReadsWell a.channel) (as_read read event)
   pub harmless : IsHarmlessStep event answer octets → W.IsHarmlessBy (W.refusal (as_read read event) (world_of a fs)) (as_read read event)
       (world_of a fs)
 
@@ -197,7 +223,7 @@ module _ (a : AirState) (octets : Ways Octets) (fs : Ways Frame) (event : Event)
         carries = h;
         tsc = refl;
         same = sym (ap (λ o. answer_lines e (answer_by o (deed e w.ends))) refused);
-        known = subst (λ (o : Option Why). KnowsBy o (λ sender f. Fits a.channel f) e) (sym refused) tt;
+        known = subst (λ (o : Option Why). KnowsBy o (ReadsWell a.channel) e) (sym refused) tt;
         harmless = λ q. subst (λ (o : Option Why). W.IsHarmlessBy o e w) (sym refused) tt;
       }
 
@@ -236,7 +262,7 @@ module _ (a : AirState) (octets : Ways Octets) (fs : Ways Frame) (event : Event)
             ∙ ap (λ q. event_lines e ++ notice_lines d.who q step.notices) t.sapi
             ∙ ap (λ q. event_lines e ++ notice_lines d.who d.sapi q) t.notices
             ∙ sym (ap (λ o. answer_lines e (answer_by o d)) none);
-        known = subst (λ (o : Option Why). KnowsBy o (λ sender f. Fits a.channel f) e) (sym none)
+        known = subst (λ (o : Option Why). KnowsBy o (ReadsWell a.channel) e) (sym none)
             (known-read a event step.received t.read t.arrives);
         harmless = λ q. subst (λ (o : Option Why). W.IsHarmlessBy o e w) (sym none)
             (harmless-read a octets fs event step.received t.read h.written fit t.arrives q);

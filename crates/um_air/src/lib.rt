@@ -9,17 +9,18 @@ ghost use Rattle.um_block.specs.Received.{softened, IsReceivedBlock};
 ghost use Rattle.um_block.specs.declared.received.Received.{Received};
 ghost use Rattle.lapdm_link.specs.Claims.{Claims, OrderClaims, CountsAgree};
 ghost use Rattle.um_air.specs.Air.{Event, Answer, AirState, start_on, AirStep, AirRun, Block, turned};
-ghost use Rattle.um_air.specs.Sessions.{lines, IsHarmless, IsKind};
+ghost use Rattle.um_air.specs.Sessions.{lines, IsHarmless, IsOctetEvent, IsKind};
 
 /// Law: an event has at most one answer, and leads to one state of the air.
 pub fn law_one_answer()
     ensures { (a : AirState) (event : Event) (b c : AirState) (x y : Answer) → AirStep a event b x → AirStep a event c y → (b ≡ c) × (x ≡ y) }
 {}
 
-/// Law: whatever came before in a session, every event has an answer.
+/// Law: whatever came before in a session, every event has an answer, where messages are octets.
 pub fn law_some_answer()
     ensures { (tsc : ℕ) (channel : Channel) (events : List Event) (answers : List Answer) (a : AirState) → tsc ≤ 7 →
-        AirRun (start_on tsc channel) events answers a → (event : Event) → (b : AirState) × (answer : Answer) × AirStep a event b answer }
+        All IsOctetEvent events → AirRun (start_on tsc channel) events answers a →
+        (event : Event) → IsOctetEvent event → (b : AirState) × (answer : Answer) × AirStep a event b answer }
 {}
 
 /// Law: the events of a session determine all answers, and how it ends.
@@ -27,9 +28,10 @@ pub fn law_one_run()
     ensures { (a : AirState) (events : List Event) (b c : AirState) (xs ys : List Answer) → AirRun a events xs b → AirRun a events ys c → (b ≡ c) × (xs ≡ ys) }
 {}
 
-/// Law: whatever the events are, there is a session of them.
+/// Law: whatever the events are, there is a session of them, where messages are octets.
 pub fn law_some_run()
-    ensures { (tsc : ℕ) (channel : Channel) (events : List Event) → tsc ≤ 7 → (answers : List Answer) × (b : AirState) × AirRun (start_on tsc channel) events answers b }
+    ensures { (tsc : ℕ) (channel : Channel) (events : List Event) → tsc ≤ 7 → All IsOctetEvent events →
+        (answers : List Answer) × (b : AirState) × AirRun (start_on tsc channel) events answers b }
 {}
 
 /// Law: where each block is accepted with the octets that were sent, or not at all, the claims on delivery hold of a
@@ -67,7 +69,7 @@ pub fn law_order()
 
 /// Law: a block of which at most three bits were turned over is accepted with the octets that were sent.
 pub fn law_three_turned()
-    ensures { (octets : List ℕ) (tsc : ℕ) (block : Block) (places : List ℕ) (r : Received) → All (λ octet. octet < 256) octets →
+    ensures { (octets : List ℕ) (tsc : ℕ) (block : Block) (places : List ℕ) (r : Received) →
         IsSentBlock octets tsc block → length places ≤ 3 → IsReceivedBlock (map softened (turned places block)) r → r.accepted ≡ Some octets }
 {}
 

@@ -1,9 +1,11 @@
 -- What is accepted of a block are 23 octets.
-use Rattle.std.proofs.Common.{◌≡◌, ℕ, ℤ, List, length, take, Option, Some, None, ap, ◌∙◌, arith}
+use Rattle.std.proofs.Common.{◌≡◌, ℕ, ℤ, List, length, take, Option, Some, None, ap, subst, sym, ◌∙◌, arith}
+use Rattle.std.proofs.lemmas.List.Elements.{All-take}
 use Rattle.std.specs.Prelude.{IfSome, MatchOption}
 use Rattle.std.proofs.lemmas.List.{length-take, length-take-le}
-use Rattle.bit_blocks.specs.Octets.{octets_of}
-use Rattle.bit_blocks.proofs.Lemmas.{length-octets_of}
+use Rattle.bit_blocks.specs.Bits.{IsBit, AllBits}
+use Rattle.bit_blocks.specs.Octets.{AllOctets, octets_of}
+use Rattle.bit_blocks.proofs.Lemmas.{length-octets_of, AllOctets-octets_of}
 use Rattle.fire_code.specs.Words.{IsXcchWord}
 use Rattle.um_block.specs.Received.{IsReceivedBlock}
 use Rattle.um_block.specs.declared.received.Received.{Received}
@@ -20,3 +22,13 @@ accepted_of u (Some octets) h =
 
 pub accepted_count : (bursts : List (List ℤ)) (r : Received) → IsReceivedBlock bursts r → IfSome r.accepted (λ octets. length octets ≡ 23)
 accepted_count bursts r h = accepted_of r.u r.accepted h.accepted
+
+octets_accepted : (u : List ℕ) (accepted : Option (List ℕ)) → AllBits u →
+    MatchOption accepted (¬ IsXcchWord (take 224 u)) (λ octets. IsXcchWord (take 224 u) × (octets ≡ octets_of (take 184 u))) →
+    IfSome accepted AllOctets
+octets_accepted u None bits h = tt
+octets_accepted u (Some octets) bits h =
+    subst AllOctets (sym h.1) (AllOctets-octets_of (take 184 u) (All-take IsBit 184 u bits))
+
+pub accepted_octets : (bursts : List (List ℤ)) (r : Received) → IsReceivedBlock bursts r → IfSome r.accepted AllOctets
+accepted_octets bursts r h = octets_accepted r.u r.accepted h.best.information.bits h.accepted

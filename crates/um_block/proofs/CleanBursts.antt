@@ -1,9 +1,9 @@
 -- The parts of a burst that comes as it was sent.
-use Rattle.std.proofs.Common.{◌≡◌, ◌⊎◌, inl, inr, ℕ, zero, suc, ◌-◌, ◌<◌, ◌≤◌, Bool, true, false, ◌||◌, eqb, int_lt, ℤ, List, [], ◌∷◌, ◌++◌, map, take, drop, length, get_or, subst, ap, ap₂, sym, ◌∙◌, refl, arith, append_assoc, length-append, zero-add}
+use Rattle.std.proofs.Common.{◌≡◌, ◌⊎◌, inl, inr, ℕ, zero, suc, ◌-◌, ◌<◌, ◌≤◌, Bool, true, false, ◌||◌, eqb, int_lt, ℤ, List, [], ◌∷◌, ◌++◌, map, take, drop, length, get_or, ap, ap₂, sym, ◌∙◌, refl, arith, append_assoc, length-append, zero-add}
 use Rattle.std.specs.Prelude.{slice_range}
 use Rattle.std.specs.List.{All}
 use Rattle.std.proofs.lemmas.Bool.{eqb-true}
-use Rattle.std.proofs.lemmas.List.{take_at, drop_at, take-map, drop-map, map-append, length-map, get_or-map, take-append-drop, length-take, length-drop}
+use Rattle.std.proofs.lemmas.List.{take_at, drop_at, take-map, drop-map, map-append, take-append-drop, length-take, length-drop}
 use Rattle.std.proofs.lemmas.List.Elements.{All-head, All-tail}
 use Rattle.bit_blocks.specs.Bits.{IsBit, AllBits}
 use Rattle.bit_blocks.specs.SoftValues.{wrong_places}

@@ -1,8 +1,8 @@
 -- A block or a burst that comes as it was sent is restored.
-use Rattle.std.proofs.Common.{◌≡◌, ℕ, ◌+◌, ◌*◌, ◌<◌, ℤ, pos, Option, Some, None, List, ◌++◌, map, take, drop, length, subst, ap, ap₂, sym, ◌∙◌, refl, arith, lit<}
+use Rattle.std.proofs.Common.{◌≡◌, ℕ, ◌+◌, ◌*◌, ◌<◌, pos, Option, Some, None, List, map, take, drop, length, subst, ap, ap₂, sym, ◌∙◌, refl, arith, lit<}
 use Rattle.std.specs.Prelude.{MatchOption}
 use Rattle.std.proofs.lemmas.List.{length-take, length-drop, take-append-drop}
-use Rattle.bit_blocks.specs.Octets.{AllOctets, bits_of, octets_of}
+use Rattle.bit_blocks.specs.Octets.{bits_of, octets_of}
 use Rattle.bit_blocks.specs.SoftValues.{wrong_places}
 use Rattle.bit_blocks.proofs.Lemmas.{AllBits-table, octets_of-bits_of}
 use Rattle.fire_code.specs.Words.{IsXcchWord, IsRachWord, IsSchWord}
@@ -42,7 +42,7 @@ clean_gathered octets tsc sent s =
     ∙ ap (map softened) (parts_of_bursts s.parts tsc s.known s.spread.each_count) in
     subst (IsInterleaved (softened s.coded_bits)) (sym bursts) (IsInterleaved-map soft_value 0 s.coded_bits s.parts s.spread)
 
-module _ (octets : List ℕ) (tsc : ℕ) (sent : List (List ℕ)) (r : Received) (small : AllOctets octets)
+module _ (octets : List ℕ) (tsc : ℕ) (sent : List (List ℕ)) (r : Received)
     (s : IsSentBlock octets tsc sent) (h : IsReceivedBlock (map softened sent) r) where
   carried : Carried IsXcchWord 224 184 s.code.u (bits_of octets)
   carried = block_carried octets s.coded_bits s.code
@@ -86,7 +86,7 @@ module _ (octets : List ℕ) (tsc : ℕ) (sent : List (List ℕ)) (r : Received)
   clean_block = record {
     information = subst (λ u. Carries IsXcchWord u (bits_of octets)) (sym is_heard.same) s.code.information;
     accepted = accepted_of IsXcchWord octets_of 224 184 s.code.u r.u (bits_of octets) octets r.accepted carried is_heard.same
-        (octets_of-bits_of octets small) h.accepted;
+        (octets_of-bits_of octets s.code.each) h.accepted;
     tsc = sequence;
     wrong_training = wrong;
     metric = h.metric ∙ is_heard.value ∙ ap (λ n. pos (127 * (2 * n))) carried.count;

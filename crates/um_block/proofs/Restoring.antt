@@ -1,6 +1,6 @@
 -- What few wrong places do not change: the word that was sent is received.
-use Rattle.std.proofs.Common.{◌≡◌, ℕ, ℤ, ◌+◌, ◌*◌, Some, List, ◌++◌, map, length, subst, ap, sym, ◌∙◌, refl, arith, length-append}
-use Rattle.bit_blocks.specs.Octets.{AllOctets, bits_of, octets_of}
+use Rattle.std.proofs.Common.{◌≡◌, ℕ, ℤ, ◌*◌, Some, List, map, length, subst, ap, sym, ◌∙◌, refl, arith, length-append}
+use Rattle.bit_blocks.specs.Octets.{bits_of, octets_of}
 use Rattle.bit_blocks.proofs.Lemmas.{octets_of-bits_of}
 use Rattle.fire_code.specs.Words.{IsXcchWord, IsRachWord, IsSchWord}
 use Rattle.conv_code.specs.Code.{coded, IsInformation}
@@ -24,15 +24,15 @@ restored_list : (soft : List ℤ) (u v c : List ℕ) (n : ℕ) → IsInformation
 restored_list soft u v c n information count pairs code damage best =
     restored soft u v information (pairs ∙ sym (ap (λ m. 2 * m) count)) (subst (IsLightlyDamaged soft) code damage) best
 
-pub restored_block : (bursts : List (List ℤ)) (octets c : List ℕ) (soft : List ℤ) (r : Received) → AllOctets octets →
+pub restored_block : (bursts : List (List ℤ)) (octets c : List ℕ) (soft : List ℤ) (r : Received) →
     IsCodedBlock octets c → IsInterleaved soft (map coded_places bursts) → IsLightlyDamaged soft c → IsReceivedBlock bursts r →
     r.accepted ≡ Some octets
-restored_block bursts octets c soft r small code gathered damage h =
+restored_block bursts octets c soft r code gathered damage h =
     let carried = block_carried octets c code in
     let same : h.soft ≡ soft = same_coded h.soft soft (map coded_places bursts) h.gathered gathered in
     let u = restored_list soft code.u r.u c 228 carried.information carried.count gathered.coded_count code.code damage
     (subst (λ s. IsMostLikely s r.u) same h.best) in
-    accepted_of IsXcchWord octets_of 224 184 code.u r.u (bits_of octets) octets r.accepted carried u (octets_of-bits_of octets small) h.accepted
+    accepted_of IsXcchWord octets_of 224 184 code.u r.u (bits_of octets) octets r.accepted carried u (octets_of-bits_of octets code.each) h.accepted
 
 pub restored_access : (burst : List ℤ) (info bsic c : List ℕ) (r : ReceivedAccess) → length (access_places burst) ≡ 36 →
     IsCodedAccess info bsic c → IsLightlyDamaged (access_places burst) c → IsReceivedAccess burst bsic r → r.accepted ≡ Some info

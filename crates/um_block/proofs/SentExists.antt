@@ -1,7 +1,7 @@
 -- Every information can be sent: it has a parity part, and its coded bits can be spread.
-use Rattle.std.proofs.Common.{◌≡◌, ℕ, ◌≤◌, List, ◌++◌, map, length, refl}
+use Rattle.std.proofs.Common.{◌≡◌, ℕ, ◌≤◌, List, ◌++◌, length, refl}
 use Rattle.bit_blocks.specs.Bits.{AllBits}
-use Rattle.bit_blocks.specs.Octets.{bits_of}
+use Rattle.bit_blocks.specs.Octets.{AllOctets, bits_of}
 use Rattle.bit_blocks.proofs.Lemmas.{AllBits-bits_of}
 use Rattle.fire_code.specs.Words.{IsXcchWord, IsRachWord, IsSchWord}
 use Rattle.fire_code.proofs.Lemmas.{some_xcch_parity, some_rach_parity, some_sch_parity}
@@ -10,22 +10,23 @@ use Rattle.interleave.proofs.Lemmas.{some_spread}
 use Rattle.um_block.specs.Sent.{with_tail, IsCodedBlock, IsCodedAccess, IsCodedSync, IsSentBlock, IsSentAccess, IsSentSync}
 use Rattle.um_block.proofs.Words.{carries, length-block, coded_block_bits}
 
-some_coded_block : (octets : List ℕ) → length octets ≡ 23 → (c : List ℕ) × IsCodedBlock octets c
-some_coded_block octets count =
+some_coded_block : (octets : List ℕ) → length octets ≡ 23 → AllOctets octets → (c : List ℕ) × IsCodedBlock octets c
+some_coded_block octets count small =
     let d = bits_of octets in
     let p = some_xcch_parity d (length-block octets count) (AllBits-bits_of octets) in (
       coded (with_tail (d ++ p.0)),
       record {
         u = with_tail (d ++ p.0);
         count = count;
+        each = small;
         information = carries IsXcchWord d p.0 p.1;
         code = refl;
       },
     )
 
-pub some_sent_block : (octets : List ℕ) (tsc : ℕ) → length octets ≡ 23 → tsc ≤ 7 → (x : List (List ℕ)) × IsSentBlock octets tsc x
-some_sent_block octets tsc count known =
-    let c = some_coded_block octets count in
+pub some_sent_block : (octets : List ℕ) (tsc : ℕ) → length octets ≡ 23 → AllOctets octets → tsc ≤ 7 → (x : List (List ℕ)) × IsSentBlock octets tsc x
+some_sent_block octets tsc count small known =
+    let c = some_coded_block octets count small in
     let parts = some_spread c.0 (coded_block_bits octets c.0 c.1).many in
     (_, record { coded_bits = c.0; parts = parts.0; known = known; code = c.1; spread = parts.1; layout = refl })
 

@@ -1,6 +1,6 @@
 -- What is sent: a word of information and parity, four tail bits, the coded list, and the burst around it.
 use Rattle.std.specs.Prelude.{ℕ, ◌≡◌, ◌≤◌, List, ◌++◌, length, map, take, drop, replicate}
-use Rattle.bit_blocks.specs.Octets.{bits_of}
+use Rattle.bit_blocks.specs.Octets.{AllOctets, bits_of}
 use Rattle.fire_code.specs.Words.{IsXcchWord, IsRachWord, IsSchWord}
 use Rattle.conv_code.specs.Code.{coded}
 use Rattle.interleave.specs.Bursts.{IsInterleaved}
@@ -18,10 +18,11 @@ pub record Carries (IsWord : List ℕ → Type 0) (u d : List ℕ) : Type 0 wher
   pub word : IsWord (d ++ parity)
   pub list : u ≡ with_tail (d ++ parity)
 
--- c are the coded bits of 23 octets (GSM 05.03 section 4.1)
+-- c are the coded bits of 23 octets, each below 256 (GSM 05.03 section 4.1)
 pub record IsCodedBlock (octets c : List ℕ) : Type 0 where
   pub u : List ℕ
   pub count : length octets ≡ 23
+  pub each : AllOctets octets
   pub information : Carries IsXcchWord u (bits_of octets)
   pub code : c ≡ coded u
 

@@ -1,7 +1,6 @@
 //! A radio: what codes and receives blocks, and counts both.
 ghost use Rattle.std.specs.Prelude.{◌≡◌, ℕ, ◌≤◌, ℤ, List, Some, map, All};
 ghost use Rattle.bit_blocks.specs.Bits.{AllBits};
-ghost use Rattle.bit_blocks.specs.Octets.{AllOctets};
 ghost use Rattle.bit_blocks.specs.SoftValues.{AllSoft};
 ghost use Rattle.interleave.specs.Bursts.{IsInterleaved};
 ghost use Rattle.weight_bound.specs.Restoring.{IsLightlyDamaged};
@@ -35,9 +34,9 @@ pub trait Radio {
         requires { All AllSoft bursts.now }
         ensures received { IsReceivedBlock bursts.now result }
         ensures only { (other : Received) → IsReceivedBlock bursts.now other → other ≡ result }
-        ensures clean { (octets : List ℕ) (tsc : ℕ) (sent : List (List ℕ)) → AllOctets octets →
+        ensures clean { (octets : List ℕ) (tsc : ℕ) (sent : List (List ℕ)) →
             IsSentBlock octets tsc sent → bursts.now ≡ map softened sent → IsCleanBlock octets tsc result }
-        ensures restores { (octets c : List ℕ) (soft : List ℤ) → AllOctets octets → IsCodedBlock octets c →
+        ensures restores { (octets c : List ℕ) (soft : List ℤ) → IsCodedBlock octets c →
             IsInterleaved soft (map coded_places bursts.now) → IsLightlyDamaged soft c → result.accepted ≡ Some octets }
         ensures raised { heard self.new ≡ raised (heard self.old) }
         ensures kept { sent self.new ≡ sent self.old };

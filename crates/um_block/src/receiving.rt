@@ -2,7 +2,7 @@
 //! backward; the choice of a word is this project's own, found by the Viterbi decoder).
 ghost use Rattle.std.specs.Prelude.{◌≡◌, ℕ, ◌≤◌, ◌++◌, ℤ, List, Some, length, map, take, All, MatchOption};
 ghost use Rattle.bit_blocks.specs.Bits.{AllBits};
-ghost use Rattle.bit_blocks.specs.Octets.{AllOctets, octets_of};
+ghost use Rattle.bit_blocks.specs.Octets.{octets_of};
 ghost use Rattle.bit_blocks.specs.SoftValues.{AllSoft};
 ghost use Rattle.fire_code.specs.Words.{IsXcchWord, IsRachWord, IsSchWord};
 ghost use Rattle.interleave.specs.Bursts.{IsInterleaved};
@@ -38,9 +38,9 @@ pub fn receive_block(bursts: &[[i8; 148]; 4]) -> Received
     requires { All AllSoft bursts.now }
     ensures received { IsReceivedBlock bursts.now result }
     ensures only { (other : Received) → IsReceivedBlock bursts.now other → other ≡ result }
-    ensures clean { (octets : List ℕ) (tsc : ℕ) (sent : List (List ℕ)) → AllOctets octets →
+    ensures clean { (octets : List ℕ) (tsc : ℕ) (sent : List (List ℕ)) →
         IsSentBlock octets tsc sent → bursts.now ≡ map softened sent → IsCleanBlock octets tsc result }
-    ensures restores { (octets c : List ℕ) (soft : List ℤ) → AllOctets octets → IsCodedBlock octets c →
+    ensures restores { (octets c : List ℕ) (soft : List ℤ) → IsCodedBlock octets c →
         IsInterleaved soft (map coded_places bursts.now) → IsLightlyDamaged soft c → result.accepted ≡ Some octets }
 {
     let soft = gather_block(bursts);

@@ -44,7 +44,7 @@ some_answer : (line : List ℕ) (m : CodeLine) → CodeMeans line m → (answer 
 some_answer line Skip means = ([], refl)
 some_answer line (Block tsc octets) means =
     let known = can_be_sent line (Block tsc octets) means in
-    let sent = some_sent_block octets tsc known.1.0 known.0 in
+    let sent = some_sent_block octets tsc known.1.0 known.1.1 known.0 in
     (block_text sent.0, (sent.0, sent.1, refl))
 some_answer line (Rach info bsic) means =
     let known = can_be_sent line (Rach info bsic) means in

@@ -190,16 +190,16 @@ block_runs (a ∷ b ∷ c ∷ []) report r count each received text = absurd (om
 block_runs (a ∷ b ∷ c ∷ d ∷ []) report r count each received text = four_runs a b c d report r each received text
 block_runs (a ∷ b ∷ c ∷ d ∷ e ∷ more) report r count each received text = absurd (omega arith)
 
-block_back : (octets : List ℕ) (tsc : ℕ) (bursts : List (List ℕ)) → All (λ octet. octet < 256) octets → IsSentBlock octets tsc bursts →
+block_back : (octets : List ℕ) (tsc : ℕ) (bursts : List (List ℕ)) → IsSentBlock octets tsc bursts →
     IsBroughtBack (C.Block tsc octets) (block_text bursts)
-block_back octets tsc bursts small sent =
+block_back octets tsc bursts sent =
     let shape = sent_block_bits octets tsc bursts sent in
     let counts = softened_counts bursts shape.1 in
     let received = some_received_block (map softened bursts) (length-map bursts softened ∙ shape.0) counts in
     let text = some_block_report received.0 (accepted_count (map softened bursts) received.0 received.1) in
     record {
       report = text.0;
-      restored = (received.0, clean_block octets tsc bursts received.0 small sent received.1, text.1);
+      restored = (received.0, clean_block octets tsc bursts received.0 sent received.1, text.1);
       read = record {
         lines = map normal_line bursts;
         answers = [] ∷ [] ∷ [] ∷ text.0 ∷ [];
@@ -215,7 +215,7 @@ block_back octets tsc bursts small sent =
 brought_back : (line : List ℕ) (m : CodeLine) (answer : List ℕ) → CodeMeans line m → IsCodeAnswer m answer → IsBroughtBack m answer
 brought_back line C.Skip answer means a = record { report = []; restored = refl; read = subst (λ w. IsRead w []) (sym a) nothing_read }
 brought_back line (C.Block tsc octets) answer means (bursts, sent, text) =
-    subst (IsBroughtBack (C.Block tsc octets)) (sym text) (block_back octets tsc bursts (can_be_sent line (C.Block tsc octets) means).1.1 sent)
+    subst (IsBroughtBack (C.Block tsc octets)) (sym text) (block_back octets tsc bursts sent)
 brought_back line (C.Rach info bsic) answer means (burst, sent, text) =
     let code = (can_be_sent line (C.Rach info bsic) means).1 in
     subst (IsBroughtBack (C.Rach info bsic)) (sym text) (access_back info bsic burst code.0 code.1 sent)

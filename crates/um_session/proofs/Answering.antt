@@ -1,5 +1,5 @@
 -- The command `link` answers each good line in one way.
-use Rattle.std.proofs.Common.{◌≡◌, ℕ, ◌≤◌, List, [], Option, None, Some, refl, sym, ap, ◌∙◌, subst}
+use Rattle.std.proofs.Common.{◌≡◌, ℕ, ◌≤◌, List, [], Option, None, Some, All, refl, sym, ap, ◌∙◌, subst}
 use Rattle.lapdm_frame.specs.declared.Channel.{Channel}
 use Rattle.um_lines.specs.declared.fault.LineFault.{LineFault}
 use Rattle.um_lines.specs.Forms.{line_fault, anywhere, LineMeans}
@@ -9,11 +9,14 @@ use Rattle.um_lines.proofs.FormLaws.{one_meaning, one_made}
 use Rattle.um_script.specs.ScriptLines.{ScriptMeans, event_said}
 use Rattle.um_script.specs.StepLines.{answer_text}
 use Rattle.um_air.specs.Air.{Event, Answer, AirState, AirRun, start_on}
+use Rattle.um_air.specs.Sessions.{IsOctetEvent}
 use Rattle.um_air.proofs.Laws.{longer_run, one_answer, some_answer}
 use Rattle.um_driver.specs.Rules.{IsDetermined, IsTotal, Runs}
 use Rattle.um_driver.specs.Laws.{HasOneOutput}
 use Rattle.um_driver.proofs.OutputExists.{has_one_output}
 use Rattle.um_driver.proofs.RunLemmas.{Runs-keep}
+use Rattle.um_script.proofs.OctetLaws.{octet_event}
+use Rattle.um_session.proofs.Octets.{octets_of_session}
 use Rattle.um_session.specs.Sessions.{Session, idle, with_step, Happened, AnswersMeaning, AnswersScript, link_rules}
 
 meanings : (line : List ℕ) → HasOneMeaningUnless (line_fault link_forms anywhere line) (ScriptMeans line)
@@ -64,10 +67,11 @@ module _ (tsc : ℕ) (channel : Channel) where
   session_of lines answers b runs = Runs-keep link_rules (IsSessionOn tsc channel) step_keeps (idle tsc channel) b lines answers refl runs
 
   module _ (within : tsc ≤ 7) where
-    some_meaning : (s : Session) (m : Option Event) → IsSessionOn tsc channel s → (y : List ℕ) × (b : Session) × AnswersMeaning s m y b
-    some_meaning s None run = ([], s, (refl, refl))
-    some_meaning s (Some event) run =
-        let next = some_answer tsc channel s.events s.answers s.air within run event in
+    some_meaning : (s : Session) (line : List ℕ) (m : Option Event) → IsSessionOn tsc channel s → All IsOctetEvent s.events → ScriptMeans line m →
+        (y : List ℕ) × (b : Session) × AnswersMeaning s m y b
+    some_meaning s line None run octets means = ([], s, (refl, refl))
+    some_meaning s line (Some event) run octets means =
+        let next = some_answer tsc channel s.events s.answers s.air within octets run event (octet_event line event means) in
         let air : AirState = next.0 in
         let answer : Answer = next.1 in
         (answer_text answer, with_step s event answer air, record { answer = answer; air = air; step = next.2; text_is = refl; after_is = refl })
@@ -76,7 +80,7 @@ module _ (tsc : ℕ) (channel : Channel) where
     link_is_total lines answers b runs line plain good =
         let meant : HasOneMeaningUnless None (ScriptMeans line) =
         subst (λ fault. HasOneMeaningUnless fault (ScriptMeans line)) good.no_fault (meanings line) in
-        let answered = some_meaning b meant.0 (session_of lines answers b runs) in
+        let answered = some_meaning b line meant.0 (session_of lines answers b runs) (octets_of_session tsc channel lines answers b runs) meant.1 in
         (answered.0, answered.1, (meant.0, meant.1, answered.2))
 
     pub link_has_one_output : HasOneOutput link_rules (idle tsc channel)

@@ -2,23 +2,40 @@ use Rattle.std.proofs.Common.{◌≡◌, ◌<◌, length, pos, arith, w16, to_z,
 use Rattle.std.proofs.lemmas.Int.{ints}
 use Rattle.bit_blocks.specs.SoftValues.{agreement}
 use Rattle.training_seq.specs.Ranges.{IsWithin}
+use Rattle.training_seq.specs.Sequences.{training_sequence}
+use Rattle.training_seq.specs.Sums.{sign_of}
 use Rattle.training_seq.proofs.Correlations.{correlation_more}
+use Rattle.training_seq.proofs.SequenceTable.{length-training_sequence, sign_at, small_sign}
 use Rattle.training_seq.proofs.correlation.correlate_sums.Goals as goal
 
 pub loop-i-preserved : goal.loop-i-preserved
 loop-i-preserved c =
     let i = c.loop-i.i in
     let sums = c.args.sums.now in
-    let bits = c.sequence-bits.result in
+    let bits = training_sequence c.args.tsc in
+    let long : length bits ≡ 26 = length-training_sequence c.args.tsc c.requires.known in
     let total = to_z w16 c.loop-i.total-bits in
     let turned = c.turned-total.result in
     let here : i < length sums = omega arith in
+    let there : i < length bits = omega (arith, long) in
     let small : IsWithin 512 (get_or sums i (pos 0)) = c.requires.small i (pos 0) here in
     let value : to_z w16 (of_z w16 (get_or sums i (pos 0))) ≡ get_or sums i (pos 0) = omega (arith, ints) in
+    let near : IsWithin 1 (get_or c.signs-signs.result.now i (pos 0)) =
+    rw c.signs-signs.ensures (small_sign c.args.tsc i c.requires.known (omega arith)) in
+    let sign : get_or c.signs-signs.result.now i (pos 0) ≡ sign_of (get_or bits i 0) =
+    rw c.signs-signs.ensures (sign_at bits i there) in
+    let kept : to_z w16 (of_z w16 (get_or c.signs-signs.result.now i (pos 0))) ≡ get_or c.signs-signs.result.now i (pos 0) =
+    omega (arith, ints) in
     let agrees : turned ≡ agreement (get_or sums i (pos 0)) (get_or bits i 0) =
-    rw value at c.turned-total.ensures.agrees in
+    rw (value, kept, sign) at c.turned-total.ensures.value in
     let next : to_z w16 (of_z w16 (total +ℤ to_z w16 (of_z w16 turned))) ≡ total +ℤ turned =
     omega (arith, ints) in (
-      rw (next, agrees) (correlation_more sums bits i total _ here (omega arith) c.loop-i.invariant.0),
+      rw (next, agrees) (correlation_more sums bits i total _ here there c.loop-i.invariant.0),
       (omega (arith, ints), omega (arith, ints)),
     )
+
+pub turned-total-requires-clause-sign : goal.turned-total-requires-clause-sign
+turned-total-requires-clause-sign c =
+    let near : IsWithin 1 (get_or c.signs-signs.result.now c.loop-i.i (pos 0)) =
+    rw c.signs-signs.ensures (small_sign c.args.tsc c.loop-i.i c.requires.known (omega arith)) in
+    (omega (arith, ints), omega (arith, ints))

@@ -1,5 +1,4 @@
 use Rattle.std.proofs.Common.{◌≡◌, ℕ, ℤ, List, map, subst, rules}
-use Rattle.bit_blocks.specs.Octets.{AllOctets}
 use Rattle.um_block.specs.Sent.{IsSentBlock}
 use Rattle.um_block.specs.Received.{softened, IsReceivedBlock}
 use Rattle.um_block.specs.Restored.{IsCleanBlock}
@@ -10,9 +9,9 @@ use Rattle.um_block.proofs.Restoring.{restored_block}
 use Rattle.um_block.proofs.receiving.receive_block.Goals as goal
 
 restored : (bursts : List (List ℤ)) (r : Received) → IsReceivedBlock bursts r → (octets : List ℕ) (tsc : ℕ) (sent : List (List ℕ)) →
-    AllOctets octets → IsSentBlock octets tsc sent → bursts ≡ map softened sent → IsCleanBlock octets tsc r
-restored bursts r received octets tsc sent small s same =
-    clean_block octets tsc sent r small s (subst (λ b. IsReceivedBlock b r) same received)
+    IsSentBlock octets tsc sent → bursts ≡ map softened sent → IsCleanBlock octets tsc r
+restored bursts r received octets tsc sent s same =
+    clean_block octets tsc sent r s (subst (λ b. IsReceivedBlock b r) same received)
 
 pub returns-clause-received : goal.returns-clause-received
 returns-clause-received c = search rules
@@ -24,5 +23,5 @@ pub returns-clause-clean : goal.returns-clause-clean
 returns-clause-clean c = restored c.args.bursts.now _ (returns-clause-received c)
 
 pub returns-clause-restores : goal.returns-clause-restores
-returns-clause-restores c octets d soft small code gathered damage =
-    restored_block c.args.bursts.now octets d soft _ small code gathered damage (returns-clause-received c)
+returns-clause-restores c octets d soft code gathered damage =
+    restored_block c.args.bursts.now octets d soft _ code gathered damage (returns-clause-received c)

@@ -1,8 +1,7 @@
-use Rattle.std.proofs.Common.{◌≡◌, ◌<◌, ◌++◌, length, get_or, sym, ◌∙◌, ap, ap₂, subst, arith}
+use Rattle.std.proofs.Common.{◌≡◌, ◌<◌, ◌++◌, get_or, sym, ◌∙◌, ap₂, subst, arith}
 use Rattle.std.proofs.lemmas.List.{get_or_default}
 use Rattle.bit_blocks.specs.Bits.{AllBits}
-use Rattle.bit_blocks.specs.Octets.{IsOctet, AllOctets, bits_of}
-use Rattle.conv_code.specs.Code.{coded}
+use Rattle.bit_blocks.specs.Octets.{bits_of}
 use Rattle.conv_code.proofs.Lemmas.{AllBits-coded}
 use Rattle.fire_code.specs.Words.{IsXcchWord}
 use Rattle.um_block.specs.Sent.{with_tail}
@@ -27,6 +26,10 @@ returns-clause-coded c =
     record {
       u = c.add_tail.new.word;
       count = c.told-octets;
+      each = λ k e lt.
+          let octets = c.args.octets.now in
+          let fits : get_or octets k 0 < 256 = omega (arith, c.fits-octets k) in
+          subst (λ octet. octet < 256) (get_or_default octets k 0 e lt) fits;
       information = record {
         parity = p;
         word = subst (λ x. IsXcchWord (x ++ p)) bits_are c.xcch_parity.ensures.word;
