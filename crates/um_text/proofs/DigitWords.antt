@@ -1,5 +1,5 @@
 -- Words of decimal digits, and what they spell.
-use Rattle.std.proofs.Common.{◌≡◌, ℕ, ◌+◌, ◌-◌, ◌≤◌, true, List, [], ◌∷◌, length, map, refl, ap, sym, ◌∙◌, arith}
+use Rattle.std.proofs.Common.{◌≡◌, ℕ, ◌+◌, ◌-◌, ◌≤◌, true, List, [], ◌∷◌, ap, sym, ◌∙◌, arith}
 use Rattle.um_lines.specs.Fields.{is_digit_to}
 use Rattle.um_text.specs.Digits.{SpellsDigit}
 

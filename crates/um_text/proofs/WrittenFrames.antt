@@ -1,5 +1,5 @@
 -- What `show` writes of frames and of octets, and that each is read back.
-use Rattle.std.proofs.Common.{◌≡◌, ℕ, ◌+◌, ◌*◌, ◌<◌, ◌≤◌, ◌≢◌, ◌%◌, ◌==◌, Bool, true, false, List, [], ◌∷◌, ◌++◌, length, Some, codes, refl, ap, sym, ◌∙◌, subst, inl, arith}
+use Rattle.std.proofs.Common.{◌≡◌, ℕ, ◌<◌, ◌≤◌, ◌≢◌, ◌%◌, ◌==◌, Bool, true, false, List, [], ◌∷◌, ◌++◌, length, codes, refl, ap, sym, ◌∙◌, subst, inl, arith}
 use Rattle.std.specs.List.{All, join_with_byte}
 use Rattle.std.specs.Str.{bytes_eq}
 use Rattle.std.proofs.lemmas.Bool.{eq-eqb}
@@ -11,7 +11,7 @@ use Rattle.lapdm_frame.specs.Content.{Content, I, Rr, Rnr, Rej, Sabm, Dm, Ui, Di
 use Rattle.lapdm_frame.specs.Frames.{bit, NumbersFit, InformationFits, Fits, IsFrame, IsCanonical, octets_of}
 use Rattle.lapdm_frame.proofs.Canonical.{same_canonical, octets_canonical}
 use Rattle.um_lines.specs.Words.{is_skipped, words}
-use Rattle.um_lines.specs.Fields.{Field, Fixed, HexOctets, Value, Number, Several, hex_octets}
+use Rattle.um_lines.specs.Fields.{Field, Fixed, HexOctets, Value, Number, Several}
 use Rattle.um_lines.specs.ShowForms as F
 use Rattle.um_lines.specs.Spelled.{octets_word, spelled, spelled_line}
 use Rattle.um_lines.proofs.KnownValues.{Fitting}

@@ -6,7 +6,7 @@ ghost use Rattle.hex.specs.Hex.{is_hex_digit};
 ghost use Rattle.um_lines.specs.Fields.{hex_octets, octet_count};
 ghost use Rattle.um_text.specs.HexDigits.{is_octets_word};
 
-use um_lines::are_hex_digits;
+use um_lines::{are_hex_digits, write_octets};
 
 /// Whether a word has no other characters than octets have: it is `-`, or has hexadecimal digits alone.
 pub(crate) fn are_octet_digits(word: &[u8]) -> bool
@@ -34,18 +34,7 @@ pub(crate) fn some_octets_of(word: &[u8]) -> ([u8; 20], usize)
     let mut room = [0; 20];
     let count = word.len() / 2;
     if !matches!(word, b"-") {
-        decode(word, &mut room[..count]);
+        write_octets(word, &mut room[..count]);
     }
     (room, count)
-}
-
-fn decode(digits: &[u8], octets: &mut [u8])
-    requires each { IsTrue (list_all is_hex_digit digits.now) }
-    requires many { length digits.now ≡ 2 * length octets.old }
-    ensures { octets.new ≡ hex_octets digits.now }
-{
-    match hex::decode_to_slice(digits, octets) {
-        Ok(()) => {}
-        Err(_) => unreachable!(),
-    }
 }

@@ -8,7 +8,7 @@ ghost use Rattle.um_lines.specs.Fields.{digit_value, hex_octets};
 ghost use Rattle.um_block.specs.Received.{softened};
 ghost use Rattle.um_text.specs.SoftOctets.{signed_octets};
 
-use um_lines::LineFault;
+use um_lines::{LineFault, octet_of};
 
 /// The bits of `N` digits as sure soft values.
 pub(crate) fn hard_values<const N: usize>(digits: &[u8]) -> [i8; N]
@@ -55,28 +55,6 @@ fn signed_values<const N: usize>(digits: &[u8]) -> [i8; N]
         values[i] = octet_of(digits[2 * i], digits[2 * i + 1]).cast_signed();
     }
     values
-}
-
-fn octet_of(high: u8, low: u8) -> u8
-    requires high { IsTrue (is_hex_digit high) }
-    requires low { IsTrue (is_hex_digit low) }
-    ensures { result ≡ 16 * digit_value high + digit_value low }
-{
-    16 * digit_value(high) + digit_value(low)
-}
-
-fn digit_value(digit: u8) -> u8
-    requires { IsTrue (is_hex_digit digit) }
-    ensures value { result ≡ digit_value digit }
-    ensures within { result ≤ 15 }
-{
-    if digit <= b'9' {
-        digit - b'0'
-    } else if digit <= b'F' {
-        digit - b'A' + 10
-    } else {
-        digit - b'a' + 10
-    }
 }
 
 fn has_lowest(values: &[i8]) -> bool
