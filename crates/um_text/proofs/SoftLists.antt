@@ -14,7 +14,6 @@ use Rattle.bit_blocks.specs.SoftValues.{IsSoft, AllSoft}
 use Rattle.um_block.specs.Received.{soft_value, softened}
 use Rattle.um_lines.specs.Fields.{is_bit_digit}
 use Rattle.um_lines.specs.Fields.{digit_value, hex_octets}
-use Rattle.um_lines.proofs.HexLists.{hex_octets_more}
 use Rattle.um_text.specs.SoftOctets.{signed_octets}
 
 -- the sure soft value of a digit
@@ -31,28 +30,6 @@ hard_values_are (digit ∷ word) digits =
     let parts = and_parts (is_bit_digit digit) (list_all is_bit_digit word) digits in
     ap (λ value. value ∷ map hard_value word) (digit_softened digit parts.0)
     ∙ ap (λ values. soft_value (digit - 48) ∷ values) (hard_values_are word parts.1)
-
--- a value more
-pub soft_values_more : (digits : List ℕ) (i : ℕ) (values : List ℤ) (value : ℤ) → 2 * i + 1 < length digits → i < length values
-    → take i values ≡ signed_octets (hex_octets (take (2 * i) digits))
-    → value ≡ cast_signed w8 (16 * digit_value (get_or digits (2 * i) 0) + digit_value (get_or digits (2 * i + 1) 0))
-    → take (i + 1) (set values i value) ≡ signed_octets (hex_octets (take (2 * (i + 1)) digits))
-soft_values_more digits i values value within room before is =
-    let octet = 16 * digit_value (get_or digits (2 * i) 0) + digit_value (get_or digits (2 * i + 1) 0) in
-    rw add-one (take-suc-set values i value room)
-    ∙ ap (λ front. front ++ value ∷ []) before
-    ∙ ap (λ last. signed_octets (hex_octets (take (2 * i) digits)) ++ last ∷ []) is
-    ∙ sym (map-append (cast_signed w8) (hex_octets (take (2 * i) digits)) (octet ∷ []))
-    ∙ ap signed_octets (sym (hex_octets_more digits i within))
-
--- an octet is -128 where it is 80 in hexadecimal
-lowest_octet : (octet : ℕ) → int_eq (cast_signed w8 octet) (negsuc 127) ≡ (octet == 128)
-lowest_octet octet = grind (arith, ints, nat_tests)
-
--- and so are octets
-pub lowest_octets : (octets : List ℕ) → list_any (λ value. int_eq value (negsuc 127)) (signed_octets octets) ≡ list_any (λ octet. octet == 128) octets
-lowest_octets [] = refl
-lowest_octets (octet ∷ octets) = rw (lowest_octet octet, lowest_octets octets) refl
 
 -- octets of which none is 80 in hexadecimal are soft values
 soft_octet : (octet : ℕ) → octet < 256 → octet ≢ 128 → IsSoft (cast_signed w8 octet)

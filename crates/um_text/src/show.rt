@@ -32,6 +32,7 @@ pub enum ShowLine {
 /// with hexadecimal digits in either case.
 ///
 /// Its reasons are `Long`, `Word`, `Digits` and `Length`. Each is looked for in the whole line before the next.
+#[inline(never)]
 pub fn parse_show(line: &[u8]) -> Result<ShowLine, LineFault>
     ensures means { IfOk result (ShowMeans line.now) }
     ensures refused { result_err result ≡ show_fault line.now }

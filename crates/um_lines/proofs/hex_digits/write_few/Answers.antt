@@ -1,7 +1,7 @@
 use Rattle.std.proofs.Common.{rules, ◌+◌, ◌*◌, ◌<◌, length, ◌∙◌, arith}
 use Rattle.std.proofs.lemmas.List.{length-set}
 use Rattle.um_lines.proofs.HexLists.{octets_more}
-use Rattle.um_lines.proofs.hex_digits.write_octets.Goals as goal
+use Rattle.um_lines.proofs.hex_digits.write_few.Goals as goal
 
 pub loop-i-preserved : goal.loop-i-preserved
 loop-i-preserved c =
