@@ -1,10 +1,7 @@
 -- Soft values of words of digits.
-use Rattle.std.proofs.Common.{◌≡◌, ℕ, ◌+◌, ◌-◌, ◌*◌, ◌<◌, ◌==◌, if◌then◌else◌, true, ℤ, pos, negsuc, List, [], ◌∷◌, ◌++◌, length, map, take, get_or, set, ◌≢◌, refl, ap, sym, ◌∙◌, add-one, arith}
+use Rattle.std.proofs.Common.{◌≡◌, ℕ, ◌-◌, ◌<◌, ◌==◌, if◌then◌else◌, true, ℤ, pos, negsuc, List, [], ◌∷◌, map, ◌≢◌, refl, ap, ◌∙◌, arith}
 use Rattle.std.specs.Int.{w8, cast_signed}
-use Rattle.std.specs.List.{All, list_all, list_any}
-use Rattle.std.specs.Ordering.{int_eq}
-use Rattle.std.proofs.Math.Seq.{take-suc-set}
-use Rattle.std.proofs.lemmas.List.{map-append}
+use Rattle.std.specs.List.{All, list_all}
 use Rattle.std.proofs.lemmas.Bool.{and_parts}
 use Rattle.std.proofs.lemmas.Bool.Decides.{nat_tests}
 use Rattle.std.proofs.lemmas.Int.{ints}
@@ -13,7 +10,6 @@ use Rattle.bit_blocks.specs.Octets.{IsOctet, AllOctets}
 use Rattle.bit_blocks.specs.SoftValues.{IsSoft, AllSoft}
 use Rattle.um_block.specs.Received.{soft_value, softened}
 use Rattle.um_lines.specs.Fields.{is_bit_digit}
-use Rattle.um_lines.specs.Fields.{digit_value, hex_octets}
 use Rattle.um_text.specs.SoftOctets.{signed_octets}
 
 -- the sure soft value of a digit

@@ -34,7 +34,6 @@ pub enum BurstLine {
 ///
 /// Its reasons are `Long`, `Word`, `Order`, `Digits`, `Length` and `Soft`. Each is looked for in the whole line before the
 /// next.
-#[inline(never)]
 pub fn parse_burst(line: &[u8], held: u8) -> Result<BurstLine, LineFault>
     requires { held ≤ 3 }
     ensures means { IfOk result (BurstMeans held line.now) }
@@ -49,6 +48,7 @@ pub fn parse_burst(line: &[u8], held: u8) -> Result<BurstLine, LineFault>
     parse_words(line, held)
 }
 
+#[inline(never)]
 fn parse_words(line: &[u8], held: u8) -> Result<BurstLine, LineFault>
     ensures { result ≡ read_burst held (words line.now) }
 {

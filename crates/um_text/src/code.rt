@@ -27,7 +27,6 @@ pub enum CodeLine {
 /// Reads a line of `code`, given without its line feed: `block T HEX46`, `rach DIGITS8 BSIC6` or `sch DIGITS25`.
 ///
 /// Its reasons are `Long`, `Word`, `Digits` and `Length`. Each is looked for in the whole line before the next.
-#[inline(never)]
 pub fn parse_code(line: &[u8]) -> Result<CodeLine, LineFault>
     ensures means { IfOk result (CodeMeans line.now) }
     ensures refused { result_err result ≡ code_fault line.now }
@@ -41,6 +40,7 @@ pub fn parse_code(line: &[u8]) -> Result<CodeLine, LineFault>
     parse_words(line)
 }
 
+#[inline(never)]
 fn parse_words(line: &[u8]) -> Result<CodeLine, LineFault>
     ensures { result ≡ read_code (words line.now) }
 {
