@@ -1,13 +1,12 @@
 -- The command `show` answers each good line in one way.
-use Rattle.std.proofs.Common.{◌≡◌, ℕ, ◌/◌, List, [], length, Option, None, Some, refl, sym, ap, ◌∙◌, subst}
+use Rattle.std.proofs.Common.{◌≡◌, ℕ, List, [], Option, None, Some, refl, sym, ◌∙◌, subst}
 use Rattle.um_lines.specs.declared.fault.LineFault.{LineFault}
 use Rattle.um_text.specs.declared.show.ShowLine.{ShowLine}
 use Rattle.um_text.specs.declared.show.ShowLine.TheVariants.{Skip, Octets, Frame}
 use Rattle.um_text.specs.ShowLines.{show_fault, ShowMeans}
 use Rattle.um_lines.specs.Meanings.{HasOneMeaningUnless}
 use Rattle.um_text.specs.FrameTexts.{octets_text}
-use Rattle.um_text.proofs.ShowLaws.{length-hex_octets}
-use Rattle.um_text.proofs.ShowOnce.{one_meaning}
+use Rattle.um_text.proofs.ShowLaws.{one_meaning, shown_octets}
 use Rattle.um_text.proofs.ReportLaws.{one_frame_text, some_frame_text}
 use Rattle.um_driver.specs.Rules.{IsDetermined, IsTotal}
 use Rattle.um_driver.specs.Laws.{HasOneOutput}
@@ -36,9 +35,7 @@ show_is_determined a line y y' b b' (m, means, answer) (m', means', answer') =
 
 some_answer : (line : List ℕ) (m : ShowLine) → ShowMeans line m → (answer : List ℕ) × IsShowAnswer m answer
 some_answer line Skip means = ([], refl)
-some_answer line (Octets octets) means =
-    let spelled = means.1.2 in
-    some_frame_text octets (ap length spelled.spelled ∙ length-hex_octets means.1.0 ∙ ap (λ n. n / 2) spelled.many)
+some_answer line (Octets octets) means = some_frame_text octets (shown_octets line octets means)
 some_answer line (Frame octets) means = (octets_text octets, refl)
 
 pub show_is_total : IsTotal show_rules tt

@@ -60,6 +60,8 @@ fn ask<C: Command, S: Source>(
 }
 
 /// Writes what is gathered, and says how the run ends.
+#[cold]
+#[inline(never)]
 fn conclude<K: Sink>(status: Status, gathered: &mut Gathered, output: &mut K) -> Status
     requires { status ≢ Status.WriteFault }
     ensures concludes { Concludes status gathered.old (K.taken output.old) (K.taken output.new) result }
@@ -72,6 +74,8 @@ fn conclude<K: Sink>(status: Status, gathered: &mut Gathered, output: &mut K) ->
 }
 
 /// Writes what is gathered, and the line that refuses the input.
+#[cold]
+#[inline(never)]
 fn refuse<K: Sink>(
     number: u64,
     fault: LineFault,
@@ -91,6 +95,7 @@ fn refuse<K: Sink>(
 }
 
 /// Gathers the answer to a line.
+#[inline(always)]
 fn tell<K: Sink>(out: &mut Text, gathered: &mut Gathered, output: &mut K) -> Option<Status>
     ensures settles { Settles Turn.Answered gathered.old out.old gathered.new (K.taken output.old) (K.taken output.new) result }
     ensures empty { result ≡ None → out.new ≡ [] }
@@ -106,6 +111,7 @@ fn tell<K: Sink>(out: &mut Text, gathered: &mut Gathered, output: &mut K) -> Opt
 }
 
 /// Gathers or writes what a turn came to, and says how the run ends, if it does.
+#[inline(always)]
 fn settle<K: Sink>(
     turn: Turn,
     out: &mut Text,
@@ -126,6 +132,7 @@ fn settle<K: Sink>(
 }
 
 /// Writes what is gathered, where the next answer of the reader takes a reading.
+#[inline(always)]
 fn make_way<K: Sink>(
     lines: &mut Lines,
     gathered: &mut Gathered,

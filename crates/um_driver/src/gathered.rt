@@ -60,6 +60,8 @@ impl Gathered {
     }
 
     /// Writes all that is gathered.
+    #[cold]
+    #[inline(never)]
     pub(crate) fn flush<K: Sink>(&mut self, output: &mut K) -> Result<(), Failed>
         ensures taken { TakesAll (K.taken output.old) (K.taken output.new) result self.old }
         ensures empty { OnOk result (self.new ≡ []) }

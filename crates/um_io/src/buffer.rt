@@ -52,7 +52,7 @@ impl Buffer {
         self.end - self.start
     }
 
-    /// Where the first line feed stands. Each octet is looked at once.
+    /// Where the first line feed stands. Each octet is looked at once, but for a line feed that was found before.
     pub(crate) fn first_feed(&mut self) -> Option<usize>
         ensures kept { octets_of self.new ≡ octets_of self.old }
         ensures found { MatchOption result (IsLine (octets_of self.old)) (IsFirstFeed (octets_of self.old)) }
@@ -135,9 +135,12 @@ fn fill_from<S: Source>(source: &mut S, octets: &mut Vec<u8>, end: usize) -> Res
     source.take(&mut octets[end..])
 }
 
-/// Where the first line feed stands.
+/// Where the first line feed stands. One at the front, as where it was found before, takes no search.
 fn feed_in(octets: &[u8]) -> Option<usize>
     ensures { MatchOption result (IsLine octets.now) (IsFirstFeed octets.now) }
 {
-    memchr(b'\n', octets)
+    match octets {
+        [b'\n', ..] => Some(0),
+        _ => memchr(b'\n', octets),
+    }
 }

@@ -134,6 +134,8 @@ impl Lines {
     }
 
     /// Asks the source once.
+    #[cold]
+    #[inline(never)]
     fn read<S: Source>(&mut self, source: &mut S) -> Result<(), Failed>
         requires { NeedsMore self.old }
         ensures read { HasRead self.old self.new (S.left source.old) (S.left source.new) result }
@@ -166,6 +168,7 @@ impl Lines {
     /// Answers the next line, and reads only where what is held gives no answer.
     ///
     /// After `Long`, `TooMany` or `Failed` every further answer is `End`.
+    #[inline(always)]
     pub fn next<S: Source>(&mut self, source: &mut S) -> Next<'_>
         ensures* ends { sem 𝓛 (EndsNext self.entry (S.left source.old) (S.left source.new) result) }
         ensures unasked { IsReady self.old → source.new ≡ source.old }

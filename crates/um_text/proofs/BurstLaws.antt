@@ -1,5 +1,5 @@
 -- Lines of `replay`: each means one thing or has a reason, and what it means are soft values.
-use Rattle.std.proofs.Common.{◌≡◌, ◌≢◌, ℕ, ◌≤◌, false, ◌&&◌, ◌==◌, not, true, ℤ, pos, negsuc, List, [], ◌∷◌, length, map, replicate, Option, Some, None, refl, sym, ap, ◌∙◌, arith}
+use Rattle.std.proofs.Common.{◌≡◌, ◌≢◌, ℕ, ◌≤◌, false, ◌&&◌, ◌==◌, not, true, ℤ, pos, List, length, replicate, refl, ◌∙◌, arith}
 use Rattle.std.specs.Int.{w8, cast_signed}
 use Rattle.std.specs.List.{All}
 use Rattle.std.proofs.lemmas.Bool.Decides.{nat_tests}
@@ -9,7 +9,7 @@ use Rattle.std.proofs.lemmas.List.Elements.{All-replicate}
 use Rattle.bit_blocks.specs.Bits.{AllBits}
 use Rattle.bit_blocks.specs.SoftValues.{IsSoft, AllSoft}
 use Rattle.um_block.specs.Received.{soft_value, softened}
-use Rattle.um_lines.specs.BurstForms.{BurstName, burst_forms, burst_elsewhere}
+use Rattle.um_lines.specs.BurstForms.{burst_forms, burst_elsewhere}
 use Rattle.um_lines.specs.Forms.{LineMeans}
 use Rattle.um_lines.specs.Meanings.{HasOneMeaningUnless}
 use Rattle.um_lines.proofs.FormLaws as Laws

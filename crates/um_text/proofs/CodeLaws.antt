@@ -1,8 +1,7 @@
 -- Lines of `code`: each means one thing or has a reason, and what it means can be sent.
-use Rattle.std.proofs.Common.{◌≡◌, ℕ, ◌<◌, ◌≤◌, List, [], ◌∷◌, length, refl, subst, sym}
-use Rattle.std.specs.List.{All}
+use Rattle.std.proofs.Common.{◌≡◌, ℕ, ◌≤◌, List, length, refl}
 use Rattle.bit_blocks.specs.Bits.{AllBits}
-use Rattle.um_lines.specs.CodeForms.{CodeName, code_forms}
+use Rattle.um_lines.specs.CodeForms.{code_forms}
 use Rattle.um_lines.specs.Forms.{LineMeans, anywhere}
 use Rattle.um_lines.specs.Meanings.{HasOneMeaningUnless}
 use Rattle.um_lines.proofs.FormLaws as Laws

@@ -10,9 +10,6 @@ pub mod WorkedBursts
 pub mod WorkedLines
 pub mod WorkedShow
 pub mod WrittenBursts
-pub mod DigitWords
 pub mod ShowFaults
 pub mod ShowFields
-pub mod ShowMeanings
-pub mod ShowOnce
 pub mod WrittenFrames

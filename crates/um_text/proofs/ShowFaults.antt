@@ -1,21 +1,29 @@
--- When the words of a line of `show` fit no form, and which form those of a frame have.
-use Rattle.std.proofs.Common.{◌≡◌, ℕ, true, false, ◌&&◌, Bool, List, [], ◌∷◌, Some, codes, refl, ◌∙◌, ap}
+-- When the words of a line of `show` fit no form, and what is read of those of a frame.
+use Rattle.std.proofs.Common.{◌≡◌, ℕ, true, false, ◌&&◌, Bool, List, [], ◌∷◌, Option, Some, None, Ok, Err, codes, refl, sym, ◌∙◌, ap}
 use Rattle.std.specs.Str.{bytes_eq}
+use Rattle.lapdm_frame.specs.declared.Channel.TheVariants.{Sdcch}
+use Rattle.lapdm_frame.specs.Content.{Frame}
+use Rattle.lapdm_frame.specs.Frames.{octets_of}
+use Rattle.um_lines.specs.declared.fault.LineFault.{LineFault}
 use Rattle.um_lines.specs.declared.fault.LineFault.TheVariants.{Digits, Length}
+use Rattle.um_lines.specs.Fields.{Field, Fixed, DigitTo, AnyOctets, may_stand, has_wrong_digits, has_wrong_length, has_wrong_soft, has_wrong_place}
+use Rattle.um_lines.specs.Forms.{some_word, values_of, places, fields_fault, unless}
+use Rattle.um_lines.specs.ShowForms.{numbered, frame_form}
+use Rattle.um_lines.specs.Forms.{fields_of}
 use Rattle.um_text.specs.declared.frame_words.FrameWords.{FrameWords}
 use Rattle.um_text.specs.declared.frame_words.Fields.{Fields}
 use Rattle.um_text.specs.declared.frame_words.Fields.TheVariants.{I, Rr, Rnr, Rej, Sabm, Dm, Ui, Disc, Ua}
-use Rattle.um_text.specs.Forms.{Field, Form, Fixed, DigitTo, Octets, may_stand, has_form, has_wrong_digits, has_wrong_length, some_word, form_fault, words_fault}
-use Rattle.um_text.specs.ShowLines.{numbered, frame_form, show_forms}
-use Rattle.um_text.specs.ShowReading.{begins_named, is_named, kind_word, kind_form, kind_of, field_words, line_words, line_form}
+use Rattle.um_text.specs.declared.show.ShowLine.TheVariants as S
+use Rattle.um_text.specs.ShowLines.{said_frame, shown, read_show}
+use Rattle.um_text.specs.ShowReading.{has_fields, begins_named, is_named, kind_word, kind_form, kind_of, name_of, field_words, line_words, line_fields}
 
 nowhere : (a : Bool) → (a && false) ≡ false
 nowhere true = refl
 nowhere false = refl
 
 -- words that do not begin with a name have no form that does, and goes on
-pub lacks_name : (name : List ℕ) (parts : List (List ℕ)) (field other : Field) (form : Form) → begins_named name parts ≡ false
-    → has_form parts (Fixed name ∷ field ∷ other ∷ form) ≡ false
+pub lacks_name : (name : List ℕ) (parts : List (List ℕ)) (field other : Field) (form : List Field) → begins_named name parts ≡ false
+    → has_fields parts (Fixed name ∷ field ∷ other ∷ form) ≡ false
 lacks_name name [] field other form lacks = refl
 lacks_name name (word ∷ []) field other form lacks = nowhere (bytes_eq word name)
 lacks_name name (word ∷ value ∷ []) field other form lacks =
@@ -24,55 +32,103 @@ lacks_name name (word ∷ value ∷ more ∷ rest) field other form lacks = rw l
 
 -- words that are no name and its value have no such form
 pub is_not_named : (name : List ℕ) (parts : List (List ℕ)) (field : Field) → is_named name parts ≡ false
-    → has_form parts (Fixed name ∷ field ∷ []) ≡ false
+    → has_fields parts (Fixed name ∷ field ∷ []) ≡ false
 is_not_named name [] field lacks = refl
 is_not_named name (word ∷ []) field lacks = nowhere (bytes_eq word name)
 is_not_named name (word ∷ value ∷ []) field lacks = rw lacks refl
 is_not_named name (word ∷ value ∷ more ∷ rest) field lacks =
     ap (λ b. bytes_eq word name && b) (nowhere (may_stand field value)) ∙ nowhere (bytes_eq word name)
 
+-- ---- what is read of the words of a frame
+
+abbrev parts_of : List ℕ → List ℕ → Fields → List (List ℕ)
+parts_of sapi cr fields = codes "frame" ∷ codes "sapi" ∷ sapi ∷ codes "cr" ∷ cr ∷ kind_word (kind_of fields) ∷ field_words fields
+
+abbrev places_of : Fields → List Field
+places_of fields = fields_of (frame_form (kind_word (kind_of fields)) (kind_form (kind_of fields)))
+
 -- the words of fields have the form of their kind
-found_fields : (sapi cr : List ℕ) (fields : Fields) →
-    let parts = codes "frame" ∷ codes "sapi" ∷ sapi ∷ codes "cr" ∷ cr ∷ kind_word (kind_of fields) ∷ field_words fields in
-    words_fault show_forms parts ≡ form_fault (Some (frame_form (kind_word (kind_of fields)) (kind_form (kind_of fields)))) parts
-found_fields sapi cr (I ns nr p m info) = refl
-found_fields sapi cr (Rr nr pf) = refl
-found_fields sapi cr (Rnr nr pf) = refl
-found_fields sapi cr (Rej nr pf) = refl
-found_fields sapi cr (Sabm p info) = refl
-found_fields sapi cr (Dm f) = refl
-found_fields sapi cr (Ui p info) = refl
-found_fields sapi cr (Disc p) = refl
-found_fields sapi cr (Ua f info) = refl
+read_parts : (sapi cr : List ℕ) (fields : Fields) → read_show (parts_of sapi cr fields)
+    ≡ unless (fields_fault (places_of fields) (parts_of sapi cr fields))
+    (shown (said_frame (name_of (kind_of fields)) (values_of (places_of fields) (parts_of sapi cr fields))))
+read_parts sapi cr (I ns nr p m info) = refl
+read_parts sapi cr (Rr nr pf) = refl
+read_parts sapi cr (Rnr nr pf) = refl
+read_parts sapi cr (Rej nr pf) = refl
+read_parts sapi cr (Sabm p info) = refl
+read_parts sapi cr (Dm f) = refl
+read_parts sapi cr (Ui p info) = refl
+read_parts sapi cr (Disc p) = refl
+read_parts sapi cr (Ua f info) = refl
 
-pub found_form : (w : FrameWords) → words_fault show_forms (line_words w) ≡ form_fault (Some (line_form w)) (line_words w)
-found_form w = found_fields w.sapi.now w.cr.now w.fields
+-- no word of a frame is a soft value or a place
+no_soft : (sapi cr : List ℕ) (fields : Fields) → some_word has_wrong_soft (places_of fields) (parts_of sapi cr fields) ≡ false
+no_soft sapi cr (I ns nr p m info) = refl
+no_soft sapi cr (Rr nr pf) = refl
+no_soft sapi cr (Rnr nr pf) = refl
+no_soft sapi cr (Rej nr pf) = refl
+no_soft sapi cr (Sabm p info) = refl
+no_soft sapi cr (Dm f) = refl
+no_soft sapi cr (Ui p info) = refl
+no_soft sapi cr (Disc p) = refl
+no_soft sapi cr (Ua f info) = refl
 
-wrong_digits : (form : Form) (parts : List (List ℕ)) → some_word has_wrong_digits form parts ≡ true → form_fault (Some form) parts ≡ Some Digits
-wrong_digits form parts wrong = rw wrong refl
+no_place : (sapi cr : List ℕ) (fields : Fields) → some_word has_wrong_place (places_of fields) (parts_of sapi cr fields) ≡ false
+no_place sapi cr (I ns nr p m info) = refl
+no_place sapi cr (Rr nr pf) = refl
+no_place sapi cr (Rnr nr pf) = refl
+no_place sapi cr (Rej nr pf) = refl
+no_place sapi cr (Sabm p info) = refl
+no_place sapi cr (Dm f) = refl
+no_place sapi cr (Ui p info) = refl
+no_place sapi cr (Disc p) = refl
+no_place sapi cr (Ua f info) = refl
 
-wrong_length : (form : Form) (parts : List (List ℕ)) → some_word has_wrong_digits form parts ≡ false → some_word has_wrong_length form parts ≡ true
-    → form_fault (Some form) parts ≡ Some Length
-wrong_length form parts right wrong = rw (right, wrong) refl
+no_places : (sapi cr : List ℕ) (fields : Fields) → places (values_of (places_of fields) (parts_of sapi cr fields)) ≡ []
+no_places sapi cr (I ns nr p m info) = refl
+no_places sapi cr (Rr nr pf) = refl
+no_places sapi cr (Rnr nr pf) = refl
+no_places sapi cr (Rej nr pf) = refl
+no_places sapi cr (Sabm p info) = refl
+no_places sapi cr (Dm f) = refl
+no_places sapi cr (Ui p info) = refl
+no_places sapi cr (Disc p) = refl
+no_places sapi cr (Ua f info) = refl
 
-pub refused_for_digits : (parts : List (List ℕ)) (w : FrameWords) → parts ≡ line_words w
-    → some_word has_wrong_digits (line_form w) (line_words w) ≡ true → words_fault show_forms parts ≡ Some Digits
-refused_for_digits parts w e wrong = ap (words_fault show_forms) e ∙ found_form w ∙ wrong_digits (line_form w) (line_words w) wrong
+module _ (parts : List (List ℕ)) (w : FrameWords) (e : parts ≡ line_words w) where
+  abbrev read_as : Option LineFault → Type 0
+  read_as fault = read_show parts ≡ unless fault (shown (said_frame (name_of (kind_of w.fields)) (values_of (line_fields w) (line_words w))))
 
-pub refused_for_length : (parts : List (List ℕ)) (w : FrameWords) → parts ≡ line_words w
-    → some_word has_wrong_digits (line_form w) (line_words w) ≡ false → some_word has_wrong_length (line_form w) (line_words w) ≡ true
-    → words_fault show_forms parts ≡ Some Length
-refused_for_length parts w e right wrong =
-    ap (words_fault show_forms) e ∙ found_form w ∙ wrong_length (line_form w) (line_words w) right wrong
+  reason : (fault : Option LineFault) → fields_fault (line_fields w) (line_words w) ≡ fault → read_as fault
+  reason fault is =
+      ap read_show e
+      ∙ read_parts w.sapi.now w.cr.now w.fields
+      ∙ ap (λ f. unless f (shown (said_frame (name_of (kind_of w.fields)) (values_of (line_fields w) (line_words w))))) is
+
+  pub refused_for_digits : some_word has_wrong_digits (line_fields w) (line_words w) ≡ true → Err Digits ≡ read_show parts
+  refused_for_digits wrong = sym (reason (Some Digits) (rw wrong refl))
+
+  pub refused_for_length : some_word has_wrong_digits (line_fields w) (line_words w) ≡ false
+      → some_word has_wrong_length (line_fields w) (line_words w) ≡ true → Err Length ≡ read_show parts
+  refused_for_length right wrong = sym (reason (Some Length) (rw (right, wrong) refl))
+
+  pub read_frame : (f : Frame) → some_word has_wrong_digits (line_fields w) (line_words w) ≡ false
+      → some_word has_wrong_length (line_fields w) (line_words w) ≡ false
+      → said_frame (name_of (kind_of w.fields)) (values_of (line_fields w) (line_words w)) ≡ Some f
+      → Ok (S.Frame (octets_of Sdcch f)) ≡ read_show parts
+  read_frame f right many said =
+      let good : fields_fault (line_fields w) (line_words w) ≡ None =
+      rw (right, many, no_soft w.sapi.now w.cr.now w.fields, no_place w.sapi.now w.cr.now w.fields, no_places w.sapi.now w.cr.now w.fields) refl in
+      sym (reason None good ∙ ap (λ o. Ok (shown o)) said)
 
 -- words behind `i` in which `m`, or `info`, does not stand where it is to stand
 pub numbered_lacks_m : (parts r1 r2 r3 : List (List ℕ)) (ns nr p : List ℕ) → parts ≡ codes "ns" ∷ ns ∷ r1 → r1 ≡ codes "nr" ∷ nr ∷ r2
-    → r2 ≡ codes "p" ∷ p ∷ r3 → begins_named (codes "m") r3 ≡ false → has_form parts numbered ≡ false
+    → r2 ≡ codes "p" ∷ p ∷ r3 → begins_named (codes "m") r3 ≡ false → has_fields parts numbered ≡ false
 numbered_lacks_m parts r1 r2 r3 ns nr p e1 e2 e3 lacks =
-    rw (e1, e2, e3) (lacks_name (codes "m") r3 (DigitTo 1) (Fixed (codes "info")) (Octets 1 20 ∷ []) lacks)
+    rw (e1, e2, e3) (lacks_name (codes "m") r3 (DigitTo 1) (Fixed (codes "info")) (AnyOctets 1 (Some 20) ∷ []) lacks)
 
 pub numbered_lacks_info : (parts r1 r2 r3 r4 : List (List ℕ)) (ns nr p m : List ℕ) → parts ≡ codes "ns" ∷ ns ∷ r1
     → r1 ≡ codes "nr" ∷ nr ∷ r2 → r2 ≡ codes "p" ∷ p ∷ r3 → r3 ≡ codes "m" ∷ m ∷ r4 → is_named (codes "info") r4 ≡ false
-    → has_form parts numbered ≡ false
+    → has_fields parts numbered ≡ false
 numbered_lacks_info parts r1 r2 r3 r4 ns nr p m e1 e2 e3 e4 lacks =
-    rw (e1, e2, e3, e4) (is_not_named (codes "info") r4 (Octets 1 20) lacks)
+    rw (e1, e2, e3, e4) (is_not_named (codes "info") r4 (AnyOctets 1 (Some 20)) lacks)

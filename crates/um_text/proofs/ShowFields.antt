@@ -1,13 +1,11 @@
 -- What it says of the words of a frame's fields that none has wrong digits or a wrong length.
-use Rattle.std.proofs.Common.{◌≡◌, ℕ, ◌≤◌, Bool, true, false, not, ◌&&◌, ◌||◌, List, ◌∷◌, codes, refl, leb, leb-true, arith}
+use Rattle.std.proofs.Common.{◌≡◌, ℕ, ◌≤◌, Bool, true, false, not, ◌&&◌, ◌||◌, List, Some, codes, refl, leb, leb-true, arith}
 use Rattle.std.proofs.lemmas.Bool.{and_parts, or_parts}
 use Rattle.um_text.specs.declared.frame_words.Fields.{Fields}
 use Rattle.um_text.specs.declared.frame_words.Fields.TheVariants.{I, Sabm, Ui, Ua}
-use Rattle.um_lines.specs.Fields.{is_digit_to}
-use Rattle.um_lines.specs.Fields.{octet_count}
-use Rattle.um_text.specs.HexDigits.{is_octets_word}
-use Rattle.um_text.specs.Forms.{has_wrong_digits, has_wrong_length, some_word}
-use Rattle.um_text.specs.ShowReading.{kind_form, kind_of, field_words, info_word, least_info, are_octet_digits}
+use Rattle.um_lines.specs.Fields.{is_digit_to, are_octet_digits, are_octets, octet_count, has_wrong_digits, has_wrong_length}
+use Rattle.um_lines.specs.Forms.{some_word}
+use Rattle.um_text.specs.ShowReading.{kind_form, kind_of, field_words, info_word, least_info, is_octets_word}
 
 pub not_false : (a : Bool) → not a ≡ false → a ≡ true
 not_false true e = refl
@@ -40,13 +38,12 @@ pub record HasOctets (least : ℕ) (word : List ℕ) : Type 0 where
   pub least_many : least ≤ octet_count word
   pub most_many : octet_count word ≤ 20
 
-has_octets : (least : ℕ) (word : List ℕ) → (not (is_octets_word word && leb least (octet_count word) && leb (octet_count word) 20) || false) ≡ false
-    → HasOctets least word
+has_octets : (least : ℕ) (word : List ℕ) → (not (are_octets least (Some 20) word) || false) ≡ false → HasOctets least word
 has_octets least word e =
-    let all = right (is_octets_word word && leb least (octet_count word) && leb (octet_count word) 20) false e in
-    let outer = and_parts (is_octets_word word && leb least (octet_count word)) (leb (octet_count word) 20) all in
-    let inner = and_parts (is_octets_word word) (leb least (octet_count word)) outer.0 in
-    record { well = inner.0; least_many = leb-true _ _ inner.1; most_many = leb-true _ _ outer.1 }
+    let all = right (are_octets least (Some 20) word) false e in
+    let outer = and_parts (is_octets_word word) (leb least (octet_count word) && leb (octet_count word) 20) all in
+    let inner = and_parts (leb least (octet_count word)) (leb (octet_count word) 20) outer.1 in
+    record { well = outer.0; least_many = leb-true _ _ inner.0; most_many = leb-true _ _ inner.1 }
 
 no_octets : HasOctets 0 (codes "-")
 no_octets = record { well = refl; least_many = omega arith; most_many = omega arith }
@@ -58,8 +55,3 @@ info_length (Sabm p info) e = has_octets 0 info.now e
 info_length (Ui p info) e = has_octets 0 info.now e
 info_length (Ua f info) e = has_octets 0 info.now e
 info_length other e = no_octets
-
--- the words of a line, part by part
-pub same_line : (sapi cr sapi' cr' : List ℕ) (rest rest' : List (List ℕ)) → sapi ≡ sapi' → cr ≡ cr' → rest ≡ rest'
-    → codes "frame" ∷ codes "sapi" ∷ sapi ∷ codes "cr" ∷ cr ∷ rest ≡ codes "frame" ∷ codes "sapi" ∷ sapi' ∷ codes "cr" ∷ cr' ∷ rest'
-same_line sapi cr sapi' cr' rest rest' e e' e'' = rw (e, e', e'') refl

@@ -1,110 +1,101 @@
--- What has a meaning as a line of `show` has no reason.
-use Rattle.std.proofs.Common.{◌≡◌, ℕ, ◌/◌, ◌≤◌, Bool, true, false, List, [], ◌∷◌, length, None, Result, Ok, Err, codes, refl, ap, sym, ◌∙◌, leb, arith}
-use Rattle.std.specs.List.{join_with_byte}
-use Rattle.std.specs.Result.{result_err}
-use Rattle.std.proofs.lemmas.Bool.{le-leb, le-ltb}
-use Rattle.std.proofs.lemmas.List.Splits.{join_with_byte-slice_split}
+-- Lines of `show`: each means one thing or has a reason, and the frame that one says fits.
+use Rattle.std.proofs.Common.{◌≡◌, ℕ, List, length, Option, Some, None, refl, sym, subst, arith}
+use Rattle.std.specs.Prelude.{IfSome}
 use Rattle.lapdm_frame.specs.declared.Channel.TheVariants.{Sdcch}
-use Rattle.lapdm_frame.specs.Content.{Content, I, Rr, Rnr, Rej, Sabm, Dm, Ui, Disc, Ua, information}
-use Rattle.lapdm_frame.specs.Frames.{NumbersFit, InformationFits}
-use Rattle.um_lines.specs.declared.fault.LineFault.{LineFault}
+use Rattle.lapdm_frame.specs.Content.{Frame}
+use Rattle.lapdm_frame.specs.Frames.{Fits}
+use Rattle.um_lines.specs.Fields.{Value}
+use Rattle.um_lines.specs.Forms.{LineMeans, anywhere}
+use Rattle.um_lines.specs.Meanings.{HasOneMeaningUnless}
+use Rattle.um_lines.specs.ShowForms as F
+use Rattle.um_lines.specs.ShowForms.{ShowName, show_forms}
+use Rattle.um_lines.proofs.FormLaws as Laws
+use Rattle.um_lines.proofs.KnownValues.{AreOctets, line_is}
 use Rattle.um_text.specs.declared.show.ShowLine.{ShowLine}
-use Rattle.um_text.specs.declared.show.ShowLine.TheVariants.{Skip, Octets}
 use Rattle.um_text.specs.declared.show.ShowLine.TheVariants as S
-use Rattle.um_lines.specs.Words.{is_skipped, words}
-use Rattle.um_lines.specs.Fields.{is_digit_to}
-use Rattle.um_lines.specs.Fields.{hex_octets, octet_count}
-use Rattle.um_text.specs.HexDigits.{SpellsAnyOctets}
-use Rattle.um_text.specs.Forms.{words_fault}
-use Rattle.um_text.specs.FrameTexts.{digit, flag}
-use Rattle.um_text.specs.ShowLines.{show_forms, show_fault, frame_words, WordsMean, ShowMeans}
-use Rattle.um_text.specs.ShowReading.{IsReadAs}
+use Rattle.um_text.specs.ShowLines.{said_frame, shown, show_of, show_line, show_fault, ShowMeans}
 
--- ---- what has a meaning has no reason
+pub one_meaning : (line : List ℕ) → HasOneMeaningUnless (show_fault line) (ShowMeans line)
+one_meaning line =
+    Laws.one_made show_line (LineMeans show_forms anywhere line) (show_fault line) (Laws.one_meaning show_forms anywhere line refl)
 
-digit_fits : (most number : ℕ) → number ≤ most → is_digit_to most (digit number) ≡ true
-digit_fits most number within = grind arith
+-- what a line asks for beside the frame that it says
+abbrev said : Option (ShowName × List Value) → ShowLine × Option Frame
+said None = (S.Skip, None)
+said (Some meaning) = (show_of meaning.0 meaning.1, said_frame meaning.0 meaning.1)
 
-flag_fits : (set : Bool) → is_digit_to 1 (flag set) ≡ true
-flag_fits true = refl
-flag_fits false = refl
+-- 23 octets, and a frame that fits
+abbrev IsKnown : ShowLine × Option Frame → Type 0
+IsKnown (S.Octets octets, f) = AreOctets 23 octets
+IsKnown (other, f) = IfSome f (Fits Sdcch)
 
--- digits give half as many octets
-pub length-hex_octets : (word : List ℕ) → length (hex_octets word) ≡ length word / 2
-length-hex_octets [] = refl
-length-hex_octets (digit ∷ []) = refl
-length-hex_octets (high ∷ low ∷ rest) = let fewer = length-hex_octets rest in omega arith
+known : (line : List ℕ) (meaning : Option (ShowName × List Value)) → LineMeans show_forms anywhere line meaning → IsKnown (said meaning)
+known line meaning means =
+    line_is show_forms anywhere said IsKnown tt (
+      λ count values here (octets, rest, is, known, none). rw (is, none) known,
+      (
+        λ count values here (s, r1, e1, small, (cr, r2, e2, one, (ns, r3, e3, sent, (nr, r4, e4, got, (p, r5, e5, polls, (m, r6, e6, more, (info, r7, e7, fits, none))))))).
+          rw (e1, e2, e3, e4, e5, e6, e7, none) (record { sapi = small; numbers = (sent, got); information = (fits.0, fits.1) }),
+        (
+          λ count values here (s, r1, e1, small, (cr, r2, e2, one, (nr, r3, e3, got, (pf, r4, e4, set, none)))).
+            rw (e1, e2, e3, e4, none) (record { sapi = small; numbers = got; information = omega arith }),
+          (
+            λ count values here (s, r1, e1, small, (cr, r2, e2, one, (nr, r3, e3, got, (pf, r4, e4, set, none)))).
+              rw (e1, e2, e3, e4, none) (record { sapi = small; numbers = got; information = omega arith }),
+            (
+              λ count values here (s, r1, e1, small, (cr, r2, e2, one, (nr, r3, e3, got, (pf, r4, e4, set, none)))).
+                rw (e1, e2, e3, e4, none) (record { sapi = small; numbers = got; information = omega arith }),
+              (
+                λ count values here (s, r1, e1, small, (cr, r2, e2, one, (p, r3, e3, set, (info, r4, e4, fits, none)))).
+                  rw (e1, e2, e3, e4, none) (record { sapi = small; numbers = tt; information = fits.1 }),
+                (
+                  λ count values here (s, r1, e1, small, (cr, r2, e2, one, (f, r3, e3, set, none))).
+                    rw (e1, e2, e3, none) (record { sapi = small; numbers = tt; information = omega arith }),
+                  (
+                    λ count values here (s, r1, e1, small, (cr, r2, e2, one, (p, r3, e3, set, (info, r4, e4, fits, none)))).
+                      rw (e1, e2, e3, e4, none) (record { sapi = small; numbers = tt; information = fits.1 }),
+                    (
+                      λ count values here (s, r1, e1, small, (cr, r2, e2, one, (p, r3, e3, set, none))).
+                        rw (e1, e2, e3, none) (record { sapi = small; numbers = tt; information = omega arith }),
+                      (
+                        λ count values here (s, r1, e1, small, (cr, r2, e2, one, (f, r3, e3, set, (info, r4, e4, fits, none)))).
+                          rw (e1, e2, e3, e4, none) (record { sapi = small; numbers = tt; information = fits.1 }),
+                        tt,
+                      ),
+                    ),
+                  ),
+                ),
+              ),
+            ),
+          ),
+        ),
+      ),
+    ) line (said meaning) (meaning, means, refl)
 
--- a word of octets is as long as they are many
-counted : (word octets : List ℕ) → SpellsAnyOctets word octets → octet_count word ≡ length octets
-counted word octets spells = sym (length-hex_octets word) ∙ sym (ap length spells.spelled)
+-- a frame that a line says fits
+pub said_fits : (line : List ℕ) (name : ShowName) (values : List Value) (f : Frame) → LineMeans show_forms anywhere line (Some (name, values))
+    → said_frame name values ≡ Some f → Fits Sdcch f
+said_fits line name values f means is = go name values is (known line (Some (name, values)) means)
+  where
+    frames : (m : ShowLine) (o : Option Frame) → o ≡ Some f → m ≡ shown o → IsKnown (m, o) → Fits Sdcch f
+    frames m o is shows k = let pair : IsKnown (shown (Some f), Some f) = subst (λ o. IsKnown (shown o, o)) is (subst (λ m. IsKnown (m, o)) shows k) in pair
 
-module _ (s : ℕ) (cr : Bool) (word : List ℕ) (small : s ≤ 7) where
-  -- the tests of the information's word
-  module _ (least : ℕ) (octets : List ℕ) (spells : SpellsAnyOctets word octets) (some : least ≤ length octets) (few : length octets ≤ 20) where
-    enough : leb least (octet_count word) ≡ true
-    enough = le-leb least (octet_count word) (omega (arith, counted word octets spells))
+    go : (name : ShowName) (values : List Value) → said_frame name values ≡ Some f → IsKnown (show_of name values, said_frame name values) → Fits Sdcch f
+    go F.Octets values is k = absurd cc
+    go F.I values is k = frames (show_of F.I values) (said_frame F.I values) is refl k
+    go F.Rr values is k = frames (show_of F.Rr values) (said_frame F.Rr values) is refl k
+    go F.Rnr values is k = frames (show_of F.Rnr values) (said_frame F.Rnr values) is refl k
+    go F.Rej values is k = frames (show_of F.Rej values) (said_frame F.Rej values) is refl k
+    go F.Sabm values is k = frames (show_of F.Sabm values) (said_frame F.Sabm values) is refl k
+    go F.Dm values is k = frames (show_of F.Dm values) (said_frame F.Dm values) is refl k
+    go F.Ui values is k = frames (show_of F.Ui values) (said_frame F.Ui values) is refl k
+    go F.Disc values is k = frames (show_of F.Disc values) (said_frame F.Disc values) is refl k
+    go F.Ua values is k = frames (show_of F.Ua values) (said_frame F.Ua values) is refl k
 
-    no_more : leb (octet_count word) 20 ≡ true
-    no_more = le-leb (octet_count word) 20 (omega (arith, counted word octets spells))
-
-  frame_without_fault : (content : Content) → NumbersFit content → SpellsAnyOctets word (information content) → InformationFits Sdcch content
-      → words_fault show_forms (frame_words (record { sapi = s; cr = cr; content = content }) word) ≡ None
-  frame_without_fault (I ns nr p more info) numbers spells fits =
-      rw (
-        digit_fits 7 s small,
-        flag_fits cr,
-        digit_fits 7 ns numbers.0,
-        digit_fits 7 nr numbers.1,
-        flag_fits p,
-        flag_fits more,
-        spells.each,
-        spells.well,
-        enough 1 info spells fits.0 fits.1,
-        no_more 1 info spells fits.0 fits.1,
-      ) refl
-  frame_without_fault (Rr nr pf) numbers spells fits = rw (digit_fits 7 s small, flag_fits cr, digit_fits 7 nr numbers, flag_fits pf) refl
-  frame_without_fault (Rnr nr pf) numbers spells fits = rw (digit_fits 7 s small, flag_fits cr, digit_fits 7 nr numbers, flag_fits pf) refl
-  frame_without_fault (Rej nr pf) numbers spells fits = rw (digit_fits 7 s small, flag_fits cr, digit_fits 7 nr numbers, flag_fits pf) refl
-  frame_without_fault (Sabm p info) numbers spells fits =
-      rw (digit_fits 7 s small, flag_fits cr, flag_fits p, spells.each, spells.well, enough 0 info spells (omega arith) fits, no_more 0 info spells (omega arith) fits) refl
-  frame_without_fault (Dm f) numbers spells fits = rw (digit_fits 7 s small, flag_fits cr, flag_fits f) refl
-  frame_without_fault (Ui p info) numbers spells fits =
-      rw (digit_fits 7 s small, flag_fits cr, flag_fits p, spells.each, spells.well, enough 0 info spells (omega arith) fits, no_more 0 info spells (omega arith) fits) refl
-  frame_without_fault (Disc p) numbers spells fits = rw (digit_fits 7 s small, flag_fits cr, flag_fits p) refl
-  frame_without_fault (Ua f info) numbers spells fits =
-      rw (digit_fits 7 s small, flag_fits cr, flag_fits f, spells.each, spells.well, enough 0 info spells (omega arith) fits, no_more 0 info spells (omega arith) fits) refl
-
-words_without_fault : (parts : List (List ℕ)) (meaning : ShowLine) → WordsMean parts meaning → words_fault show_forms parts ≡ None
-words_without_fault parts Skip m = absurd m
-words_without_fault parts (Octets octets) m = rw (m.1, m.2.each, m.2.many) refl
-words_without_fault parts (S.Frame octets) m =
-    ap (words_fault show_forms) m.spelled
-    ∙ frame_without_fault m.frame.sapi m.frame.cr m.word m.fits.sapi m.frame.content m.fits.numbers m.informed m.fits.information
-
--- a line that is passed over is no line of words with a meaning
-is_skipped_by_words : (line : List ℕ) (parts : List (List ℕ)) → words line ≡ parts → is_skipped line ≡ is_skipped (join_with_byte 32 parts)
-is_skipped_by_words line parts e =
-    ap is_skipped (sym (join_with_byte-slice_split 32 line)) ∙ ap (λ ws. is_skipped (join_with_byte 32 ws)) e
-
-pub not_skipped : (line : List ℕ) (meaning : ShowLine) → WordsMean (words line) meaning → is_skipped line ≡ false
-not_skipped line Skip m = absurd m
-not_skipped line (Octets octets) m = is_skipped_by_words line (codes "octets" ∷ m.0 ∷ []) m.1
-not_skipped line (S.Frame octets) m = is_skipped_by_words line (frame_words m.frame m.word) m.spelled
-
-of_words : (line : List ℕ) (meaning : ShowLine) → length line ≤ 4096 → WordsMean (words line) meaning → show_fault line ≡ None
-of_words line meaning short m =
-    rw (le-ltb 4096 (length line) short, not_skipped line meaning m) (words_without_fault (words line) meaning m)
-
-pub line_without_fault : (line : List ℕ) (meaning : ShowLine) → ShowMeans line meaning → show_fault line ≡ None
-line_without_fault line Skip m = rw (le-ltb 4096 (length line) m.0, m.1) refl
-line_without_fault line (Octets octets) m = of_words line (Octets octets) m.0 m.1
-line_without_fault line (S.Frame octets) m = of_words line (S.Frame octets) m.0 m.1
-
--- ---- what is read
-
--- the answer to a line that is neither long nor passed over is the answer to its words
-pub read_by_words : (line : List ℕ) (result : Result ShowLine LineFault) → length line ≤ 4096 → is_skipped line ≡ false
-    → IsReadAs (words line) result → result_err result ≡ show_fault line
-read_by_words line (Ok meaning) short stays m = sym (of_words line meaning short m)
-read_by_words line (Err fault) short stays bad = rw (le-ltb 4096 (length line) short, stays) (sym bad)
+-- and the octets that a line asks for are 23
+pub shown_octets : (line octets : List ℕ) → ShowMeans line (S.Octets octets) → length octets ≡ 23
+shown_octets line octets (None, means, is) = absurd cc
+shown_octets line octets (Some meaning, means, is) = (go (said (Some meaning)) is (known line (Some meaning) means)).0
+  where
+    go : (both : ShowLine × Option Frame) → S.Octets octets ≡ both.0 → IsKnown both → AreOctets 23 octets
+    go (m, o) is k = subst (λ m. IsKnown (m, o)) (sym is) k

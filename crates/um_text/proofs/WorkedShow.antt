@@ -1,5 +1,5 @@
 -- Lines of `show` and reports that were judged by hand, and what the definitions say of them.
-use Rattle.std.proofs.Common.{◌≡◌, ◌<◌, true, false, [], ◌∷◌, ◌++◌, Some, None, refl, codes, replicate, take, drop, inl, inr, arith}
+use Rattle.std.proofs.Common.{◌≡◌, ◌<◌, true, false, List, [], ◌∷◌, ◌++◌, Some, None, refl, codes, replicate, take, drop, inl, inr, arith}
 use Rattle.hex.specs.Hex.{encode_with, encode_lower}
 use Rattle.lapdm_frame.specs.declared.Channel.TheVariants.{Sdcch}
 use Rattle.lapdm_frame.specs.declared.Refusal.{Refusal}
@@ -9,10 +9,12 @@ use Rattle.lapdm_frame.specs.Refusals.{AppliesTo, place, IsRefused}
 use Rattle.bit_blocks.specs.Octets.{octets_of}
 use Rattle.um_lines.specs.declared.fault.LineFault.TheVariants.{Digits}
 use Rattle.um_lines.specs.declared.fault.LineFault.TheVariants as F
-use Rattle.um_lines.specs.Words.{words}
-use Rattle.um_lines.specs.Fields.{hex_octets}
+use Rattle.um_lines.specs.Fields.{hex_octets, Value, Number, Several}
+use Rattle.um_lines.specs.Forms.{line_says}
+use Rattle.um_lines.specs.ShowForms as N
+use Rattle.um_lines.specs.ShowForms.{show_forms}
 use Rattle.um_text.specs.FrameTexts.{frame_text, IsFrameText}
-use Rattle.um_text.specs.ShowLines.{show_fault, frame_words}
+use Rattle.um_text.specs.ShowLines.{show_fault, said_frame}
 
 -- a frame with information, both ways
 asked : Frame
@@ -22,9 +24,15 @@ asked_text : frame_text asked ≡ codes "frame sapi 0 cr 0 i ns 5 nr 2 p 1 m 0 i
 unfolding asked encode_with
 asked_text = refl
 
-asked_words : words (codes "frame sapi 0 cr 0 i ns 5 nr 2 p 1 m 0 info 0601") ≡ frame_words asked (codes "0601")
+abbrev asked_values : List Value
+asked_values = Number 0 ∷ Number 0 ∷ Number 5 ∷ Number 2 ∷ Number 1 ∷ Number 0 ∷ Several (6 ∷ 1 ∷ []) ∷ []
+
+asked_says : line_says show_forms (codes "frame sapi 0 cr 0 i ns 5 nr 2 p 1 m 0 info 0601") ≡ Some (N.I, asked_values)
+asked_says = refl
+
+asked_said : said_frame N.I asked_values ≡ Some asked
 unfolding asked
-asked_words = refl
+asked_said = refl
 
 asked_octets : hex_octets (codes "0601") ≡ 6 ∷ 1 ∷ []
 asked_octets = refl

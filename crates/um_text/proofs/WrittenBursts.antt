@@ -1,11 +1,10 @@
 -- The lines of bursts as they are written, and that each means its burst again.
-use Rattle.std.proofs.Common.{◌≡◌, ◌≢◌, ℕ, ◌+◌, ◌≤◌, ◌==◌, Bool, true, false, ◌&&◌, not, Some, List, [], ◌∷◌, ◌++◌, length, codes, refl, ap, sym, ◌∙◌, subst, inl, inr, append_assoc, length-append, arith}
+use Rattle.std.proofs.Common.{◌≡◌, ◌≢◌, ℕ, ◌+◌, ◌≤◌, ◌==◌, Bool, true, false, ◌&&◌, not, Some, List, [], ◌∷◌, ◌++◌, length, codes, refl, ap, sym, subst, inl, inr, append_assoc, length-append, arith}
 use Rattle.std.specs.List.{All}
 use Rattle.std.proofs.lemmas.List.{append_cancel_right, length-map}
 use Rattle.bit_blocks.specs.Bits.{AllBits}
 use Rattle.um_block.specs.Received.{softened}
-use Rattle.um_lines.specs.Fields.{Field, Fixed, BitDigits, Several, bit_digits}
-use Rattle.um_lines.specs.Spelled.{spelled_line}
+use Rattle.um_lines.specs.Fields.{Fixed, BitDigits, Several, bit_digits}
 use Rattle.um_lines.specs.BurstForms as F
 use Rattle.um_lines.specs.BurstForms.{burst_forms, burst_elsewhere}
 use Rattle.um_lines.proofs.KnownValues.{Fitting}

@@ -1,28 +1,26 @@
 -- What `show` writes of frames and of octets, and that each is read back.
-use Rattle.std.proofs.Common.{◌≡◌, ℕ, ◌+◌, ◌*◌, ◌<◌, ◌≤◌, ◌≢◌, ◌%◌, ◌==◌, Bool, true, false, List, [], ◌∷◌, ◌++◌, length, Some, codes, refl, ap, sym, ◌∙◌, subst, inl, arith}
-use Rattle.std.specs.List.{All, join_with_byte}
-use Rattle.std.specs.Str.{bytes_eq}
-use Rattle.std.proofs.lemmas.Bool.{eq-eqb}
-use Rattle.std.proofs.lemmas.Bool.Decides.{nat_tests}
+use Rattle.std.proofs.Common.{◌≡◌, ℕ, ◌<◌, ◌≤◌, Bool, true, false, List, [], ◌∷◌, ◌++◌, length, Option, Some, None, codes, refl, sym, ◌∙◌, subst, inl, inr, arith}
+use Rattle.std.specs.List.{All}
 use Rattle.std.proofs.lemmas.List.{append_cancel_right}
 use Rattle.hex.specs.Hex.{encode_lower}
 use Rattle.lapdm_frame.specs.declared.Channel.TheVariants.{Sdcch}
 use Rattle.lapdm_frame.specs.Content.{Content, I, Rr, Rnr, Rej, Sabm, Dm, Ui, Disc, Ua, Frame, information}
 use Rattle.lapdm_frame.specs.Frames.{bit, NumbersFit, InformationFits, Fits, IsFrame, IsCanonical, octets_of}
 use Rattle.lapdm_frame.proofs.Canonical.{same_canonical, octets_canonical}
-use Rattle.um_lines.specs.Words.{is_skipped, words}
-use Rattle.um_lines.specs.Fields.{Field, Fixed, HexOctets, Value, Number, Several, hex_octets}
+use Rattle.um_lines.specs.Words.{is_skipped}
+use Rattle.um_lines.specs.Fields.{Field, Fixed, HexOctets, Value, Number, Several}
+use Rattle.um_lines.specs.Forms.{Just, IsOf, LineMeans, AreDistinct, places, anywhere}
 use Rattle.um_lines.specs.ShowForms as F
-use Rattle.um_lines.specs.Spelled.{octets_word, spelled, spelled_line}
+use Rattle.um_lines.specs.ShowForms.{ShowName, show_forms}
+use Rattle.um_lines.specs.Spelled.{octets_word, spelled_line}
 use Rattle.um_lines.proofs.KnownValues.{Fitting}
-use Rattle.um_lines.proofs.WordLists.{words-join}
-use Rattle.um_lines.proofs.SpelledLaws.{encoded, any_digits, any_value, or_true, length-encode_lower, spelled_lack, spelled_uncut, lack}
+use Rattle.um_lines.proofs.SpelledLaws.{length-encode_lower, spelled_uncut, spelled_means, lack}
 use Rattle.um_text.specs.declared.show.ShowLine.TheVariants as S
-use Rattle.um_text.specs.HexDigits.{is_octets_word, SpellsAnyOctets}
 use Rattle.um_text.specs.FrameTexts.{frame_text, octets_text, IsFrameText}
-use Rattle.um_text.specs.ShowLines.{frame_words, ShowMeans}
+use Rattle.um_text.specs.ShowLines.{is_set, said_frame, shown, show_of, ShowMeans}
 use Rattle.um_text.specs.WrittenBursts.{IsWholeLine}
 use Rattle.um_text.proofs.ReportLaws.{one_frame_text}
+use Rattle.um_text.proofs.ShowLaws.{said_fits}
 
 abbrev Small : List ℕ → Type 0
 Small octets = All (λ octet. octet < 256) octets
@@ -38,26 +36,37 @@ length-octets_word (octet ∷ octets) few = omega (arith, length-encode_lower (o
 -- ---- the words of a frame are those of its values
 
 abbrev fields : List ℕ → List Field → List Field
-fields kind rest = Fixed (codes "frame") ∷ F.named (codes "sapi") 7 (F.named (codes "cr") 1 (Fixed kind ∷ rest))
+fields kind rest = F.named (codes "sapi") 7 (F.named (codes "cr") 1 (Fixed kind ∷ rest))
 
--- a frame's words are those of a form, and its text their line
+-- a frame's text is the line of a form and of its values, which say the frame
 record IsWritten (f : Frame) : Type 0 where
-  pub form : List Field
+  pub name : ShowName
+  pub rest : List Field
   pub values : List Value
-  pub words : frame_words f (octets_word (information f.content)) ≡ spelled form values
-  pub text : frame_text f ≡ spelled_line form values ++ codes "\n"
-  pub fits : Fitting form values
-  pub spaceless : lack 32 (omega arith) form ≡ true
-  pub uncut : lack 10 (omega arith) form ≡ true
-  pub few : length (spelled_line form values) ≤ 100
-  pub begins : (rest : List ℕ) × (spelled_line form values ≡ codes "f" ++ rest)
+  pub of_table : IsOf show_forms (name, Just (Fixed (codes "frame") ∷ rest))
+  pub says : said_frame name values ≡ Some f
+  pub shows : S.Frame (octets_of Sdcch f) ≡ show_of name values
+  pub text : frame_text f ≡ spelled_line (Fixed (codes "frame") ∷ rest) values ++ codes "\n"
+  pub fits : Fitting (Fixed (codes "frame") ∷ rest) values
+  pub once : AreDistinct (places values)
+  pub spaceless : lack 32 (omega arith) (Fixed (codes "frame") ∷ rest) ≡ true
+  pub uncut : lack 10 (omega arith) (Fixed (codes "frame") ∷ rest) ≡ true
+  pub few : length (spelled_line (Fixed (codes "frame") ∷ rest) values) ≤ 100
+  pub stays : is_skipped (spelled_line (Fixed (codes "frame") ∷ rest) values) ≡ false
+
+set_bit : (b : Bool) → is_set (bit b) ≡ b
+set_bit false = refl
+set_bit true = refl
 
 is_written : (s : ℕ) (cr : Bool) (content : Content) → s ≤ 7 → NumbersFit content → InformationFits Sdcch content → Small (information content)
     → IsWritten (record { sapi = s; cr = cr; content = content })
 is_written s cr (I ns nr p more info) small numbers many octets = record {
-  form = fields (codes "i") F.numbered;
+  name = F.I;
+  rest = fields (codes "i") F.numbered;
   values = Number s ∷ Number (bit cr) ∷ Number ns ∷ Number nr ∷ Number (bit p) ∷ Number (bit more) ∷ Several info ∷ [];
-  words = refl;
+  of_table = inr (inl refl);
+  says = rw (set_bit cr, set_bit p, set_bit more) refl;
+  shows = rw (set_bit cr, set_bit p, set_bit more) refl;
   text = refl;
   fits = (
     s,
@@ -84,134 +93,147 @@ is_written s cr (I ns nr p more info) small numbers many octets = record {
       ),
     ),
   );
+  once = tt;
   spaceless = refl;
   uncut = refl;
   few = omega (arith, length-octets_word info many.1);
-  begins = (_, refl);
+  stays = refl;
 }
 is_written s cr (Rr nr pf) small numbers many octets = record {
-  form = fields (codes "rr") F.supervisory;
+  name = F.Rr;
+  rest = fields (codes "rr") F.supervisory;
   values = Number s ∷ Number (bit cr) ∷ Number nr ∷ Number (bit pf) ∷ [];
-  words = refl;
+  of_table = inr (inr (inl refl));
+  says = rw (set_bit cr, set_bit pf) refl;
+  shows = rw (set_bit cr, set_bit pf) refl;
   text = refl;
   fits = (s, _, refl, small, (bit cr, _, refl, bit_small cr, (nr, _, refl, numbers, (bit pf, _, refl, bit_small pf, refl))));
+  once = tt;
   spaceless = refl;
   uncut = refl;
   few = omega arith;
-  begins = (_, refl);
+  stays = refl;
 }
 is_written s cr (Rnr nr pf) small numbers many octets = record {
-  form = fields (codes "rnr") F.supervisory;
+  name = F.Rnr;
+  rest = fields (codes "rnr") F.supervisory;
   values = Number s ∷ Number (bit cr) ∷ Number nr ∷ Number (bit pf) ∷ [];
-  words = refl;
+  of_table = inr (inr (inr (inl refl)));
+  says = rw (set_bit cr, set_bit pf) refl;
+  shows = rw (set_bit cr, set_bit pf) refl;
   text = refl;
   fits = (s, _, refl, small, (bit cr, _, refl, bit_small cr, (nr, _, refl, numbers, (bit pf, _, refl, bit_small pf, refl))));
+  once = tt;
   spaceless = refl;
   uncut = refl;
   few = omega arith;
-  begins = (_, refl);
+  stays = refl;
 }
 is_written s cr (Rej nr pf) small numbers many octets = record {
-  form = fields (codes "rej") F.supervisory;
+  name = F.Rej;
+  rest = fields (codes "rej") F.supervisory;
   values = Number s ∷ Number (bit cr) ∷ Number nr ∷ Number (bit pf) ∷ [];
-  words = refl;
+  of_table = inr (inr (inr (inr (inl refl))));
+  says = rw (set_bit cr, set_bit pf) refl;
+  shows = rw (set_bit cr, set_bit pf) refl;
   text = refl;
   fits = (s, _, refl, small, (bit cr, _, refl, bit_small cr, (nr, _, refl, numbers, (bit pf, _, refl, bit_small pf, refl))));
+  once = tt;
   spaceless = refl;
   uncut = refl;
   few = omega arith;
-  begins = (_, refl);
+  stays = refl;
 }
 is_written s cr (Sabm p info) small numbers many octets = record {
-  form = fields (codes "sabm") (F.informed (codes "p"));
+  name = F.Sabm;
+  rest = fields (codes "sabm") (F.informed (codes "p"));
   values = Number s ∷ Number (bit cr) ∷ Number (bit p) ∷ Several info ∷ [];
-  words = refl;
+  of_table = inr (inr (inr (inr (inr (inl refl)))));
+  says = rw (set_bit cr, set_bit p) refl;
+  shows = rw (set_bit cr, set_bit p) refl;
   text = refl;
   fits = (s, _, refl, small, (bit cr, _, refl, bit_small cr, (bit p, _, refl, bit_small p, (info, _, refl, (omega arith, many, octets), refl))));
+  once = tt;
   spaceless = refl;
   uncut = refl;
   few = omega (arith, length-octets_word info many);
-  begins = (_, refl);
+  stays = refl;
 }
 is_written s cr (Ui p info) small numbers many octets = record {
-  form = fields (codes "ui") (F.informed (codes "p"));
+  name = F.Ui;
+  rest = fields (codes "ui") (F.informed (codes "p"));
   values = Number s ∷ Number (bit cr) ∷ Number (bit p) ∷ Several info ∷ [];
-  words = refl;
+  of_table = inr (inr (inr (inr (inr (inr (inr (inl refl)))))));
+  says = rw (set_bit cr, set_bit p) refl;
+  shows = rw (set_bit cr, set_bit p) refl;
   text = refl;
   fits = (s, _, refl, small, (bit cr, _, refl, bit_small cr, (bit p, _, refl, bit_small p, (info, _, refl, (omega arith, many, octets), refl))));
+  once = tt;
   spaceless = refl;
   uncut = refl;
   few = omega (arith, length-octets_word info many);
-  begins = (_, refl);
+  stays = refl;
 }
 is_written s cr (Ua f info) small numbers many octets = record {
-  form = fields (codes "ua") (F.informed (codes "f"));
+  name = F.Ua;
+  rest = fields (codes "ua") (F.informed (codes "f"));
   values = Number s ∷ Number (bit cr) ∷ Number (bit f) ∷ Several info ∷ [];
-  words = refl;
+  of_table = inr (inr (inr (inr (inr (inr (inr (inr (inr (inl refl)))))))));
+  says = rw (set_bit cr, set_bit f) refl;
+  shows = rw (set_bit cr, set_bit f) refl;
   text = refl;
   fits = (s, _, refl, small, (bit cr, _, refl, bit_small cr, (bit f, _, refl, bit_small f, (info, _, refl, (omega arith, many, octets), refl))));
+  once = tt;
   spaceless = refl;
   uncut = refl;
   few = omega (arith, length-octets_word info many);
-  begins = (_, refl);
+  stays = refl;
 }
 is_written s cr (Dm f) small numbers many octets = record {
-  form = fields (codes "dm") (F.plain (codes "f"));
+  name = F.Dm;
+  rest = fields (codes "dm") (F.plain (codes "f"));
   values = Number s ∷ Number (bit cr) ∷ Number (bit f) ∷ [];
-  words = refl;
+  of_table = inr (inr (inr (inr (inr (inr (inl refl))))));
+  says = rw (set_bit cr, set_bit f) refl;
+  shows = rw (set_bit cr, set_bit f) refl;
   text = refl;
   fits = (s, _, refl, small, (bit cr, _, refl, bit_small cr, (bit f, _, refl, bit_small f, refl)));
+  once = tt;
   spaceless = refl;
   uncut = refl;
   few = omega arith;
-  begins = (_, refl);
+  stays = refl;
 }
 is_written s cr (Disc p) small numbers many octets = record {
-  form = fields (codes "disc") (F.plain (codes "p"));
+  name = F.Disc;
+  rest = fields (codes "disc") (F.plain (codes "p"));
   values = Number s ∷ Number (bit cr) ∷ Number (bit p) ∷ [];
-  words = refl;
+  of_table = inr (inr (inr (inr (inr (inr (inr (inr (inl refl))))))));
+  says = rw (set_bit cr, set_bit p) refl;
+  shows = rw (set_bit cr, set_bit p) refl;
   text = refl;
   fits = (s, _, refl, small, (bit cr, _, refl, bit_small cr, (bit p, _, refl, bit_small p, refl)));
+  once = tt;
   spaceless = refl;
   uncut = refl;
   few = omega arith;
-  begins = (_, refl);
+  stays = refl;
 }
-
-octets_well : (octets : List ℕ) → is_octets_word (octets_word octets) ≡ true
-octets_well [] = refl
-octets_well (octet ∷ octets) =
-    let long = length-encode_lower (octet ∷ octets) in
-    let some : (length (encode_lower (octet ∷ octets)) == 0) ≡ false = grind (arith, nat_tests) in
-    let even : (length (encode_lower (octet ∷ octets)) % 2 == 0) ≡ true = eq-eqb _ 0 (omega arith) in
-    rw (some, even, or_true (bytes_eq (encode_lower (octet ∷ octets)) (codes "-"))) refl
-
-spells : (octets : List ℕ) → Small octets → SpellsAnyOctets (octets_word octets) octets
-spells octets small = record { well = octets_well octets; each = any_digits octets small; spelled = sym (any_value octets small) }
 
 -- the text of a frame that fits means its canonical octets
 frame_back : (f : Frame) (line : List ℕ) → Fits Sdcch f → Small (information f.content) → frame_text f ≡ line ++ codes "\n"
     → IsWholeLine line × ShowMeans line (S.Frame (octets_of Sdcch f))
 frame_back f line fits small text =
     let w = is_written f.sapi f.cr f.content fits.sapi fits.numbers fits.information small in
-    let same : spelled_line w.form w.values ≡ line = append_cancel_right (spelled_line w.form w.values) line (codes "\n") (sym w.text ∙ text) in
-    let parts : words (spelled_line w.form w.values) ≡ frame_words f (octets_word (information f.content)) =
-    ap (λ ps. words (join_with_byte 32 ps)) (sym w.words)
-    ∙ words-join (frame_words f (octets_word (information f.content))) (λ e. cc)
-    (subst (All (All (λ octet. octet ≢ 32))) (sym w.words) (spelled_lack 32 (omega arith) w.form w.values w.fits w.spaceless))
-    in
+    let written = spelled_line (Fixed (codes "frame") ∷ w.rest) w.values in
+    let same : written ≡ line = append_cancel_right written line (codes "\n") (sym w.text ∙ text) in
+    let short : length written ≤ 4096 = omega (arith, w.few) in
     subst (λ l. IsWholeLine l × ShowMeans l (S.Frame (octets_of Sdcch f))) same (
-      record { uncut = spelled_uncut w.form w.values w.uncut w.fits; stays = ap is_skipped w.begins.1 },
+      record { uncut = spelled_uncut (Fixed (codes "frame") ∷ w.rest) w.values w.uncut w.fits; stays = w.stays },
       (
-        omega (arith, w.few),
-        record {
-          frame = f;
-          word = octets_word (information f.content);
-          spelled = parts;
-          informed = spells (information f.content) small;
-          fits = fits;
-          canonical = refl;
-        },
+        Some (w.name, w.values),
+        spelled_means show_forms anywhere w.name (codes "frame") w.rest w.values w.of_table refl w.spaceless w.fits w.once short w.stays,
+        w.shows,
       ),
     )
 
@@ -235,25 +257,44 @@ octets_back octets line count small text =
     let form = Fixed (codes "octets") ∷ HexOctets 23 ∷ [] in
     let values = Several octets ∷ [] in
     let fits = octets_fit octets count small in
-    let e = encoded octets small in
     let long : length (encode_lower octets) ≡ 46 = omega (arith, length-encode_lower octets, count) in
+    let short : length (spelled_line form values) ≤ 4096 = omega (arith, long) in
     subst (λ l. IsWholeLine l × ShowMeans l (S.Octets octets)) (append_cancel_right (spelled_line form values) line (codes "\n") text) (
       record { uncut = spelled_uncut form values refl fits; stays = refl },
       (
-        omega (arith, long),
-        (
-          encode_lower octets,
-          words-join (spelled form values) (λ q. cc) (spelled_lack 32 (omega arith) form values fits refl),
-          record { each = e.0; many = long; spelled = sym e.1 },
-        ),
+        Some (F.Octets, values),
+        spelled_means show_forms anywhere F.Octets (codes "octets") (HexOctets 23 ∷ []) values (inl refl) refl refl fits tt short refl,
+        refl,
       ),
     )
 
--- and the octets that the line of a frame gives are written as the text of that frame
-pub frame_again : (shown octets : List ℕ) → ShowMeans shown (S.Frame octets)
-    → (f : Frame) × (word : List ℕ) × (words shown ≡ frame_words f word) × ((text : List ℕ) → IsFrameText octets text → text ≡ frame_text f)
-frame_again shown octets means =
-    let spells = means.1 in
-    let f = spells.frame in
-    let frame : IsFrame Sdcch f octets = subst (IsFrame Sdcch f) (sym spells.canonical) (octets_canonical Sdcch f spells.fits).frame in
-    (f, spells.word, spells.spelled, λ text is_text. one_frame_text octets text (frame_text f) is_text (inl (f, frame, refl)))
+-- ---- what a frame's line gives is written as the frame that it says
+
+from_shown : (octets : List ℕ) (said : Option Frame) → S.Frame octets ≡ shown said → (f : Frame) × (said ≡ Some f) × (octets ≡ octets_of Sdcch f)
+from_shown octets None e = absurd cc
+from_shown octets (Some f) e = (f, refl, cc)
+
+says_frame : (name : ShowName) (values : List Value) (octets : List ℕ) → S.Frame octets ≡ show_of name values
+    → (f : Frame) × (said_frame name values ≡ Some f) × (octets ≡ octets_of Sdcch f)
+says_frame F.Octets (Several o ∷ []) octets e = absurd cc
+says_frame F.Octets values octets e = absurd cc
+says_frame F.I values octets e = from_shown octets (said_frame F.I values) e
+says_frame F.Rr values octets e = from_shown octets (said_frame F.Rr values) e
+says_frame F.Rnr values octets e = from_shown octets (said_frame F.Rnr values) e
+says_frame F.Rej values octets e = from_shown octets (said_frame F.Rej values) e
+says_frame F.Sabm values octets e = from_shown octets (said_frame F.Sabm values) e
+says_frame F.Dm values octets e = from_shown octets (said_frame F.Dm values) e
+says_frame F.Ui values octets e = from_shown octets (said_frame F.Ui values) e
+says_frame F.Disc values octets e = from_shown octets (said_frame F.Disc values) e
+says_frame F.Ua values octets e = from_shown octets (said_frame F.Ua values) e
+
+pub frame_again : (written octets : List ℕ) → ShowMeans written (S.Frame octets) → (name : ShowName) × (values : List Value) × (f : Frame)
+    × LineMeans show_forms anywhere written (Some (name, values)) × (said_frame name values ≡ Some f)
+    × ((text : List ℕ) → IsFrameText octets text → text ≡ frame_text f)
+frame_again written octets (None, means, e) = absurd cc
+frame_again written octets (Some (name, values), means, e) =
+    let s = says_frame name values octets e in
+    let f = s.0 in
+    let fits : Fits Sdcch f = said_fits written name values f means s.1 in
+    let frame : IsFrame Sdcch f octets = subst (IsFrame Sdcch f) (sym s.2) (octets_canonical Sdcch f fits).frame in
+    (name, values, f, means, s.1, λ text is_text. one_frame_text octets text (frame_text f) is_text (inl (f, frame, refl)))

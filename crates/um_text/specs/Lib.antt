@@ -7,6 +7,3 @@ pub mod ShowLines
 pub mod ShowReading
 pub mod SoftOctets
 pub mod WrittenBursts
-pub mod Digits
-pub mod Forms
-pub mod HexDigits

@@ -1,17 +1,25 @@
 -- What the parts of the reader of `show` answer: only their own bodies need this.
-use Rattle.std.specs.Prelude.{ℕ, ◌≡◌, Bool, false, ◌||◌, List, [], ◌∷◌, Some, Result, MatchResult, codes}
-use Rattle.std.specs.List.{list_all}
+use Rattle.std.specs.Prelude.{ℕ, ◌%◌, ◌==◌, ◌&&◌, ◌||◌, Bool, false, not, List, [], ◌∷◌, length, Option, codes}
+use Rattle.std.specs.Cmp.Lexicographic.{pointwise}
 use Rattle.std.specs.Str.{bytes_eq}
-use Rattle.hex.specs.Hex.{is_hex_digit}
 use Rattle.um_lines.specs.declared.fault.LineFault.{LineFault}
-use Rattle.um_text.specs.declared.show.ShowLine.{ShowLine}
+use Rattle.um_lines.specs.Fields.{Field, may_stand}
+use Rattle.um_lines.specs.Forms.{anywhere, fields_of, form_of, form_fault}
+use Rattle.um_lines.specs.ShowForms as F
+use Rattle.um_lines.specs.ShowForms.{ShowName, numbered, supervisory, informed, plain, frame_form, show_forms}
 use Rattle.um_text.specs.declared.frame_words.FrameWords.{FrameWords}
 use Rattle.um_text.specs.declared.frame_words.Kind.{Kind}
 use Rattle.um_text.specs.declared.frame_words.Kind.TheVariants as K
 use Rattle.um_text.specs.declared.frame_words.Fields.{Fields}
 use Rattle.um_text.specs.declared.frame_words.Fields.TheVariants.{I, Rr, Rnr, Rej, Sabm, Dm, Ui, Disc, Ua}
-use Rattle.um_text.specs.Forms.{Form, words_fault}
-use Rattle.um_text.specs.ShowLines.{numbered, supervisory, informed, plain, frame_form, show_forms, WordsMean}
+
+-- whether words stand at the places of fields
+abbrev pub has_fields : List (List ℕ) → List Field → Bool
+has_fields words fields = pointwise may_stand fields words
+
+-- the first reason of words, if they have one
+abbrev pub words_fault : List (List ℕ) → Option LineFault
+words_fault words = form_fault anywhere (form_of show_forms words) words
 
 -- whether words begin with a name and its value, and more stands behind them
 abbrev pub begins_named : List ℕ → List (List ℕ) → Bool
@@ -45,7 +53,7 @@ kind_words =
     codes "i" ∷ codes "rr" ∷ codes "rnr" ∷ codes "rej" ∷ codes "sabm" ∷ codes "dm" ∷ codes "ui" ∷ codes "disc" ∷ codes "ua" ∷ []
 
 -- what stands behind the word of a kind
-abbrev pub kind_form : Kind → Form
+abbrev pub kind_form : Kind → List Field
 kind_form K.I = numbered
 kind_form K.Rr = supervisory
 kind_form K.Rnr = supervisory
@@ -55,6 +63,18 @@ kind_form K.Dm = plain (codes "f")
 kind_form K.Ui = informed (codes "p")
 kind_form K.Disc = plain (codes "p")
 kind_form K.Ua = informed (codes "f")
+
+-- the name of a kind's form
+abbrev pub name_of : Kind → ShowName
+name_of K.I = F.I
+name_of K.Rr = F.Rr
+name_of K.Rnr = F.Rnr
+name_of K.Rej = F.Rej
+name_of K.Sabm = F.Sabm
+name_of K.Dm = F.Dm
+name_of K.Ui = F.Ui
+name_of K.Disc = F.Disc
+name_of K.Ua = F.Ua
 
 -- the kind whose fields these are
 abbrev pub kind_of : Fields → Kind
@@ -86,9 +106,9 @@ abbrev pub line_words : FrameWords → List (List ℕ)
 line_words w =
     codes "frame" ∷ codes "sapi" ∷ w.sapi.now ∷ codes "cr" ∷ w.cr.now ∷ kind_word (kind_of w.fields) ∷ field_words w.fields
 
--- the form that they have
-abbrev pub line_form : FrameWords → Form
-line_form w = frame_form (kind_word (kind_of w.fields)) (kind_form (kind_of w.fields))
+-- the fields at whose places they stand
+abbrev pub line_fields : FrameWords → List Field
+line_fields w = fields_of (frame_form (kind_word (kind_of w.fields)) (kind_form (kind_of w.fields)))
 
 -- the word of the information, which is `-` for the kinds that have none
 abbrev pub info_word : Fields → List ℕ
@@ -103,10 +123,6 @@ abbrev pub least_info : Fields → ℕ
 least_info (I ns nr p m info) = 1
 least_info other = 0
 
--- whether a word has no other characters than octets have
-abbrev pub are_octet_digits : List ℕ → Bool
-are_octet_digits word = bytes_eq word (codes "-") || list_all is_hex_digit word
-
--- what words mean, or their first reason
-abbrev pub IsReadAs : List (List ℕ) → Result ShowLine LineFault → Type 0
-IsReadAs words result = MatchResult result (WordsMean words) (λ fault. words_fault show_forms words ≡ Some fault)
+-- whether a word is `-`, or has an even number of digits, and some
+abbrev pub is_octets_word : List ℕ → Bool
+is_octets_word word = not (length word == 0) && (bytes_eq word (codes "-") || length word % 2 == 0)

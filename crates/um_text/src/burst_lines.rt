@@ -48,6 +48,7 @@ pub fn parse_burst(line: &[u8], held: u8) -> Result<BurstLine, LineFault>
     parse_words(line, held)
 }
 
+#[inline(never)]
 fn parse_words(line: &[u8], held: u8) -> Result<BurstLine, LineFault>
     ensures { result ≡ read_burst held (words line.now) }
 {

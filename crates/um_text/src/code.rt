@@ -40,6 +40,7 @@ pub fn parse_code(line: &[u8]) -> Result<CodeLine, LineFault>
     parse_words(line)
 }
 
+#[inline(never)]
 fn parse_words(line: &[u8]) -> Result<CodeLine, LineFault>
     ensures { result ≡ read_code (words line.now) }
 {

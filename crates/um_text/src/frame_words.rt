@@ -1,21 +1,20 @@
 //! The words of a line that spells a frame.
-ghost use Rattle.std.specs.Prelude.{◌≡◌, ◌≤◌, ◌∷◌, [], not, false, length, codes, IsTrue, IfSome, IfNone, MatchResult};
+ghost use Rattle.std.specs.Prelude.{◌≡◌, ◌-◌, ◌≤◌, ◌∷◌, ℕ, [], not, false, length, slice_index, codes, Some, IsTrue, IfSome, IfNone, MatchResult};
 ghost use Rattle.std.specs.List.{list_any};
 ghost use Rattle.std.specs.Str.{bytes_eq};
-ghost use Rattle.lapdm_frame.specs.Content.{content_of, information};
-ghost use Rattle.lapdm_frame.specs.Frames.{NumbersFit, InformationFits};
-ghost use Rattle.um_text.specs.FrameTexts.{flag};
+ghost use Rattle.lapdm_frame.specs.Content.{Frame, content_of, information};
+ghost use Rattle.lapdm_frame.specs.Frames.{NumbersFit, InformationFits, octets_of};
 ghost use Rattle.um_lines.specs.Words.{words};
-ghost use Rattle.um_lines.specs.Fields.{is_digit_to};
-ghost use Rattle.um_lines.specs.Fields.{hex_octets};
-ghost use Rattle.um_text.specs.Forms.{has_form, has_wrong_digits, has_wrong_length, some_word, words_fault};
-ghost use Rattle.um_text.specs.ShowLines.{numbered, supervisory, informed, plain, show_forms, content_words, SpellsFrame};
-ghost use Rattle.um_text.specs.ShowReading.{begins_named, is_named, kind_word, kind_words, kind_form, kind_of, field_words, line_words, line_form, info_word, least_info};
+ghost use Rattle.um_lines.specs.Fields.{Number, has_wrong_digits, has_wrong_length, hex_octets, is_digit_to};
+ghost use Rattle.um_lines.specs.Forms.{some_word, values_of};
+ghost use Rattle.um_lines.specs.ShowForms.{numbered, supervisory, informed, plain};
+ghost use Rattle.um_text.specs.ShowLines.{is_set, framed, said_frame};
+ghost use Rattle.um_text.specs.ShowReading.{has_fields, words_fault, begins_named, is_named, kind_word, kind_words, kind_form, kind_of, name_of, field_words, line_words, line_fields, info_word, least_info};
 
 use crate::digits::{digit_of, is_digit_to};
-use crate::hex_digits::{are_octet_digits, is_octets_word, some_octets_of};
+use crate::hex_digits::some_octets_of;
 use lapdm_frame::{Body, Channel, FrameView};
-use um_lines::{LineFault, first_word, two_words};
+use um_lines::{LineFault, are_octet_digits, are_octets, first_word, two_words};
 
 /// A kind of frame.
 #[derive(Clone, Copy)]
@@ -85,7 +84,7 @@ pub(crate) struct FrameWords<'a> {
 pub(crate) fn frame_words<'a>(text: &'a [u8]) -> Result<FrameWords<'a>, LineFault>
     ensures { MatchResult result
         (λ found. codes "frame" ∷ words text.now ≡ line_words found)
-        (λ fault. (fault ≡ LineFault.Word) × (words_fault show_forms (codes "frame" ∷ words text.now) ≡ Some LineFault.Word)) }
+        (λ fault. (fault ≡ LineFault.Word) × (words_fault (codes "frame" ∷ words text.now) ≡ Some LineFault.Word)) }
 {
     let (sapi, rest) = named(text, b"sapi")?;
     let (cr, rest) = named(rest, b"cr")?;
@@ -120,7 +119,7 @@ fn kind_named(word: &[u8]) -> Option<Kind>
 fn fields_of<'a>(kind: Kind, text: &'a [u8]) -> Result<Fields<'a>, LineFault>
     ensures { MatchResult result
         (λ found. (words text.now ≡ field_words found) × (kind_of found ≡ kind))
-        (λ fault. (fault ≡ LineFault.Word) × (has_form (words text.now) (kind_form kind) ≡ false)) }
+        (λ fault. (fault ≡ LineFault.Word) × (has_fields (words text.now) (kind_form kind) ≡ false)) }
 {
     match kind {
         Kind::I => read_numbered(text),
@@ -160,7 +159,7 @@ fn fields_of<'a>(kind: Kind, text: &'a [u8]) -> Result<Fields<'a>, LineFault>
 fn read_numbered<'a>(text: &'a [u8]) -> Result<Fields<'a>, LineFault>
     ensures { MatchResult result
         (λ found. (words text.now ≡ field_words found) × (kind_of found ≡ Kind.I))
-        (λ fault. (fault ≡ LineFault.Word) × (has_form (words text.now) numbered ≡ false)) }
+        (λ fault. (fault ≡ LineFault.Word) × (has_fields (words text.now) numbered ≡ false)) }
 {
     let (ns, rest) = named(text, b"ns")?;
     let (nr, rest) = named(rest, b"nr")?;
@@ -173,7 +172,7 @@ fn read_numbered<'a>(text: &'a [u8]) -> Result<Fields<'a>, LineFault>
 fn read_supervisory<'a>(text: &'a [u8]) -> Result<(&'a [u8], &'a [u8]), LineFault>
     ensures { MatchResult result
         (λ both. words text.now ≡ codes "nr" ∷ both.0.now ∷ codes "pf" ∷ both.1.now ∷ [])
-        (λ fault. (fault ≡ LineFault.Word) × (has_form (words text.now) supervisory ≡ false)) }
+        (λ fault. (fault ≡ LineFault.Word) × (has_fields (words text.now) supervisory ≡ false)) }
 {
     let (nr, rest) = named(text, b"nr")?;
     let pf = last_named(rest, b"pf")?;
@@ -183,7 +182,7 @@ fn read_supervisory<'a>(text: &'a [u8]) -> Result<(&'a [u8], &'a [u8]), LineFaul
 fn read_informed<'a>(text: &'a [u8], name: &[u8]) -> Result<(&'a [u8], &'a [u8]), LineFault>
     ensures { MatchResult result
         (λ both. words text.now ≡ name.now ∷ both.0.now ∷ codes "info" ∷ both.1.now ∷ [])
-        (λ fault. (fault ≡ LineFault.Word) × (has_form (words text.now) (informed name.now) ≡ false)) }
+        (λ fault. (fault ≡ LineFault.Word) × (has_fields (words text.now) (informed name.now) ≡ false)) }
 {
     let (pf, rest) = named(text, name)?;
     let info = last_named(rest, b"info")?;
@@ -226,25 +225,24 @@ fn last_named<'a>(text: &'a [u8], name: &[u8]) -> Result<&'a [u8], LineFault>
 impl FrameWords<'_> {
     /// Whether each word has the digits that its form wants.
     pub(crate) fn have_digits(&self) -> bool
-        ensures { result ≡ not (some_word has_wrong_digits (line_form self.now) (line_words self.now)) }
+        ensures { result ≡ not (some_word has_wrong_digits (line_fields self.now) (line_words self.now)) }
     {
         is_digit_to(7, self.sapi) & is_digit_to(1, self.cr) & self.fields.have_digits()
     }
 
     /// Whether there are as many octets of information as the form wants.
     pub(crate) fn have_length(&self) -> bool
-        ensures { result ≡ not (some_word has_wrong_length (line_form self.now) (line_words self.now)) }
+        ensures { result ≡ not (some_word has_wrong_length (line_fields self.now) (line_words self.now)) }
     {
-        let word = self.fields.info_word();
-        let count = word.len() / 2;
-        is_octets_word(word) & (self.fields.least_info() <= count) & (count <= 20)
+        are_octets(self.fields.least_info(), Some(20), self.fields.info_word())
     }
 
     /// The canonical octets of the frame on SDCCH.
     pub(crate) fn octets(&self) -> [u8; 23]
-        requires digits { some_word has_wrong_digits (line_form self.now) (line_words self.now) ≡ false }
-        requires length { some_word has_wrong_length (line_form self.now) (line_words self.now) ≡ false }
-        ensures { SpellsFrame (line_words self.now) result }
+        requires digits { some_word has_wrong_digits (line_fields self.now) (line_words self.now) ≡ false }
+        requires length { some_word has_wrong_length (line_fields self.now) (line_words self.now) ≡ false }
+        ensures { (f : Frame) × (said_frame (name_of (kind_of self.now.fields)) (values_of (line_fields self.now) (line_words self.now)) ≡ Some f)
+            × (result ≡ octets_of Channel.Sdcch f) }
     {
         let (room, count) = some_octets_of(self.fields.info_word());
         let sapi = digit_of(self.sapi);
@@ -307,7 +305,9 @@ impl<'a> Fields<'a> {
         requires octets { info.now ≡ hex_octets (info_word self.now) }
         requires least { least_info self.now ≤ length info.now }
         requires most { length info.now ≤ 20 }
-        ensures words { kind_word (kind_of self.now) ∷ field_words self.now ≡ content_words (content_of result) (info_word self.now) }
+        ensures said { (sapi cr : ℕ)
+            → said_frame (name_of (kind_of self.now)) (Number sapi ∷ Number cr ∷ values_of (kind_form (kind_of self.now)) (field_words self.now))
+            ≡ framed sapi cr (content_of result) }
         ensures numbers { NumbersFit (content_of result) }
         ensures octets { information (content_of result) ≡ info.now }
         ensures information { InformationFits Channel.Sdcch (content_of result) }
@@ -343,7 +343,7 @@ impl<'a> Fields<'a> {
 
 fn is_one(word: &[u8]) -> bool
     requires { IsTrue (is_digit_to 1 word.now) }
-    ensures { word.now ≡ flag result }
+    ensures { result ≡ is_set (slice_index word.now 0 - 48) }
 {
     word[0] == b'1'
 }

@@ -1,30 +1,13 @@
-//! Words of hexadecimal digits.
-ghost use Rattle.std.specs.Prelude.{◌≡◌, ◌*◌, ◌≤◌, ◌||◌, length, take, codes, IsTrue};
-ghost use Rattle.std.specs.List.{list_all};
-ghost use Rattle.std.specs.Str.{bytes_eq};
-ghost use Rattle.hex.specs.Hex.{is_hex_digit};
-ghost use Rattle.um_lines.specs.Fields.{hex_octets, octet_count};
-ghost use Rattle.um_text.specs.HexDigits.{is_octets_word};
+//! Words of any number of octets.
+ghost use Rattle.std.specs.Prelude.{◌≡◌, ◌≤◌, length, take, IsTrue};
+ghost use Rattle.um_lines.specs.Fields.{are_octet_digits, hex_octets, octet_count};
+ghost use Rattle.um_text.specs.ShowReading.{is_octets_word};
 
-use um_lines::are_hex_digits;
-
-/// Whether a word has no other characters than octets have: it is `-`, or has hexadecimal digits alone.
-pub(crate) fn are_octet_digits(word: &[u8]) -> bool
-    ensures { result ≡ (bytes_eq word.now (codes "-") || list_all is_hex_digit word.now) }
-{
-    matches!(word, b"-") || are_hex_digits(word)
-}
-
-/// Whether a word is `-`, or has an even number of digits, and some.
-pub(crate) fn is_octets_word(word: &[u8]) -> bool
-    ensures { result ≡ is_octets_word word.now }
-{
-    !word.is_empty() && (matches!(word, b"-") || word.len() % 2 == 0)
-}
+use um_lines::write_octets;
 
 /// The octets of a word, which stand first in the room, and how many these are.
 pub(crate) fn some_octets_of(word: &[u8]) -> ([u8; 20], usize)
-    requires each { IsTrue (bytes_eq word.now (codes "-") || list_all is_hex_digit word.now) }
+    requires each { IsTrue (are_octet_digits word.now) }
     requires well { IsTrue (is_octets_word word.now) }
     requires many { octet_count word.now ≤ 20 }
     ensures count { result.1 ≡ octet_count word.now }
@@ -34,18 +17,7 @@ pub(crate) fn some_octets_of(word: &[u8]) -> ([u8; 20], usize)
     let mut room = [0; 20];
     let count = word.len() / 2;
     if !matches!(word, b"-") {
-        decode(word, &mut room[..count]);
+        write_octets(word, &mut room[..count]);
     }
     (room, count)
-}
-
-fn decode(digits: &[u8], octets: &mut [u8])
-    requires each { IsTrue (list_all is_hex_digit digits.now) }
-    requires many { length digits.now ≡ 2 * length octets.old }
-    ensures { octets.new ≡ hex_octets digits.now }
-{
-    match hex::decode_to_slice(digits, octets) {
-        Ok(()) => {}
-        Err(_) => unreachable!(),
-    }
 }

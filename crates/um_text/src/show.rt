@@ -1,15 +1,17 @@
 //! The lines of the command `show`.
-ghost use Rattle.std.specs.Prelude.{◌≡◌, ℕ, ◌<◌, List, ◌∷◌, ◌++◌, length, IfOk, codes};
+ghost use Rattle.std.specs.Prelude.{◌≡◌, ℕ, ◌<◌, List, Some, ◌∷◌, ◌++◌, length, IfOk, codes};
 ghost use Rattle.std.specs.List.{All};
 ghost use Rattle.std.specs.Result.{result_err};
-ghost use Rattle.um_lines.specs.Words.{words};
-ghost use Rattle.um_lines.specs.Meanings.{HasOneMeaningUnless};
 ghost use Rattle.lapdm_frame.specs.Content.{Frame, information};
 ghost use Rattle.lapdm_frame.specs.Frames.{IsCanonical};
+ghost use Rattle.um_lines.specs.Words.{words};
+ghost use Rattle.um_lines.specs.Fields.{Value};
+ghost use Rattle.um_lines.specs.Forms.{LineMeans, anywhere};
+ghost use Rattle.um_lines.specs.ShowForms.{ShowName, show_forms};
+ghost use Rattle.um_lines.specs.Meanings.{HasOneMeaningUnless};
 ghost use Rattle.um_text.specs.FrameTexts.{frame_text, octets_text, IsFrameText};
-ghost use Rattle.um_text.specs.ShowLines.{show_fault, ShowMeans, frame_words};
+ghost use Rattle.um_text.specs.ShowLines.{said_frame, show_fault, ShowMeans, read_show};
 ghost use Rattle.um_text.specs.WrittenBursts.{IsWholeLine};
-ghost use Rattle.um_text.specs.ShowReading.{IsReadAs};
 
 use crate::frame_words::frame_words;
 use lapdm_frame::Channel;
@@ -45,8 +47,9 @@ pub fn parse_show(line: &[u8]) -> Result<ShowLine, LineFault>
     parse_words(line)
 }
 
+#[inline(never)]
 fn parse_words(line: &[u8]) -> Result<ShowLine, LineFault>
-    ensures { IsReadAs (words line.now) result }
+    ensures { result ≡ read_show (words line.now) }
 {
     let Some((command, rest)) = first_word(line) else {
         return Err(LineFault::Word);
@@ -59,7 +62,7 @@ fn parse_words(line: &[u8]) -> Result<ShowLine, LineFault>
 }
 
 fn parse_octets(rest: &[u8]) -> Result<ShowLine, LineFault>
-    ensures { IsReadAs (codes "octets" ∷ words rest.now) result }
+    ensures { result ≡ read_show (codes "octets" ∷ words rest.now) }
 {
     let digits = one_word(rest)?;
     if !are_hex_digits(digits) {
@@ -72,7 +75,7 @@ fn parse_octets(rest: &[u8]) -> Result<ShowLine, LineFault>
 }
 
 fn parse_frame(rest: &[u8]) -> Result<ShowLine, LineFault>
-    ensures { IsReadAs (codes "frame" ∷ words rest.now) result }
+    ensures { result ≡ read_show (codes "frame" ∷ words rest.now) }
 {
     let found = frame_words(rest)?;
     if !found.have_digits() {
@@ -90,13 +93,14 @@ pub fn law_show()
 {}
 
 /// What is written of octets means these octets again, and so does what is written of octets that are a frame's canonical ones
-/// on SDCCH. The octets that a frame's line gives are written as the line of that frame.
+/// on SDCCH. The octets that a frame's line gives are written as the line of the frame that its form and values say.
 pub fn law_written_frames()
     ensures octets { (octets line : List ℕ) → length octets ≡ 23 → All (λ octet. octet < 256) octets
         → octets_text octets ≡ line ++ codes "\n" → IsWholeLine line × ShowMeans line (ShowLine.Octets octets) }
     ensures canonical { (f : Frame) (octets text line : List ℕ) → IsCanonical Channel.Sdcch f octets
         → All (λ octet. octet < 256) (information f.content) → IsFrameText octets text
         → text ≡ line ++ codes "\n" → IsWholeLine line × ShowMeans line (ShowLine.Frame octets) }
-    ensures again { (shown octets : List ℕ) → ShowMeans shown (ShowLine.Frame octets) → (f : Frame) × (word : List ℕ)
-        × (words shown ≡ frame_words f word) × ((text : List ℕ) → IsFrameText octets text → text ≡ frame_text f) }
+    ensures again { (written octets : List ℕ) → ShowMeans written (ShowLine.Frame octets) → (name : ShowName) × (values : List Value) × (f : Frame)
+        × LineMeans show_forms anywhere written (Some (name, values)) × (said_frame name values ≡ Some f)
+        × ((text : List ℕ) → IsFrameText octets text → text ≡ frame_text f) }
 {}

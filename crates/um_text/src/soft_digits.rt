@@ -1,14 +1,13 @@
 //! Words of soft values.
-ghost use Rattle.std.specs.Prelude.{◌≡◌, ◌+◌, ◌-◌, ◌*◌, ◌≤◌, ◌==◌, if◌then◌else◌, pos, negsuc, length, map, true, false, IsTrue, MatchResult};
+ghost use Rattle.std.specs.Prelude.{◌≡◌, ◌-◌, ◌*◌, ◌==◌, if◌then◌else◌, pos, negsuc, length, map, true, false, IsTrue, MatchResult};
 ghost use Rattle.std.specs.List.{list_all, list_any};
-ghost use Rattle.std.specs.Ordering.{int_eq};
 ghost use Rattle.hex.specs.Hex.{is_hex_digit};
 ghost use Rattle.um_lines.specs.Fields.{is_bit_digit};
-ghost use Rattle.um_lines.specs.Fields.{digit_value, hex_octets};
+ghost use Rattle.um_lines.specs.Fields.{hex_octets};
 ghost use Rattle.um_block.specs.Received.{softened};
 ghost use Rattle.um_text.specs.SoftOctets.{signed_octets};
 
-use um_lines::LineFault;
+use um_lines::{LineFault, octets_of};
 
 /// The bits of `N` digits as sure soft values.
 pub(crate) fn hard_values<const N: usize>(digits: &[u8]) -> [i8; N]
@@ -30,7 +29,6 @@ fn hard_value(digit: u8) -> i8
 }
 
 /// The soft values of `2 * N` digits, or the fault `Soft` where one of them is -128.
-#[tactic(auto, using(crate::proofs::SoftLists::lowest_octets))]
 pub(crate) fn soft_values<const N: usize>(digits: &[u8]) -> Result<[i8; N], LineFault>
     requires each { IsTrue (list_all is_hex_digit digits.now) }
     requires many { length digits.now ≡ 2 * N }
@@ -38,53 +36,30 @@ pub(crate) fn soft_values<const N: usize>(digits: &[u8]) -> Result<[i8; N], Line
         (λ values. (values ≡ signed_octets (hex_octets digits.now)) × (list_any (λ octet. octet == 128) (hex_octets digits.now) ≡ false))
         (λ fault. (fault ≡ LineFault.Soft) × (list_any (λ octet. octet == 128) (hex_octets digits.now) ≡ true)) }
 {
-    let values = signed_values(digits);
-    if has_lowest(&values) {
+    let octets: [u8; N] = octets_of(digits);
+    if has_lowest(&octets) {
         return Err(LineFault::Soft);
     }
-    Ok(values)
+    Ok(signed_values(&octets))
 }
 
-fn signed_values<const N: usize>(digits: &[u8]) -> [i8; N]
-    requires each { IsTrue (list_all is_hex_digit digits.now) }
-    requires many { length digits.now ≡ 2 * N }
-    ensures { result ≡ signed_octets (hex_octets digits.now) }
-{
-    let mut values = [0; N];
-    for i in 0..N {
-        values[i] = octet_of(digits[2 * i], digits[2 * i + 1]).cast_signed();
-    }
-    values
-}
-
-fn octet_of(high: u8, low: u8) -> u8
-    requires high { IsTrue (is_hex_digit high) }
-    requires low { IsTrue (is_hex_digit low) }
-    ensures { result ≡ 16 * digit_value high + digit_value low }
-{
-    16 * digit_value(high) + digit_value(low)
-}
-
-fn digit_value(digit: u8) -> u8
-    requires { IsTrue (is_hex_digit digit) }
-    ensures value { result ≡ digit_value digit }
-    ensures within { result ≤ 15 }
-{
-    if digit <= b'9' {
-        digit - b'0'
-    } else if digit <= b'F' {
-        digit - b'A' + 10
-    } else {
-        digit - b'a' + 10
-    }
-}
-
-fn has_lowest(values: &[i8]) -> bool
-    ensures { result ≡ list_any (λ value. int_eq value (negsuc 127)) values.now }
+// The octet 80 in hexadecimal is -128.
+fn has_lowest(octets: &[u8]) -> bool
+    ensures { result ≡ list_any (λ octet. octet == 128) octets.now }
 {
     let mut found = false;
-    for value in values {
-        found |= *value == i8::MIN;
+    for octet in octets {
+        found |= *octet == 0x80;
     }
     found
+}
+
+fn signed_values<const N: usize>(octets: &[u8; N]) -> [i8; N]
+    ensures { result ≡ signed_octets octets.now }
+{
+    let mut values = [0; N];
+    for (i, octet) in octets.iter().enumerate() {
+        values[i] = octet.cast_signed();
+    }
+    values
 }

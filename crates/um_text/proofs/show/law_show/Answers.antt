@@ -1,4 +1,4 @@
-use Rattle.um_text.proofs.ShowOnce.{one_meaning}
+use Rattle.um_text.proofs.ShowLaws.{one_meaning}
 use Rattle.um_text.proofs.show.law_show.Goals as goal
 
 pub returns : goal.returns

@@ -1,6 +1,7 @@
-use Rattle.std.proofs.Common.{sym, ◌∙◌}
+use Rattle.std.proofs.Common.{sym, ap, Ok, ◌∙◌}
+use Rattle.um_text.specs.declared.show.ShowLine.TheVariants as S
 use Rattle.um_text.proofs.ShowFields.{not_false, not_true}
-use Rattle.um_text.proofs.ShowFaults.{refused_for_digits, refused_for_length}
+use Rattle.um_text.proofs.ShowFaults.{refused_for_digits, refused_for_length, read_frame}
 use Rattle.um_text.proofs.show.parse_frame.Goals as goal
 
 pub returns-then-not-have_digits : goal.returns-then-not-have_digits
@@ -15,3 +16,12 @@ returns-then-not-have_length c =
 
 pub octets-requires-clause-digits : goal.octets-requires-clause-digits
 octets-requires-clause-digits c = not_true _ (sym c.have_digits.ensures ∙ c.if-not-have_digits.false)
+
+pub returns : goal.returns
+returns c =
+    let f = c.octets.ensures.0 in
+    ap (λ octets. Ok (S.Frame octets)) c.octets.ensures.2
+    ∙ read_frame _ c.in_ok-found.found c.in_ok-found.ensures f
+    (not_true _ (sym c.have_digits.ensures ∙ c.if-not-have_digits.false))
+    (not_true _ (sym c.have_length.ensures ∙ c.if-not-have_length.false))
+    c.octets.ensures.1

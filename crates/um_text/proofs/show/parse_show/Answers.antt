@@ -1,7 +1,16 @@
 use Rattle.std.proofs.Common.{sym, ◌∙◌}
-use Rattle.um_text.proofs.ShowLaws.{read_by_words}
+use Rattle.um_lines.specs.Forms.{anywhere}
+use Rattle.um_lines.specs.ShowForms.{show_forms}
+use Rattle.um_lines.proofs.FormLaws.{read_of_words}
+use Rattle.um_text.specs.ShowLines.{show_line}
 use Rattle.um_text.proofs.show.parse_show.Goals as goal
+
+pub returns-clause-means : goal.returns-clause-means
+returns-clause-means c =
+    let stays = sym c.is_skipped.ensures ∙ c.if-is_skipped.false in
+    (read_of_words show_forms anywhere show_line _ _ c.if-line-gt-LINE_LIMIT.false stays c.parse_words.ensures).0
 
 pub returns-clause-refused : goal.returns-clause-refused
 returns-clause-refused c =
-    read_by_words _ _ c.if-line-gt-LINE_LIMIT.false (sym c.is_skipped.ensures ∙ c.if-is_skipped.false) c.parse_words.ensures
+    let stays = sym c.is_skipped.ensures ∙ c.if-is_skipped.false in
+    (read_of_words show_forms anywhere show_line _ _ c.if-line-gt-LINE_LIMIT.false stays c.parse_words.ensures).1

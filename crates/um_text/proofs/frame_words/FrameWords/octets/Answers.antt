@@ -1,11 +1,11 @@
-use Rattle.std.proofs.Common.{◌≡◌, ◌≤◌, length, sym, ap, ◌∙◌, not, arith}
+use Rattle.std.proofs.Common.{◌≤◌, ◌-◌, length, slice_index, sym, refl, ◌∙◌, not, arith}
 use Rattle.std.proofs.lemmas.Bool.{or_parts}
 use Rattle.std.proofs.lemmas.List.{length-take-le}
-use Rattle.lapdm_frame.specs.Content.{content_of, information}
+use Rattle.lapdm_frame.specs.Content.{content_of}
 use Rattle.um_lines.specs.Fields.{is_digit_to}
-use Rattle.um_lines.specs.Fields.{hex_octets, octet_count}
-use Rattle.um_text.specs.ShowReading.{info_word, least_info}
-use Rattle.um_text.proofs.ShowFields.{same_line, info_digits, info_length}
+use Rattle.um_lines.specs.Fields.{octet_count}
+use Rattle.um_text.specs.ShowReading.{least_info}
+use Rattle.um_text.proofs.ShowFields.{not_false, info_digits, info_length}
 use Rattle.um_text.proofs.frame_words.FrameWords.octets.Goals as goal
 
 pub some_octets_of-count-requires-clause-each : goal.some_octets_of-count-requires-clause-each
@@ -14,6 +14,18 @@ some_octets_of-count-requires-clause-each c =
     let a = or_parts (not (is_digit_to 7 w.sapi.now)) _ c.requires.digits in
     let b = or_parts (not (is_digit_to 1 w.cr.now)) _ a.1 in
     rw c.info_word.ensures (info_digits w.fields b.1)
+
+pub is_one-cr-requires : goal.is_one-cr-requires
+is_one-cr-requires c =
+    let w = c.args.self.now in
+    let a = or_parts (not (is_digit_to 7 w.sapi.now)) _ c.requires.digits in
+    not_false _ (or_parts (not (is_digit_to 1 w.cr.now)) _ a.1).0
+
+pub body-body-requires-clause-digits : goal.body-body-requires-clause-digits
+body-body-requires-clause-digits c =
+    let w = c.args.self.now in
+    let a = or_parts (not (is_digit_to 7 w.sapi.now)) _ c.requires.digits in
+    (or_parts (not (is_digit_to 1 w.cr.now)) _ a.1).1
 
 pub some_octets_of-count-requires-clause-many : goal.some_octets_of-count-requires-clause-many
 some_octets_of-count-requires-clause-many c =
@@ -43,26 +55,11 @@ body-body-requires-clause-least c =
 pub returns : goal.returns
 returns c =
     let w = c.args.self.now in
-    let a = or_parts (not (is_digit_to 7 w.sapi.now)) _ c.requires.digits in
-    let b = or_parts (not (is_digit_to 1 w.cr.now)) _ a.1 in
-    let spelled : information (content_of c.body-body.result) ≡ hex_octets (info_word w.fields) =
-    c.body-body.ensures.octets ∙ c.some_octets_of-count.ensures.octets ∙ ap hex_octets c.info_word.ensures in
-    let sapi = c.digit_of-sapi.ensures.spelled in
+    let content = content_of c.body-body.result in
+    let sapi = c.digit_of-sapi.ensures.value in
     let cr = c.is_one-cr.ensures in
-    let rest = c.body-body.ensures.words in
-    record {
-      frame = record { sapi = c.digit_of-sapi.result; cr = c.is_one-cr.result; content = content_of c.body-body.result };
-      word = info_word w.fields;
-      spelled = same_line w.sapi.now w.cr.now _ _ _ _ sapi cr rest;
-      informed = record {
-        well = (info_length w.fields c.requires.length).well;
-        each = info_digits w.fields b.1;
-        spelled = spelled;
-      };
-      fits = record {
-        sapi = c.digit_of-sapi.ensures.within;
-        numbers = c.body-body.ensures.numbers;
-        information = c.body-body.ensures.information;
-      };
-      canonical = c.write.ensures.octets;
-    }
+    (
+      record { sapi = c.digit_of-sapi.result; cr = c.is_one-cr.result; content = content },
+      c.body-body.ensures.said (slice_index w.sapi.now 0 - 48) (slice_index w.cr.now 0 - 48) ∙ rw (sapi, cr) refl,
+      c.write.ensures.octets,
+    )
