@@ -1,12 +1,13 @@
 -- The events of a session have one summary.
-use Rattle.std.proofs.Common.{◌≡◌, ◌∙◌, refl, sym, subst, ℕ, ◌≤◌, List, length, sum, count_by}
+use Rattle.std.proofs.Common.{◌≡◌, ◌∙◌, refl, sym, subst, ℕ, ◌≤◌, List, [], ◌∷◌, All, length, sum, count_by}
+use Rattle.std.proofs.lemmas.List.Elements.{All-nil, All-cons}
 use Rattle.std.specs.List.{sum_by}
 use Rattle.lapdm_frame.specs.declared.Channel.TheVariants.{Sdcch}
 use Rattle.lapdm_window.specs.declared.Sapi.TheVariants.{Zero}
 use Rattle.lapdm_window.specs.Ends.{Role, Mobile, Network}
 use Rattle.lapdm_link.specs.Claims.{Line, got, acked}
 use Rattle.um_air.specs.Air.{Event, Answer, start_on}
-use Rattle.um_air.specs.Sessions.{lines}
+use Rattle.um_air.specs.Sessions.{lines, IsKind, IsOctetEvent}
 use Rattle.um_air.proofs.Laws.{one_run, some_run}
 use Rattle.um_make.specs.declared.end_summary.EndSummary.{EndSummary}
 use Rattle.um_make.specs.declared.summary.Summary.{Summary}
@@ -76,9 +77,14 @@ same_summary events answers s t h k =
     (h.steps ∙ sym k.steps) (h.sent ∙ sym k.sent) (h.takes ∙ sym k.takes) (h.drops ∙ sym k.drops) (h.lost ∙ sym k.lost)
     (same_end Mobile ls s.mobile t.mobile h.mobile k.mobile) (same_end Network ls s.network t.network h.network k.network)
 
-pub one_summary : (tsc : ℕ) (events : List Event) → tsc ≤ 7 → HasOneSummary tsc events
-one_summary tsc events within =
-    let some = some_run tsc Sdcch events within in
+-- the messages of a kind script are octets
+pub octets_of_kind : (events : List Event) → IsKind events → All IsOctetEvent events
+octets_of_kind [] kind = All-nil IsOctetEvent
+octets_of_kind (event ∷ events) kind = All-cons IsOctetEvent event events kind.1 (octets_of_kind events kind.2)
+
+pub one_summary : (tsc : ℕ) (events : List Event) → tsc ≤ 7 → All IsOctetEvent events → HasOneSummary tsc events
+one_summary tsc events within octets =
+    let some = some_run tsc Sdcch events within octets in
     let answers : List Answer = some.0 in
     record {
       summary = summary_of events answers;
