@@ -1,4 +1,4 @@
-pub mod Below
+mod Below
 mod BitLists
 pub mod Lemmas
 mod Multiples

@@ -1,3 +1,4 @@
+//! The access burst of 88 bits, by which a mobile asks for a channel (RACH): its training sequence stands first.
 ghost use Rattle.std.specs.Prelude.{◌≡◌, ◌++◌, length};
 ghost use Rattle.bit_blocks.specs.Bits.{AllBits};
 ghost use Rattle.burst_map.specs.AccessBurst.{access_burst, access_sequence};

@@ -1,4 +1,5 @@
-//! The layouts of bursts: how a burst is put together, and the parts of a received one.
+//! The layouts of bursts (GSM 05.02 section 5.2, today 3GPP TS 45.002): how a burst is put together around its training
+//! sequence, and the parts of a received one.
 #![tactic(auto)]
 
 mod access_burst;

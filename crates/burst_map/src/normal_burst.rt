@@ -1,3 +1,4 @@
+//! The normal burst of 148 bits: tail, half of the coded bits, a stealing flag, the midamble, the other flag and half, tail.
 ghost use Rattle.std.specs.Prelude.{◌≡◌, ◌≤◌, ◌++◌, length};
 ghost use Rattle.bit_blocks.specs.Bits.{AllBits};
 ghost use Rattle.burst_map.specs.NormalBurst.{normal_burst};

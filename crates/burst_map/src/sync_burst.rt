@@ -1,3 +1,4 @@
+//! The synchronisation burst of 148 bits (SCH): a midamble of 64 bits between two halves.
 ghost use Rattle.std.specs.Prelude.{◌≡◌, ◌++◌, length};
 ghost use Rattle.bit_blocks.specs.Bits.{AllBits};
 ghost use Rattle.burst_map.specs.SyncBurst.{sync_burst, sync_sequence};

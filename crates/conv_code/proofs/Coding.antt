@@ -16,6 +16,10 @@ delayed-more u k d e h = grind (arith, nat_tests)
 pub delayed-none : (u : List ℕ) (k : ℕ) → delayed u k 0 ≡ get_or u k 0
 delayed-none u k = grind (arith, nat_tests)
 
+-- from the fourth place on the earlier bits are there
+pub delayed-late : (u : List ℕ) (k d : ℕ) → d ≤ k → delayed u k d ≡ get_or u (k - d) 0
+delayed-late u k d h = grind (arith, nat_tests)
+
 -- every place of a list of bits has a bit, past its end too
 pub bit_at-most_1 : (u : List ℕ) (k : ℕ) → AllBits u → get_or u k 0 ≤ 1
 bit_at-most_1 u k bits = elim (cases_lt k (length u)) [ inl within ↦ bits k 0 within | inr past ↦ rw (get_or_past u k 0 past) (omega arith) ]

@@ -2,3 +2,5 @@ mod Checks
 pub mod Coding
 pub mod Lemmas
 mod Lists
+mod OneBest
+mod States

@@ -1,2 +1,3 @@
 pub mod Code
 pub mod Likelihood
+pub mod States

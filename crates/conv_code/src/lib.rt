@@ -1,9 +1,10 @@
-//! The convolutional code of rate one half that the signalling channels, RACH and SCH share, and which information
-//! list is the most likely one for soft values.
+//! The convolutional code of rate one half and constraint length five that the signalling channels, RACH and SCH share
+//! (GSM 05.03 section 4.1.3, today 3GPP TS 45.003), and which information list is the most likely one for soft values.
 #![tactic(auto)]
 
-ghost use Rattle.std.specs.Prelude.{◌≡◌, ◌*◌, length};
-ghost use Rattle.conv_code.specs.Code.{coded, IsInformation};
+ghost use Rattle.std.specs.Prelude.{◌≡◌, ◌*◌, ◌<◌, length, take};
+ghost use Rattle.std.specs.List.{flat_map, range_with_len};
+ghost use Rattle.conv_code.specs.Code.{coded, coded_pair, delayed, IsInformation};
 
 /// Writes the coded list of an information list, two bits for each place.
 ///
@@ -13,18 +14,44 @@ pub fn encode(u: &[u8], out: &mut [u8])
     requires count { length out.old ≡ 2 * length u.now }
     ensures { out.new ≡ coded u.now }
 {
-    let mut one_ago = 0;
-    let mut two_ago = 0;
-    let mut three_ago = 0;
-    let mut four_ago = 0;
-    for (k, bit) in u.iter().enumerate() {
-        let first = *bit ^ three_ago ^ four_ago;
+    encode_front(u, out);
+    encode_rest(u, out);
+}
+
+/// Writes the pairs of the first four places, before some of which no bit stands.
+fn encode_front(u: &[u8], out: &mut [u8])
+    requires information { IsInformation u.now }
+    requires count { length out.old ≡ 2 * length u.now }
+    ensures count { length out.new ≡ length out.old }
+    ensures pairs { take 8 out.new ≡ flat_map (coded_pair u.now) (range_with_len 0 4) }
+{
+    for k in 0..4 {
+        let first = u[k] ^ delayed(u, k, 3) ^ delayed(u, k, 4);
         out[2 * k] = first;
-        out[2 * k + 1] = first ^ one_ago;
-        four_ago = three_ago;
-        three_ago = two_ago;
-        two_ago = one_ago;
-        one_ago = *bit;
+        out[2 * k + 1] = first ^ delayed(u, k, 1);
+    }
+}
+
+/// The bit of an earlier place, and 0 before the first place.
+fn delayed(u: &[u8], k: usize, delay: usize) -> u8
+    requires { k < length u.now }
+    ensures { result ≡ delayed u.now k delay }
+{
+    if k < delay { 0 } else { u[k - delay] }
+}
+
+/// Writes the pairs of all places from the fifth on: without a bit that is kept from one place to the next the compiler
+/// makes sixteen pairs at a time.
+fn encode_rest(u: &[u8], out: &mut [u8])
+    requires information { IsInformation u.now }
+    requires count { length out.old ≡ 2 * length u.now }
+    requires pairs { take 8 out.old ≡ flat_map (coded_pair u.now) (range_with_len 0 4) }
+    ensures { out.new ≡ coded u.now }
+{
+    for k in 4..u.len() {
+        let first = u[k] ^ u[k - 3] ^ u[k - 4];
+        out[2 * k] = first;
+        out[2 * k + 1] = first ^ u[k - 1];
     }
 }
 

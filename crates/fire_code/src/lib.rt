@@ -1,5 +1,6 @@
-//! The parity of three channel codes of GSM: the Fire code of the control channels (xCCH), and the codes of the access
-//! burst (RACH) and of the synchronisation burst (SCH).
+//! The parity of three channel codes of GSM, cyclic codes (CRC) that are sent inverted (GSM 05.03 sections 4.1.2, 4.6 and
+//! 4.7, today 3GPP TS 45.003): the Fire code of the control channels (xCCH), and the codes of the access burst (RACH) and of
+//! the synchronisation burst (SCH).
 #![tactic(auto)]
 
 mod division;

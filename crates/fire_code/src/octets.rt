@@ -1,3 +1,5 @@
+//! The Fire code's remainder an octet at a time: the usual CRC over a table of 256 entries, reflected, since the first bit of
+//! an octet is that of value 1.
 ghost use Rattle.std.specs.Prelude.{◌≡◌, ℕ, ◌*◌, ◌/◌, ◌<◌, ◌^◌, ◌++◌, List, length};
 ghost use Rattle.bit_blocks.specs.Bits.{AllBits};
 ghost use Rattle.bit_blocks.specs.Octets.{octet_bits};
@@ -9,6 +11,7 @@ use crate::registers::{bits_of, gathered};
 use bit_blocks::Bits;
 
 // For each octet what completes its bits to a multiple of the Fire code's generator: bit i of a number is place i.
+// `tools/remainders.py` makes them.
 static REMAINDERS: [u64; 256] = [
     0x00_0000_0000,
     0x01_2000_8240,

@@ -2,7 +2,7 @@
 use Rattle.std.proofs.Common.{◌≡◌, ℕ, ◌+◌, ◌*◌, ◌/◌, ◌%◌, ◌<◌, Bool, true, ◌&&◌, eqb, ltb, [], get_or, refl, rules, tests}
 use Rattle.interleave.specs.declared.table.TheConstants.{HALVES}
 use Rattle.interleave.specs.Places.{burst_of, place_of}
-use Rattle.interleave.proofs.Below.{passes_below, at_passes_below, both_true}
+use Rattle.bit_blocks.proofs.Lemmas.{passes_below, at_passes_below, both_true}
 
 -- the coded bit that row r of the table has at place i
 unfoldable pub entry : ℕ → ℕ → ℕ

@@ -1,4 +1,3 @@
-mod Below
 mod Bijection
 mod BurstPlaces
 mod CodedBits

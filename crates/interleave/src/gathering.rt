@@ -1,3 +1,4 @@
+//! From the soft values of the bursts back to the order of the coded list.
 ghost use Rattle.std.specs.Prelude.{◌≡◌, ◌≢◌, ℕ, ℤ, pos, ◌+◌, ◌*◌, ◌<◌, ◌≤◌, ◌++◌, List, length, slice_index_or};
 ghost use Rattle.interleave.specs.Bursts.{IsInterleaved, IsGathered};
 ghost use Rattle.interleave.specs.Places.{burst_of, place_of};

@@ -1,4 +1,5 @@
-//! The interleaving of a block's 456 coded bits over four bursts.
+//! The block rectangular interleaving of a block's 456 coded bits over four bursts (GSM 05.03 section 4.1.4, today 3GPP TS
+//! 45.003): coded bit k goes to burst k mod 4, and there to place 2(49k mod 57) + (k mod 8) / 4.
 #![tactic(auto)]
 
 mod gathering;

@@ -1,3 +1,4 @@
+//! From the coded list to the bursts.
 ghost use Rattle.std.specs.Prelude.{◌≡◌, ℕ, ◌+◌, ◌*◌, ◌<◌, ◌≤◌, List, [], All, length, slice_index, slice_index_or, slice_range};
 ghost use Rattle.bit_blocks.specs.Bits.{AllBits};
 ghost use Rattle.interleave.specs.Bursts.{IsInterleaved};

@@ -1,7 +1,9 @@
+//! The interleaving turned round: which coded bit stands at each place.
 ghost use Rattle.std.specs.Prelude.{◌<◌, ◌≤◌};
 ghost use Rattle.interleave.specs.Halves.{IsHalfBurst};
 
 // The coded bits of the eight half bursts, each in the order in which they are sent, those of burst b and half h at 2 b + h.
+// `tools/interleaving.py` makes them.
 static HALVES: [[u16; 57]; 8] = [
     [
         0, 228, 64, 292, 128, 356, 192, 420, 256, 28, 320, 92, 384, 156, 448, 220, 56, 284, 120,

@@ -1,3 +1,5 @@
+//! The choice of a sequence by correlation (this project's own rule): the soft values of four bursts are added place by
+//! place, and the sums weighed against each sequence's signs.
 ghost use Rattle.std.specs.Prelude.{◌≡◌, ◌+◌, ◌<◌, ◌≤◌, ◌+ℤ◌, length, All};
 ghost use Rattle.training_seq.specs.Choice.{IsFirstGreatest, IsBestSequence, total_wrong_places};
 ghost use Rattle.bit_blocks.specs.SoftValues.{likelihood};

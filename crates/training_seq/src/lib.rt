@@ -1,4 +1,5 @@
-//! The eight training sequences of the normal burst, and which of them a block was sent with.
+//! The eight training sequences of the normal burst, its midambles (GSM 05.02 section 5.2.3, today 3GPP TS 45.002), and which
+//! of them a block was sent with.
 #![tactic(auto)]
 
 mod choice;

@@ -1,3 +1,4 @@
+//! The table of sequences, as bits and as signs.
 ghost use Rattle.std.specs.Prelude.{◌≡◌, ◌≤◌, take, drop};
 ghost use Rattle.bit_blocks.specs.Bits.{AllBits};
 ghost use Rattle.training_seq.specs.Sequences.{training_sequence};

@@ -7,7 +7,7 @@ use Rattle.std.proofs.lemmas.List.{take_at, drop_at, take-map, drop-map, map-app
 use Rattle.std.proofs.lemmas.List.Elements.{All-head, All-tail}
 use Rattle.bit_blocks.specs.Bits.{IsBit, AllBits}
 use Rattle.bit_blocks.specs.SoftValues.{wrong_places}
-use Rattle.interleave.proofs.Lemmas.{passes_below, at_passes_below}
+use Rattle.bit_blocks.proofs.Lemmas.{passes_below, at_passes_below}
 use Rattle.trellis_decode.proofs.Searching.{less_by_test}
 use Rattle.training_seq.specs.Choice.{IsFirstGreatest, total_correlation}
 use Rattle.training_seq.specs.Sequences.{training_sequence}

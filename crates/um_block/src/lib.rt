@@ -1,4 +1,4 @@
-//! Blocks, access bursts and synchronisation bursts: from their information to the bits of
+//! Blocks, access bursts and synchronisation bursts (GSM 05.03, today 3GPP TS 45.003): from their information to the bits of
 //! bursts, and from the soft values of bursts to what is received.
 #![tactic(auto)]
 
@@ -13,5 +13,7 @@ mod tests;
 pub use laws::{law_block_places, law_few_wrong};
 pub use radio::{PlainRadio, Radio};
 pub use received::{Received, ReceivedAccess, ReceivedSync};
-pub use receiving::{gather_block, join_halves, receive_access, receive_block, receive_sync, soften};
+pub use receiving::{
+    gather_block, join_halves, receive_access, receive_block, receive_sync, soften,
+};
 pub use sending::{send_access, send_block, send_sync};

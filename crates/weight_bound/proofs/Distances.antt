@@ -3,26 +3,16 @@ use Rattle.std.proofs.Common.{◌≡◌, ◌≢◌, ℕ, zero, suc, ◌+◌, ◌
 use Rattle.std.proofs.lemmas.List.{take-append-drop, length-replicate, length-take}
 use Rattle.std.proofs.lemmas.List.Elements.{All-nil, All-cons, All-head, All-tail, All-take, All-drop, All-replicate}
 use Rattle.std.specs.List.{All, flat_map, range_with_len}
-use Rattle.bit_blocks.specs.Bits.{AllBits, add_bits}
+use Rattle.bit_blocks.specs.Bits.{IsBit, AllBits, add_bits}
+use Rattle.bit_blocks.proofs.Lemmas.{AllBits-add_bits, add_bits-append}
 use Rattle.conv_code.specs.Code.{coded_pair, coded, IsInformation}
-use Rattle.trellis_decode.specs.Trellis.{coded_from}
-use Rattle.trellis_decode.proofs.Likelihoods.{AllBits-coded}
-use Rattle.trellis_decode.proofs.Lists.{coded_from_start}
+use Rattle.conv_code.specs.States.{coded_from}
+use Rattle.conv_code.proofs.Lemmas.{AllBits-coded, coded_from_start}
+pub use Rattle.conv_code.proofs.Lemmas.{length-coded}
 use Rattle.weight_bound.specs.Distance.{distance, AtLeastSeven, ReachesSeven}
 use Rattle.weight_bound.proofs.Counting.{distance-cons}
 use Rattle.weight_bound.proofs.Linear.{coded-add_bits}
 use Rattle.weight_bound.proofs.Weights.{ones, tail_bits, ones_bound}
-
-length-pairs : (u places : List ℕ) → length (flat_map (coded_pair u) places) ≡ 2 * length places
-length-pairs u [] = refl
-length-pairs u (k ∷ places) = let later = length-pairs u places in omega arith
-
-length-range : (n a : ℕ) → length (range_with_len a n) ≡ n
-length-range zero a = refl
-length-range (suc n) a = ap suc (length-range n (a + 1))
-
-pub length-coded : (u : List ℕ) → length (coded u) ≡ 2 * length u
-length-coded u = length-pairs u (range_with_len 0 (length u)) ∙ ap (λ n. 2 * n) (length-range (length u) 0)
 
 -- bits differ where their sum is 1
 distance-add_bits : (a b : List ℕ) → length a ≡ length b → AllBits a → AllBits b → distance a b ≡ ones (add_bits a b)
@@ -30,9 +20,9 @@ distance-add_bits [] b e bits_a bits_b = refl
 distance-add_bits (x ∷ a) [] e bits_a bits_b = absurd (omega arith)
 distance-add_bits (x ∷ a) (y ∷ b) e bits_a bits_b =
     let e' : length a ≡ length b = omega arith in
-    let later = distance-add_bits a b e' (All-tail (λ bit. bit ≤ 1) x a bits_a) (All-tail (λ bit. bit ≤ 1) y b bits_b) in
+    let later = distance-add_bits a b e' (All-tail IsBit x a bits_a) (All-tail IsBit y b bits_b) in
     distance-cons x y a b
-    ∙ ap₂ (λ here after. here + after) (one_place x y (All-head (λ bit. bit ≤ 1) x a bits_a) (All-head (λ bit. bit ≤ 1) y b bits_b)) later
+    ∙ ap₂ (λ here after. here + after) (one_place x y (All-head IsBit x a bits_a) (All-head IsBit y b bits_b)) later
   where
     one_place : (x y : ℕ) → x ≤ 1 → y ≤ 1 → cond (not (x == y)) 1 0 ≡ (x + y) % 2
     one_place zero zero hx hy = refl
@@ -43,19 +33,6 @@ distance-add_bits (x ∷ a) (y ∷ b) e bits_a bits_b =
     one_place (suc zero) (suc (suc y)) hx hy = absurd (omega arith)
     one_place (suc (suc x)) y hx hy = absurd (omega arith)
 
-AllBits-add_bits : (u v : List ℕ) → AllBits (add_bits u v)
-AllBits-add_bits [] v = All-nil (λ bit. bit ≤ 1)
-AllBits-add_bits (x ∷ u) [] = All-nil (λ bit. bit ≤ 1)
-AllBits-add_bits (x ∷ u) (y ∷ v) = All-cons (λ bit. bit ≤ 1) _ _ (omega arith) (AllBits-add_bits u v)
-
-add_bits-append : (a b c d : List ℕ) → length a ≡ length b → add_bits (a ++ c) (b ++ d) ≡ add_bits a b ++ add_bits c d
-add_bits-append [] [] c d e = refl
-add_bits-append [] (y ∷ b) c d e = absurd (omega arith)
-add_bits-append (x ∷ a) [] c d e = absurd (omega arith)
-add_bits-append (x ∷ a) (y ∷ b) c d e =
-    let e' : length a ≡ length b = omega arith in
-    ap (λ tail. ((x + y) % 2) ∷ tail) (add_bits-append a b c d e')
-
 -- the first place where two lists differ gives two ones, and leads to the state from which five more come
 seven_ones : (u v : List ℕ) → AllBits u → AllBits v → length u ≡ length v → u ≢ v → 7 ≤ ones (coded_from 0 (add_bits u v ++ tail_bits))
 seven_ones [] [] bits_u bits_v e ne = absurd (ne refl)
@@ -63,11 +40,11 @@ seven_ones [] (y ∷ v) bits_u bits_v e ne = absurd (omega arith)
 seven_ones (x ∷ u) [] bits_u bits_v e ne = absurd (omega arith)
 seven_ones (zero ∷ u) (zero ∷ v) bits_u bits_v e ne =
     let e' : length u ≡ length v = omega arith in
-    let later = seven_ones u v (All-tail (λ bit. bit ≤ 1) 0 u bits_u) (All-tail (λ bit. bit ≤ 1) 0 v bits_v) e' (λ same. ne (ap (λ w. 0 ∷ w) same)) in
+    let later = seven_ones u v (All-tail IsBit 0 u bits_u) (All-tail IsBit 0 v bits_v) e' (λ same. ne (ap (λ w. 0 ∷ w) same)) in
     omega (arith, later)
 seven_ones (suc zero ∷ u) (suc zero ∷ v) bits_u bits_v e ne =
     let e' : length u ≡ length v = omega arith in
-    let later = seven_ones u v (All-tail (λ bit. bit ≤ 1) 1 u bits_u) (All-tail (λ bit. bit ≤ 1) 1 v bits_v) e' (λ same. ne (ap (λ w. 1 ∷ w) same)) in
+    let later = seven_ones u v (All-tail IsBit 1 u bits_u) (All-tail IsBit 1 v bits_v) e' (λ same. ne (ap (λ w. 1 ∷ w) same)) in
     omega (arith, later)
 seven_ones (zero ∷ u) (suc zero ∷ v) bits_u bits_v e ne =
     let later = ones_bound 1 (add_bits u v) (omega arith) (AllBits-add_bits u v) in
@@ -76,10 +53,10 @@ seven_ones (suc zero ∷ u) (zero ∷ v) bits_u bits_v e ne =
     let later = ones_bound 1 (add_bits u v) (omega arith) (AllBits-add_bits u v) in
     omega (arith, later)
 seven_ones (suc (suc x) ∷ u) (y ∷ v) bits_u bits_v e ne =
-    let bit : suc (suc x) ≤ 1 = All-head (λ bit. bit ≤ 1) (suc (suc x)) u bits_u in
+    let bit : suc (suc x) ≤ 1 = All-head IsBit (suc (suc x)) u bits_u in
     absurd (omega arith)
 seven_ones (x ∷ u) (suc (suc y) ∷ v) bits_u bits_v e ne =
-    let bit : suc (suc y) ≤ 1 = All-head (λ bit. bit ≤ 1) (suc (suc y)) v bits_v in
+    let bit : suc (suc y) ≤ 1 = All-head IsBit (suc (suc y)) v bits_v in
     absurd (omega arith)
 
 -- four places that are all 0
@@ -110,7 +87,7 @@ distance-coded : (u v : List ℕ) → length u ≡ length v → AllBits u → Al
     distance (coded u) (coded v) ≡ ones (coded_from 0 (add_bits u v))
 distance-coded u v same bits_u bits_v =
     let count : length (coded u) ≡ length (coded v) = length-coded u ∙ ap (λ n. 2 * n) same ∙ sym (length-coded v) in
-    distance-add_bits (coded u) (coded v) count (AllBits-coded u bits_u) (AllBits-coded v bits_v)
+    distance-add_bits (coded u) (coded v) count (AllBits-coded u) (AllBits-coded v)
     ∙ ap ones (sym (coded-add_bits u v same) ∙ coded_from_start (add_bits u v) (AllBits-add_bits u v))
 
 pub at_least_seven : AtLeastSeven
@@ -123,7 +100,7 @@ at_least_seven u v information_u information_v same ne =
     let whole : distance (coded u) (coded v) ≡ ones (coded_from 0 (add_bits (front u) (front v) ++ tail_bits)) =
     distance-coded u v same bits_u bits_v ∙ ap (λ w. ones (coded_from 0 w)) split in
     let ne' : front u ≢ front v = λ e. ne (sym (front-tail_bits u information_u) ∙ ap (λ w. w ++ tail_bits) e ∙ front-tail_bits v information_v) in
-    let bound = seven_ones (front u) (front v) (All-take (λ bit. bit ≤ 1) (length u - 4) u bits_u) (All-take (λ bit. bit ≤ 1) (length v - 4) v bits_v) fronts ne' in
+    let bound = seven_ones (front u) (front v) (All-take IsBit (length u - 4) u bits_u) (All-take IsBit (length v - 4) v bits_v) fronts ne' in
     omega (arith, whole, bound)
 
 add_bits-zeros : (n : ℕ) → add_bits (replicate n 0) (replicate n 0) ≡ replicate n 0
@@ -137,7 +114,7 @@ ones-zeros (suc n) = let later = ones-zeros n in omega (arith, later)
 IsInformation-zeros : (n : ℕ) → 5 ≤ n → IsInformation (replicate n 0)
 IsInformation-zeros n count = record {
   count = rw length-replicate count;
-  bits = All-replicate (λ bit. bit ≤ 1) n 0 (omega arith);
+  bits = All-replicate IsBit n 0 (omega arith);
   tail = All-drop (λ bit. bit ≡ 0) (length (replicate n 0) - 4) (replicate n 0) (All-replicate (λ bit. bit ≡ 0) n 0 (refl {a = 0}));
 }
 
@@ -151,7 +128,7 @@ IsInformation-one_first n four =
     let after : length (one_first n) - 4 ≡ suc (n - 4) = omega arith in
     record {
       count = omega arith;
-      bits = All-cons (λ bit. bit ≤ 1) 1 (replicate n 0) (omega arith) (All-replicate (λ bit. bit ≤ 1) n 0 (omega arith));
+      bits = All-cons IsBit 1 (replicate n 0) (omega arith) (All-replicate IsBit n 0 (omega arith));
       tail = rw after (All-drop (λ bit. bit ≡ 0) (n - 4) (replicate n 0) (All-replicate (λ bit. bit ≡ 0) n 0 (refl {a = 0})));
     }
 

@@ -9,14 +9,18 @@ use Rattle.bit_blocks.specs.Bits.{IsBit, AllBits}
 use Rattle.bit_blocks.specs.SoftValues.{is_wrong, wrong_places}
 use Rattle.conv_code.specs.Code.{coded, IsInformation}
 use Rattle.conv_code.specs.Likelihood.{agreement, likelihood, IsMostLikely}
-use Rattle.trellis_decode.proofs.EdgeLanes.{agreement-zero, agreement-one}
-use Rattle.trellis_decode.proofs.Likelihoods.{AllBits-coded}
-use Rattle.trellis_decode.proofs.MostLikely.{IsMostLikely-only}
+use Rattle.conv_code.proofs.Lemmas.{AllBits-coded, length-coded, IsMostLikely-only}
 use Rattle.weight_bound.specs.Distance.{distance}
 use Rattle.weight_bound.specs.Restoring.{IsLightlyDamaged, Restores}
 use Rattle.weight_bound.proofs.AbsoluteValues.{Between, Contains-strength}
 use Rattle.weight_bound.proofs.Counting.{distance-cons}
-use Rattle.weight_bound.proofs.Distances.{at_least_seven, length-coded}
+use Rattle.weight_bound.proofs.Distances.{at_least_seven}
+
+agreement-zero : (p : ℤ) → agreement p 0 ≡ p
+agreement-zero p = omega (arith, ints)
+
+agreement-one : (p : ℤ) → agreement p 1 ≡ pos 0 -ℤ p
+agreement-one p = omega (arith, ints)
 
 -- a place is right or wrong, by the test and as a fact
 right_or_wrong : (z : ℤ) → ((int_le z (pos 0) ≡ true) × (z ≤ℤ pos 0)) ⊎ ((int_le z (pos 0) ≡ false) × (pos 0 <ℤ z))
@@ -95,7 +99,7 @@ less_likely s u v information_u information_v pairs same ne damage =
     let hi = damage.hi in
     let count_u : length s ≡ length (coded u) = pairs ∙ sym (length-coded u) in
     let count_v : length s ≡ length (coded v) = pairs ∙ ap (λ n. 2 * n) (sym same) ∙ sym (length-coded v) in
-    let sums = all_places s (coded u) (coded v) lo hi count_u count_v (AllBits-coded u information_u.bits) (AllBits-coded v information_v.bits) damage.strengths.between in
+    let sums = all_places s (coded u) (coded v) lo hi count_u count_v (AllBits-coded u) (AllBits-coded v) damage.strengths.between in
     let seven = at_least_seven u v information_u information_v (sym same) (λ e. ne (sym e)) in
     weighed (likelihood s (coded u)) (likelihood s (coded v)) lo hi (distance (coded u) (coded v)) (wrong_places s (coded u)) sums seven damage.few damage.nearly_one_strength
   where

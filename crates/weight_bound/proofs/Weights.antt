@@ -5,8 +5,8 @@ use Rattle.std.proofs.lemmas.Bool.{and_parts, leb-true}
 use Rattle.std.proofs.lemmas.List.Elements.{All-head, All-tail}
 use Rattle.std.proofs.lemmas.List.FromFn.{get_or-range_with_len}
 use Rattle.std.proofs.lemmas.List.Sums.{AllPass-from_list_all}
-use Rattle.bit_blocks.specs.Bits.{AllBits}
-use Rattle.trellis_decode.specs.Trellis.{next, first_bit, second_bit, coded_from}
+use Rattle.bit_blocks.specs.Bits.{IsBit, AllBits}
+use Rattle.conv_code.specs.States.{next, first_bit, second_bit, coded_from}
 
 -- the number of ones of a list of bits
 abbrev pub ones : List ℕ → ℕ
@@ -53,6 +53,6 @@ paid_rest state h = leb-true _ _ (and_parts (is_paid state 0 && is_paid state 1)
 pub ones_bound : (state : ℕ) (u : List ℕ) → state < 16 → AllBits u → potential state ≤ ones (coded_from state (u ++ tail_bits))
 ones_bound state [] h bits = paid_rest state h
 ones_bound state (x ∷ u) h bits =
-    let step = paid_step state x h (All-head (λ bit. bit ≤ 1) x u bits) in
-    let later = ones_bound (next state x) u (omega arith) (All-tail (λ bit. bit ≤ 1) x u bits) in
+    let step = paid_step state x h (All-head IsBit x u bits) in
+    let later = ones_bound (next state x) u (omega arith) (All-tail IsBit x u bits) in
     omega (arith, step, later)

@@ -1,5 +1,5 @@
 //! How many places two lists differ in, how far soft values are damaged, and how much damage the convolutional code
-//! undoes.
+//! undoes, whose free distance is seven.
 #![tactic(auto)]
 
 mod counts;

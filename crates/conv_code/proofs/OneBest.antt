@@ -1,0 +1,48 @@
+-- There is at most one most likely information list.
+use Rattle.std.proofs.Common.{◌≡◌, ◌≢◌, ℕ, ◌⊎◌, inl, inr, ℤ, List, [], ◌∷◌, length, get_or, refl, ap, ap₂, sym, ◌∙◌, arith}
+use Rattle.std.proofs.lemmas.Bool.{cases_lt}
+use Rattle.std.proofs.lemmas.Int.{ints}
+use Rattle.conv_code.specs.Likelihood.{IsBefore, FallsBehind, IsMostLikely}
+
+pub same_number : (x y : ℕ) → (x ≡ y) ⊎ (x ≢ y)
+same_number x y = elim (cases_lt x y) [
+  | inl less ↦ inr (λ e. omega arith)
+  | inr not_less ↦ elim (cases_lt y x) [ inl greater ↦ inr (λ e. omega arith) | inr not_greater ↦ inl (omega arith) ]
+]
+
+pub same_list : (u v : List ℕ) → (u ≡ v) ⊎ (u ≢ v)
+same_list [] [] = inl refl
+same_list [] (y ∷ v) = inr (λ e. cc)
+same_list (x ∷ u) [] = inr (λ e. cc)
+same_list (x ∷ u) (y ∷ v) = elim (same_number x y) [
+  | inl head ↦ elim (same_list u v) [ inl tail ↦ inl (ap₂ (λ z w. z ∷ w) head tail) | inr other ↦ inr (λ e. other (cc)) ]
+  | inr other ↦ inr (λ e. other (cc))
+]
+
+-- two lists do not stand before each other
+IsBefore-one_way : (u v : List ℕ) → IsBefore u v → IsBefore v u → ⊥
+IsBefore-one_way u v h g = elim (cases_lt h.place g.place) [
+  | inl earlier ↦ let same = g.same h.place earlier in h.differs (same ∙ h.zero)
+  | inr not_earlier ↦ elim (cases_lt g.place h.place) [
+    | inl later ↦ let same = h.same g.place later in g.differs (same ∙ g.zero)
+    | inr not_later ↦ let at : h.place ≡ g.place = omega arith in h.differs (ap (λ k. get_or v k 0) at ∙ g.zero)
+  ]
+]
+
+pub FallsBehind-one_way : (s : List ℤ) (u v : List ℕ) → FallsBehind s v u → FallsBehind s u v → ⊥
+FallsBehind-one_way s u v (inl less) (inl more) = omega (arith, ints)
+FallsBehind-one_way s u v (inl less) (inr same) = let e = same.0 in omega (arith, ints)
+FallsBehind-one_way s u v (inr same) (inl more) = let e = same.0 in omega (arith, ints)
+FallsBehind-one_way s u v (inr same) (inr same') = IsBefore-one_way u v same.1 same'.1
+
+pub IsMostLikely-only : (s : List ℤ) (u v : List ℕ) → IsMostLikely s u → IsMostLikely s v → v ≡ u
+IsMostLikely-only s u v h g =
+    let count = h.count in
+    let count' = g.count in
+    let same_length : length v ≡ length u = omega arith in
+    elim (same_list v u) [
+      | inl same ↦ same
+      | inr other ↦ absurd (FallsBehind-one_way s u v
+          (h.others v g.information same_length other)
+          (g.others u h.information (sym same_length) (λ e. other (sym e))))
+    ]
