@@ -1,5 +1,7 @@
 pub mod EdgeLanes
+mod Existence
 pub mod Kept
+pub mod Lemmas
 pub mod Likelihoods
 pub mod Lists
 pub mod MostLikely

@@ -7,7 +7,7 @@ use Rattle.std.proofs.lemmas.List.{drop-drop, drop-set, take-append-drop, length
 use Rattle.std.proofs.Math.ListN.{set}
 use Rattle.std.proofs.lemmas.List.Elements.{All-nil, All-cons, All-head, All-tail, All-append}
 use Rattle.std.specs.List.{All}
-use Rattle.bit_blocks.specs.Bits.{AllBits}
+use Rattle.bit_blocks.specs.Bits.{AllBits, IsBit}
 use Rattle.conv_code.specs.Likelihood.{likelihood}
 use Rattle.trellis_decode.proofs.EdgeLanes.{agreement-zero, agreement-one}
 use Rattle.trellis_decode.specs.Lanes.{lane, AreModest, IsOctet, AreOctets}
@@ -152,25 +152,25 @@ likelihood_bound (p ∷ s) [] octets bits = (omega (arith, ints), omega (arith, 
 likelihood_bound (p ∷ s) (zero ∷ c) octets bits =
     let head = All-head IsOctet p s octets in
     let e = agreement-zero p in
-    let rest = likelihood_bound s c (All-tail IsOctet p s octets) (All-tail (λ bit. bit ≤ 1) 0 c bits) in
+    let rest = likelihood_bound s c (All-tail IsOctet p s octets) (All-tail IsBit 0 c bits) in
     (omega (arith, ints, head.0, head.1, rest.0, rest.1), omega (arith, ints, head.0, head.1, rest.0, rest.1))
 likelihood_bound (p ∷ s) (suc zero ∷ c) octets bits =
     let head = All-head IsOctet p s octets in
     let e = agreement-one p in
-    let rest = likelihood_bound s c (All-tail IsOctet p s octets) (All-tail (λ bit. bit ≤ 1) 1 c bits) in
+    let rest = likelihood_bound s c (All-tail IsOctet p s octets) (All-tail IsBit 1 c bits) in
     (omega (arith, ints, head.0, head.1, rest.0, rest.1), omega (arith, ints, head.0, head.1, rest.0, rest.1))
 likelihood_bound (p ∷ s) (suc (suc x) ∷ c) octets bits =
-    let head = All-head (λ bit. bit ≤ 1) (suc (suc x)) c bits in
+    let head = All-head IsBit (suc (suc x)) c bits in
     absurd (omega arith)
 
 pub AllBits-coded_from : (state : ℕ) (u : List ℕ) → AllBits (coded_from state u)
-AllBits-coded_from state [] = All-nil (λ bit. bit ≤ 1)
+AllBits-coded_from state [] = All-nil IsBit
 AllBits-coded_from state (x ∷ u) =
     let first : first_bit state x ≤ 1 = omega arith in
     let second : second_bit state x ≤ 1 = omega arith in
     let rest = AllBits-coded_from (next state x) u in
-    All-cons (λ bit. bit ≤ 1) (first_bit state x) (second_bit state x ∷ coded_from (next state x) u) first
-    (All-cons (λ bit. bit ≤ 1) (second_bit state x) (coded_from (next state x) u) second rest)
+    All-cons IsBit (first_bit state x) (second_bit state x ∷ coded_from (next state x) u) first
+    (All-cons IsBit (second_bit state x) (coded_from (next state x) u) second rest)
 
 -- the values of sixteen states before at most 456 octets
 pub AreModest-best : (lanes : List ℤ) (lists : ℕ → List ℕ) (soft : List ℤ) → length lanes ≡ 16 → AreOctets soft → length soft ≤ 456 →

@@ -1,4 +1,8 @@
-//! The most likely information list of the convolutional code, by a trellis in lanes.
+//! The most likely information list of the convolutional code (GSM 05.03, today 3GPP TS 45.003, section 4.1.3) for soft
+//! values, by a trellis in lanes.
+//!
+//! It is the Viterbi algorithm, run backward: the best list from each of the sixteen states on grows by one bit at its
+//! front, so that the first of equally likely lists falls out of reading the choices forward.
 #![tactic(auto)]
 
 mod exhaustive;

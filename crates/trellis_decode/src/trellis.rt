@@ -1,3 +1,6 @@
+//! The Viterbi algorithm over a whole list, from its last place to its first, and the way back along the choices. Today
+//! 3GPP TS 45.003 leaves the algorithm open, as GSM 05.03 did.
+
 ghost use Rattle.std.specs.Prelude.{◌≡◌, ℕ, ◌*◌, ◌<◌, ◌≤◌, length, replicate};
 ghost use Rattle.std.specs.List.{All};
 ghost use Rattle.trellis_decode.specs.Lanes.{AreLanes, AreOctets, lane};
