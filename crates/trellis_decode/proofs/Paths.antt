@@ -93,19 +93,17 @@ module _ (after pair soft : List ℤ) (state : ℕ) (zeros ones : List ℕ) (e :
   one_wins h (suc (suc x) ∷ v) ends count = absurd (omega (arith, ends.0))
 
 -- where a bit is free
-pub IsBest-more : (after pair soft : List ℤ) (state row : ℕ) (rows : List ℕ) (value : ℤ) → length pair ≡ 2 → 4 ≤ length rows →
-    IsBest (next state 0) (read_out rows (next state 0)) soft (get_or after (next state 0) (pos 0)) →
-    IsBest (next state 1) (read_out rows (next state 1)) soft (get_or after (next state 1) (pos 0)) →
-    Chooses after pair state value (row / 2 ^ state % 2) →
-    IsBest state (read_out (row ∷ rows) state) (pair ++ soft) value
-IsBest-more after pair soft state row rows value e free best0 best1 choice =
-    let zeros = read_out rows (next state 0) in
-    let ones = read_out rows (next state 1) in
-    let count0 = length-read_out rows (next state 0) in
-    let count1 = length-read_out rows (next state 1) in
-    let same : length ones ≡ length zeros = omega arith in
+pub IsBest-bit : (after pair soft : List ℤ) (state bit : ℕ) (lists : ℕ → List ℕ) (value : ℤ) → length pair ≡ 2 →
+    4 ≤ length (lists (next state 1)) → length (lists (next state 1)) ≡ length (lists (next state 0)) →
+    IsBest (next state 0) (lists (next state 0)) soft (get_or after (next state 0) (pos 0)) →
+    IsBest (next state 1) (lists (next state 1)) soft (get_or after (next state 1) (pos 0)) →
+    Chooses after pair state value bit →
+    IsBest state (bit ∷ lists (next state bit)) (pair ++ soft) value
+IsBest-bit after pair soft state bit lists value e free same best0 best1 choice =
+    let zeros = lists (next state 0) in
+    let ones = lists (next state 1) in
     let long : length ones < 4 → ◌≡◌ {A = ℕ} 1 0 = λ short. absurd (omega arith) in
-    let BestAt : ℕ → Type 0 = λ bit. IsBest state (bit ∷ read_out rows (next state bit)) (pair ++ soft) value in
+    let BestAt : ℕ → Type 0 = λ bit. IsBest state (bit ∷ lists (next state bit)) (pair ++ soft) value in
     elim choice [
       | inl h ↦ subst BestAt (sym h.0) (record {
         gained = h.1 ∙ way_reached after pair soft state 0 zeros e best0;
@@ -118,6 +116,16 @@ IsBest-more after pair soft state row rows value e free best0 best1 choice =
         wins = one_wins after pair soft state zeros ones e same best0 best1 h.2;
       })
     ]
+
+pub IsBest-more : (after pair soft : List ℤ) (state row : ℕ) (rows : List ℕ) (value : ℤ) → length pair ≡ 2 → 4 ≤ length rows →
+    IsBest (next state 0) (read_out rows (next state 0)) soft (get_or after (next state 0) (pos 0)) →
+    IsBest (next state 1) (read_out rows (next state 1)) soft (get_or after (next state 1) (pos 0)) →
+    Chooses after pair state value (row / 2 ^ state % 2) →
+    IsBest state (read_out (row ∷ rows) state) (pair ++ soft) value
+IsBest-more after pair soft state row rows value e free =
+    let count0 = length-read_out rows (next state 0) in
+    let count1 = length-read_out rows (next state 1) in
+    IsBest-bit after pair soft state (row / 2 ^ state % 2) (read_out rows) value e (omega arith) (count1 ∙ sym count0)
 
 -- where a bit is not free
 pub IsBest-closing : (after pair soft : List ℤ) (state : ℕ) (u : List ℕ) → length pair ≡ 2 → length u < 4 →
