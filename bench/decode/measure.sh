@@ -1,5 +1,6 @@
 #!/usr/bin/env bash
-# Nanoseconds a list of 228 bits: `decode` of trellis_decode beside osmo_conv_decode of libosmocoding, in turns.
+# Nanoseconds a list of 228 bits: `decode` of trellis_decode beside osmo_conv_decode of libosmocoding, in turns. Where valgrind is
+# installed, instructions too; they include the loop around the calls.
 # Needs `rt`, gcc, pkg-config and libosmocore-dev. The least of all rounds counts: other work on the machine only adds.
 set -eu
 here=$(cd "$(dirname "$0")" && pwd)
@@ -27,4 +28,12 @@ for ((turn = 0; turn < turns; turn++)); do
 done
 theirs=$(sort -n "$work/theirs" | head -1)
 ours=$(sort -n "$work/ours" | head -1)
+# Both programs decode 100,000 lists.
+instructions() {
+	valgrind --tool=callgrind --callgrind-out-file=/dev/null "$1" 2>&1 > "$work/printed" |
+		awk '/ refs:/ { gsub(",", "", $NF); printf "%d", $NF / 100000 }'
+}
+if command -v valgrind > "$work/where"; then
+	echo "instructions: osmo_conv_decode $(instructions "$work/peer"), decode $(instructions "$work/copy/crates/bench_decode/out/bench_decode")"
+fi
 echo "osmo_conv_decode $theirs ns, decode $ours ns, ratio $(awk "BEGIN { printf \"%.2f\", $ours / $theirs }")"

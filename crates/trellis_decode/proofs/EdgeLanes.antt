@@ -8,11 +8,11 @@ use Rattle.trellis_decode.specs.Lanes.{lane, AreModest, IsOctet, AreOctets}
 use Rattle.trellis_decode.specs.Trellis.{edge}
 
 -- P holds below n, one by one
-abbrev EachBelow : (ℕ → Type 0) → ℕ → Type 0
+abbrev pub EachBelow : (ℕ → Type 0) → ℕ → Type 0
 EachBelow P zero = Unit {0}
 EachBelow P (suc n) = EachBelow P n × P n
 
-each : (P : ℕ → Type 0) (n : ℕ) → EachBelow P n → (s : ℕ) → s < n → P s
+pub each : (P : ℕ → Type 0) (n : ℕ) → EachBelow P n → (s : ℕ) → s < n → P s
 each P zero h s lt = absurd (omega arith)
 each P (suc n) h s lt = below_more P n (each P n h.0) h.1 s (let lt' : s < n + 1 = omega arith in lt')
 
@@ -25,7 +25,7 @@ agreement-one p =
     let turned : p *ℤ negsuc 0 ≡ neg_ℤ p = *ℤ-negsuc p 0 ∙ ap neg_ℤ (agreement-zero p) in
     omega (arith, ints, turned)
 
-pair_is : (pair : List ℤ) → length pair ≡ 2 → pair ≡ lane pair 0 ∷ lane pair 1 ∷ []
+pub pair_is : (pair : List ℤ) → length pair ≡ 2 → pair ≡ lane pair 0 ∷ lane pair 1 ∷ []
 pair_is [] e = absurd (omega arith)
 pair_is (p ∷ []) e = absurd (omega arith)
 pair_is (p ∷ q ∷ []) e = refl

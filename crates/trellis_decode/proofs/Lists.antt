@@ -4,7 +4,7 @@ use Rattle.std.proofs.Math.Seq.{drop-cons, drop-length}
 use Rattle.std.proofs.lemmas.Bool.{cases_lt}
 use Rattle.std.proofs.lemmas.List.Elements.{All-nil, All-cons, All-head, All-tail}
 use Rattle.std.specs.List.{All, flat_map, range_with_len}
-use Rattle.bit_blocks.specs.Bits.{AllBits}
+use Rattle.bit_blocks.specs.Bits.{AllBits, IsBit}
 use Rattle.conv_code.specs.Code.{delayed, first_sum, second_sum, coded_pair, coded, IsInformation}
 use Rattle.conv_code.specs.Likelihood.{likelihood, IsBefore, FallsBehind, IsMostLikely}
 use Rattle.conv_code.proofs.Coding.{delayed-more, delayed-none, delayed-at_most_1, bit_at-most_1}
@@ -68,9 +68,9 @@ gain-start soft u bits = ap (likelihood soft) (sym (coded_from_start u bits))
 pub Ends-from_tail : (u : List ℕ) → AllBits u → All (λ bit. bit ≡ 0) (drop (length u - 4) u) → Ends u
 Ends-from_tail [] bits tail = tt
 Ends-from_tail (x ∷ u) bits tail = (
-  All-head (λ bit. bit ≤ 1) x u bits,
+  All-head IsBit x u bits,
   (λ short. let all : suc (length u) - 4 ≡ 0 = omega arith in All-head (λ bit. bit ≡ 0) x u (rw all at tail)),
-  Ends-from_tail u (All-tail (λ bit. bit ≤ 1) x u bits) (elim (cases_lt (length u) 4) [
+  Ends-from_tail u (All-tail IsBit x u bits) (elim (cases_lt (length u) 4) [
     | inl short ↦
         let all : suc (length u) - 4 ≡ 0 = omega arith in
         let all' : length u - 4 ≡ 0 = omega arith in
@@ -80,8 +80,8 @@ Ends-from_tail (x ∷ u) bits tail = (
 )
 
 pub Ends-bits : (u : List ℕ) → Ends u → AllBits u
-Ends-bits [] ends = All-nil (λ bit. bit ≤ 1)
-Ends-bits (x ∷ u) ends = All-cons (λ bit. bit ≤ 1) x u ends.0 (Ends-bits u ends.2)
+Ends-bits [] ends = All-nil IsBit
+Ends-bits (x ∷ u) ends = All-cons IsBit x u ends.0 (Ends-bits u ends.2)
 
 Ends-tail : (u : List ℕ) → Ends u → All (λ bit. bit ≡ 0) (drop (length u - 4) u)
 Ends-tail [] ends = All-nil (λ bit. bit ≡ 0)
@@ -103,11 +103,11 @@ IsBefore-not_after [] [] bits count h ne = absurd (ne refl)
 IsBefore-not_after [] (y ∷ v) bits count h ne = absurd (omega arith)
 IsBefore-not_after (x ∷ u) [] bits count h ne = absurd h
 IsBefore-not_after (x ∷ u) (y ∷ v) bits count (inl less) ne =
-    let bit : y ≤ 1 = All-head (λ bit. bit ≤ 1) y v bits in
+    let bit : y ≤ 1 = All-head IsBit y v bits in
     record { place = 0; within = omega arith; same = (λ j lt. absurd (omega arith)); zero = omega arith; differs = (λ e. omega arith) }
 IsBefore-not_after (x ∷ u) (y ∷ v) bits count (inr rest) ne =
     let count' : length v ≡ length u = omega arith in
-    let tail = IsBefore-not_after u v (All-tail (λ bit. bit ≤ 1) y v bits) count' rest.1 (λ e. ne (ap₂ (λ z w. z ∷ w) (sym rest.0) e)) in
+    let tail = IsBefore-not_after u v (All-tail IsBit y v bits) count' rest.1 (λ e. ne (ap₂ (λ z w. z ∷ w) (sym rest.0) e)) in
     record { place = suc tail.place; within = omega arith; same = same tail; zero = tail.zero; differs = tail.differs }
   where
     same : (tail : IsBefore u v) (j : ℕ) → j < suc tail.place → get_or (x ∷ u) j 0 ≡ get_or (y ∷ v) j 0

@@ -7,7 +7,7 @@ use Rattle.std.proofs.lemmas.List.{drop-drop, drop-set, take-append-drop, length
 use Rattle.std.proofs.Math.ListN.{set}
 use Rattle.std.proofs.lemmas.List.Elements.{All-nil, All-cons, All-head, All-tail, All-append}
 use Rattle.std.specs.List.{All}
-use Rattle.bit_blocks.specs.Bits.{AllBits}
+use Rattle.bit_blocks.specs.Bits.{AllBits, IsBit}
 use Rattle.conv_code.specs.Likelihood.{likelihood}
 use Rattle.trellis_decode.proofs.EdgeLanes.{agreement-zero, agreement-one}
 use Rattle.trellis_decode.specs.Lanes.{lane, AreModest, IsOctet, AreOctets}
@@ -93,19 +93,17 @@ module _ (after pair soft : List ℤ) (state : ℕ) (zeros ones : List ℕ) (e :
   one_wins h (suc (suc x) ∷ v) ends count = absurd (omega (arith, ends.0))
 
 -- where a bit is free
-pub IsBest-more : (after pair soft : List ℤ) (state row : ℕ) (rows : List ℕ) (value : ℤ) → length pair ≡ 2 → 4 ≤ length rows →
-    IsBest (next state 0) (read_out rows (next state 0)) soft (get_or after (next state 0) (pos 0)) →
-    IsBest (next state 1) (read_out rows (next state 1)) soft (get_or after (next state 1) (pos 0)) →
-    Chooses after pair state value (row / 2 ^ state % 2) →
-    IsBest state (read_out (row ∷ rows) state) (pair ++ soft) value
-IsBest-more after pair soft state row rows value e free best0 best1 choice =
-    let zeros = read_out rows (next state 0) in
-    let ones = read_out rows (next state 1) in
-    let count0 = length-read_out rows (next state 0) in
-    let count1 = length-read_out rows (next state 1) in
-    let same : length ones ≡ length zeros = omega arith in
+pub IsBest-bit : (after pair soft : List ℤ) (state bit : ℕ) (lists : ℕ → List ℕ) (value : ℤ) → length pair ≡ 2 →
+    4 ≤ length (lists (next state 1)) → length (lists (next state 1)) ≡ length (lists (next state 0)) →
+    IsBest (next state 0) (lists (next state 0)) soft (get_or after (next state 0) (pos 0)) →
+    IsBest (next state 1) (lists (next state 1)) soft (get_or after (next state 1) (pos 0)) →
+    Chooses after pair state value bit →
+    IsBest state (bit ∷ lists (next state bit)) (pair ++ soft) value
+IsBest-bit after pair soft state bit lists value e free same best0 best1 choice =
+    let zeros = lists (next state 0) in
+    let ones = lists (next state 1) in
     let long : length ones < 4 → ◌≡◌ {A = ℕ} 1 0 = λ short. absurd (omega arith) in
-    let BestAt : ℕ → Type 0 = λ bit. IsBest state (bit ∷ read_out rows (next state bit)) (pair ++ soft) value in
+    let BestAt : ℕ → Type 0 = λ bit. IsBest state (bit ∷ lists (next state bit)) (pair ++ soft) value in
     elim choice [
       | inl h ↦ subst BestAt (sym h.0) (record {
         gained = h.1 ∙ way_reached after pair soft state 0 zeros e best0;
@@ -118,6 +116,16 @@ IsBest-more after pair soft state row rows value e free best0 best1 choice =
         wins = one_wins after pair soft state zeros ones e same best0 best1 h.2;
       })
     ]
+
+pub IsBest-more : (after pair soft : List ℤ) (state row : ℕ) (rows : List ℕ) (value : ℤ) → length pair ≡ 2 → 4 ≤ length rows →
+    IsBest (next state 0) (read_out rows (next state 0)) soft (get_or after (next state 0) (pos 0)) →
+    IsBest (next state 1) (read_out rows (next state 1)) soft (get_or after (next state 1) (pos 0)) →
+    Chooses after pair state value (row / 2 ^ state % 2) →
+    IsBest state (read_out (row ∷ rows) state) (pair ++ soft) value
+IsBest-more after pair soft state row rows value e free =
+    let count0 = length-read_out rows (next state 0) in
+    let count1 = length-read_out rows (next state 1) in
+    IsBest-bit after pair soft state (row / 2 ^ state % 2) (read_out rows) value e (omega arith) (count1 ∙ sym count0)
 
 -- where a bit is not free
 pub IsBest-closing : (after pair soft : List ℤ) (state : ℕ) (u : List ℕ) → length pair ≡ 2 → length u < 4 →
@@ -152,25 +160,25 @@ likelihood_bound (p ∷ s) [] octets bits = (omega (arith, ints), omega (arith, 
 likelihood_bound (p ∷ s) (zero ∷ c) octets bits =
     let head = All-head IsOctet p s octets in
     let e = agreement-zero p in
-    let rest = likelihood_bound s c (All-tail IsOctet p s octets) (All-tail (λ bit. bit ≤ 1) 0 c bits) in
+    let rest = likelihood_bound s c (All-tail IsOctet p s octets) (All-tail IsBit 0 c bits) in
     (omega (arith, ints, head.0, head.1, rest.0, rest.1), omega (arith, ints, head.0, head.1, rest.0, rest.1))
 likelihood_bound (p ∷ s) (suc zero ∷ c) octets bits =
     let head = All-head IsOctet p s octets in
     let e = agreement-one p in
-    let rest = likelihood_bound s c (All-tail IsOctet p s octets) (All-tail (λ bit. bit ≤ 1) 1 c bits) in
+    let rest = likelihood_bound s c (All-tail IsOctet p s octets) (All-tail IsBit 1 c bits) in
     (omega (arith, ints, head.0, head.1, rest.0, rest.1), omega (arith, ints, head.0, head.1, rest.0, rest.1))
 likelihood_bound (p ∷ s) (suc (suc x) ∷ c) octets bits =
-    let head = All-head (λ bit. bit ≤ 1) (suc (suc x)) c bits in
+    let head = All-head IsBit (suc (suc x)) c bits in
     absurd (omega arith)
 
 pub AllBits-coded_from : (state : ℕ) (u : List ℕ) → AllBits (coded_from state u)
-AllBits-coded_from state [] = All-nil (λ bit. bit ≤ 1)
+AllBits-coded_from state [] = All-nil IsBit
 AllBits-coded_from state (x ∷ u) =
     let first : first_bit state x ≤ 1 = omega arith in
     let second : second_bit state x ≤ 1 = omega arith in
     let rest = AllBits-coded_from (next state x) u in
-    All-cons (λ bit. bit ≤ 1) (first_bit state x) (second_bit state x ∷ coded_from (next state x) u) first
-    (All-cons (λ bit. bit ≤ 1) (second_bit state x) (coded_from (next state x) u) second rest)
+    All-cons IsBit (first_bit state x) (second_bit state x ∷ coded_from (next state x) u) first
+    (All-cons IsBit (second_bit state x) (coded_from (next state x) u) second rest)
 
 -- the values of sixteen states before at most 456 octets
 pub AreModest-best : (lanes : List ℤ) (lists : ℕ → List ℕ) (soft : List ℤ) → length lanes ≡ 16 → AreOctets soft → length soft ≤ 456 →

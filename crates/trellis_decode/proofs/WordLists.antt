@@ -5,7 +5,7 @@ use Rattle.std.proofs.lemmas.Bool.{cases_lt}
 use Rattle.std.proofs.lemmas.Nat.{pow_pos}
 use Rattle.std.proofs.lemmas.List.Elements.{All-nil, All-cons, All-head, All-tail}
 use Rattle.std.specs.List.{All}
-use Rattle.bit_blocks.specs.Bits.{AllBits}
+use Rattle.bit_blocks.specs.Bits.{AllBits, IsBit}
 use Rattle.conv_code.specs.Code.{IsInformation}
 use Rattle.conv_code.specs.Likelihood.{IsBefore}
 use Rattle.trellis_decode.specs.Words.{word}
@@ -25,10 +25,10 @@ drop-word zero number (suc k) m e = absurd (omega arith)
 drop-word (suc n) number (suc k) m e = let e' : k + m ≡ n = omega arith in drop-word n number k m e'
 
 AllBits-word : (n number : ℕ) → AllBits (word n number)
-AllBits-word zero number = All-nil (λ bit. bit ≤ 1)
+AllBits-word zero number = All-nil IsBit
 AllBits-word (suc n) number =
     let bit : number / 2 ^ n % 2 ≤ 1 = omega arith in
-    All-cons (λ bit. bit ≤ 1) (number / 2 ^ n % 2) (word n number) bit (AllBits-word n number)
+    All-cons IsBit (number / 2 ^ n % 2) (word n number) bit (AllBits-word n number)
 
 pub IsInformation-word : (n number : ℕ) → 5 ≤ n → IsInformation (word n (16 * number))
 IsInformation-word n number long = record {
@@ -68,11 +68,11 @@ word-high (suc n) r x =
 spelled : (v : List ℕ) → AllBits v → (number : ℕ) × (number < 2 ^ length v) × (word (length v) number ≡ v)
 spelled [] bits = (0, omega arith, refl)
 spelled (x ∷ v) bits =
-    let rest = spelled v (All-tail (λ bit. bit ≤ 1) x v bits) in
+    let rest = spelled v (All-tail IsBit x v bits) in
     let r = rest.0 in
     let power = 2 ^ length v in
     let small : r < power = rest.1 in
-    let x_bit : x ≤ 1 = All-head (λ bit. bit ≤ 1) x v bits in
+    let x_bit : x ≤ 1 = All-head IsBit x v bits in
     let head : (r + power * x) / power % 2 ≡ x = rw (add-mul-div_left r x (pow_pos (length v)), div-eq_of_lt small) (omega arith) in
     (r + power * x, rw (pow-succ' 2 (length v)) (below_twice r power x small x_bit), ap₂ (λ bit rest. bit ∷ rest) head (word-high (length v) r x ∙ rest.2))
   where

@@ -1,3 +1,5 @@
 pub mod Lanes
 pub mod Trellis
+pub mod Turned
+pub mod Walks
 pub mod Words

@@ -1,5 +1,6 @@
 -- Paths through the sixteen states of the code, for the decoder's own proof. A state holds the last four bits, the newest as its bit of value 1.
 use Rattle.std.specs.Prelude.{ℕ, ◌≡◌, ◌+◌, ◌*◌, ◌/◌, ◌%◌, ◌^◌, ◌-◌, ◌<◌, ◌≤◌, ◌⊎◌, ℤ, pos, ◌+ℤ◌, ◌-ℤ◌, ◌<ℤ◌, ◌≤ℤ◌, List, [], ◌∷◌, length, slice_index_or, drop}
+use Rattle.bit_blocks.specs.Bits.{IsBit}
 use Rattle.conv_code.specs.Likelihood.{likelihood}
 
 -- the state after one more bit
@@ -29,7 +30,7 @@ edge state bit pair = likelihood pair (first_bit state bit ∷ second_bit state 
 -- bits, of which the last four are 0
 abbrev pub Ends : List ℕ → Type 0
 Ends [] = Unit {0}
-Ends (x ∷ u) = (x ≤ 1) × (length u < 4 → x ≡ 0) × Ends u
+Ends (x ∷ u) = IsBit x × (length u < 4 → x ≡ 0) × Ends u
 
 -- u stands before v in the order of words, or is v
 abbrev pub IsNotAfter : List ℕ → List ℕ → Type 0

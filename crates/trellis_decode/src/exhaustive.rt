@@ -1,5 +1,8 @@
-ghost use Rattle.std.specs.Prelude.{◌≡◌, ◌*◌, ◌^◌, ◌<◌, ◌≤◌, pos, ◌-ℤ◌, ◌≤ℤ◌, length};
-ghost use Rattle.bit_blocks.specs.Bits.{AllBits};
+//! The most likely list by trying them all: what it means to be the most likely, as a program. This project's own check
+//! of the faster way.
+
+ghost use Rattle.std.specs.Prelude.{◌≡◌, ℕ, ◌*◌, ◌^◌, ◌<◌, ◌≤◌, pos, ◌-ℤ◌, ◌≤ℤ◌, List, length};
+ghost use Rattle.bit_blocks.specs.Bits.{AllBits, IsBit};
 ghost use Rattle.conv_code.specs.Code.{coded, IsInformation};
 ghost use Rattle.conv_code.specs.Likelihood.{agreement, AllSoft, IsMostLikely, likelihood};
 ghost use Rattle.trellis_decode.specs.Words.{word};
@@ -14,6 +17,7 @@ pub fn search(soft: &[i8], u: &mut [u8]) -> i32
     requires soft { AllSoft soft.now }
     ensures best { IsMostLikely soft.now u.new }
     ensures value { result ≡ likelihood soft.now (coded u.new) }
+    ensures only { (v : List ℕ) → IsMostLikely soft.now v → v ≡ u.new }
 {
     let lists = list_count(u.len());
     let mut chosen = 0;
@@ -84,7 +88,7 @@ fn agreements(soft: &[i8], coded: &[u8]) -> i32
 
 /// What a soft value counts for a bit.
 fn agreement_of(value: i8, bit: u8) -> i32
-    requires { bit ≤ 1 }
+    requires { IsBit bit }
     ensures exact { result ≡ agreement value bit }
     ensures low { (pos 0 -ℤ pos 128) ≤ℤ result }
     ensures high { result ≤ℤ pos 128 }

@@ -1,3 +1,6 @@
+//! The operations of a step on vectors of sixteen 32-bit numbers, one for each state in order, and what each of them does
+//! lane by lane.
+
 ghost use Rattle.std.specs.Prelude.{◌≡◌, ℕ, ◌*◌, ◌+◌, ◌/◌, ◌%◌, ◌^◌, ◌<◌, ◌+ℤ◌, ◌-ℤ◌, if◌then◌else◌, int_lt};
 ghost use Rattle.trellis_decode.specs.Lanes.{AreLanes, AreModest, AreWide, lane};
 

@@ -1,18 +1,28 @@
-//! The most likely information list of the convolutional code, by a trellis in lanes.
+//! The most likely information list of the convolutional code (GSM 05.03, today 3GPP TS 45.003, section 4.1.3) for soft
+//! values, by a trellis in lanes.
+//!
+//! It is the Viterbi algorithm, run backward: the best list from each of the sixteen states on grows by one bit at its
+//! front, so that the first of equally likely lists falls out of reading the choices forward.
 #![tactic(auto)]
 
+mod backward;
+mod edges;
 mod exhaustive;
 mod lanes;
+mod maps;
 mod step;
 #[cfg(test)]
 mod tests;
 mod trellis;
+mod turned_lanes;
+mod turned_step;
 
 ghost use Rattle.std.specs.Prelude.{◌≡◌, ℕ, ◌*◌, ◌≤◌, List, length};
 ghost use Rattle.conv_code.specs.Code.{coded};
 ghost use Rattle.conv_code.specs.Likelihood.{AllSoft, IsMostLikely, likelihood};
 
-use crate::trellis::choose;
+use crate::backward::{fill_maps, walk_few};
+use crate::maps::{follow_maps, write_few};
 pub use exhaustive::search;
 pub use trellis::{keep, read_list};
 
@@ -29,9 +39,14 @@ pub fn decode(soft: &[i8], u: &mut [u8]) -> i32
     ensures value { result ≡ likelihood soft.now (coded u.new) }
     ensures only { (v : List ℕ) → IsMostLikely soft.now v → v ≡ u.new }
 {
-    let mut choices = [0; 228];
-    let rows = &mut choices[..u.len()];
-    let value = choose(soft, rows);
-    read_list(rows, 0, u);
-    value
+    let few = u.len() % 4;
+    let mut maps = [[0; 16]; 57];
+    let maps = &mut maps[..u.len() / 4];
+    let values = fill_maps(&soft[2 * few..], maps);
+    let walk = walk_few(values, &soft[..2 * few], few);
+    let at = walk.map.to_array()[0] % 16;
+    let (first, others) = u.split_at_mut(few);
+    write_few(at, few, first);
+    follow_maps(maps, at, others);
+    walk.values.of_state_0()
 }

@@ -1,3 +1,6 @@
+//! One step of the Viterbi algorithm (add, compare, select) for all sixteen states at once, with what each state loses by
+//! the other bit. A state takes the bit 0 where both bits are worth the same.
+
 ghost use Rattle.std.specs.Prelude.{◌≡◌, ℕ, ◌*◌, ◌+◌, ◌/◌, ◌%◌, ◌^◌, ◌-◌, ◌<◌, ◌-ℤ◌, length};
 ghost use Rattle.trellis_decode.specs.Lanes.{AreLanes, AreModest, AreOctets, lane};
 ghost use Rattle.trellis_decode.specs.Trellis.{Chooses, edge, way};

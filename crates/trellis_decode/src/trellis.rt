@@ -1,3 +1,6 @@
+//! The Viterbi algorithm from the last place to the first, for a list decoder: it keeps every choice, and what is lost by
+//! the other one. `decode` does the same pass in narrower lanes, and keeps less.
+
 ghost use Rattle.std.specs.Prelude.{◌≡◌, ℕ, ◌*◌, ◌<◌, ◌≤◌, length, replicate};
 ghost use Rattle.std.specs.List.{All};
 ghost use Rattle.trellis_decode.specs.Lanes.{AreLanes, AreOctets, lane};
@@ -5,24 +8,6 @@ ghost use Rattle.trellis_decode.specs.Trellis.{IsBest, IsKept, read_out};
 
 use crate::step::{Step, closing_step};
 use std::simd::prelude::*;
-
-/// Fills the rows of choices from the last place to the first, and answers what the best list from state 0 is worth.
-pub fn choose(soft: &[i8], rows: &mut [u16]) -> i32
-    requires count { length soft.now ≡ 2 * length rows.old }
-    requires at_least { 4 ≤ length rows.old }
-    requires at_most { length rows.old ≤ 228 }
-    requires blank { All (λ row. row ≡ 0) rows.old }
-    ensures { IsBest 0 (read_out rows.new 0) soft.now result }
-{
-    let free = rows.len() - 4;
-    let mut values = closing_values(&soft[2 * free..]);
-    for k in (0..free).rev() {
-        let step = Step::new(values, &soft[2 * k..2 * k + 2]);
-        values = step.values;
-        rows[k] = step.row;
-    }
-    values.to_array()[0]
-}
 
 /// What each state is worth before the last four places, whose bits are 0.
 pub fn closing_values(soft: &[i8]) -> i32x16
@@ -38,7 +23,8 @@ pub fn closing_values(soft: &[i8]) -> i32x16
     values
 }
 
-/// Does as `choose`, and keeps for each place and each state what is lost where the other bit comes there.
+/// Fills the rows of choices from the last place to the first, and for each place and each state what is lost where the
+/// other bit comes there.
 pub fn keep(soft: &[i8], rows: &mut [u16], losses: &mut [[i32; 16]])
     requires count { length soft.now ≡ 2 * length rows.old }
     requires same { length losses.old ≡ length rows.old }

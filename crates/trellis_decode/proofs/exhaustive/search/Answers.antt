@@ -3,6 +3,7 @@ use Rattle.std.proofs.lemmas.Int.{to_z-of_z}
 use Rattle.conv_code.specs.Code.{coded}
 use Rattle.conv_code.specs.Likelihood.{likelihood, FallsBehind, IsMostLikely}
 use Rattle.trellis_decode.specs.Words.{word}
+use Rattle.trellis_decode.proofs.MostLikely.{IsMostLikely-only}
 use Rattle.trellis_decode.proofs.Searching.{less_by_test, most_by_test, new_leads, old_leads, IsMostLikely-chosen}
 use Rattle.trellis_decode.proofs.exhaustive.search.Goals as goal
 use Rattle.trellis_decode.proofs.exhaustive.search.Goals.{then-value-best, else-value-best}
@@ -56,3 +57,6 @@ returns-clause-best c =
     subst (IsMostLikely soft) (sym c.write_list-2.ensures.list)
     (IsMostLikely-chosen soft n c.loop-number.chosen c.list_count-lists.result (omega arith) (omega arith) all
     (λ m lt ne. let earlier : m < c.loop-number.number = omega arith in c.loop-number.invariant.others m earlier ne))
+
+pub returns-clause-only : goal.returns-clause-only
+returns-clause-only c v h = IsMostLikely-only c.args.soft.now c.write_list-2.new.u v (returns-clause-best c) h

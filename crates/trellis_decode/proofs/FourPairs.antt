@@ -1,0 +1,273 @@
+-- What four pairs of soft values count, from eight lanes.
+use Rattle.std.proofs.Common.{◌≡◌, ℕ, zero, suc, ◌+◌, ◌-◌, ◌%◌, ◌<◌, ◌≤◌, ℤ, pos, negsuc, ◌+ℤ◌, ◌-ℤ◌, ◌≤ℤ◌, List, [], ◌∷◌, ◌++◌, map, length, get_or, take, drop, refl, ap, ap₂, sym, ◌∙◌, subst, arith, lit≤, w8, w16, FitsSigned}
+use Rattle.std.specs.Int.{cast_signed, cast_unsigned}
+use Rattle.std.proofs.lemmas.Int.{ints, to_z-of_z, of_z-to_z}
+use Rattle.std.proofs.lemmas.List.{get_or-take, get_or-drop, length-take, length-drop}
+use Rattle.std.proofs.lemmas.List.Elements.{All-nil, All-cons, All-append, All-head, All-tail, All-take, All-drop}
+use lib.Lanes.{Each1}
+use Rattle.trellis_decode.specs.Lanes.{lane, IsOctet, AreOctets}
+use Rattle.trellis_decode.specs.Trellis.{edge}
+use Rattle.trellis_decode.specs.Turned.{AreEdges, HasEdges, turned}
+use Rattle.trellis_decode.proofs.EdgeLanes.{each, pair_is, zero_edges, zero_lanes}
+use Rattle.trellis_decode.proofs.TurnedVectors.{fits_between, sum-lane, difference-lane, passed, passed-lanes, AreNarrow-edges}
+
+-- ---- octets in lanes of 16 bits
+
+fits_octet : (x : ℤ) → IsOctet x → FitsSigned w8 x
+fits_octet (pos n) h = record { sfits = omega (arith, ints, h.0, h.1) }
+fits_octet (negsuc n) h = record { sfits = omega (arith, ints, h.0, h.1) }
+
+fits_wide : (x : ℤ) → IsOctet x → FitsSigned w16 x
+fits_wide x h = let low = h.0 in let high = h.1 in fits_between x (omega (arith, ints)) (omega (arith, ints))
+
+pub widened_fits : (soft : List ℤ) → AreOctets soft → Each1 (λ a. FitsSigned w16 (cast_signed w8 a)) (map (cast_unsigned w8) soft)
+widened_fits [] octets = tt
+widened_fits (x ∷ soft) octets =
+    let head = All-head IsOctet x soft octets in (
+      subst (FitsSigned w16) (sym (to_z-of_z w8 x (fits_octet x head))) (fits_wide x head),
+      widened_fits soft (All-tail IsOctet x soft octets),
+    )
+
+pub widened_same : (soft : List ℤ) → AreOctets soft →
+    map (cast_signed w16) (map (λ a. cast_unsigned w16 (cast_signed w8 a)) (map (cast_unsigned w8) soft)) ≡ soft
+widened_same [] octets = refl
+widened_same (x ∷ soft) octets =
+    let head = All-head IsOctet x soft octets in
+    ap₂ (λ y ys. y ∷ ys)
+    (ap (λ y. cast_signed w16 (cast_unsigned w16 y)) (to_z-of_z w8 x (fits_octet x head)) ∙ to_z-of_z w16 x (fits_wide x head))
+    (widened_same soft (All-tail IsOctet x soft octets))
+
+-- ---- one place
+
+-- what the bit 0 counts in the states below 8, each where its bits turned round stand
+abbrev edge_lanes : ℤ → ℤ → ℤ → ℤ → List ℤ
+edge_lanes a b c d = a ∷ c ∷ a ∷ c ∷ b ∷ d ∷ b ∷ d ∷ []
+
+module _ (pair : List ℤ) (count : length pair ≡ 2) (a b c d : ℤ)
+    (at_a : a ≡ lane pair 0 +ℤ lane pair 1) (at_b : b ≡ lane pair 0 -ℤ lane pair 1) (at_c : c ≡ pos 0 -ℤ a) (at_d : d ≡ pos 0 -ℤ b) where
+  counted : (s : ℕ) → s < 16 → lane (zero_lanes pair count a b c d at_a at_b at_c at_d) s ≡ edge s 0 pair
+  counted = zero_edges pair count a b c d at_a at_b at_c at_d
+
+  HasEdges-pair : HasEdges (edge_lanes a b c d) pair
+  HasEdges-pair = record {
+    count = count;
+    each = each (λ k. lane (edge_lanes a b c d) k ≡ edge (turned k) 0 pair) 8 (
+      (
+        (
+          (
+            ((((tt, counted 0 (lit≤ tt)), counted 4 (lit≤ tt)), counted 2 (lit≤ tt)), counted 6 (lit≤ tt)),
+            counted 1 (lit≤ tt),
+          ),
+          counted 5 (lit≤ tt),
+        ),
+        counted 3 (lit≤ tt),
+      ),
+      counted 7 (lit≤ tt),
+    );
+  }
+
+  module _ (lp : negsuc 127 ≤ℤ lane pair 0) (hp : lane pair 0 ≤ℤ pos 127) (lq : negsuc 127 ≤ℤ lane pair 1) (hq : lane pair 1 ≤ℤ pos 127) where
+    low_a : negsuc 255 ≤ℤ a
+    low_a = omega (arith, ints)
+
+    low_b : negsuc 255 ≤ℤ b
+    low_b = omega (arith, ints)
+
+    low_c : negsuc 255 ≤ℤ c
+    low_c = omega (arith, ints)
+
+    low_d : negsuc 255 ≤ℤ d
+    low_d = omega (arith, ints)
+
+    high_a : a ≤ℤ pos 256
+    high_a = omega (arith, ints)
+
+    high_b : b ≤ℤ pos 256
+    high_b = omega (arith, ints)
+
+    high_c : c ≤ℤ pos 256
+    high_c = omega (arith, ints)
+
+    high_d : d ≤ℤ pos 256
+    high_d = omega (arith, ints)
+
+    AreEdges-pair : AreEdges (edge_lanes a b c d)
+    AreEdges-pair = record {
+      count = refl;
+      low = each (λ k. negsuc 255 ≤ℤ lane (edge_lanes a b c d) k) 8 ((((((((tt, low_a), low_c), low_a), low_c), low_b), low_d), low_b), low_d);
+      high = each (λ k. lane (edge_lanes a b c d) k ≤ℤ pos 256) 8 ((((((((tt, high_a), high_c), high_a), high_c), high_b), high_d), high_b), high_d);
+    }
+
+-- ---- the places of eight soft values
+
+-- a soft value as the lane of a vector
+abbrev bits_at : List ℤ → ℕ → ℕ
+bits_at soft k = get_or (map (cast_unsigned w16) soft ++ map (cast_unsigned w16) soft) k 0
+
+abbrev sum_at : List ℤ → ℕ → ℕ → ℕ
+sum_at soft i j = (bits_at soft i + bits_at soft j) % 65536
+
+abbrev difference_at : List ℤ → ℕ → ℕ → ℕ
+difference_at soft i j = (bits_at soft i + (65536 - bits_at soft j)) % 65536
+
+abbrev turned_round : ℕ → ℕ
+turned_round x = (0 + (65536 - x)) % 65536
+
+-- the lanes of the pair that begins at a place
+abbrev pub edges_at : List ℤ → ℕ → List ℤ
+edges_at soft i = edge_lanes
+    (cast_signed w16 (sum_at soft i (i + 1))) (cast_signed w16 (difference_at soft i (i + 1)))
+    (cast_signed w16 (turned_round (sum_at soft i (i + 1)))) (cast_signed w16 (turned_round (difference_at soft i (i + 1))))
+
+module _ (soft : List ℤ) (octets : AreOctets soft) (count : length soft ≡ 8) where
+  octet_at : (k : ℕ) → k < 8 → IsOctet (lane soft k)
+  octet_at k lt = octets k (pos 0) (omega arith)
+
+  bits_are : (k : ℕ) → k < 8 → bits_at soft k ≡ cast_unsigned w16 (lane soft k)
+  bits_are k lt = in_first soft k (omega arith) where
+    in_first : (xs : List ℤ) (k : ℕ) → k < length xs → get_or (map (cast_unsigned w16) xs ++ map (cast_unsigned w16) soft) k 0 ≡ cast_unsigned w16 (lane xs k)
+    in_first [] k lt = absurd (omega arith)
+    in_first (x ∷ xs) zero lt = refl
+    in_first (x ∷ xs) (suc k) lt = let lt' : k < length xs = omega arith in in_first xs k lt'
+
+  fits_at : (k : ℕ) → k < 8 → FitsSigned w16 (lane soft k)
+  fits_at k lt = fits_wide (lane soft k) (octet_at k lt)
+
+  sum_is : (i j : ℕ) → i < 8 → j < 8 → cast_signed w16 (sum_at soft i j) ≡ lane soft i +ℤ lane soft j
+  sum_is i j hi hj =
+      let a = octet_at i hi in
+      let b = octet_at j hj in
+      ap₂ (λ x y. cast_signed w16 ((x + y) % 65536)) (bits_are i hi) (bits_are j hj)
+      ∙ sum-lane (lane soft i) (lane soft j) (fits_at i hi) (fits_at j hj)
+      (fits_between (lane soft i +ℤ lane soft j) (omega (arith, ints, a.0, a.1, b.0, b.1)) (omega (arith, ints, a.0, a.1, b.0, b.1)))
+
+  difference_is : (i j : ℕ) → i < 8 → j < 8 → cast_signed w16 (difference_at soft i j) ≡ lane soft i -ℤ lane soft j
+  difference_is i j hi hj =
+      let a = octet_at i hi in
+      let b = octet_at j hj in
+      ap₂ (λ x y. cast_signed w16 ((x + (65536 - y)) % 65536)) (bits_are i hi) (bits_are j hj)
+      ∙ difference-lane (lane soft i) (lane soft j) (fits_at i hi) (fits_at j hj)
+      (fits_between (lane soft i -ℤ lane soft j) (omega (arith, ints, a.0, a.1, b.0, b.1)) (omega (arith, ints, a.0, a.1, b.0, b.1)))
+
+  turned_is : (x : ℕ) (y : ℤ) → x < 65536 → cast_signed w16 x ≡ y → negsuc 32766 ≤ℤ y → y ≤ℤ pos 32767 → cast_signed w16 (turned_round x) ≡ pos 0 -ℤ y
+  turned_is x y small is low high =
+      ap (λ x. cast_signed w16 ((0 + (65536 - x)) % 65536)) (sym (of_z-to_z w16 x small) ∙ ap (cast_unsigned w16) is)
+      ∙ difference-lane (pos 0) y (fits_between (pos 0) (omega (arith, ints)) (omega (arith, ints))) (fits_between y (omega (arith, ints)) (omega (arith, ints)))
+      (fits_between (pos 0 -ℤ y) (omega (arith, ints)) (omega (arith, ints)))
+
+  -- the pair that begins at an even place
+  module _ (i : ℕ) (room : i + 2 ≤ 8) where
+    abbrev pair : List ℤ
+    pair = take 2 (drop i soft)
+
+    length_pair : length pair ≡ 2
+    length_pair = omega (arith, length-take 2 (drop i soft), length-drop i soft)
+
+    lane_pair : (k : ℕ) → k < 2 → lane pair k ≡ lane soft (i + k)
+    lane_pair k lt = get_or-take 2 (drop i soft) k (pos 0) lt ∙ get_or-drop i soft k (pos 0)
+
+    first_there : lane pair 0 ≡ lane soft i
+    first_there = lane_pair 0 (lit≤ tt) ∙ (let e : i + 0 ≡ i = omega arith in ap (lane soft) e)
+
+    second_there : lane pair 1 ≡ lane soft (i + 1)
+    second_there = lane_pair 1 (lit≤ tt)
+
+    hi : i < 8
+    hi = omega arith
+
+    hj : i + 1 < 8
+    hj = omega arith
+
+    abbrev a : ℤ
+    a = cast_signed w16 (sum_at soft i (i + 1))
+
+    abbrev b : ℤ
+    b = cast_signed w16 (difference_at soft i (i + 1))
+
+    abbrev c : ℤ
+    c = cast_signed w16 (turned_round (sum_at soft i (i + 1)))
+
+    abbrev d : ℤ
+    d = cast_signed w16 (turned_round (difference_at soft i (i + 1)))
+
+    at_a : a ≡ lane pair 0 +ℤ lane pair 1
+    at_a = sum_is i (i + 1) hi hj ∙ sym (ap₂ (λ x y. x +ℤ y) first_there second_there)
+
+    at_b : b ≡ lane pair 0 -ℤ lane pair 1
+    at_b = difference_is i (i + 1) hi hj ∙ sym (ap₂ (λ x y. x -ℤ y) first_there second_there)
+
+    at_c : c ≡ pos 0 -ℤ a
+    at_c =
+        let p = octet_at i hi in
+        let q = octet_at (i + 1) hj in
+        let is = sum_is i (i + 1) hi hj in
+        let small : sum_at soft i (i + 1) < 65536 = omega arith in
+        turned_is (sum_at soft i (i + 1)) a small refl (omega (arith, ints, p.0, p.1, q.0, q.1)) (omega (arith, ints, p.0, p.1, q.0, q.1))
+
+    at_d : d ≡ pos 0 -ℤ b
+    at_d =
+        let p = octet_at i hi in
+        let q = octet_at (i + 1) hj in
+        let is = difference_is i (i + 1) hi hj in
+        let small : difference_at soft i (i + 1) < 65536 = omega arith in
+        turned_is (difference_at soft i (i + 1)) b small refl (omega (arith, ints, p.0, p.1, q.0, q.1)) (omega (arith, ints, p.0, p.1, q.0, q.1))
+
+    pub HasEdges-at : HasEdges (edges_at soft i) pair
+    HasEdges-at = HasEdges-pair pair length_pair a b c d at_a at_b at_c at_d
+
+    pub AreEdges-at : AreEdges (edges_at soft i)
+    AreEdges-at =
+        let p = octet_at i hi in
+        let q = octet_at (i + 1) hj in
+        AreEdges-pair pair length_pair a b c d at_a at_b at_c at_d
+        (subst (λ x. negsuc 127 ≤ℤ x) (sym first_there) p.0) (subst (λ x. x ≤ℤ pos 127) (sym first_there) p.1)
+        (subst (λ x. negsuc 127 ≤ℤ x) (sym second_there) q.0) (subst (λ x. x ≤ℤ pos 127) (sym second_there) q.1)
+
+-- ---- edges that are handed on
+
+pub HasEdges-passed : (edges pair : List ℤ) → AreEdges edges → HasEdges edges pair → HasEdges (passed edges) pair
+HasEdges-passed edges pair fit has = subst (λ edges. HasEdges edges pair) (sym (passed-lanes edges (AreNarrow-edges edges fit))) has
+
+-- four pairs in a row
+pub four_pairs : (soft : List ℤ) → length soft ≡ 8 → take 2 soft ++ (take 2 (drop 2 soft) ++ (take 2 (drop 4 soft) ++ (take 2 (drop 6 soft) ++ []))) ≡ soft
+four_pairs [] count = absurd (omega arith)
+four_pairs (a ∷ []) count = absurd (omega arith)
+four_pairs (a ∷ b ∷ []) count = absurd (omega arith)
+four_pairs (a ∷ b ∷ c ∷ []) count = absurd (omega arith)
+four_pairs (a ∷ b ∷ c ∷ d ∷ []) count = absurd (omega arith)
+four_pairs (a ∷ b ∷ c ∷ d ∷ e ∷ []) count = absurd (omega arith)
+four_pairs (a ∷ b ∷ c ∷ d ∷ e ∷ f ∷ []) count = absurd (omega arith)
+four_pairs (a ∷ b ∷ c ∷ d ∷ e ∷ f ∷ g ∷ []) count = absurd (omega arith)
+four_pairs (a ∷ b ∷ c ∷ d ∷ e ∷ f ∷ g ∷ h ∷ []) count = refl
+four_pairs (a ∷ b ∷ c ∷ d ∷ e ∷ f ∷ g ∷ h ∷ i ∷ soft) count = absurd (omega arith)
+
+pub AreOctets-pair : (soft : List ℤ) (i : ℕ) → AreOctets soft → AreOctets (take 2 (drop i soft))
+AreOctets-pair soft i octets = All-take IsOctet 2 (drop i soft) (All-drop IsOctet i soft octets)
+
+-- ---- one pair, and six zeros after it
+
+pub pair_back : (pair : List ℤ) → length pair ≡ 2 → AreOctets pair →
+    cast_signed w8 (cast_unsigned w8 (lane pair 0)) ∷ cast_signed w8 (cast_unsigned w8 (lane pair 1)) ∷ [] ≡ pair
+pair_back pair two octets =
+    let first = octets 0 (pos 0) (omega arith) in
+    let second = octets 1 (pos 0) (omega arith) in
+    ap₂ (λ x y. x ∷ y ∷ []) (to_z-of_z w8 (lane pair 0) (fits_octet (lane pair 0) first)) (to_z-of_z w8 (lane pair 1) (fits_octet (lane pair 1) second))
+    ∙ sym (pair_is pair two)
+
+zeros : List ℤ
+zeros = pos 0 ∷ pos 0 ∷ pos 0 ∷ pos 0 ∷ pos 0 ∷ pos 0 ∷ []
+
+pub padded_octets : (pair : List ℤ) → length pair ≡ 2 → AreOctets pair →
+    AreOctets (cast_signed w8 (cast_unsigned w8 (lane pair 0)) ∷ cast_signed w8 (cast_unsigned w8 (lane pair 1)) ∷
+    pos 0 ∷ pos 0 ∷ pos 0 ∷ pos 0 ∷ pos 0 ∷ pos 0 ∷ [])
+unfolding zeros
+padded_octets pair two octets =
+    let none : IsOctet (pos 0) = (omega (arith, ints), omega (arith, ints)) in
+    All-append IsOctet (cast_signed w8 (cast_unsigned w8 (lane pair 0)) ∷ cast_signed w8 (cast_unsigned w8 (lane pair 1)) ∷ []) zeros
+    (subst AreOctets (sym (pair_back pair two octets)) octets)
+    (All-cons IsOctet (pos 0) (pos 0 ∷ pos 0 ∷ pos 0 ∷ pos 0 ∷ pos 0 ∷ []) none
+    (All-cons IsOctet (pos 0) (pos 0 ∷ pos 0 ∷ pos 0 ∷ pos 0 ∷ []) none
+    (All-cons IsOctet (pos 0) (pos 0 ∷ pos 0 ∷ pos 0 ∷ []) none
+    (All-cons IsOctet (pos 0) (pos 0 ∷ pos 0 ∷ []) none
+    (All-cons IsOctet (pos 0) (pos 0 ∷ []) none
+    (All-cons IsOctet (pos 0) [] none (All-nil IsOctet)))))))

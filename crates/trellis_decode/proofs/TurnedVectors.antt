@@ -1,0 +1,326 @@
+-- The operations on vectors of eight 16-bit numbers, lane by lane. A lane stands in them as its bits.
+use Rattle.std.proofs.Common.{◌≡◌, ℕ, zero, suc, ◌+◌, ◌-◌, ◌%◌, ◌^◌, ◌<◌, Bool, true, false, if◌then◌else◌, ℤ, pos, negsuc, ◌+ℤ◌, ◌-ℤ◌, ◌≤ℤ◌, List, [], ◌∷◌, ◌++◌, map, length, get_or, replicate, refl, ap, ap₂, sym, ◌∙◌, subst, arith, int_lt, w8, w16, FitsSigned, ◌⊎◌, inl, inr}
+use Rattle.std.specs.Int.{cast_signed, cast_unsigned}
+use Rattle.std.proofs.lemmas.Int.{ints, to_z-of_z, wrapping_add_is, wrapping_sub_is, int_wrap_fits}
+use Rattle.std.proofs.lemmas.List.{length-map}
+use lib.Lanes.{zip2, sel_l, top}
+use Rattle.trellis_decode.specs.Lanes.{lane}
+use Rattle.trellis_decode.specs.Turned.{AreTaken, AreEdges, AreNarrow, HaveRoom, in_turns}
+
+lane-zip2 : (f : ℕ → ℕ → ℕ) (a b : List ℤ) (s : ℕ) → s < length a → s < length b →
+    lane (map (cast_signed w16) (zip2 f (map (cast_unsigned w16) a) (map (cast_unsigned w16) b))) s
+    ≡ cast_signed w16 (f (cast_unsigned w16 (lane a s)) (cast_unsigned w16 (lane b s)))
+lane-zip2 f [] b s ha hb = absurd (omega arith)
+lane-zip2 f (x ∷ a) [] s ha hb = absurd (omega arith)
+lane-zip2 f (x ∷ a) (y ∷ b) zero ha hb = refl
+lane-zip2 f (x ∷ a) (y ∷ b) (suc s) ha hb =
+    let ha' : s < length a = omega arith in
+    let hb' : s < length b = omega arith in
+    lane-zip2 f a b s ha' hb'
+
+length-lanes-zip2 : (f : ℕ → ℕ → ℕ) (a b : List ℤ) → length a ≡ length b →
+    length (map (cast_signed w16) (zip2 f (map (cast_unsigned w16) a) (map (cast_unsigned w16) b))) ≡ length a
+length-lanes-zip2 f [] b e = refl
+length-lanes-zip2 f (x ∷ a) [] e = absurd (omega arith)
+length-lanes-zip2 f (x ∷ a) (y ∷ b) e = let e' : length a ≡ length b = omega arith in ap suc (length-lanes-zip2 f a b e')
+
+pub fits_between : (x : ℤ) → negsuc 32767 ≤ℤ x → x ≤ℤ pos 32767 → FitsSigned w16 x
+fits_between (pos n) low high = record { sfits = omega (arith, ints) }
+fits_between (negsuc n) low high = record { sfits = omega (arith, ints) }
+
+pub sum-lane : (x y : ℤ) → FitsSigned w16 x → FitsSigned w16 y → FitsSigned w16 (x +ℤ y) →
+    cast_signed w16 ((cast_unsigned w16 x + cast_unsigned w16 y) % 2 ^ 16) ≡ x +ℤ y
+sum-lane x y hx hy h = wrapping_add_is w16 x y hx hy ∙ int_wrap_fits w16 (x +ℤ y) h
+
+pub difference-lane : (x y : ℤ) → FitsSigned w16 x → FitsSigned w16 y → FitsSigned w16 (x -ℤ y) →
+    cast_signed w16 ((cast_unsigned w16 x + (2 ^ 16 - cast_unsigned w16 y)) % 2 ^ 16) ≡ x -ℤ y
+difference-lane x y hx hy h = wrapping_sub_is w16 x y hx hy ∙ int_wrap_fits w16 (x -ℤ y) h
+
+pub AreNarrow-modest : (a : List ℤ) → HaveRoom a → AreNarrow a
+AreNarrow-modest a h = record { count = h.count; fits = fits } where
+  fits : (k : ℕ) → k < 8 → FitsSigned w16 (lane a k)
+  fits k lt = let low = h.low k lt in let high = h.high k lt in fits_between (lane a k) (omega (arith, ints)) (omega (arith, ints))
+
+pub AreNarrow-edges : (a : List ℤ) → AreEdges a → AreNarrow a
+AreNarrow-edges a h = record { count = h.count; fits = fits } where
+  fits : (k : ℕ) → k < 8 → FitsSigned w16 (lane a k)
+  fits k lt = let low = h.low k lt in let high = h.high k lt in fits_between (lane a k) (omega (arith, ints)) (omega (arith, ints))
+
+sums_fit : (a b : List ℤ) → HaveRoom a → AreEdges b → (k : ℕ) → k < 8 → FitsSigned w16 (lane a k +ℤ lane b k)
+sums_fit a b ha hb k lt =
+    let low = ha.low k lt in
+    let high = ha.high k lt in
+    let low' = hb.low k lt in
+    let high' = hb.high k lt in
+    fits_between (lane a k +ℤ lane b k) (omega (arith, ints)) (omega (arith, ints))
+
+differences_fit : (a b : List ℤ) → HaveRoom a → AreEdges b → (k : ℕ) → k < 8 → FitsSigned w16 (lane a k -ℤ lane b k)
+differences_fit a b ha hb k lt =
+    let low = ha.low k lt in
+    let high = ha.high k lt in
+    let low' = hb.low k lt in
+    let high' = hb.high k lt in
+    fits_between (lane a k -ℤ lane b k) (omega (arith, ints)) (omega (arith, ints))
+
+pub lane-sums : (a b : List ℤ) → HaveRoom a → AreEdges b → (k : ℕ) → k < 8 →
+    lane (map (cast_signed w16) (zip2 (λ x y. (x + y) % 2 ^ 16) (map (cast_unsigned w16) a) (map (cast_unsigned w16) b))) k ≡ lane a k +ℤ lane b k
+lane-sums a b ha hb k lt =
+    let sa : k < length a = omega (arith, ha.count) in
+    let sb : k < length b = omega (arith, hb.count) in
+    lane-zip2 (λ x y. (x + y) % 2 ^ 16) a b k sa sb
+    ∙ sum-lane (lane a k) (lane b k) ((AreNarrow-modest a ha).fits k lt) ((AreNarrow-edges b hb).fits k lt) (sums_fit a b ha hb k lt)
+
+pub AreNarrow-sums : (a b : List ℤ) → HaveRoom a → AreEdges b →
+    AreNarrow (map (cast_signed w16) (zip2 (λ x y. (x + y) % 2 ^ 16) (map (cast_unsigned w16) a) (map (cast_unsigned w16) b)))
+AreNarrow-sums a b ha hb = record {
+  count = length-lanes-zip2 (λ x y. (x + y) % 2 ^ 16) a b (ha.count ∙ sym hb.count) ∙ ha.count;
+  fits = λ k lt. subst (FitsSigned w16) (sym (lane-sums a b ha hb k lt)) (sums_fit a b ha hb k lt);
+}
+
+pub lane-differences : (a b : List ℤ) → HaveRoom a → AreEdges b → (k : ℕ) → k < 8 →
+    lane (map (cast_signed w16) (zip2 (λ x y. (x + (2 ^ 16 - y)) % 2 ^ 16) (map (cast_unsigned w16) a) (map (cast_unsigned w16) b))) k ≡ lane a k -ℤ lane b k
+lane-differences a b ha hb k lt =
+    let sa : k < length a = omega (arith, ha.count) in
+    let sb : k < length b = omega (arith, hb.count) in
+    lane-zip2 (λ x y. (x + (2 ^ 16 - y)) % 2 ^ 16) a b k sa sb
+    ∙ difference-lane (lane a k) (lane b k) ((AreNarrow-modest a ha).fits k lt) ((AreNarrow-edges b hb).fits k lt) (differences_fit a b ha hb k lt)
+
+pub AreNarrow-differences : (a b : List ℤ) → HaveRoom a → AreEdges b →
+    AreNarrow (map (cast_signed w16) (zip2 (λ x y. (x + (2 ^ 16 - y)) % 2 ^ 16) (map (cast_unsigned w16) a) (map (cast_unsigned w16) b)))
+AreNarrow-differences a b ha hb = record {
+  count = length-lanes-zip2 (λ x y. (x + (2 ^ 16 - y)) % 2 ^ 16) a b (ha.count ∙ sym hb.count) ∙ ha.count;
+  fits = λ k lt. subst (FitsSigned w16) (sym (lane-differences a b ha hb k lt)) (differences_fit a b ha hb k lt);
+}
+
+-- one lane, as bits and back
+pub lane_back : (a : List ℤ) (rest : List ℕ) (s : ℕ) → s < length a → FitsSigned w16 (lane a s) →
+    cast_signed w16 (get_or (map (cast_unsigned w16) a ++ rest) s 0) ≡ lane a s
+lane_back [] rest s lt fits = absurd (omega arith)
+lane_back (x ∷ a) rest zero lt fits = to_z-of_z w16 x fits
+lane_back (x ∷ a) rest (suc s) lt fits = let lt' : s < length a = omega arith in lane_back a rest s lt' fits
+
+-- where a lane is less than that of another vector, as its bits all 1
+abbrev compared : ℕ → ℕ → ℕ
+compared x y = if int_lt (cast_signed w16 x) (cast_signed w16 y) then 65535 else 0
+
+-- one comparison of lanes
+int_lt-lanes : (a b : List ℤ) → AreNarrow a → AreNarrow b → (s : ℕ) → s < 8 →
+    int_lt (cast_signed w16 (cast_unsigned w16 (lane a s))) (cast_signed w16 (cast_unsigned w16 (lane b s))) ≡ int_lt (lane a s) (lane b s)
+int_lt-lanes a b ha hb s lt = ap₂ int_lt (to_z-of_z w16 (lane a s) (ha.fits s lt)) (to_z-of_z w16 (lane b s) (hb.fits s lt))
+
+top-compared : (x y : ℕ) → top 15 (compared x y) ≡ int_lt (cast_signed w16 x) (cast_signed w16 y)
+top-compared x y = elim (int_lt (cast_signed w16 x) (cast_signed w16 y)) as (λ t. top 15 (if t then 65535 else 0) ≡ t) [ true ↦ refl | false ↦ refl ]
+
+abbrev compared_lanes : List ℤ → List ℤ → List Bool
+compared_lanes a b = map (top 15) (zip2 compared (map (cast_unsigned w16) a) (map (cast_unsigned w16) b))
+
+length-compared : (a b : List ℤ) → length a ≡ length b → length (compared_lanes a b) ≡ length a
+length-compared [] b e = refl
+length-compared (x ∷ a) [] e = absurd (omega arith)
+length-compared (x ∷ a) (y ∷ b) e = let e' : length a ≡ length b = omega arith in ap suc (length-compared a b e')
+
+compared-at : (a b : List ℤ) (s : ℕ) → s < length a → s < length b →
+    get_or (compared_lanes a b) s false ≡ top 15 (compared (cast_unsigned w16 (lane a s)) (cast_unsigned w16 (lane b s)))
+compared-at [] b s ha hb = absurd (omega arith)
+compared-at (x ∷ a) [] s ha hb = absurd (omega arith)
+compared-at (x ∷ a) (y ∷ b) zero ha hb = refl
+compared-at (x ∷ a) (y ∷ b) (suc s) ha hb =
+    let ha' : s < length a = omega arith in
+    let hb' : s < length b = omega arith in
+    compared-at a b s ha' hb'
+
+compared-lanes : (a b : List ℤ) → AreNarrow a → AreNarrow b → (s : ℕ) → s < 8 → get_or (compared_lanes a b) s false ≡ int_lt (lane a s) (lane b s)
+compared-lanes a b ha hb s lt =
+    let sa : s < length a = omega (arith, ha.count) in
+    let sb : s < length b = omega (arith, hb.count) in
+    compared-at a b s sa sb
+    ∙ top-compared (cast_unsigned w16 (lane a s)) (cast_unsigned w16 (lane b s))
+    ∙ int_lt-lanes a b ha hb s lt
+
+abbrev larger_lanes : List ℤ → List ℤ → List ℤ
+larger_lanes a b = map (cast_signed w16) (sel_l (compared_lanes a b) (map (cast_unsigned w16) b) (map (cast_unsigned w16) a))
+
+larger-at : (a b : List ℤ) (s : ℕ) → s < length a → s < length b →
+    lane (larger_lanes a b) s ≡ cast_signed w16 (if get_or (compared_lanes a b) s false then cast_unsigned w16 (lane b s) else cast_unsigned w16 (lane a s))
+larger-at [] b s ha hb = absurd (omega arith)
+larger-at (x ∷ a) [] s ha hb = absurd (omega arith)
+larger-at (x ∷ a) (y ∷ b) zero ha hb = refl
+larger-at (x ∷ a) (y ∷ b) (suc s) ha hb =
+    let ha' : s < length a = omega arith in
+    let hb' : s < length b = omega arith in
+    larger-at a b s ha' hb'
+
+length-larger : (a b : List ℤ) → length a ≡ length b → length (larger_lanes a b) ≡ length a
+length-larger [] b e = refl
+length-larger (x ∷ a) [] e = absurd (omega arith)
+length-larger (x ∷ a) (y ∷ b) e = let e' : length a ≡ length b = omega arith in ap suc (length-larger a b e')
+
+pub lane-larger : (a b : List ℤ) → AreNarrow a → AreNarrow b → (s : ℕ) → s < 8 →
+    lane (larger_lanes a b) s ≡ (if int_lt (lane a s) (lane b s) then lane b s else lane a s)
+lane-larger a b ha hb s lt =
+    let sa : s < length a = omega (arith, ha.count) in
+    let sb : s < length b = omega (arith, hb.count) in
+    larger-at a b s sa sb
+    ∙ ap (λ t. cast_signed w16 (if t then cast_unsigned w16 (lane b s) else cast_unsigned w16 (lane a s))) (compared-lanes a b ha hb s lt)
+    ∙ elim (int_lt (lane a s) (lane b s)) as (λ t. cast_signed w16 (if t then cast_unsigned w16 (lane b s) else cast_unsigned w16 (lane a s)) ≡ (if t then lane b s else lane a s)) [
+      | true ↦ to_z-of_z w16 (lane b s) (hb.fits s lt)
+      | false ↦ to_z-of_z w16 (lane a s) (ha.fits s lt)
+    ]
+
+pub AreNarrow-larger : (a b : List ℤ) → AreNarrow a → AreNarrow b → AreNarrow (larger_lanes a b)
+AreNarrow-larger a b ha hb = record {
+  count = length-larger a b (ha.count ∙ sym hb.count) ∙ ha.count;
+  fits = λ s lt. subst (FitsSigned w16) (sym (lane-larger a b ha hb s lt))
+      (elim (int_lt (lane a s) (lane b s)) as (λ t. FitsSigned w16 (if t then lane b s else lane a s)) [ true ↦ hb.fits s lt | false ↦ ha.fits s lt ]);
+}
+
+-- a vector that is passed to a function or handed back
+abbrev pub passed : List ℤ → List ℤ
+passed lanes = map (cast_signed w16) (map (cast_unsigned w16) lanes)
+
+passed-each : (lanes : List ℤ) → ((s : ℕ) → s < length lanes → FitsSigned w16 (lane lanes s)) → passed lanes ≡ lanes
+passed-each [] fits = refl
+passed-each (x ∷ lanes) fits =
+    let here : 0 < suc (length lanes) = omega arith in
+    ap₂ (λ y ys. y ∷ ys) (to_z-of_z w16 x (fits 0 here)) (passed-each lanes (λ s lt. fits (suc s) (let lt' : suc s < suc (length lanes) = omega arith in lt')))
+
+pub passed-lanes : (lanes : List ℤ) → AreNarrow lanes → passed lanes ≡ lanes
+passed-lanes lanes h = passed-each lanes (λ s lt. h.fits s (omega (arith, h.count)))
+
+pub AreNarrow-passed : (lanes : List ℤ) → AreNarrow lanes → AreNarrow (passed lanes)
+AreNarrow-passed lanes h = subst AreNarrow (sym (passed-lanes lanes h)) h
+
+lane_alone : (b : List ℤ) (k : ℕ) → k < length b → FitsSigned w16 (lane b k) → cast_signed w16 (get_or (map (cast_unsigned w16) b) k 0) ≡ lane b k
+lane_alone [] k lt fits = absurd (omega arith)
+lane_alone (x ∷ b) zero lt fits = to_z-of_z w16 x fits
+lane_alone (x ∷ b) (suc k) lt fits = let lt' : k < length b = omega arith in lane_alone b k lt' fits
+
+-- a lane of the second of two vectors
+lane_after : (a b : List ℤ) (n k place : ℕ) → length a ≡ n → n + k ≡ place → k < length b → FitsSigned w16 (lane b k) →
+    cast_signed w16 (get_or (map (cast_unsigned w16) a ++ map (cast_unsigned w16) b) place 0) ≡ lane b k
+lane_after [] b n k place ha at lt fits =
+    let e : place ≡ k = omega arith in
+    ap (λ p. cast_signed w16 (get_or (map (cast_unsigned w16) b) p 0)) e ∙ lane_alone b k lt fits
+lane_after (x ∷ a) b n k zero ha at lt fits = absurd (omega arith)
+lane_after (x ∷ a) b n k (suc place) ha at lt fits =
+    let at' : length a + k ≡ place = omega arith in
+    lane_after a b (length a) k place refl at' lt fits
+
+cons_is : {x y : ℤ} {xs ys : List ℤ} → x ≡ y → xs ≡ ys → x ∷ xs ≡ y ∷ ys
+cons_is e es = ap₂ (λ z zs. z ∷ zs) e es
+
+-- lanes of two vectors as they stand one after the other
+abbrev at : List ℤ → List ℤ → ℕ → ℤ
+at a b place = cast_signed w16 (get_or (map (cast_unsigned w16) a ++ map (cast_unsigned w16) b) place 0)
+
+module _ (a b : List ℤ) (ha : AreNarrow a) (hb : AreNarrow b) where
+  at_first : (k : ℕ) → k < 8 → at a b k ≡ lane a k
+  at_first k lt = lane_back a (map (cast_unsigned w16) b) k (omega (arith, ha.count)) (ha.fits k lt)
+
+  at_second : (k place : ℕ) → k < 8 → 8 + k ≡ place → at a b place ≡ lane b k
+  at_second k place lt e = lane_after a b 8 k place ha.count e (omega (arith, hb.count)) (hb.fits k lt)
+
+  pub four_in_turns : (i j k l i' j' k' l' : ℕ) → i < 8 → j < 8 → k < 8 → l < 8 → 8 + i ≡ i' → 8 + j ≡ j' → 8 + k ≡ k' → 8 + l ≡ l' →
+      at a b i ∷ at a b i' ∷ at a b j ∷ at a b j' ∷ at a b k ∷ at a b k' ∷ at a b l ∷ at a b l' ∷ [] ≡ in_turns a b i j k l
+  four_in_turns i j k l i' j' k' l' hi hj hk hl ei ej ek el =
+      cons_is (at_first i hi) (cons_is (at_second i i' hi ei) (cons_is (at_first j hj) (cons_is (at_second j j' hj ej)
+      (cons_is (at_first k hk) (cons_is (at_second k k' hk ek) (cons_is (at_first l hl) (cons_is (at_second l l' hl el) refl)))))))
+
+-- an all-ones or all-zeros lane of 16 bits as one of 8
+abbrev narrowed : ℕ → ℕ
+narrowed x = cast_unsigned w8 (cast_signed w16 x)
+
+-- where a lane is less than that of another vector, in lanes of 8 bits
+abbrev taken_lanes : ℕ → List ℤ → List ℤ → List ℤ
+taken_lanes n a b = map (cast_signed w8) (sel_l (map (top 7) (map narrowed (zip2 compared (zip2 compared (map (cast_unsigned w16) a) (map (cast_unsigned w16) b)) (replicate n 0)))) (replicate n 255) (replicate n 0))
+
+abbrev taken_one : Bool → ℤ
+taken_one t = cast_signed w8 (if top 7 (narrowed (compared (if t then 65535 else 0) 0)) then 255 else 0)
+
+taken-at : (a b : List ℤ) (n k : ℕ) → length a ≡ n → length b ≡ n → k < n →
+    lane (taken_lanes n a b) k ≡ taken_one (int_lt (cast_signed w16 (cast_unsigned w16 (lane a k))) (cast_signed w16 (cast_unsigned w16 (lane b k))))
+taken-at [] b zero k ea eb lt = absurd (omega arith)
+taken-at [] b (suc n) k ea eb lt = absurd (omega arith)
+taken-at (x ∷ a) b zero k ea eb lt = absurd (omega arith)
+taken-at (x ∷ a) [] (suc n) k ea eb lt = absurd (omega arith)
+taken-at (x ∷ a) (y ∷ b) (suc n) zero ea eb lt = refl
+taken-at (x ∷ a) (y ∷ b) (suc n) (suc k) ea eb lt = taken-at a b n k (omega arith) (omega arith) (omega arith)
+
+length-taken : (a b : List ℤ) (n : ℕ) → length a ≡ n → length b ≡ n → length (taken_lanes n a b) ≡ n
+length-taken [] b zero ea eb = refl
+length-taken [] b (suc n) ea eb = absurd (omega arith)
+length-taken (x ∷ a) b zero ea eb = absurd (omega arith)
+length-taken (x ∷ a) [] (suc n) ea eb = absurd (omega arith)
+length-taken (x ∷ a) (y ∷ b) (suc n) ea eb = let ea' : length a ≡ n = omega arith in let eb' : length b ≡ n = omega arith in ap suc (length-taken a b n ea' eb')
+
+taken_one_is : (t : Bool) → taken_one t ≡ (if t then negsuc 0 else pos 0)
+taken_one_is true = refl
+taken_one_is false = refl
+
+pub lane-taken : (a b : List ℤ) → AreNarrow a → AreNarrow b → (k : ℕ) → k < 8 →
+    lane (taken_lanes 8 a b) k ≡ (if int_lt (lane a k) (lane b k) then negsuc 0 else pos 0)
+lane-taken a b ha hb k lt =
+    taken-at a b 8 k ha.count hb.count lt
+    ∙ ap taken_one (int_lt-lanes a b ha hb k lt)
+    ∙ taken_one_is (int_lt (lane a k) (lane b k))
+
+pub length-taken_lanes : (a b : List ℤ) → AreNarrow a → AreNarrow b → length (taken_lanes 8 a b) ≡ 8
+length-taken_lanes a b ha hb = length-taken a b 8 ha.count hb.count
+
+pub HaveRoom-passed : (a : List ℤ) → HaveRoom a → HaveRoom (passed a)
+HaveRoom-passed a h = subst HaveRoom (sym (passed-lanes a (AreNarrow-modest a h))) h
+
+pub AreEdges-passed : (a : List ℤ) → AreEdges a → AreEdges (passed a)
+AreEdges-passed a h = subst AreEdges (sym (passed-lanes a (AreNarrow-edges a h))) h
+
+module _ (a edges result : List ℤ) (ha : HaveRoom a) (he : AreEdges edges) (h : AreNarrow result) where
+  pub sum_passed : (k : ℕ) → lane result k ≡ lane (passed a) k +ℤ lane (passed edges) k → lane (passed result) k ≡ lane a k +ℤ lane edges k
+  sum_passed k is =
+      ap (λ l. lane l k) (passed-lanes result h) ∙ is
+      ∙ ap₂ (λ l m. lane l k +ℤ lane m k) (passed-lanes a (AreNarrow-modest a ha)) (passed-lanes edges (AreNarrow-edges edges he))
+
+  pub difference_passed : (k : ℕ) → lane result k ≡ lane (passed a) k -ℤ lane (passed edges) k → lane (passed result) k ≡ lane a k -ℤ lane edges k
+  difference_passed k is =
+      ap (λ l. lane l k) (passed-lanes result h) ∙ is
+      ∙ ap₂ (λ l m. lane l k -ℤ lane m k) (passed-lanes a (AreNarrow-modest a ha)) (passed-lanes edges (AreNarrow-edges edges he))
+
+-- a vector of 8-bit numbers that is handed back
+abbrev pub passed_octets : List ℤ → List ℤ
+passed_octets lanes = map (cast_signed w8) (map (cast_unsigned w8) lanes)
+
+passed_octet : (lanes : List ℤ) (k : ℕ) → k < length lanes → lane (passed_octets lanes) k ≡ cast_signed w8 (cast_unsigned w8 (lane lanes k))
+passed_octet [] k lt = absurd (omega arith)
+passed_octet (x ∷ lanes) zero lt = refl
+passed_octet (x ∷ lanes) (suc k) lt = let lt' : k < length lanes = omega arith in passed_octet lanes k lt'
+
+kept_octet : (t : Bool) → cast_signed w8 (cast_unsigned w8 (if t then negsuc 0 else pos 0)) ≡ (if t then negsuc 0 else pos 0)
+kept_octet true = refl
+kept_octet false = refl
+
+pub taken_passed : (lanes : List ℤ) (t : Bool) (k : ℕ) → length lanes ≡ 8 → k < 8 →
+    lane lanes k ≡ (if t then negsuc 0 else pos 0) → lane (passed_octets lanes) k ≡ (if t then negsuc 0 else pos 0)
+taken_passed lanes t k count lt is =
+    passed_octet lanes k (omega arith) ∙ ap (λ x. cast_signed w8 (cast_unsigned w8 x)) is ∙ kept_octet t
+
+pub AreTaken-passed : (lanes : List ℤ) (t : ℕ → Bool) → length lanes ≡ 8 → ((k : ℕ) → k < 8 → lane lanes k ≡ (if t k then negsuc 0 else pos 0)) →
+    AreTaken (passed_octets lanes)
+AreTaken-passed lanes t count is = record {
+  count = length-map (map (cast_unsigned w8) lanes) (cast_signed w8) ∙ length-map lanes (cast_unsigned w8) ∙ count;
+  each = λ k lt. one_of (lane (passed_octets lanes) k) (t k) (taken_passed lanes (t k) k count lt (is k lt));
+} where
+  one_of : (x : ℤ) (b : Bool) → x ≡ (if b then negsuc 0 else pos 0) → (x ≡ negsuc 0) ⊎ (x ≡ pos 0)
+  one_of x true is = inl is
+  one_of x false is = inr is
+
+passed_octets-each : (lanes : List ℤ) → ((k : ℕ) → k < length lanes → (lane lanes k ≡ negsuc 0) ⊎ (lane lanes k ≡ pos 0)) → passed_octets lanes ≡ lanes
+passed_octets-each [] is = refl
+passed_octets-each (x ∷ lanes) is =
+    let here : 0 < suc (length lanes) = omega arith in
+    ap₂ (λ y ys. y ∷ ys) (kept x (is 0 here)) (passed_octets-each lanes (λ k lt. is (suc k) (let lt' : suc k < suc (length lanes) = omega arith in lt')))
+  where
+    kept : (x : ℤ) → (x ≡ negsuc 0) ⊎ (x ≡ pos 0) → cast_signed w8 (cast_unsigned w8 x) ≡ x
+    kept x (inl is) = subst (λ x. cast_signed w8 (cast_unsigned w8 x) ≡ x) (sym is) refl
+    kept x (inr is) = subst (λ x. cast_signed w8 (cast_unsigned w8 x) ≡ x) (sym is) refl
+
+pub passed_octets-taken : (lanes : List ℤ) → AreTaken lanes → passed_octets lanes ≡ lanes
+passed_octets-taken lanes h = passed_octets-each lanes (λ k lt. h.each k (omega (arith, h.count)))

@@ -1,0 +1,106 @@
+//! One step of the Viterbi algorithm (add, compare, select) for all sixteen states at once, in lanes of 16 bits. A state
+//! takes the bit 0 where both bits are worth the same.
+//!
+//! Even states stand in one vector and odd ones in another, each where its other three bits turned round say: so the
+//! values after the bits 0 and 1 are whole vectors, and a step ends with two interleavings that restore the order. No
+//! value is below -1,024 or above 58,368, so lowered by 31,000 all of them fit 16 bits and nothing is scaled back.
+
+ghost use Rattle.std.specs.Prelude.{◌≡◌, ℕ, ◌<◌, List, ℤ, pos, slice_index};
+ghost use Rattle.trellis_decode.specs.Trellis.{Chooses, way};
+ghost use Rattle.trellis_decode.specs.Lanes.{lane};
+ghost use Rattle.trellis_decode.specs.Turned.{AreEdges, AreNarrow, AreTaken, choices, HasEdges, HaveRoom, worths};
+
+use crate::turned_lanes::{differences, first_in_turns, greater, larger, last_in_turns, sums};
+use std::simd::prelude::*;
+
+/// What the sixteen states are worth, lowered by 31,000.
+#[derive(Clone, Copy)]
+pub struct Values {
+    /// The even states, each at the place of its other three bits turned round.
+    pub even: i16x8,
+    /// The odd states, in the same way.
+    pub odd: i16x8,
+}
+
+impl Values {
+    /// Before any place: no state is worth more than another.
+    pub fn new() -> Values
+        ensures each { (s : ℕ) → s < 16 → lane (worths result.even result.odd) s ≡ pos 0 }
+        ensures even { AreNarrow result.even }
+        ensures odd { AreNarrow result.odd }
+    {
+        Values {
+            even: i16x8::splat(-31_000),
+            odd: i16x8::splat(-31_000),
+        }
+    }
+
+    /// What the state 0 is worth.
+    pub fn of_state_0(self) -> i32
+        requires { AreNarrow self.even }
+        ensures { result ≡ lane (worths self.even self.odd) 0 }
+    {
+        i32::from(self.even.to_array()[0]) + 31_000
+    }
+}
+
+/// A step of the trellis, from a place to the one before it.
+#[derive(Clone, Copy)]
+pub struct Step {
+    /// What the best list is worth that begins in each state.
+    pub values: Values,
+    /// The first bits of the best lists of the states 0 to 7, with their bits turned round: -1 for a 1.
+    pub low: i8x8,
+    /// The same of the states 8 to 15.
+    pub high: i8x8,
+}
+
+impl Step {
+    /// The step at a place whose bits count `edges`; `after` is what each state is worth at the next place.
+    pub fn new(after: Values, edges: i16x8) -> Step
+        requires even { HaveRoom after.even }
+        requires odd { HaveRoom after.odd }
+        requires edges { AreEdges edges }
+        ensures each { (pair : List ℤ) → HasEdges edges pair → (s : ℕ) → s < 16 →
+            Chooses (worths after.even after.odd) pair s
+            (lane (worths result.values.even result.values.odd) s)
+            (slice_index (choices result.low result.high) s) }
+        ensures low { AreTaken result.low }
+        ensures high { AreTaken result.high }
+        ensures even { AreNarrow result.values.even }
+        ensures odd { AreNarrow result.values.odd }
+    {
+        let low_zero = sums(after.even, edges);
+        let low_one = differences(after.odd, edges);
+        let high_zero = differences(after.even, edges);
+        let high_one = sums(after.odd, edges);
+        let low = larger(low_zero, low_one);
+        let high = larger(high_zero, high_one);
+        let values = Values {
+            even: first_in_turns(low, high),
+            odd: last_in_turns(low, high),
+        };
+        Step {
+            values,
+            low: greater(low_zero, low_one),
+            high: greater(high_zero, high_one),
+        }
+    }
+}
+
+/// What each state is worth at a place whose bit is 0 in any case.
+pub fn closing_step(after: Values, edges: i16x8) -> Values
+    requires even { HaveRoom after.even }
+    requires edges { AreEdges edges }
+    ensures each { (pair : List ℤ) → HasEdges edges pair → (s : ℕ) → s < 16 →
+        lane (worths result.even result.odd) s ≡ way (worths after.even after.odd) pair s 0 }
+    ensures even { AreNarrow result.even }
+    ensures odd { AreNarrow result.odd }
+{
+    let low = sums(after.even, edges);
+    let high = differences(after.even, edges);
+    Values {
+        even: first_in_turns(low, high),
+        odd: last_in_turns(low, high),
+    }
+}
