@@ -1,9 +1,9 @@
 -- The place that loses least, one place more at a time.
-use Rattle.std.proofs.Common.{◌≡◌, ◌≢◌, ◌⊎◌, ℕ, zero, suc, ◌+◌, ◌<◌, ◌≤◌, inl, inr, ℤ, pos, ◌+ℤ◌, ◌-ℤ◌, List, [], ◌∷◌, length, get_or, take, refl, ap, ap₂, sym, ◌∙◌, subst, arith, below_more}
+use Rattle.std.proofs.Common.{◌≡◌, ◌≢◌, ◌⊎◌, ℕ, zero, suc, ◌+◌, ◌/◌, ◌%◌, ◌^◌, ◌<◌, ◌≤◌, inl, inr, ℤ, pos, ◌+ℤ◌, ◌-ℤ◌, List, [], ◌∷◌, length, get_or, take, drop, refl, ap, ap₂, sym, ◌∙◌, subst, arith, below_more}
 use Rattle.std.specs.Prelude.{◌<ℤ◌, ◌≤ℤ◌}
 use Rattle.std.proofs.lemmas.Bool.{cases_lt}
 use Rattle.std.proofs.lemmas.Int.{ints, by_lt_z}
-use Rattle.trellis_decode.specs.Trellis.{next}
+use Rattle.trellis_decode.specs.Trellis.{next, read_out}
 use Rattle.list_decode.specs.Detours.{reached, loss_at, IsLeastLoss}
 use Rattle.list_decode.specs.declared.leaving.Leave.{Leave}
 
@@ -25,6 +25,23 @@ reached_more (x ∷ u) (suc k) state within =
 pub reached_small : (state : ℕ) (u : List ℕ) → state < 16 → reached state u < 16
 reached_small state [] small = small
 reached_small state (x ∷ u) small = reached_small (next state x) u (omega arith)
+
+-- from a place on a list that the rows choose is what they choose from the state there on
+chosen_from : (rows : List ℕ) (state place : ℕ) → place ≤ length rows →
+    drop place (read_out rows state) ≡ read_out (drop place rows) (reached state (take place (read_out rows state)))
+chosen_from rows state zero within = refl
+chosen_from [] state (suc place) within = absurd (omega arith)
+chosen_from (row ∷ rows) state (suc place) within = chosen_from rows (next state (row / 2 ^ state % 2)) place (omega arith)
+
+pub chosen_behind : (rows u : List ℕ) (place state : ℕ) → u ≡ read_out rows 0 → place < length rows → length rows ≡ length u →
+    state ≡ reached 0 (take place u) → drop (place + 1) u ≡ read_out (drop (place + 1) rows) (next state (get_or u place 0))
+chosen_behind rows u place state is within count at =
+    let there : reached 0 (take (place + 1) u) ≡ next state (get_or u place 0) =
+    reached_more u place 0 (omega arith) ∙ ap (λ s. next s (get_or u place 0)) (sym at) in
+    ap (drop (place + 1)) is
+    ∙ chosen_from rows 0 (place + 1) (omega arith)
+    ∙ ap (λ w. read_out (drop (place + 1) rows) (reached 0 (take (place + 1) w))) (sym is)
+    ∙ ap (read_out (drop (place + 1) rows)) there
 
 pub leave_at : (u : List ℕ) (losses : List (List ℤ)) (k state : ℕ) (loss : ℤ) (new : Leave) → k + 4 < length u → state ≡ reached 0 (take k u) →
     loss ≡ loss_at 0 u losses k → IsLeastLoss u losses (k + 1) k (loss_at 0 u losses k) →

@@ -6,8 +6,6 @@ ghost use Rattle.bit_blocks.specs.Bits.{AllBits};
 ghost use Rattle.list_decode.specs.Detours.{IsLeastLoss, reached};
 ghost use Rattle.trellis_decode.specs.Trellis.{next, read_out};
 
-use trellis_decode::read_list;
-
 /// A place at which a list is left, the state that finds it, and what is lost by that.
 #[derive(Clone, Copy)]
 pub(crate) struct Leave {
@@ -65,23 +63,52 @@ pub(crate) fn least_loss(u: &[u8], losses: &[[i32; 16]]) -> Leave
     best
 }
 
-/// Writes `u` up to a place, the other bit there, and then what the rows choose.
+/// Writes `u` up to a place, the other bit there, and then what the rows choose. `u` is what they choose from the first
+/// state on.
 pub(crate) fn write_detour(u: &[u8], rows: &[u16], leave: Leave, v: &mut [u8])
     requires bits { AllBits u.now }
     requires rows { length rows.now ≡ length u.now }
+    requires chosen { u.now ≡ read_out rows.now 0 }
     requires count { length v.old ≡ length u.now }
     requires within { leave.place < length u.now }
     requires state { leave.state < 16 }
+    requires reached { leave.state ≡ reached 0 (take leave.place u.now) }
     ensures { v.new ≡ take leave.place u.now ++ (1 - slice_index u.now leave.place) ∷
         read_out (drop (leave.place + 1) rows.now) (next leave.state (1 - slice_index u.now leave.place)) }
 {
     let bit = 1 - u[leave.place];
-    v[..leave.place].copy_from_slice(&u[..leave.place]);
-    v[leave.place] = bit;
+    let own = (2 * leave.state + usize::from(u[leave.place])) % 16;
     let state = (2 * leave.state + usize::from(bit)) % 16;
-    read_list(
-        &rows[leave.place + 1..],
+    let behind = leave.place + 1;
+    v.copy_from_slice(u);
+    v[leave.place] = bit;
+    come_back(
+        &u[behind..],
+        &rows[behind..],
+        own as u16,
         state as u16,
-        &mut v[leave.place + 1..],
+        &mut v[behind..],
     );
+}
+
+/// Writes what the rows choose from a state on, over `u`, which is what they choose from its own state on: where both are in
+/// one state they agree from there on, which is mostly after a few places.
+fn come_back(u: &[u8], rows: &[u16], own: u16, state: u16, v: &mut [u8])
+    requires chosen { u.now ≡ read_out rows.now own }
+    requires same { v.old ≡ u.now }
+    requires own { own < 16 }
+    requires state { state < 16 }
+    ensures { v.new ≡ read_out rows.now state }
+{
+    let mut own = own;
+    let mut state = state;
+    for (k, row) in rows.iter().enumerate() {
+        if state == own {
+            return;
+        }
+        let bit = (*row >> state) & 1;
+        v[k] = bit as u8;
+        state = (2 * state + bit) % 16;
+        own = (2 * own + u16::from(u[k])) % 16;
+    }
 }
