@@ -15,12 +15,13 @@ use Rattle.um_driver.specs.Table.{AreFirst, IsNear, IsJudged, Ends}
 use Rattle.um_driver.specs.Course.{EndsAt, IsAt, IsUnderway, IsEnding}
 use Rattle.um_driver.specs.declared.status.Status.{Status}
 use Rattle.um_driver.specs.declared.status.Status.TheVariants.{Done, BadInput, TooLong, ReadFault}
-use Rattle.um_driver.proofs.LineLists.{text-push, length-text-push}
+use Rattle.um_io.proofs.LineLists.{text-push, length-text-push}
 use Rattle.um_driver.proofs.RunLemmas.{Runs-push, joined-append}
 use Rattle.um_driver.proofs.Turns.{HasLine, HasNone, HasEnd, rest_of, not_cut, has_line, has_none, has_end, none_gathered}
 
 -- one line more was answered
-pub IsNear-push : (q y : List ℕ) (lines answers lines' answers' : List (List ℕ)) → IsNear q y lines answers → IsNear q y (lines ++ lines') (answers ++ answers')
+pub IsNear-push : (q y : List ℕ) (lines answers lines' answers' : List (List ℕ)) → IsNear q y lines answers
+    → IsNear q y (lines ++ lines') (answers ++ answers')
 IsNear-push q y lines answers lines' answers' n = record {
   before = n.before;
   after = n.after ++ lines';
@@ -38,7 +39,8 @@ IsNear-push q y lines answers lines' answers' n = record {
 module _ {State : Type 0} (r : Rules State) (a : State) (Stands Stands' : State → Type 0) (reading' : Reading)
     (left left' taken taken' : Option (List ℕ)) (gathered : List ℕ) where
   -- the command stands for the same state
-  abbrev stays : (at : IsAt r a Stands left left' taken taken' gathered) → Stands' at.state → IsAt r a Stands' left left' taken taken' gathered
+  abbrev stays : (at : IsAt r a Stands left left' taken taken' gathered) → Stands' at.state
+      → IsAt r a Stands' left left' taken taken' gathered
   stays at stands = record {
     q = at.q;
     y = at.y;
@@ -57,7 +59,8 @@ module _ {State : Type 0} (r : Rules State) (a : State) (Stands Stands' : State 
 
   -- the command answered the line
   pub answering : (line text : List ℕ) (b : State) (h : HasLine r a Stands reading' left left' taken taken' gathered line) →
-      r.fault h.at.state line ≡ None → r.Step h.at.state line text b → Stands' b → IsUnderway r a Stands' reading' left left' taken taken' (gathered ++ text)
+      r.fault h.at.state line ≡ None → r.Step h.at.state line text b → Stands' b
+      → IsUnderway r a Stands' reading' left left' taken taken' (gathered ++ text)
   answering line text b h none step stands = record {
     at = record {
       q = h.at.q;
@@ -71,7 +74,8 @@ module _ {State : Type 0} (r : Rules State) (a : State) (Stands Stands' : State 
       plain = All-append IsLine h.at.lines (line ∷ []) h.at.plain (All-cons IsLine line [] h.line_plain (All-nil IsLine));
       runs = Runs-push r a h.at.state b h.at.lines h.at.answers line text h.at.runs (record { short = h.short; no_fault = none }) step;
       stands = stands;
-      output = joined-append h.at.answers (text ∷ []) ∙ ap (λ o. joined h.at.answers ++ o) (append-nil text) ∙ ap (λ o. o ++ text) h.at.output
+      output = joined-append h.at.answers (text ∷ []) ∙ ap (λ o. joined h.at.answers ++ o) (append-nil text)
+          ∙ ap (λ o. o ++ text) h.at.output
           ∙ append_assoc h.at.y gathered text;
       near = IsNear-push h.at.q h.at.y h.at.lines h.at.answers (line ∷ []) (text ∷ []) h.at.near;
     };
@@ -87,7 +91,8 @@ module _ {State : Type 0} (r : Rules State) (a : State) (Stands Stands' : State 
     at_end = h.at_end;
   }
 
-  judged : (line : List ℕ) (h : HasLine r a Stands reading' left left' taken taken' gathered line) (rest : List ℕ) → (EndsAt left left' → rest ≡ []) →
+  judged : (line : List ℕ) (h : HasLine r a Stands reading' left left' taken taken' gathered line) (rest : List ℕ)
+      → (EndsAt left left' → rest ≡ []) →
       IsJudged h.at.q rest h.at.lines line
   judged line h rest at_end = elim h.there [
     | inl (q_is, answered) ↦ record {
@@ -106,11 +111,13 @@ module _ {State : Type 0} (r : Rules State) (a : State) (Stands Stands' : State 
     }
   ]
 
-  first : (q rest : List ℕ) (lines : List (List ℕ)) (more : List ℕ) → All IsLine lines → q ≡ text_of lines ++ more → length (text_of lines) ≤ input_limit → AreFirst q rest lines
+  first : (q rest : List ℕ) (lines : List (List ℕ)) (more : List ℕ) → All IsLine lines → q ≡ text_of lines ++ more
+      → length (text_of lines) ≤ input_limit → AreFirst q rest lines
   first q rest lines more plain q_is within = inl (more, record { plain = plain; whole = q_is }, within)
 
   -- the command refused the line
-  pub refusing_line : (line : List ℕ) (number : ℕ) (fault : LineFault) (h : HasLine r a Stands reading' left left' taken taken' gathered line) →
+  pub refusing_line : (line : List ℕ) (number : ℕ) (fault : LineFault)
+      (h : HasLine r a Stands reading' left left' taken taken' gathered line) →
       number ≡ reading'.number → r.fault h.at.state line ≡ Some fault → Stands' h.at.state →
       IsEnding r a Stands' BadInput left left' taken taken' gathered (refused_text number fault)
   refusing_line line number fault h number_is reason stands =
@@ -123,12 +130,18 @@ module _ {State : Type 0} (r : Rules State) (a : State) (Stands Stands' : State 
           | inl (q_is, _) ↦ first h.at.q rest.rest h.at.lines (line ++ 10 ∷ (reading'.held ++ reading'.past)) h.at.plain q_is h.within
           | inr (q_is, _, _, _, _) ↦ first h.at.q rest.rest h.at.lines line h.at.plain q_is h.within
         ];
-        ends = (fault, inl (line, judged line h rest.rest rest.at_end, inr (h.short, reason)), ap (λ n. refused_text n fault) (number_is ∙ h.number));
+        ends = (
+          fault,
+          inl (line, judged line h rest.rest rest.at_end, inr (h.short, reason)),
+          ap (λ n. refused_text n fault)
+              (number_is ∙ h.number),
+        );
       }
 
   -- the run ends where no line came
   none_ends : (status : Status) (text : List ℕ) (h : HasNone r a Stands reading' left left' taken taken' gathered) → Stands' h.at.state →
-      ((rest : List ℕ) → Ends r status h.at.q rest h.at.lines h.at.state text) → IsEnding r a Stands' status left left' taken taken' gathered text
+      ((rest : List ℕ) → Ends r status h.at.q rest h.at.lines h.at.state text)
+      → IsEnding r a Stands' status left left' taken taken' gathered text
   none_ends status text h stands ends =
       let rest = rest_of left left' h.at.q h.at.read in
       record {
@@ -140,8 +153,10 @@ module _ {State : Type 0} (r : Rules State) (a : State) (Stands Stands' : State 
       }
 
   -- the next line is long
-  pub refusing_long : (number : ℕ) (h : HasNone r a Stands reading' left left' taken taken' gathered) → Stands' h.at.state → number ≡ reading'.number →
-      IsReading reading' → line_limit < length reading'.held → IsEnding r a Stands' BadInput left left' taken taken' gathered (refused_text (number + 1) Long)
+  pub refusing_long : (number : ℕ) (h : HasNone r a Stands reading' left left' taken taken' gathered) → Stands' h.at.state
+      → number ≡ reading'.number →
+      IsReading reading' → line_limit < length reading'.held → IsEnding r a Stands' BadInput left left' taken taken' gathered
+      (refused_text (number + 1) Long)
   refusing_long number h stands number_is valid long = none_ends BadInput (refused_text (number + 1) Long) h stands (λ rest. (
     Long,
     inl (
@@ -159,7 +174,8 @@ module _ {State : Type 0} (r : Rules State) (a : State) (Stands Stands' : State 
   ))
 
   -- the input goes on past the limit
-  pub too_long : (h : HasNone r a Stands reading' left left' taken taken' gathered) → Stands' h.at.state → IsReading reading' → length reading'.held ≤ line_limit →
+  pub too_long : (h : HasNone r a Stands reading' left left' taken taken' gathered) → Stands' h.at.state → IsReading reading'
+      → length reading'.held ≤ line_limit →
       0 < length reading'.past → IsEnding r a Stands' TooLong left left' taken taken' gathered []
   too_long h stands valid short some = none_ends TooLong [] h stands (λ rest. (
     (
@@ -177,11 +193,13 @@ module _ {State : Type 0} (r : Rules State) (a : State) (Stands Stands' : State 
   ))
 
   -- the source failed
-  pub read_fault : (h : HasNone r a Stands reading' left left' taken taken' gathered) → Stands' h.at.state → IsReading reading' → NeedsMore reading' →
+  pub read_fault : (h : HasNone r a Stands reading' left left' taken taken' gathered) → Stands' h.at.state → IsReading reading'
+      → NeedsMore reading' →
       IsEnding r a Stands' ReadFault left left' taken taken' gathered []
   read_fault h stands valid needs =
       let q_is : h.at.q ≡ text_of h.at.lines ++ reading'.held =
-      h.whole ∙ ap (λ p. text_of h.at.lines ++ (reading'.held ++ p)) needs.past ∙ ap (λ o. text_of h.at.lines ++ o) (append-nil reading'.held) in
+      h.whole ∙ ap (λ p. text_of h.at.lines ++ (reading'.held ++ p)) needs.past
+      ∙ ap (λ o. text_of h.at.lines ++ o) (append-nil reading'.held) in
       none_ends ReadFault [] h stands (λ rest. (
         omega (arith, ap length q_is, h.answered, valid.limit, length-append (text_of h.at.lines) reading'.held),
         (reading'.held, record { begins = record { plain = h.at.plain; whole = q_is }; plain = h.held_plain; short = needs.short }),
@@ -195,13 +213,17 @@ module _ {State : Type 0} (r : Rules State) (a : State) (Stands Stands' : State 
 
 -- the same, from what the reader answered
 module _ {State : Type 0} (r : Rules State) (a : State) (Stands : State → Type 0) (reading reading' : Reading)
-    (left mid left' taken taken' : Option (List ℕ)) (gathered : List ℕ) (before : IsUnderway r a Stands reading left mid taken taken' gathered)
+    (left mid left' taken taken' : Option (List ℕ)) (gathered : List ℕ)
+    (before : IsUnderway r a Stands reading left mid taken taken' gathered)
     (ready : IsReady reading ⊎ (gathered ≡ [])) where
-  came_line : (line : Bor (List ℕ)) → IsNext reading mid left' (next.Line line) reading' → HasLine r a Stands reading' left left' taken taken' gathered line.now
+  came_line : (line : Bor (List ℕ)) → IsNext reading mid left' (next.Line line) reading'
+      → HasLine r a Stands reading' left left' taken taken' gathered line.now
   came_line line n = let step = n.goes_on before.goes_on in
-      has_line r a Stands reading reading' left mid left' taken taken' gathered before ready (next.Line line) step.0 step.1 n.valid line.now step.1.gives
+      has_line r a Stands reading reading' left mid left' taken taken' gathered before ready (next.Line line) step.0 step.1 n.valid
+      line.now step.1.gives
 
-  pub line_answered : (Stands' : State → Type 0) (line : Bor (List ℕ)) (text : List ℕ) → IsNext reading mid left' (next.Line line) reading' →
+  pub line_answered : (Stands' : State → Type 0) (line : Bor (List ℕ)) (text : List ℕ)
+      → IsNext reading mid left' (next.Line line) reading' →
       ((b : State) → Stands b → (c : State) × (r.fault b line.now ≡ None) × r.Step b line.now text c × Stands' c) →
       IsUnderway r a Stands' reading' left left' taken taken' (gathered ++ text)
   line_answered Stands' line text n answers =
@@ -209,7 +231,8 @@ module _ {State : Type 0} (r : Rules State) (a : State) (Stands : State → Type
       let step = answers h.at.state h.at.stands in
       answering r a Stands Stands' reading' left left' taken taken' gathered line.now text step.0 h step.1 step.2 step.3
 
-  pub line_refused : (Stands' : State → Type 0) (line : Bor (List ℕ)) (text : List ℕ) (number : ℕ) (fault : LineFault) → IsNext reading mid left' (next.Line line) reading' →
+  pub line_refused : (Stands' : State → Type 0) (line : Bor (List ℕ)) (text : List ℕ) (number : ℕ) (fault : LineFault)
+      → IsNext reading mid left' (next.Line line) reading' →
       number ≡ reading'.number →
       ((b : State) → Stands b → (r.fault b line.now ≡ Some fault) × (text ≡ []) × Stands' b) →
       IsEnding r a Stands' BadInput left left' taken taken' gathered (refused_text number fault)
@@ -226,9 +249,11 @@ module _ {State : Type 0} (r : Rules State) (a : State) (Stands : State → Type
       ((b : State) → Stands b → reason ≡ r.end_fault b) → IsEnding r a Stands Done left left' taken taken' gathered []
   end_good reason n none says =
       let h = came_end n in
-      end_ends r a Stands Stands reading' left left' taken taken' gathered Done [] h h.at.stands (h.whole, sym (says h.at.state h.at.stands) ∙ none, refl)
+      end_ends r a Stands Stands reading' left left' taken taken' gathered Done [] h h.at.stands
+      (h.whole, sym (says h.at.state h.at.stands) ∙ none, refl)
 
-  pub end_refused : (reason : Option LineFault) (number : ℕ) (fault : LineFault) → IsNext reading mid left' next.End reading' → number ≡ reading'.number →
+  pub end_refused : (reason : Option LineFault) (number : ℕ) (fault : LineFault) → IsNext reading mid left' next.End reading'
+      → number ≡ reading'.number →
       reason ≡ Some fault → ((b : State) → Stands b → reason ≡ r.end_fault b) →
       IsEnding r a Stands BadInput left left' taken taken' gathered (refused_text (number + 1) fault)
   end_refused reason number fault n number_is some says =
@@ -243,25 +268,32 @@ module _ {State : Type 0} (r : Rules State) (a : State) (Stands : State → Type
       IsEnding r a Stands BadInput left left' taken taken' gathered (refused_text (number + 1) Long)
   long_refused number n number_is =
       let step = n.goes_on before.goes_on in let g = step.1.gives in
-      let h = has_none r a Stands reading reading' left mid left' taken taken' gathered before ready next.Long step.0 step.1 n.valid true g.0
+      let h = has_none r a Stands reading reading' left mid left' taken taken' gathered before ready next.Long step.0 step.1 n.valid true
+      g.0
       (not_cut r a Stands reading reading' left mid left' taken taken' gathered before ready next.Long step.0 step.1 n.valid
-      (held_some (reading.held ++ reading.past ++ step.0) (reading'.held ++ reading'.past) g.0.octets (omega (arith, g.1, length-append reading'.held reading'.past)))) in
+      (held_some (reading.held ++ reading.past ++ step.0) (reading'.held ++ reading'.past) g.0.octets
+      (omega (arith, g.1, length-append reading'.held reading'.past)))) in
       refusing_long r a Stands Stands reading' left left' taken taken' gathered number h h.at.stands number_is n.valid g.1
 
   pub ends_too_long : IsNext reading mid left' next.TooMany reading' → IsEnding r a Stands TooLong left left' taken taken' gathered []
   ends_too_long n =
       let step = n.goes_on before.goes_on in let g = step.1.gives in
-      let h = has_none r a Stands reading reading' left mid left' taken taken' gathered before ready next.TooMany step.0 step.1 n.valid true g.0
+      let h = has_none r a Stands reading reading' left mid left' taken taken' gathered before ready next.TooMany step.0 step.1 n.valid
+      true g.0
       (not_cut r a Stands reading reading' left mid left' taken taken' gathered before ready next.TooMany step.0 step.1 n.valid
-      (held_some (reading.held ++ reading.past ++ step.0) (reading'.held ++ reading'.past) g.0.octets (omega (arith, g.2, length-append reading'.held reading'.past)))) in
+      (held_some (reading.held ++ reading.past ++ step.0) (reading'.held ++ reading'.past) g.0.octets
+      (omega (arith, g.2, length-append reading'.held reading'.past)))) in
       too_long r a Stands Stands reading' left left' taken taken' gathered h h.at.stands n.valid g.1 g.2
 
-  pub ends_failed : IsNext reading mid left' next.Failed reading' → IsEnding r a Stands ReadFault left left' taken taken' gathered [] × (gathered ≡ [])
+  pub ends_failed : IsNext reading mid left' next.Failed reading' → IsEnding r a Stands ReadFault left left' taken taken' gathered []
+      × (gathered ≡ [])
   ends_failed n =
       let step = n.goes_on before.goes_on in let g = step.1.gives in
       let goes_on = g.1.ended in
-      let h = has_none r a Stands reading reading' left mid left' taken taken' gathered before ready next.Failed step.0 step.1 n.valid true g.0
+      let h = has_none r a Stands reading reading' left mid left' taken taken' gathered before ready next.Failed step.0 step.1 n.valid
+      true g.0
       (λ _ ended. let still = (step.1.still ended).1 in cc (still, goes_on)) in (
         read_fault r a Stands Stands reading' left left' taken taken' gathered h h.at.stands n.valid g.1,
-        none_gathered r a Stands reading reading' left mid left' taken taken' gathered before ready next.Failed step.0 step.1 n.valid true g.0 g.1,
+        none_gathered r a Stands reading reading' left mid left' taken taken' gathered before ready next.Failed step.0 step.1 n.valid true
+            g.0 g.1,
       )

@@ -19,14 +19,16 @@ IsBad-unique r a line f f' (inl (l, _)) (inr (l', _)) = absurd (omega arith)
 IsBad-unique r a line f f' (inr (l, _)) (inl (l', _)) = absurd (omega arith)
 IsBad-unique r a line f f' (inr (_, e)) (inr (_, e')) = cc (e, e')
 
-pub Gives-from : {State : Type 0} (r : Rules State) (a a' : State) (n n' : ℕ) (judged : List (List ℕ)) (ended : Bool) (s : Status) (z : List ℕ) →
+pub Gives-from : {State : Type 0} (r : Rules State) (a a' : State) (n n' : ℕ) (judged : List (List ℕ)) (ended : Bool) (s : Status)
+    (z : List ℕ) →
     a ≡ a' → n ≡ n' → Gives r a n judged ended s z → Gives r a' n' judged ended s z
 Gives-from {State} r a a' n n' judged ended s z e f h =
     let P : State → Type 0 = λ b. Gives r b n judged ended s z in
     let Q : ℕ → Type 0 = λ m. Gives r a' m judged ended s z in
     subst Q f (subst P e h)
 
-pub Gives-unique : {State : Type 0} (r : Rules State) → IsDetermined r → (a : State) (n : ℕ) (judged : List (List ℕ)) (ended : Bool) (s s' : Status) (z z' : List ℕ) →
+pub Gives-unique : {State : Type 0} (r : Rules State) → IsDetermined r
+    → (a : State) (n : ℕ) (judged : List (List ℕ)) (ended : Bool) (s s' : Status) (z z' : List ℕ) →
     Gives r a n judged ended s z → Gives r a n judged ended s' z' → (s ≡ s') × (z ≡ z')
 Gives-unique r det a n [] true s s' z z' (inl (e, si, zi)) (inl (e', si', zi')) = (si ∙ sym si', zi ∙ sym zi')
 Gives-unique r det a n [] true s s' z z' (inl (e, si, zi)) (inr stop) = absurd (let b = stop.bad in cc (e, b))
@@ -48,7 +50,8 @@ Gives-unique r det a n (line ∷ judged) ended s s' z z' (inr stop) (inr stop') 
     (stop.status_is ∙ sym stop'.status_is, stop.output ∙ ap (λ g. refused_text n g) f ∙ sym stop'.output)
 
 -- good lines first
-pub Gives-after : {State : Type 0} (r : Rules State) (a b : State) (n m : ℕ) (ls ys judged : List (List ℕ)) (ended : Bool) (s : Status) (z : List ℕ) →
+pub Gives-after : {State : Type 0} (r : Rules State) (a b : State) (n m : ℕ) (ls ys judged : List (List ℕ)) (ended : Bool) (s : Status)
+    (z : List ℕ) →
     m ≡ length ls + n → Runs r a ls ys b → Gives r b m judged ended s z → Gives r a n (ls ++ judged) ended s (joined ys ++ z)
 Gives-after r a b n m [] [] judged ended s z e same h = Gives-from r b a m n judged ended s z same (omega arith) h
 Gives-after r a b n m [] (y ∷ ys) judged ended s z e none h = absurd none
@@ -65,7 +68,8 @@ Gives-after r a b n m (line ∷ ls) (y ∷ ys) judged ended s z e (mid, good, st
     })
 
 -- the answers to first lines begin what comes of all
-pub Gives-front : {State : Type 0} (r : Rules State) → IsDetermined r → (a b : State) (n : ℕ) (ls ys judged : List (List ℕ)) (ended : Bool) (s : Status) (z : List ℕ) →
+pub Gives-front : {State : Type 0} (r : Rules State) → IsDetermined r
+    → (a b : State) (n : ℕ) (ls ys judged : List (List ℕ)) (ended : Bool) (s : Status) (z : List ℕ) →
     Runs r a ls ys b → Gives r a n (ls ++ judged) ended s z → IsFront (joined ys) z
 Gives-front r det a b n [] [] judged ended s z same g = (z, refl)
 Gives-front r det a b n [] (y ∷ ys) judged ended s z none g = absurd none
@@ -78,7 +82,8 @@ Gives-front r det a b n (line ∷ ls) (y ∷ ys) judged ended s z (mid, good, st
 Gives-front r det a b n (line ∷ ls) (y ∷ ys) judged ended s z (mid, good, step, runs) (inr stop) =
     absurd (good_or_bad r a line stop.fault good stop.bad)
 
-pub Gives-at : {State : Type 0} (r : Rules State) (a : State) (n : ℕ) (judged judged' : List (List ℕ)) (ended ended' : Bool) (s : Status) (z z' : List ℕ) →
+pub Gives-at : {State : Type 0} (r : Rules State) (a : State) (n : ℕ) (judged judged' : List (List ℕ)) (ended ended' : Bool) (s : Status)
+    (z z' : List ℕ) →
     judged' ≡ judged → ended' ≡ ended → z' ≡ z → Gives r a n judged ended s z → Gives r a n judged' ended' s z'
 Gives-at r a n judged judged' ended ended' s z z' j e o h =
     let P : List (List ℕ) → Type 0 = λ k. Gives r a n k ended s z in

@@ -32,7 +32,15 @@ record AllRun {State : Type 0} (r : Rules State) (a : State) (judged : List (Lis
 
 all_run : {State : Type 0} (r : Rules State) (a : State) (n : ℕ) (judged : List (List ℕ)) (ended : Bool) (z : List ℕ) →
     Gives r a n judged ended Done z → AllRun r a judged ended z
-all_run r a n [] true z (inl (good, _, none)) = record { answers = []; state = a; runs = refl; end_good = good; is_ended = refl; output = none }
+all_run r a n [] true z (inl (good, _, none)) = record {
+  answers = [];
+  state = a;
+  runs = refl;
+  end_good = good;
+  is_ended = refl;
+  output =
+      none;
+}
 all_run r a n [] true z (inr stop) = let e = stop.status_is in absurd (cc e)
 all_run r a n [] false z (e, _) = absurd (cc e)
 all_run r a n (line ∷ judged) ended z (inl g) =
@@ -51,7 +59,8 @@ divided_judged : (x : List ℕ) (judged : List (List ℕ)) → Judges x judged t
 divided_judged x judged j = record {
   plain = plain_judged x judged true j;
   whole = elim j.tail [
-    | inl (e, none) ↦ inl (j.counts.0 ∙ j.begins.whole ∙ (let n = ap (λ u. text_of j.lines ++ u) none in n) ∙ append-nil (text_of j.lines) ∙ ap text_of (sym e))
+    | inl (e, none) ↦ inl (j.counts.0 ∙ j.begins.whole ∙ (let n = ap (λ u. text_of j.lines ++ u) none in n) ∙ append-nil (text_of j.lines)
+        ∙ ap text_of (sym e))
     | inr (e, some) ↦ inr (record { front = j.lines; last = j.last; lines_are = e; octets_are = j.counts.0 ∙ j.begins.whole; some = some })
   ];
 }

@@ -10,7 +10,7 @@ use Rattle.um_driver.specs.Divided.{Begins}
 use Rattle.um_io.specs.Reading.{input_limit, line_limit}
 use Rattle.um_driver.specs.Outputs.{IsOver, Counts, NotJudged, AlsoJudged, Judges}
 use Rattle.um_driver.specs.Table.{IsJudged}
-use Rattle.um_driver.proofs.LineLists.{within, no_feed, compared, one_division, All-before, All-behind}
+use Rattle.um_io.proofs.LineLists.{within, no_feed, compared, one_division, All-before, All-behind}
 
 -- a front that is no longer is a front of a front
 pub record IsFrontOf (u v c p : List ℕ) : Type 0 where
@@ -32,7 +32,8 @@ pub record Division (octets : List ℕ) : Type 0 where
   pub begins : Begins octets lines last
   pub plain : IsLine last
 
-with_plain : (o : ℕ) (octets : List ℕ) (lines : List (List ℕ)) (last : List ℕ) → IsPlain o → Begins octets lines last → IsLine last → Division (o ∷ octets)
+with_plain : (o : ℕ) (octets : List ℕ) (lines : List (List ℕ)) (last : List ℕ) → IsPlain o → Begins octets lines last → IsLine last
+    → Division (o ∷ octets)
 with_plain o octets [] last h b p = record {
   lines = [];
   last = o ∷ last;
@@ -83,10 +84,11 @@ pub Judges-divided : (x : List ℕ) (judged : List (List ℕ)) (ended : Bool) (l
 Judges-divided x judged true lines j d h = (
   refl,
   elim d.whole [
-    | inl e ↦ elim (judged_whole x judged lines [] j (record { plain = d.plain; whole = e ∙ sym (append-nil (text_of lines)) }) (All-nil IsPlain)) [
-      | inl (same, _) ↦ same
-      | inr (_, some) ↦ absurd (omega (arith, some))
-    ]
+    | inl e ↦ elim (judged_whole x judged lines [] j (record { plain = d.plain; whole = e ∙ sym (append-nil (text_of lines)) })
+        (All-nil IsPlain)) [
+          | inl (same, _) ↦ same
+          | inr (_, some) ↦ absurd (omega (arith, some))
+        ]
     | inr cut ↦
         let both : All IsLine (cut.front ++ cut.last ∷ []) = rw (← cut.lines_are) d.plain in
         elim (judged_whole x judged cut.front cut.last j
@@ -111,7 +113,8 @@ pub Judges-over : (x : List ℕ) (judged : List (List ℕ)) (ended : Bool) (coun
     (ended ≡ false) × (judged ≡ lines)
 Judges-over x judged true counted past lines last j over b p short = absurd (over_limit x counted past over j.counts.1)
 Judges-over x judged false counted past lines last j over b p short =
-    let same_octets : j.octets ≡ counted = same_front j.octets j.counts.0 counted past (sym j.counts.1.whole ∙ over.whole) (j.counts.1.count ∙ sym over.count) in
+    let same_octets : j.octets ≡ counted = same_front j.octets j.counts.0 counted past (sym j.counts.1.whole ∙ over.whole)
+    (j.counts.1.count ∙ sym over.count) in
     let same = one_division j.lines lines j.last last j.begins.plain b.plain j.plain p (sym j.begins.whole ∙ same_octets ∙ b.whole) in (
       refl,
       elim j.tail [
@@ -127,7 +130,8 @@ not_both last false short long = omega (arith, short, long)
 same_judged : (x : List ℕ) (judged judged' : List (List ℕ)) (ended : Bool) (j : Judges x judged ended) (k : Judges x judged' ended) →
     j.octets ≡ k.octets → judged ≡ judged'
 same_judged x judged judged' ended j k e =
-    let same = one_division j.lines k.lines j.last k.last j.begins.plain k.begins.plain j.plain k.plain (sym j.begins.whole ∙ e ∙ k.begins.whole) in
+    let same = one_division j.lines k.lines j.last k.last j.begins.plain k.begins.plain j.plain k.plain
+    (sym j.begins.whole ∙ e ∙ k.begins.whole) in
     let l = same.0 in let m = same.1 in
     elim j.tail [
       | inl (f, none) ↦ elim k.tail [
@@ -149,7 +153,8 @@ Judges-unique x judged judged' false true j k = absurd (over_limit x j.octets j.
 Judges-unique x judged judged' false false j k = (
   refl,
   same_judged x judged judged' false j k
-      (same_front j.octets j.counts.0 k.octets k.counts.0 (sym j.counts.1.whole ∙ k.counts.1.whole) (j.counts.1.count ∙ sym k.counts.1.count)),
+      (same_front j.octets j.counts.0 k.octets k.counts.0 (sym j.counts.1.whole ∙ k.counts.1.whole)
+      (j.counts.1.count ∙ sym k.counts.1.count)),
 )
 
 -- a front of the input that lies within the limit is a front of what counts
@@ -160,7 +165,8 @@ pub record CountedFront (octets u v : List ℕ) (ended : Bool) : Type 0 where
   pub rest_is : v ≡ part ++ past
   pub none_past : ended ≡ true → past ≡ []
 
-pub counted_front : (x octets u v : List ℕ) (ended : Bool) → x ≡ u ++ v → length u ≤ input_limit → Counts x octets ended → CountedFront octets u v ended
+pub counted_front : (x octets u v : List ℕ) (ended : Bool) → x ≡ u ++ v → length u ≤ input_limit → Counts x octets ended
+    → CountedFront octets u v ended
 counted_front x octets u v true e h counts =
     record { part = v; past = []; front_is = sym counts.0 ∙ e; rest_is = sym (append-nil v); none_past = λ _. refl }
 counted_front x octets u v false e h counts =
@@ -173,7 +179,8 @@ pub Judges-first : (x : List ℕ) (judged : List (List ℕ)) (ended : Bool) (lin
     Begins x lines more → length (text_of lines) ≤ input_limit → (rest : List (List ℕ)) × (judged ≡ lines ++ rest)
 Judges-first x judged ended lines more j b h =
     let f = counted_front x j.octets (text_of lines) more ended b.whole h j.counts in
-    let tail : (t : List (List ℕ)) × (judged ≡ j.lines ++ t) = elim j.tail [ inl (e, _) ↦ ([], e ∙ sym (append-nil j.lines)) | inr (e, _) ↦ (j.last ∷ [], e) ] in
+    let tail : (t : List (List ℕ)) × (judged ≡ j.lines ++ t) = elim j.tail
+    [ inl (e, _) ↦ ([], e ∙ sym (append-nil j.lines)) | inr (e, _) ↦ (j.last ∷ [], e) ] in
     elim (compared lines j.lines f.part j.last b.plain j.begins.plain (sym f.front_is ∙ j.begins.whole)) [
       | inl (same, _) ↦ (tail.0, tail.1 ∙ ap (λ l. l ++ tail.0) (sym same))
       | inr two ↦ elim two [
@@ -226,7 +233,8 @@ none_last : (last : List ℕ) (ended : Bool) → ended ≡ true → NotJudged la
 none_last last true e none = none
 none_last last false e short = absurd (cc e)
 
-module _ (x : List ℕ) (judged lines : List (List ℕ)) (line : List ℕ) (ended : Bool) (j : Judges x judged ended) (n : IsJudged x [] lines line) where
+module _ (x : List ℕ) (judged lines : List (List ℕ)) (line : List ℕ) (ended : Bool) (j : Judges x judged ended)
+    (n : IsJudged x [] lines line) where
   front : CountedFront j.octets (text_of lines ++ line) n.more ended
   front = counted_front x j.octets (text_of lines ++ line) n.more ended
       (n.begins.whole ∙ sym (append_assoc (text_of lines) line n.more)) n.limit j.counts
@@ -244,7 +252,8 @@ module _ (x : List ℕ) (judged lines : List (List ℕ)) (line : List ℕ) (ende
         judged_are = e ∙ ap (λ k. k ++ t) ls ∙ append_assoc lines (l ∷ m) t;
         same = elim n.judged [
           | inl (after, feed, _) ↦ inl (
-              let more_is : n.more ≡ (in_l.part ++ 10 ∷ (text_of m ++ j.last)) ++ front.past = front.rest_is ∙ ap (λ k. k ++ front.past) in_l.more_is in
+              let more_is : n.more ≡ (in_l.part ++ 10 ∷ (text_of m ++ j.last)) ++ front.past = front.rest_is
+              ∙ ap (λ k. k ++ front.past) in_l.more_is in
               let first = feed_first in_l.part ((text_of m ++ j.last) ++ front.past) after rest
               (sym (append_assoc in_l.part (10 ∷ (text_of m ++ j.last)) front.past) ∙ sym more_is ∙ feed) in
               in_l.line_is ∙ ap (λ k. line ++ k) first ∙ append-nil line)
@@ -260,7 +269,8 @@ module _ (x : List ℕ) (judged lines : List (List ℕ)) (line : List ℕ) (ende
       no_more (o ∷ p) e = cc e
 
   -- what follows the whole lines is the next
-  next_last : lines ≡ j.lines → judged ≡ j.lines ++ j.last ∷ [] → (j.last ≡ line) ⊎ ((line_limit < length line) × (line_limit < length j.last)) →
+  next_last : lines ≡ j.lines → judged ≡ j.lines ++ j.last ∷ [] → (j.last ≡ line) ⊎ ((line_limit < length line)
+      × (line_limit < length j.last)) →
       NextJudged judged lines line
   next_last ls e same = record { next = j.last; more = []; judged_are = e ∙ ap (λ k. k ++ j.last ∷ []) (sym ls); same = same }
 

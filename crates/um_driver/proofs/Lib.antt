@@ -1,5 +1,3 @@
-pub mod KnownOctets
-pub mod LineLists
 pub mod RunLemmas
 pub mod Giving
 pub mod Judging

@@ -21,7 +21,8 @@ option_cases None = inl refl
 option_cases (Some v) = inr (v, refl)
 
 -- judged lines have what comes of them
-gives_some : {State : Type 0} (r : Rules State) (a : State) → IsTotal r a → (done answers : List (List ℕ)) (b : State) → Runs r a done answers b →
+gives_some : {State : Type 0} (r : Rules State) (a : State) → IsTotal r a → (done answers : List (List ℕ)) (b : State)
+    → Runs r a done answers b →
     (n : ℕ) (judged : List (List ℕ)) (ended : Bool) → All IsLine judged → (s : Status) × (z : List ℕ) × Gives r b n judged ended s z
 gives_some r a total done answers b runs n [] true plain = elim (option_cases (r.end_fault b)) [
   | inl none ↦ (Done, [], inl (none, refl, refl))
@@ -35,7 +36,8 @@ gives_some r a total done answers b runs n (line ∷ judged) ended plain = elim 
         let good : IsGood r b line = record { short = short; no_fault = none } in
         let answered = total done answers b runs line (All-head IsLine line judged plain) good in
         let then = gives_some r a total (done ++ line ∷ []) (answers ++ answered.0 ∷ []) answered.1
-        (Runs-push r a b answered.1 done answers line answered.0 runs good answered.2) (n + 1) judged ended (All-tail IsLine line judged plain) in (
+        (Runs-push r a b answered.1 done answers line answered.0 runs good answered.2) (n + 1) judged ended
+        (All-tail IsLine line judged plain) in (
           then.0,
           answered.0 ++ then.1,
           inl (record {
@@ -48,7 +50,17 @@ gives_some r a total done answers b runs n (line ∷ judged) ended plain = elim 
             output = refl;
           }),
         )
-    | inr (fault, e) ↦ (BadInput, refused_text n fault, inr (record { fault = fault; bad = inr (short, e); status_is = refl; output = refl }))
+    | inr (fault, e) ↦ (
+      BadInput,
+      refused_text n fault,
+      inr (record {
+        fault = fault;
+        bad = inr (short, e);
+        status_is = refl;
+        output =
+            refl;
+      }),
+    )
   ]
 ]
 

@@ -60,7 +60,8 @@ judged_all q rest lines judged ended j w =
 module _ {State : Type 0} (r : Rules State) (a b : State) (q rest : List ℕ) (lines answers judged : List (List ℕ)) (ended : Bool)
     (j : Judges (q ++ rest) judged ended) (runs : Runs r a lines answers b) where
   -- so the judged lines come to an end after these lines
-  ends_so : (end_ : Bool) (s : Status) (text : List ℕ) → (ended ≡ end_) × (judged ≡ lines ++ []) → Gives r b (length lines + 1) [] end_ s text →
+  ends_so : (end_ : Bool) (s : Status) (text : List ℕ) → (ended ≡ end_) × (judged ≡ lines ++ [])
+      → Gives r b (length lines + 1) [] end_ s text →
       Gives r a 1 judged ended s (joined answers ++ text)
   ends_so end_ s text d g =
       Gives-at r a 1 (lines ++ []) judged end_ ended s (joined answers ++ text) (joined answers ++ text) d.1 d.0 refl
@@ -72,7 +73,8 @@ module _ {State : Type 0} (r : Rules State) (a b : State) (q rest : List ℕ) (l
   pub gives_refused : (text : List ℕ) → Ends r BadInput q rest lines b text → Gives r a 1 judged ended BadInput (joined answers ++ text)
   gives_refused text (fault, inl (line, n, bad), text_is) =
       let next = Judges-next (q ++ rest) judged lines line ended j (judged_whole q rest lines line n) in
-      Gives-at r a 1 (lines ++ next.next ∷ next.more) judged ended ended BadInput (joined answers ++ text) (joined answers ++ text) next.judged_are refl refl
+      Gives-at r a 1 (lines ++ next.next ∷ next.more) judged ended ended BadInput (joined answers ++ text) (joined answers ++ text)
+      next.judged_are refl refl
       (Gives-after r a b 1 (length lines + 1) lines answers (next.next ∷ next.more) ended BadInput text refl runs
       (inr (record { fault = fault; bad = IsBad-next r b line next.next fault next.same bad; status_is = refl; output = text_is })))
   gives_refused text (fault, inr (whole, reason), text_is) =

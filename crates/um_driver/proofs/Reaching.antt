@@ -41,7 +41,8 @@ reach_within answer answers (o ∷ y) part e = record {
 }
 
 -- y has all of the first answer
-reach_after : (answer : List ℕ) (answers : List (List ℕ)) (y part : List ℕ) → y ≡ answer ++ part → Reach answers part → Reach (answer ∷ answers) y
+reach_after : (answer : List ℕ) (answers : List (List ℕ)) (y part : List ℕ) → y ≡ answer ++ part → Reach answers part
+    → Reach (answer ∷ answers) y
 reach_after answer answers y part e then = record {
   first = answer ∷ then.first;
   second = then.second;
@@ -58,7 +59,11 @@ reach_after answer answers y part e then = record {
       y_is = e ∙ ap (λ o. answer ++ o) ends.y_is ∙ sym (append_assoc answer (joined ends.earlier) ends.part);
     })
   ];
-  front = (then.front.0, ap (λ o. answer ++ o) then.front.1 ∙ sym (append_assoc answer part then.front.0) ∙ ap (λ o. o ++ then.front.0) (sym e));
+  front = (
+    then.front.0,
+    ap (λ o. answer ++ o) then.front.1 ∙ sym (append_assoc answer part then.front.0)
+        ∙ ap (λ o. o ++ then.front.0) (sym e),
+  );
 }
 
 none_behind : (u v : List ℕ) → [] ≡ u ++ v → u ≡ []
@@ -68,7 +73,8 @@ none_behind (o ∷ u) v e = absurd (cc e)
 pub reach : (answers : List (List ℕ)) (y more : List ℕ) → joined answers ≡ y ++ more → Reach answers y
 reach [] y more e = record { first = []; second = []; answers_are = refl; reached = inl (y, refl); front = (more, e) }
 reach (answer ∷ answers) y more e = elim (cases_lt (length y) (length answer)) [
-  | inl shorter ↦ let f = front_of y more answer (joined answers) (sym e) (omega (arith, shorter)) in reach_within answer answers y f.part f.front_is
+  | inl shorter ↦ let f = front_of y more answer (joined answers) (sym e) (omega (arith, shorter)) in reach_within answer answers y f.part
+      f.front_is
   | inr h ↦
       let f = front_of answer (joined answers) y more e h in
       reach_after answer answers y f.part f.front_is (reach answers f.part more f.rest_is)

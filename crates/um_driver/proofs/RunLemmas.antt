@@ -36,7 +36,8 @@ pub record RunsInTwo {State : Type 0} (r : Rules State) (a c : State) (ls ys ys'
   pub runs_second : Runs r mid second ys' c
   pub whole : ls ≡ first ++ second
 
-pub Runs-split : {State : Type 0} (r : Rules State) (a c : State) (ls ys ys' : List (List ℕ)) → Runs r a ls (ys ++ ys') c → RunsInTwo r a c ls ys ys'
+pub Runs-split : {State : Type 0} (r : Rules State) (a c : State) (ls ys ys' : List (List ℕ)) → Runs r a ls (ys ++ ys') c
+    → RunsInTwo r a c ls ys ys'
 Runs-split r a c ls [] ys' runs = record { first = []; second = ls; mid = a; runs_first = refl; runs_second = runs; whole = refl }
 Runs-split r a c [] (y ∷ ys) ys' none = absurd none
 Runs-split r a c (line ∷ ls) (y ∷ ys) ys' (mid, good, step, runs) =
@@ -56,7 +57,8 @@ joined-append [] ys' = refl
 joined-append (y ∷ ys) ys' = ap (λ w. y ++ w) (joined-append ys ys') ∙ sym (append_assoc y (joined ys) (joined ys'))
 
 -- what each step keeps holds after a run
-pub Runs-keep : {State : Type 0} (r : Rules State) (P : State → Type 0) → ((a b : State) (line answer : List ℕ) → P a → r.Step a line answer b → P b) →
+pub Runs-keep : {State : Type 0} (r : Rules State) (P : State → Type 0)
+    → ((a b : State) (line answer : List ℕ) → P a → r.Step a line answer b → P b) →
     (a b : State) (ls ys : List (List ℕ)) → P a → Runs r a ls ys b → P b
 Runs-keep {State} r P keeps a b [] [] h same = subst P (sym same) h
 Runs-keep r P keeps a b [] (y ∷ ys) h none = absurd none

@@ -13,7 +13,7 @@ use Rattle.um_driver.specs.declared.status.Status.{Status}
 use Rattle.um_driver.specs.declared.status.Status.TheVariants.{Done, BadWords, BadInput, ReadFault, WriteFault, NoMemory, TooLong}
 use Rattle.um_driver.specs.declared.driver.Turn.{Turn}
 use Rattle.um_driver.specs.declared.driver.Turn.TheVariants as turn
-use Rattle.um_driver.proofs.KnownOctets.{Appends-nil, Appends-append, Consumes-nil}
+use Rattle.um_io.proofs.KnownOctets.{Appends-nil, Appends-append, Consumes-nil}
 use Rattle.um_driver.proofs.Reaching.{front_ends, reach}
 use Rattle.um_driver.proofs.RunLemmas.{Runs-split}
 use Rattle.um_driver.proofs.Turns.{rest_of, Rest}
@@ -34,7 +34,8 @@ IsNear-more q y w lines answers n = record {
   near = n.near;
 }
 
-IsNear-at : (q y : List ℕ) (lines answers lines' answers' : List (List ℕ)) → lines' ≡ lines → answers' ≡ answers → IsNear q y lines answers → IsNear q y lines' answers'
+IsNear-at : (q y : List ℕ) (lines answers lines' answers' : List (List ℕ)) → lines' ≡ lines → answers' ≡ answers
+    → IsNear q y lines answers → IsNear q y lines' answers'
 IsNear-at q y lines answers lines' answers' e f n =
     let P : List (List ℕ) → Type 0 = λ l. IsNear q y l answers in
     let Q : List (List ℕ) → Type 0 = λ l. IsNear q y lines' l in
@@ -43,9 +44,11 @@ IsNear-at q y lines answers lines' answers' e f n =
 AreFirst-at : (q rest : List ℕ) (lines lines' : List (List ℕ)) → lines' ≡ lines → AreFirst q rest lines → AreFirst q rest lines'
 AreFirst-at q rest lines lines' e h = let P : List (List ℕ) → Type 0 = λ l. AreFirst q rest l in subst P (sym e) h
 
-run_at : {State : Type 0} (r : Rules State) (a : State) (Stands : State → Type 0) (left left' taken taken' : Option (List ℕ)) (s t : Status) → s ≡ t →
+run_at : {State : Type 0} (r : Rules State) (a : State) (Stands : State → Type 0) (left left' taken taken' : Option (List ℕ))
+    (s t : Status) → s ≡ t →
     IsRun r a Stands t left left' taken taken' → IsRun r a Stands s left left' taken taken'
-run_at r a Stands left left' taken taken' s t e h = let P : Status → Type 0 = λ u. IsRun r a Stands u left left' taken taken' in subst P (sym e) h
+run_at r a Stands left left' taken taken' s t e h =
+    let P : Status → Type 0 = λ u. IsRun r a Stands u left left' taken taken' in subst P (sym e) h
 
 -- the row of a run that wrote all that it had to
 full_row : {State : Type 0} (r : Rules State) (status : Status) (q rest y text : List ℕ) (lines answers : List (List ℕ)) (b : State) →
@@ -58,14 +61,16 @@ full_row r WriteFault q rest y text lines answers b none e = absurd none
 full_row r NoMemory q rest y text lines answers b none e = absurd none
 full_row r BadWords q rest y text lines answers b none e = absurd none
 
-module _ {State : Type 0} (r : Rules State) (a : State) (Stands : State → Type 0) (left left' taken mid taken' : Option (List ℕ)) (gathered : List ℕ)
+module _ {State : Type 0} (r : Rules State) (a : State) (Stands : State → Type 0) (left left' taken mid taken' : Option (List ℕ))
+    (gathered : List ℕ)
     (at : IsAt r a Stands left left' taken mid gathered) where
   -- these octets were taken then
   then_taken : (w : List ℕ) → Appends mid taken' w → Appends taken taken' (at.y ++ w)
   then_taken w written = Appends-append taken mid taken' at.y w at.written written
 
   -- all answers were written, and some text after them
-  pub ends_behind : (status : Status) (rest w part : List ℕ) → Reads left left' at.q rest → AreFirst at.q rest at.lines → Appends mid taken' w →
+  pub ends_behind : (status : Status) (rest w part : List ℕ) → Reads left left' at.q rest → AreFirst at.q rest at.lines
+      → Appends mid taken' w →
       at.y ++ w ≡ joined at.answers ++ part → Row r status at.q rest (at.y ++ w) at.lines at.answers [] at.state →
       IsRun r a Stands status left left' taken taken'
   ends_behind status rest w part reads first written y_is row = record {
@@ -116,14 +121,17 @@ module _ {State : Type 0} (r : Rules State) (a : State) (Stands : State → Type
         ahead = two.runs_second;
         stands = at.stands;
         reached = s.reached;
-        near = IsNear-at at.q (at.y ++ w) at.lines at.answers (two.first ++ two.second) (s.first ++ s.second) (sym two.whole) (sym s.answers_are)
+        near = IsNear-at at.q (at.y ++ w) at.lines at.answers (two.first ++ two.second) (s.first ++ s.second) (sym two.whole)
+            (sym s.answers_are)
             (IsNear-more at.q at.y w at.lines at.answers at.near);
         row = inl s.front;
       }
 
 -- a front of what is gathered was taken, and the rest stays
-pub underway_gathers : {State : Type 0} (r : Rules State) (a : State) (Stands : State → Type 0) (reading : Reading) (left left' taken mid taken' : Option (List ℕ)) (gathered gathered' : List ℕ) →
-    IsUnderway r a Stands reading left left' taken mid gathered → Gathers gathered gathered' mid taken' → IsUnderway r a Stands reading left left' taken taken' gathered'
+pub underway_gathers : {State : Type 0} (r : Rules State) (a : State) (Stands : State → Type 0) (reading : Reading)
+    (left left' taken mid taken' : Option (List ℕ)) (gathered gathered' : List ℕ) →
+    IsUnderway r a Stands reading left left' taken mid gathered → Gathers gathered gathered' mid taken'
+    → IsUnderway r a Stands reading left left' taken taken' gathered'
 underway_gathers r a Stands reading left left' taken mid taken' gathered gathered' h (w, gathered_is, written) = let at = h.at in record {
   at = record {
     q = at.q;
@@ -147,10 +155,16 @@ underway_gathers r a Stands reading left left' taken mid taken' gathered gathere
   at_end = h.at_end;
 }
 
-module _ {State : Type 0} (r : Rules State) (a : State) (Stands : State → Type 0) (reading : Reading) (left left' taken mid taken' : Option (List ℕ)) where
-  first_lines : (gathered : List ℕ) (h : IsUnderway r a Stands reading left left' taken mid gathered) (rest : Rest left left' h.at.q) → AreFirst h.at.q rest.rest h.at.lines
+module _ {State : Type 0} (r : Rules State) (a : State) (Stands : State → Type 0) (reading : Reading)
+    (left left' taken mid taken' : Option (List ℕ)) where
+  first_lines : (gathered : List ℕ) (h : IsUnderway r a Stands reading left left' taken mid gathered) (rest : Rest left left' h.at.q)
+      → AreFirst h.at.q rest.rest h.at.lines
   first_lines gathered h rest = elim h.holds [
-    | inl (q_is, answered) ↦ inl (reading.held ++ reading.past, record { plain = h.at.plain; whole = q_is }, omega (arith, answered, h.valid.limit))
+    | inl (q_is, answered) ↦ inl (
+      reading.held ++ reading.past,
+      record { plain = h.at.plain; whole = q_is },
+      omega (arith, answered, h.valid.limit),
+    )
     | inr (cut, none, ended, answered) ↦ inr (record {
       none_left = rest.at_end (h.at_end ended);
       all = record { plain = h.at.plain; whole = inr cut };
@@ -168,21 +182,25 @@ module _ {State : Type 0} (r : Rules State) (a : State) (Stands : State → Type
       (at.output ∙ ap (λ o. at.y ++ o) gathered_is ∙ sym (append_assoc at.y w more))
 
   -- all that was still to be written was taken
-  pub ending_taken : (status : Status) (gathered text : List ℕ) → IsEnding r a Stands status left left' taken mid gathered text → Appends mid taken' (gathered ++ text) →
+  pub ending_taken : (status : Status) (gathered text : List ℕ) → IsEnding r a Stands status left left' taken mid gathered text
+      → Appends mid taken' (gathered ++ text) →
       IsRun r a Stands status left left' taken taken'
   ending_taken status gathered text h written =
       let at = h.at in
-      let y_is : at.y ++ (gathered ++ text) ≡ joined at.answers ++ text = sym (append_assoc at.y gathered text) ∙ ap (λ o. o ++ text) (sym at.output) in
+      let y_is : at.y ++ (gathered ++ text) ≡ joined at.answers ++ text = sym (append_assoc at.y gathered text)
+      ∙ ap (λ o. o ++ text) (sym at.output) in
       ends_behind r a Stands left left' taken mid taken' gathered at status h.rest (gathered ++ text) text h.reads h.first written y_is
       (full_row r status at.q h.rest (at.y ++ (gathered ++ text)) text at.lines at.answers at.state h.ends y_is)
 
   -- a front of it was taken, and the sink failed
-  pub ending_cut : (status : Status) (gathered text : List ℕ) → IsEnding r a Stands status left left' taken mid gathered text → TakesFront mid taken' (gathered ++ text) →
+  pub ending_cut : (status : Status) (gathered text : List ℕ) → IsEnding r a Stands status left left' taken mid gathered text
+      → TakesFront mid taken' (gathered ++ text) →
       IsRun r a Stands WriteFault left left' taken taken'
   ending_cut status gathered text h (w, (more, text_is), written) =
       let at = h.at in
       let whole : (at.y ++ w) ++ more ≡ joined at.answers ++ text =
-      append_assoc at.y w more ∙ ap (λ o. at.y ++ o) (sym text_is) ∙ sym (append_assoc at.y gathered text) ∙ ap (λ o. o ++ text) (sym at.output) in
+      append_assoc at.y w more ∙ ap (λ o. at.y ++ o) (sym text_is) ∙ sym (append_assoc at.y gathered text)
+      ∙ ap (λ o. o ++ text) (sym at.output) in
       elim (front_ends (at.y ++ w) more (joined at.answers) text whole) [
         | inl (rest, e) ↦ ends_among r a Stands left left' taken mid taken' gathered at h.rest w rest h.reads h.first written e
         | inr (part, front, y_is) ↦
@@ -205,11 +223,13 @@ module _ {State : Type 0} (r : Rules State) (a : State) (Stands : State → Type
       ending_concludes status result gathered [] h (subst P (sym (append-nil gathered)) written)
 
   -- a turn that ends the run
-  pub run_ends : (t : Turn) (gathered text gathered' : List ℕ) (status : Status) → Comes r a Stands reading left left' taken mid gathered text t →
+  pub run_ends : (t : Turn) (gathered text gathered' : List ℕ) (status : Status)
+      → Comes r a Stands reading left left' taken mid gathered text t →
       Settles t gathered text gathered' mid taken' (Some status) → IsRun r a Stands status left left' taken taken'
   run_ends turn.Answered gathered text gathered' status comes (e, written) =
       run_at r a Stands left left' taken taken' status WriteFault e (underway_cut (gathered ++ text) comes written)
-  run_ends (turn.Refused number fault) gathered text gathered' status comes written = ending_concludes BadInput status gathered (refused_text number fault) comes written
+  run_ends (turn.Refused number fault) gathered text gathered' status comes written =
+      ending_concludes BadInput status gathered (refused_text number fault) comes written
   run_ends turn.Done gathered text gathered' status comes written = ending_plain Done status gathered comes written
   run_ends turn.TooLong gathered text gathered' status comes written = ending_plain TooLong status gathered comes written
   run_ends turn.ReadFault gathered text gathered' status (ending, none) (e, kept) =
@@ -221,13 +241,15 @@ module _ {State : Type 0} (r : Rules State) (a : State) (Stands : State → Type
   -- a turn after which the run goes on
   pub run_goes_on : (t : Turn) (gathered text gathered' : List ℕ) → Comes r a Stands reading left left' taken mid gathered text t →
       Settles t gathered text gathered' mid taken' None → IsUnderway r a Stands reading left left' taken taken' gathered'
-  run_goes_on turn.Answered gathered text gathered' comes written = underway_gathers r a Stands reading left left' taken mid taken' (gathered ++ text) gathered' comes written
+  run_goes_on turn.Answered gathered text gathered' comes written = underway_gathers r a Stands reading left left' taken mid taken'
+      (gathered ++ text) gathered' comes written
   run_goes_on (turn.Refused number fault) gathered text gathered' comes written = absurd written
   run_goes_on turn.Done gathered text gathered' comes written = absurd written
   run_goes_on turn.TooLong gathered text gathered' comes written = absurd written
   run_goes_on turn.ReadFault gathered text gathered' comes written = absurd written
 
-pub is_answered : (t : Turn) (gathered text gathered' : List ℕ) (mid taken' : Option (List ℕ)) → Settles t gathered text gathered' mid taken' None → t ≡ turn.Answered
+pub is_answered : (t : Turn) (gathered text gathered' : List ℕ) (mid taken' : Option (List ℕ))
+    → Settles t gathered text gathered' mid taken' None → t ≡ turn.Answered
 is_answered turn.Answered gathered text gathered' mid taken' written = refl
 is_answered (turn.Refused number fault) gathered text gathered' mid taken' written = absurd written
 is_answered turn.Done gathered text gathered' mid taken' written = absurd written
@@ -242,13 +264,16 @@ MayEnd turn.Done status = (status ≡ Done) ⊎ (status ≡ WriteFault)
 MayEnd turn.TooLong status = (status ≡ TooLong) ⊎ (status ≡ WriteFault)
 MayEnd turn.ReadFault status = status ≡ ReadFault
 
-ends_with : (status result : Status) (text : List ℕ) (mid taken' : Option (List ℕ)) → Concludes status text mid taken' result → (result ≡ status) ⊎ (result ≡ WriteFault)
+ends_with : (status result : Status) (text : List ℕ) (mid taken' : Option (List ℕ)) → Concludes status text mid taken' result
+    → (result ≡ status) ⊎ (result ≡ WriteFault)
 ends_with status result text mid taken' (inl (e, _)) = inl e
 ends_with status result text mid taken' (inr (e, _)) = inr e
 
-may_end : (t : Turn) (gathered text gathered' : List ℕ) (mid taken' : Option (List ℕ)) (status : Status) → Settles t gathered text gathered' mid taken' (Some status) → MayEnd t status
+may_end : (t : Turn) (gathered text gathered' : List ℕ) (mid taken' : Option (List ℕ)) (status : Status)
+    → Settles t gathered text gathered' mid taken' (Some status) → MayEnd t status
 may_end turn.Answered gathered text gathered' mid taken' status (e, _) = e
-may_end (turn.Refused number fault) gathered text gathered' mid taken' status written = ends_with BadInput status (gathered ++ refused_text number fault) mid taken' written
+may_end (turn.Refused number fault) gathered text gathered' mid taken' status written =
+    ends_with BadInput status (gathered ++ refused_text number fault) mid taken' written
 may_end turn.Done gathered text gathered' mid taken' status written = ends_with Done status gathered mid taken' written
 may_end turn.TooLong gathered text gathered' mid taken' status written = ends_with TooLong status gathered mid taken' written
 may_end turn.ReadFault gathered text gathered' mid taken' status (e, _) = e
@@ -263,10 +288,12 @@ not_memory turn.ReadFault status e wrong = cc (e, wrong)
 
 pub never_without_memory : (t : Turn) (gathered text gathered' : List ℕ) (mid taken' : Option (List ℕ)) (status : Status) →
     Settles t gathered text gathered' mid taken' (Some status) → status ≡ NoMemory → ⊥
-never_without_memory t gathered text gathered' mid taken' status written = not_memory t status (may_end t gathered text gathered' mid taken' status written)
+never_without_memory t gathered text gathered' mid taken' status written =
+    not_memory t status (may_end t gathered text gathered' mid taken' status written)
 
 -- the counts after a run that ended by no fault of the source
-counts_kept : (status : Status) (read read' written written' : ℕ) → (status ≡ ReadFault → ⊥) → read' ≡ read → WriteCause (Some status) written written' →
+counts_kept : (status : Status) (read read' written written' : ℕ) → (status ≡ ReadFault → ⊥) → read' ≡ read
+    → WriteCause (Some status) written written' →
     HasCause status read read' written written'
 counts_kept ReadFault read read' written written' unlike e w = absurd (unlike refl)
 counts_kept WriteFault read read' written written' unlike e w = (e, w.0, w.1)
@@ -277,7 +304,8 @@ counts_kept NoMemory read read' written written' unlike e w = (e, w)
 counts_kept TooLong read read' written written' unlike e w = (e, w)
 
 -- the counts after a run, over all turns that end it
-cause_at : (t : Turn) (status : Status) (read read' written written' : ℕ) → MayEnd t status → ReadCause t read read' → WriteCause (Some status) written written' →
+cause_at : (t : Turn) (status : Status) (read read' written written' : ℕ) → MayEnd t status → ReadCause t read read'
+    → WriteCause (Some status) written written' →
     HasCause status read read' written written'
 cause_at turn.Answered status read read' written written' may e w =
     counts_kept status read read' written written' (λ wrong. cc (may, wrong)) e w
@@ -292,7 +320,8 @@ cause_at turn.ReadFault status read read' written written' may e w =
     let Q : Status → Type 0 = λ s. HasCause s read read' written written' in
     subst Q (sym may) (e.0, e.1, subst P may w)
 
-pub cause_of : (t : Turn) (gathered text gathered' : List ℕ) (mid taken' : Option (List ℕ)) (status : Status) (read read' read'' written written' written'' : ℕ) →
+pub cause_of : (t : Turn) (gathered text gathered' : List ℕ) (mid taken' : Option (List ℕ)) (status : Status)
+    (read read' read'' written written' written'' : ℕ) →
     Settles t gathered text gathered' mid taken' (Some status) → read' ≡ read → written' ≡ written → ReadCause t read' read'' →
     WriteCause (Some status) written' written'' → HasCause status read read'' written written''
 cause_of t gathered text gathered' mid taken' status read read' read'' written written' written'' s e f rose w =
@@ -324,7 +353,8 @@ none_near = record {
   near = omega arith;
 }
 
-abbrev at_none : {State : Type 0} (r : Rules State) (a : State) (Stands : State → Type 0) (left taken : Option (List ℕ)) → Stands a → IsAt r a Stands left left taken taken []
+abbrev at_none : {State : Type 0} (r : Rules State) (a : State) (Stands : State → Type 0) (left taken : Option (List ℕ)) → Stands a
+    → IsAt r a Stands left left taken taken []
 at_none r a Stands left taken stands = record {
   q = [];
   y = [];
@@ -370,16 +400,26 @@ no_write_cause NoMemory before now h e = e
 no_write_cause TooLong before now h e = e
 
 -- a front of the text is written first, and the rest with the end of the run
-pub gathers_first : (text gathered' : List ℕ) (taken mid taken' : Option (List ℕ)) (status result : Status) → Gathers text gathered' taken mid →
+pub gathers_first : (text gathered' : List ℕ) (taken mid taken' : Option (List ℕ)) (status result : Status)
+    → Gathers text gathered' taken mid →
     Concludes status gathered' mid taken' result → Concludes status text taken taken' result
 gathers_first text gathered' taken mid taken' status result (w, text_is, written) (inl (e, then)) =
     let P : List ℕ → Type 0 = λ t. Appends taken taken' t in
     inl (e, subst P (sym text_is) (Appends-append taken mid taken' w gathered' written then))
 gathers_first text gathered' taken mid taken' status result (w, text_is, written) (inr (e, (v, (more, rest_is), then))) =
-    inr (e, (w ++ v, (more, text_is ∙ ap (λ o. w ++ o) rest_is ∙ sym (append_assoc w v more)), Appends-append taken mid taken' w v written then))
+    inr (
+      e,
+      (
+        w ++ v,
+        (more, text_is ∙ ap (λ o. w ++ o) rest_is ∙ sym (append_assoc w v more)),
+        Appends-append taken mid taken' w v written
+            then,
+      ),
+    )
 
 -- what is gathered was written where it had to be, and the reader is as it was
-pub way_made : {State : Type 0} (r : Rules State) (a : State) (Stands : State → Type 0) (reading reading' : Reading) (left left' taken mid taken' : Option (List ℕ)) (gathered gathered' : List ℕ) →
+pub way_made : {State : Type 0} (r : Rules State) (a : State) (Stands : State → Type 0) (reading reading' : Reading)
+    (left left' taken mid taken' : Option (List ℕ)) (gathered gathered' : List ℕ) →
     reading' ≡ reading → IsUnderway r a Stands reading left left' taken mid gathered → Gathers gathered gathered' mid taken' →
     IsUnderway r a Stands reading' left left' taken taken' gathered'
 way_made r a Stands reading reading' left left' taken mid taken' gathered gathered' e h written =

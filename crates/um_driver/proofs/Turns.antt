@@ -9,7 +9,7 @@ use Rattle.um_io.specs.declared.lines.Next.{Next}
 use Rattle.um_driver.specs.Rules.{Rules}
 use Rattle.um_driver.specs.Table.{Reads, IsWhole, IsNear}
 use Rattle.um_driver.specs.Course.{EndsAt, IsAt, IsUnderway}
-use Rattle.um_driver.proofs.KnownOctets.{Consumes-append}
+use Rattle.um_io.proofs.KnownOctets.{Consumes-append}
 use Rattle.um_driver.proofs.RunLemmas.{Runs-length}
 
 -- what a source that lost q has left, or nothing where it does not tell
@@ -27,7 +27,8 @@ EndsAt-now : (left left' : Option (List ℕ)) → IsAtEnd left' → EndsAt left 
 EndsAt-now None left' e = tt
 EndsAt-now (Some x) left' e = e
 
-EndsAt-still : (left mid left' : Option (List ℕ)) (q : List ℕ) → Consumes left mid q → Consumes mid left' [] → EndsAt left mid → EndsAt left left'
+EndsAt-still : (left mid left' : Option (List ℕ)) (q : List ℕ) → Consumes left mid q → Consumes mid left' [] → EndsAt left mid
+    → EndsAt left left'
 EndsAt-still None mid left' q h k e = tt
 EndsAt-still (Some x) None left' q h k e = absurd h
 EndsAt-still (Some x) (Some y) None q h k e = absurd k
@@ -48,8 +49,10 @@ pub record HasLine {State : Type 0} (r : Rules State) (a : State) (Stands : Stat
   pub line_plain : IsLine line
   pub short : length line ≤ line_limit
   pub there :
-      ((at.q ≡ text_of at.lines ++ (line ++ 10 ∷ (reading'.held ++ reading'.past))) × (reading'.answered ≡ length (text_of at.lines ++ line) + 1))
-      ⊎ ((at.q ≡ text_of at.lines ++ line) × (0 < length line) × (reading'.held ++ reading'.past ≡ []) × (reading'.ended ≡ true) × (reading'.answered ≡ length at.q))
+      ((at.q ≡ text_of at.lines ++ (line ++ 10 ∷ (reading'.held ++ reading'.past)))
+      × (reading'.answered ≡ length (text_of at.lines ++ line) + 1))
+      ⊎ ((at.q ≡ text_of at.lines ++ line) × (0 < length line) × (reading'.held ++ reading'.past ≡ []) × (reading'.ended ≡ true)
+      × (reading'.answered ≡ length at.q))
 
 -- no line came after good lines, whose answers are written or gathered
 pub record HasNone {State : Type 0} (r : Rules State) (a : State) (Stands : State → Type 0) (reading' : Reading)
@@ -76,7 +79,8 @@ nil_behind (o ∷ u) v e = cc e
 
 module _ {State : Type 0} (r : Rules State) (a : State) (Stands : State → Type 0) (reading reading' : Reading)
     (left mid left' taken taken' : Option (List ℕ)) (gathered : List ℕ) (u : IsUnderway r a Stands reading left mid taken taken' gathered)
-    (ready : IsReady reading ⊎ (gathered ≡ [])) (answer : Next) (came : List ℕ) (step : IsStep reading reading' mid left' answer came) (valid : IsReading reading') where
+    (ready : IsReady reading ⊎ (gathered ≡ [])) (answer : Next) (came : List ℕ) (step : IsStep reading reading' mid left' answer came)
+    (valid : IsReading reading') where
   abbrev pub all : List ℕ
   all = reading.held ++ reading.past ++ came
 
@@ -138,10 +142,19 @@ module _ {State : Type 0} (r : Rules State) (a : State) (Stands : State → Type
 
   bound : at.q ++ came ≡ text_of at.lines ++ (reading.held ++ reading.past ++ came) → reading.answered ≡ length (text_of at.lines) →
       length (at.q ++ came) ≤ input_limit + held_limit
-  bound q_is answered = omega (arith, ap length q_is, answered, step.room, u.valid.limit, length-append (text_of at.lines) (reading.held ++ reading.past ++ came))
+  bound q_is answered = omega (
+    arith,
+    ap length q_is,
+    answered,
+    step.room,
+    u.valid.limit,
+    length-append (text_of at.lines)
+        (reading.held ++ reading.past ++ came),
+  )
 
   -- the same lines, once these octets came
-  abbrev now : length (at.q ++ came) ≤ input_limit + held_limit → IsNear (at.q ++ came) at.y at.lines at.answers → IsAt r a Stands left left' taken taken' gathered
+  abbrev now : length (at.q ++ came) ≤ input_limit + held_limit → IsNear (at.q ++ came) at.y at.lines at.answers
+      → IsAt r a Stands left left' taken taken' gathered
   now within close = record {
     q = at.q ++ came;
     y = at.y;
@@ -160,10 +173,17 @@ module _ {State : Type 0} (r : Rules State) (a : State) (Stands : State → Type
 
   -- a line came
   pub has_line : (line : List ℕ) →
-      (IsAnswered reading reading' all line (10 ∷ []) ⊎ (IsAnswered reading reading' all line [] × (reading'.held ++ reading'.past ≡ []) × (reading'.ended ≡ true))) →
+      (IsAnswered reading reading' all line (10 ∷ []) ⊎ (IsAnswered reading reading' all line [] × (reading'.held ++ reading'.past ≡ [])
+      × (reading'.ended ≡ true))) →
       HasLine r a Stands reading' left left' taken taken' gathered line
   has_line line (inl l) =
-      let w = whole (not_cut (omega (arith, ap length l.octets, l.some, length-append (line ++ 10 ∷ []) (reading'.held ++ reading'.past)))) in
+      let w = whole (not_cut (omega (
+        arith,
+        ap length l.octets,
+        l.some,
+        length-append (line ++ 10 ∷ [])
+            (reading'.held ++ reading'.past),
+      ))) in
       record {
         at = now (bound w.0 w.1) (near w.0);
         valid = valid;
@@ -229,12 +249,21 @@ module _ {State : Type 0} (r : Rules State) (a : State) (Stands : State → Type
   limit same none =
       let P : List ℕ → Type 0 = λ q. length q ≤ input_limit in
       subst P same (elim u.holds [
-        | inl (q_is, answered) ↦ omega (arith, ap length q_is, answered, u.valid.limit, ap length none, length-append (text_of at.lines) (reading.held ++ reading.past))
+        | inl (q_is, answered) ↦ omega (
+          arith,
+          ap length q_is,
+          answered,
+          u.valid.limit,
+          ap length none,
+          length-append (text_of at.lines)
+              (reading.held ++ reading.past),
+        )
         | inr (_, _, _, answered) ↦ omega (arith, answered, u.valid.limit)
       ])
 
   -- the input ended
-  pub has_end : IsHeld reading reading' all false → all ≡ [] → reading'.ended ≡ true → HasEnd r a Stands reading' left left' taken taken' gathered
+  pub has_end : IsHeld reading reading' all false → all ≡ [] → reading'.ended ≡ true
+      → HasEnd r a Stands reading' left left' taken taken' gathered
   has_end h none ended =
       let parts = nil_behind (reading.held ++ reading.past) came none in
       let same : at.q ≡ at.q ++ came = sym (ap (λ c. at.q ++ c) parts.1 ∙ append-nil at.q) in
@@ -256,7 +285,16 @@ module _ {State : Type 0} (r : Rules State) (a : State) (Stands : State → Type
   none_past : (stops : Bool) → IsHeld reading reading' all stops → reading.held ++ reading.past ≡ reading'.held → reading.past ≡ []
   none_past stops h same = elim (some_or_none reading.past) [
     | inl none ↦ none
-    | inr some ↦ absurd (omega (arith, some, u.valid.past some, valid.limit, h.answered, ap length same, length-append reading.held reading.past))
+    | inr some ↦ absurd (omega (
+      arith,
+      some,
+      u.valid.past some,
+      valid.limit,
+      h.answered,
+      ap length same,
+      length-append reading.held
+          reading.past,
+    ))
   ]
 
   still_open : reading'.ended ≡ false → reading.ended ≡ false
@@ -269,10 +307,17 @@ module _ {State : Type 0} (r : Rules State) (a : State) (Stands : State → Type
   needed_more : (stops : Bool) → IsHeld reading reading' all stops → NeedsMore reading' → came ≡ [] → NeedsMore reading
   needed_more stops h needs none =
       let same : reading.held ++ reading.past ≡ reading'.held =
-      sym (append-nil (reading.held ++ reading.past)) ∙ ap (λ c. reading.held ++ reading.past ++ c) (sym none) ∙ h.octets ∙ ap (λ p. reading'.held ++ p) needs.past ∙ append-nil reading'.held in
+      sym (append-nil (reading.held ++ reading.past)) ∙ ap (λ c. reading.held ++ reading.past ++ c) (sym none) ∙ h.octets
+      ∙ ap (λ p. reading'.held ++ p) needs.past ∙ append-nil reading'.held in
       let past = none_past stops h same in
       let held : reading.held ≡ reading'.held = sym (append-nil reading.held) ∙ ap (λ p. reading.held ++ p) (sym past) ∙ same in
-      record { plain = subst IsLine (sym held) needs.plain; short = omega (arith, needs.short, ap length held); past = past; ended = still_open needs.ended }
+      record {
+        plain = subst IsLine (sym held) needs.plain;
+        short = omega (arith, needs.short, ap length held);
+        past = past;
+        ended =
+            still_open needs.ended;
+      }
 
   not_ready : (stops : Bool) → IsHeld reading reading' all stops → NeedsMore reading' → IsReady reading → ⊥
   not_ready stops h needs (inl over) = let open_ = u.goes_on in cc (over, open_)

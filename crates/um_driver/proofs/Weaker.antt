@@ -26,11 +26,13 @@ module _ {S T : Type 0} (f : S → T) (r : Rules S) (r' : Rules T) (w : IsWeaker
   runs_by a b (line ∷ lines) [] none = absurd none
   runs_by a b (line ∷ lines) (y ∷ ys) (mid, g, step, h) = (f mid, good a line g, w.step a mid line y step, runs_by mid b lines ys h)
 
-  refused : (q rest : List ℕ) (lines : List (List ℕ)) (b : S) (fault : LineFault) → IsRefused r q rest lines b fault → IsRefused r' q rest lines (f b) fault
+  refused : (q rest : List ℕ) (lines : List (List ℕ)) (b : S) (fault : LineFault) → IsRefused r q rest lines b fault
+      → IsRefused r' q rest lines (f b) fault
   refused q rest lines b fault (inl (line, judged, reason)) = inl (line, judged, bad b line fault reason)
   refused q rest lines b fault (inr (whole, reason)) = inr (whole, w.end_fault b ∙ reason)
 
-  ends : (status : Status) (q rest : List ℕ) (lines : List (List ℕ)) (b : S) (text : List ℕ) → Ends r status q rest lines b text → Ends r' status q rest lines (f b) text
+  ends : (status : Status) (q rest : List ℕ) (lines : List (List ℕ)) (b : S) (text : List ℕ) → Ends r status q rest lines b text
+      → Ends r' status q rest lines (f b) text
   ends Done q rest lines b text (whole, none, e) = (whole, w.end_fault b ∙ none, e)
   ends BadInput q rest lines b text (fault, reason, e) = (fault, refused q rest lines b fault reason, e)
   ends ReadFault q rest lines b text h = h
@@ -39,19 +41,22 @@ module _ {S T : Type 0} (f : S → T) (r : Rules S) (r' : Rules T) (w : IsWeaker
   ends NoMemory q rest lines b text none = absurd none
   ends BadWords q rest lines b text none = absurd none
 
-  row : (status : Status) (q rest y : List ℕ) (lines answers further : List (List ℕ)) (b : S) → Row r status q rest y lines answers further b →
+  row : (status : Status) (q rest y : List ℕ) (lines answers further : List (List ℕ)) (b : S)
+      → Row r status q rest y lines answers further b →
       Row r' status q rest y lines answers further (f b)
   row Done q rest y lines answers further b (text, h, none, e) = (text, ends Done q rest lines b text h, none, e)
   row BadInput q rest y lines answers further b (text, h, none, e) = (text, ends BadInput q rest lines b text h, none, e)
   row ReadFault q rest y lines answers further b (text, h, none, e) = (text, ends ReadFault q rest lines b text h, none, e)
   row TooLong q rest y lines answers further b (text, h, none, e) = (text, ends TooLong q rest lines b text h, none, e)
   row WriteFault q rest y lines answers further b (inl front) = inl front
-  row WriteFault q rest y lines answers further b (inr (due, text, part, h, none, front, e)) = inr (due, text, part, ends due q rest lines b text h, none, front, e)
+  row WriteFault q rest y lines answers further b (inr (due, text, part, h, none, front, e)) =
+      inr (due, text, part, ends due q rest lines b text h, none, front, e)
   row NoMemory q rest y lines answers further b h = h
   row BadWords q rest y lines answers further b none = absurd none
 
   -- what the command stands for may be said in another way
-  pub weaker_run_by : (a : S) (Stands : S → Type 0) (Stands' : T → Type 0) → ((b : S) → Stands b → Stands' (f b)) → (status : Status) (left left' taken taken' : Option (List ℕ)) →
+  pub weaker_run_by : (a : S) (Stands : S → Type 0) (Stands' : T → Type 0) → ((b : S) → Stands b → Stands' (f b))
+      → (status : Status) (left left' taken taken' : Option (List ℕ)) →
       IsRun r a Stands status left left' taken taken' → IsRun r' (f a) Stands' status left left' taken taken'
   weaker_run_by a Stands Stands' then status left left' taken taken' h = record {
     q = h.q;
@@ -90,7 +95,8 @@ pub as_weak : {State : Type 0} (r : Rules State) → IsWeaker r r
 as_weak r = record { fault = λ a line. refl; end_fault = λ a. refl; step = λ a b line answer step. step }
 
 module _ {State : Type 0} (r r' : Rules State) (w : IsWeaker r r') where
-  pub weaker_run : (a : State) (Stands Stands' : State → Type 0) → ((b : State) → Stands b → Stands' b) → (status : Status) (left left' taken taken' : Option (List ℕ)) →
+  pub weaker_run : (a : State) (Stands Stands' : State → Type 0) → ((b : State) → Stands b → Stands' b)
+      → (status : Status) (left left' taken taken' : Option (List ℕ)) →
       IsRun r a Stands status left left' taken taken' → IsRun r' a Stands' status left left' taken taken'
   weaker_run a Stands Stands' then status left left' taken taken' h =
       weaker_run_by (λ (s : State). s) r r' w a Stands Stands' then status left left' taken taken' h

@@ -64,11 +64,13 @@ pub record IsEnding {State : Type 0} (r : Rules State) (a : State) (Stands : Sta
 -- what one turn comes to, before it writes: this was gathered, and this text is the answer
 abbrev pub Comes : {State : Type 0} → Rules State → State → (State → Type 0) → Reading →
     Option (List ℕ) → Option (List ℕ) → Option (List ℕ) → Option (List ℕ) → List ℕ → List ℕ → Turn → Type 0
-Comes r a Stands reading left left' taken taken' gathered text turn.Answered = IsUnderway r a Stands reading left left' taken taken' (gathered ++ text)
+Comes r a Stands reading left left' taken taken' gathered text turn.Answered =
+    IsUnderway r a Stands reading left left' taken taken' (gathered ++ text)
 Comes r a Stands reading left left' taken taken' gathered text (turn.Refused number fault) =
     IsEnding r a Stands BadInput left left' taken taken' gathered (refused_text number fault)
 Comes r a Stands reading left left' taken taken' gathered text turn.Done = IsEnding r a Stands Done left left' taken taken' gathered []
-Comes r a Stands reading left left' taken taken' gathered text turn.TooLong = IsEnding r a Stands TooLong left left' taken taken' gathered []
+Comes r a Stands reading left left' taken taken' gathered text turn.TooLong =
+    IsEnding r a Stands TooLong left left' taken taken' gathered []
 Comes r a Stands reading left left' taken taken' gathered text turn.ReadFault =
     IsEnding r a Stands ReadFault left left' taken taken' gathered [] × (gathered ≡ [])
 
@@ -80,8 +82,10 @@ Concludes status text taken taken' result =
 -- what was written for a turn, what is gathered then, and how the run ends with it, if it does
 abbrev pub Settles : Turn → List ℕ → List ℕ → List ℕ → Option (List ℕ) → Option (List ℕ) → Option Status → Type 0
 Settles turn.Answered gathered text gathered' taken taken' None = Gathers (gathered ++ text) gathered' taken taken'
-Settles turn.Answered gathered text gathered' taken taken' (Some result) = (result ≡ WriteFault) × TakesFront taken taken' (gathered ++ text)
-Settles (turn.Refused number fault) gathered text gathered' taken taken' (Some result) = Concludes BadInput (gathered ++ refused_text number fault) taken taken' result
+Settles turn.Answered gathered text gathered' taken taken' (Some result) = (result ≡ WriteFault)
+    × TakesFront taken taken' (gathered ++ text)
+Settles (turn.Refused number fault) gathered text gathered' taken taken' (Some result) =
+    Concludes BadInput (gathered ++ refused_text number fault) taken taken' result
 Settles turn.Done gathered text gathered' taken taken' (Some result) = Concludes Done gathered taken taken' result
 Settles turn.TooLong gathered text gathered' taken taken' (Some result) = Concludes TooLong gathered taken taken' result
 -- nothing is gathered before a reading

@@ -97,7 +97,8 @@ abbrev pub Row : {State : Type 0} → Rules State → Status → (q rest y : Lis
 -- some of the answers, or all of them and some of the text that follows them
 Row r WriteFault q rest y lines answers further b =
     IsFront y (joined answers)
-    ⊎ ((due : Status) × (text part : List ℕ) × Ends r due q rest lines b text × (further ≡ []) × IsFront part text × (y ≡ joined answers ++ part))
+    ⊎ ((due : Status) × (text part : List ℕ) × Ends r due q rest lines b text × (further ≡ []) × IsFront part text
+    × (y ≡ joined answers ++ part))
 Row r NoMemory q rest y lines answers further b = (q ≡ []) × (y ≡ []) × (lines ≡ []) × (further ≡ [])
 Row r BadWords q rest y lines answers further b = ⊥
 -- all the answers, and the text that follows them
@@ -112,7 +113,8 @@ Reads (Some x) left' q rest = (x ≡ q ++ rest) × (left' ≡ Some rest)
 -- a run: what the source gave and has left, and what the sink took, where they tell it; the lines whose answers have an
 -- octet in what was written, these answers, and the state after them; and the lines that were answered after them, no
 -- octet of whose answers was written, up to the state that the command stands for
-pub record IsRun {State : Type 0} (r : Rules State) (a : State) (Stands : State → Type 0) (status : Status) (left left' taken taken' : Option (List ℕ)) : Type 0 where
+pub record IsRun {State : Type 0} (r : Rules State) (a : State) (Stands : State → Type 0) (status : Status)
+    (left left' taken taken' : Option (List ℕ)) : Type 0 where
   pub q : List ℕ
   pub rest : List ℕ
   pub y : List ℕ

@@ -14,7 +14,8 @@ Gathers text gathered' taken taken' = (w : List ℕ) × (text ≡ w ++ gathered'
 
 -- so it is on Ok; on Err a front of the text was taken
 abbrev pub GathersAll : {T E : Type 0} → Result T E → List ℕ → List ℕ → Option (List ℕ) → Option (List ℕ) → Type 0
-GathersAll result text gathered' taken taken' = MatchResult result (λ _. Gathers text gathered' taken taken') (λ _. TakesFront taken taken' text)
+GathersAll result text gathered' taken taken' = MatchResult result (λ _. Gathers text gathered' taken taken')
+    (λ _. TakesFront taken taken' text)
 
 -- on Ok the count stays, and on Err it rose
 abbrev pub Counted : {T E : Type 0} → Result T E → ℕ → ℕ → Type 0

@@ -13,7 +13,8 @@ use Rattle.um_io.specs.Answers.{AnswersLines, AreCut, EndsWith}
 use Rattle.um_io.proofs.DivisionLemmas.{lines_of-only}
 
 -- a line and its line feed before the octets is a line before their lines
-IsDivided-line : (line octets : List ℕ) (lines : List (List ℕ)) → IsLine line → IsDivided octets lines → IsDivided (line ++ 10 ∷ octets) (line ∷ lines)
+IsDivided-line : (line octets : List ℕ) (lines : List (List ℕ)) → IsLine line → IsDivided octets lines
+    → IsDivided (line ++ 10 ∷ octets) (line ∷ lines)
 IsDivided-line line octets lines plain divided =
     record {
       plain = All-cons IsLine line lines plain divided.plain;
@@ -38,23 +39,28 @@ IsDivided-last line plain some =
     }
 
 -- behind what is left over at the end of the source no line is answered
-no_more : (r r' : Reading) (left left' : Option (List ℕ)) (lines : List (List ℕ)) (came : List ℕ) → r.held ++ r.past ≡ [] → r.ended ≡ true → AnswersLines r left lines came r' left' → (lines ≡ []) × (came ≡ [])
+no_more : (r r' : Reading) (left left' : Option (List ℕ)) (lines : List (List ℕ)) (came : List ℕ) → r.held ++ r.past ≡ [] → r.ended ≡ true
+    → AnswersLines r left lines came r' left' → (lines ≡ []) × (came ≡ [])
 no_more r r' left left' [] came none ended answers = (refl, answers.0)
 no_more r r' left left' (line ∷ lines) came none ended answers =
     let step = answers.7 in
-    let nothing : length (r.held ++ r.past ++ answers.0) ≡ 0 = ap length (ap (λ l. r.held ++ r.past ++ l) (step.still ended).0 ∙ append-nil (r.held ++ r.past) ∙ none) in
+    let nothing : length (r.held ++ r.past ++ answers.0) ≡ 0 = ap length
+    (ap (λ l. r.held ++ r.past ++ l) (step.still ended).0 ∙ append-nil (r.held ++ r.past) ∙ none) in
     absurd (⊎_elim
     (λ (whole : IsAnswered r answers.2 (r.held ++ r.past ++ answers.0) answers.4.now (10 ∷ [])).
     omega (arith, ap length whole.octets, length-append (answers.4.now ++ 10 ∷ []) (answers.2.held ++ answers.2.past), whole.some))
-    (λ (last : IsAnswered r answers.2 (r.held ++ r.past ++ answers.0) answers.4.now [] × (answers.2.held ++ answers.2.past ≡ []) × (answers.2.ended ≡ true)).
+    (λ (last : IsAnswered r answers.2 (r.held ++ r.past ++ answers.0) answers.4.now [] × (answers.2.held ++ answers.2.past ≡ [])
+    × (answers.2.ended ≡ true)).
     omega (arith, ap length last.0.octets, length-append (answers.4.now ++ []) (answers.2.held ++ answers.2.past), last.0.some))
     step.gives)
 
 -- the lines answered are those of the octets held and of those that came, where none is held in the end
-pub IsDivided-answers : (lines : List (List ℕ)) (r r' : Reading) (left left' : Option (List ℕ)) (came : List ℕ) → AnswersLines r left lines came r' left' → r'.held ++ r'.past ≡ [] → IsDivided (r.held ++ r.past ++ came) lines
+pub IsDivided-answers : (lines : List (List ℕ)) (r r' : Reading) (left left' : Option (List ℕ)) (came : List ℕ)
+    → AnswersLines r left lines came r' left' → r'.held ++ r'.past ≡ [] → IsDivided (r.held ++ r.past ++ came) lines
 IsDivided-answers [] r r' left left' came answers none =
     let nothing : r.held ++ r.past ++ came ≡ [] =
-    ap (λ l. r.held ++ r.past ++ l) answers.0 ∙ append-nil (r.held ++ r.past) ∙ ap (λ (s : Reading). s.held ++ s.past) (sym answers.1) ∙ none in
+    ap (λ l. r.held ++ r.past ++ l) answers.0 ∙ append-nil (r.held ++ r.past) ∙ ap (λ (s : Reading). s.held ++ s.past) (sym answers.1)
+    ∙ none in
     subst (λ l. IsDivided l []) (sym nothing) record { plain = All-nil IsLine; whole = inl refl }
 IsDivided-answers (line ∷ lines) r r' left left' came answers none =
     let first = answers.0 in
@@ -63,20 +69,25 @@ IsDivided-answers (line ∷ lines) r r' left left' came answers none =
     let shown = answers.4.now in
     let step = answers.7 in
     let later = answers.8 in
-    let joined : r.held ++ r.past ++ came ≡ (r.held ++ r.past ++ first) ++ rest = ap (λ l. r.held ++ r.past ++ l) answers.6 ∙ sym (append_assoc (r.held ++ r.past) first rest) in
+    let joined : r.held ++ r.past ++ came ≡ (r.held ++ r.past ++ first) ++ rest = ap (λ l. r.held ++ r.past ++ l) answers.6
+    ∙ sym (append_assoc (r.held ++ r.past) first rest) in
     let divided : IsDivided (r.held ++ r.past ++ came) (shown ∷ lines) = ⊎_elim
     (λ (whole : IsAnswered r mid (r.held ++ r.past ++ first) shown (10 ∷ [])).
     let behind = mid.held ++ mid.past in
     let octets : r.held ++ r.past ++ came ≡ shown ++ 10 ∷ (behind ++ rest) =
-    joined ∙ ap (λ l. l ++ rest) whole.octets ∙ append_assoc (shown ++ 10 ∷ []) behind rest ∙ append_assoc shown (10 ∷ []) (behind ++ rest) in
-    subst (λ l. IsDivided l (shown ∷ lines)) (sym octets) (IsDivided-line shown (behind ++ rest) lines whole.plain (IsDivided-answers lines mid r' answers.3 left' rest later none)))
+    joined ∙ ap (λ l. l ++ rest) whole.octets ∙ append_assoc (shown ++ 10 ∷ []) behind rest
+    ∙ append_assoc shown (10 ∷ []) (behind ++ rest) in
+    subst (λ l. IsDivided l (shown ∷ lines)) (sym octets) (IsDivided-line shown (behind ++ rest) lines whole.plain
+    (IsDivided-answers lines mid r' answers.3 left' rest later none)))
     (λ (last : IsAnswered r mid (r.held ++ r.past ++ first) shown [] × (mid.held ++ mid.past ≡ []) × (mid.ended ≡ true)).
     let ends = no_more mid r' answers.3 left' lines rest last.1 last.2 later in
     let octets : r.held ++ r.past ++ came ≡ shown =
-    joined ∙ ap (λ l. (r.held ++ r.past ++ first) ++ l) ends.1 ∙ append-nil (r.held ++ r.past ++ first) ∙ last.0.octets ∙ ap (λ l. shown ++ [] ++ l) last.1
+    joined ∙ ap (λ l. (r.held ++ r.past ++ first) ++ l) ends.1 ∙ append-nil (r.held ++ r.past ++ first) ∙ last.0.octets
+    ∙ ap (λ l. shown ++ [] ++ l) last.1
     ∙ append-nil (shown ++ []) ∙ append-nil shown in
     let some : 0 < length shown = omega (arith, ap length (append-nil shown), last.0.some) in
-    subst (λ l. IsDivided l (shown ∷ lines)) (sym octets) (subst (λ ls. IsDivided shown (shown ∷ ls)) (sym ends.0) (IsDivided-last shown last.0.plain some)))
+    subst (λ l. IsDivided l (shown ∷ lines)) (sym octets) (subst (λ ls. IsDivided shown (shown ∷ ls)) (sym ends.0)
+    (IsDivided-last shown last.0.plain some)))
     step.gives in
     subst (λ l. IsDivided (r.held ++ r.past ++ came) (l ∷ lines)) answers.5 divided
 
@@ -94,7 +105,8 @@ pub record IsLeft (octets came : List ℕ) (left' : Option (List ℕ)) (ended : 
   pub whole : octets ≡ came ++ rest
   pub end : ended ≡ true → rest ≡ []
 
-IsLeft-step : (r r' : Reading) (octets : List ℕ) (left' : Option (List ℕ)) (next : Next) (came : List ℕ) → (r.ended ≡ true → octets ≡ []) → IsStep r r' (Some octets) left' next came → IsLeft octets came left' r'.ended
+IsLeft-step : (r r' : Reading) (octets : List ℕ) (left' : Option (List ℕ)) (next : Next) (came : List ℕ) → (r.ended ≡ true → octets ≡ [])
+    → IsStep r r' (Some octets) left' next came → IsLeft octets came left' r'.ended
 IsLeft-step r r' octets None next came known step = absurd step.bytes
 IsLeft-step r r' octets (Some rest) next came known step =
     record {
@@ -110,7 +122,8 @@ IsLeft-step r r' octets (Some rest) next came known step =
     }
 
 -- what a source has left after calls that took these octets
-IsLeft-answers : (lines : List (List ℕ)) (r r' : Reading) (octets came : List ℕ) (left' : Option (List ℕ)) → (r.ended ≡ true → octets ≡ []) → AnswersLines r (Some octets) lines came r' left' → IsLeft octets came left' r'.ended
+IsLeft-answers : (lines : List (List ℕ)) (r r' : Reading) (octets came : List ℕ) (left' : Option (List ℕ))
+    → (r.ended ≡ true → octets ≡ []) → AnswersLines r (Some octets) lines came r' left' → IsLeft octets came left' r'.ended
 IsLeft-answers [] r r' octets came left' known answers =
     record {
       rest = octets;
@@ -126,7 +139,8 @@ IsLeft-answers (line ∷ lines) r r' octets came left' known answers =
     record {
       rest = rest.rest;
       left_is = rest.left_is;
-      whole = one.whole ∙ ap (λ l. answers.0 ++ l) rest.whole ∙ sym (append_assoc answers.0 answers.1 rest.rest) ∙ ap (λ l. l ++ rest.rest) (sym answers.6);
+      whole = one.whole ∙ ap (λ l. answers.0 ++ l) rest.whole ∙ sym (append_assoc answers.0 answers.1 rest.rest)
+          ∙ ap (λ l. l ++ rest.rest) (sym answers.6);
       end = rest.end;
     }
 
@@ -139,7 +153,8 @@ lines_of-answers octets lines came last r r' left left' answers step =
     let ends = IsLeft-step r r' had.rest left' End last had.end (subst (λ l. IsStep r r' l left' End last) had.left_is step) in
     let nothing : had.rest ≡ [] = ends.whole ∙ ap (λ l. l ++ ends.rest) none.1 ∙ ends.end step.gives.2 in
     let all : octets ≡ came = had.whole ∙ ap (λ l. came ++ l) nothing ∙ append-nil came in
-    lines_of-only octets lines (subst (λ l. IsDivided l lines) (sym all) (IsDivided-answers lines at_start r (Some octets) left came answers none.0))
+    lines_of-only octets lines (subst (λ l. IsDivided l lines) (sym all)
+    (IsDivided-answers lines at_start r (Some octets) left came answers none.0))
 
 -- the octets held and those that came are the lines answered, each with its line feed, and what is held in the end
 record AreWhole (r r' : Reading) (lines : List (List ℕ)) (came : List ℕ) : Type 0 where
@@ -148,7 +163,8 @@ record AreWhole (r r' : Reading) (lines : List (List ℕ)) (came : List ℕ) : T
   plain : All IsLine lines
 
 -- so it is, or the last line was what was left over at the end of the source
-AreWhole-answers : (lines : List (List ℕ)) (r r' : Reading) (left left' : Option (List ℕ)) (came : List ℕ) → AnswersLines r left lines came r' left'
+AreWhole-answers : (lines : List (List ℕ)) (r r' : Reading) (left left' : Option (List ℕ)) (came : List ℕ)
+    → AnswersLines r left lines came r' left'
     → AreWhole r r' lines came ⊎ ((r'.held ++ r'.past ≡ []) × (r'.ended ≡ true))
 AreWhole-answers [] r r' left left' came (none, same, _) =
     inl record {
@@ -177,15 +193,18 @@ AreWhole-answers (line ∷ lines) r r' left left' came (first, rest, mid, betwee
     inr (after_end lines mid r' between left' rest last.1 last.2 ends.0 later))
     step.gives
   where
-    after_end : (lines : List (List ℕ)) (mid r' : Reading) (between left' : Option (List ℕ)) (rest : List ℕ) → mid.held ++ mid.past ≡ [] → mid.ended ≡ true → lines ≡ []
+    after_end : (lines : List (List ℕ)) (mid r' : Reading) (between left' : Option (List ℕ)) (rest : List ℕ) → mid.held ++ mid.past ≡ []
+        → mid.ended ≡ true → lines ≡ []
         → AnswersLines mid between lines rest r' left' → (r'.held ++ r'.past ≡ []) × (r'.ended ≡ true)
     after_end [] mid r' between left' rest none ended same (_, is, _) =
         (ap (λ (s : Reading). s.held ++ s.past) is ∙ none, ap (λ (s : Reading). s.ended) is ∙ ended)
     after_end (line ∷ lines) mid r' between left' rest none ended same later = absurd (cc same)
 
 -- where a reader stops with something held, or was not at the end, the octets that came are whole lines and what is held
-AreCut-answers : (octets : List ℕ) (lines : List (List ℕ)) (came last : List ℕ) (r r' : Reading) (left left' : Option (List ℕ)) (next : Next)
-    → AnswersLines at_start (Some octets) lines came r left → IsStep r r' left left' next last → IsReading r' → IsHeld r r' (r.held ++ r.past ++ last) true
+AreCut-answers : (octets : List ℕ) (lines : List (List ℕ)) (came last : List ℕ) (r r' : Reading) (left left' : Option (List ℕ))
+    (next : Next)
+    → AnswersLines at_start (Some octets) lines came r left → IsStep r r' left left' next last → IsReading r'
+    → IsHeld r r' (r.held ++ r.past ++ last) true
     → ((r.held ++ r.past ++ last ≡ []) → (r'.ended ≡ true) → ⊥) → AreCut octets (came ++ last) lines r'.held r'.past
 AreCut-answers octets lines came last r r' left left' next answers step valid held open_ = ⊎_elim
     (λ (whole : AreWhole at_start r lines came).
@@ -195,7 +214,8 @@ AreCut-answers octets lines came last r r' left left' next answers step valid he
     record {
       rest = then.rest;
       octets_are = had.whole ∙ ap (λ l. came ++ l) then.whole ∙ sym (append_assoc came last then.rest);
-      came_are = ap (λ l. l ++ last) whole.octets ∙ append_assoc (text_of lines) (r.held ++ r.past) last ∙ ap (λ l. text_of lines ++ l) held.octets;
+      came_are = ap (λ l. l ++ last) whole.octets ∙ append_assoc (text_of lines) (r.held ++ r.past) last
+          ∙ ap (λ l. text_of lines ++ l) held.octets;
       plain = whole.plain;
       line_plain = held.plain;
       limit = omega (arith, valid.limit, held.answered, whole.answered, size);
@@ -208,9 +228,11 @@ AreCut-answers octets lines came last r r' left left' next answers step valid he
 
 -- however a reader ends
 pub ends_with : (octets : List ℕ) (lines : List (List ℕ)) (came last : List ℕ) (r r' : Reading) (left left' : Option (List ℕ)) (next : Next)
-    → AnswersLines at_start (Some octets) lines came r left → IsStep r r' left left' next last → IsReading r' → EndsWith next octets (came ++ last) lines
+    → AnswersLines at_start (Some octets) lines came r left → IsStep r r' left left' next last → IsReading r'
+    → EndsWith next octets (came ++ last) lines
 ends_with octets lines came last r r' left left' (Line line) answers step valid = tt
-ends_with octets lines came last r r' left left' End answers step valid = lines_of-answers octets lines came last r r' left left' answers step
+ends_with octets lines came last r r' left left' End answers step valid =
+    lines_of-answers octets lines came last r r' left left' answers step
 ends_with octets lines came last r r' left left' Long answers step valid =
     let held = step.gives.0 in
     let long = step.gives.1 in (
@@ -235,6 +257,7 @@ ends_with octets lines came last r r' left left' Failed answers step valid =
     let needs = step.gives.1 in (
       r'.held,
       subst (λ p. AreCut octets (came ++ last) lines r'.held p) needs.past
-          (AreCut-answers octets lines came last r r' left left' Failed answers step valid held (λ none ended. let open_ = needs.ended in cc (ended, open_))),
+          (AreCut-answers octets lines came last r r' left left' Failed answers step valid held
+          (λ none ended. let open_ = needs.ended in cc (ended, open_))),
       needs.short,
     )

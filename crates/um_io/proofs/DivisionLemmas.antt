@@ -13,13 +13,15 @@ lines_of-plain octet octets plain = ap (λ b. cond b ([] ∷ lines_of octets) (o
 lines_of-line : (line rest : List ℕ) → IsLine line → lines_of (line ++ 10 ∷ rest) ≡ line ∷ lines_of rest
 lines_of-line [] rest plain = refl
 lines_of-line (octet ∷ line) rest plain =
-    lines_of-plain octet (line ++ 10 ∷ rest) (All-head IsPlain octet line plain) ∙ ap (onto_first octet) (lines_of-line line rest (All-tail IsPlain octet line plain))
+    lines_of-plain octet (line ++ 10 ∷ rest) (All-head IsPlain octet line plain)
+    ∙ ap (onto_first octet) (lines_of-line line rest (All-tail IsPlain octet line plain))
 
 -- lines, each with its line feed, come first
 lines_of-text : (lines : List (List ℕ)) (rest : List ℕ) → All IsLine lines → lines_of (text_of lines ++ rest) ≡ lines ++ lines_of rest
 lines_of-text [] rest plain = refl
 lines_of-text (line ∷ lines) rest plain =
-    ap lines_of (append_assoc line (10 ∷ text_of lines) rest) ∙ lines_of-line line (text_of lines ++ rest) (All-head IsLine line lines plain)
+    ap lines_of (append_assoc line (10 ∷ text_of lines) rest) ∙ lines_of-line line (text_of lines ++ rest)
+    (All-head IsLine line lines plain)
     ∙ ap (λ l. line ∷ l) (lines_of-text lines rest (All-tail IsLine line lines plain))
 
 -- octets without a line feed are one line, where there are any
@@ -27,7 +29,8 @@ lines_of-last : (line : List ℕ) → IsLine line → 0 < length line → lines_
 lines_of-last [] plain some = absurd (omega arith)
 lines_of-last (octet ∷ []) plain some = lines_of-plain octet [] (All-head IsPlain octet [] plain)
 lines_of-last (octet ∷ next ∷ line) plain some =
-    lines_of-plain octet (next ∷ line) (All-head IsPlain octet (next ∷ line) plain) ∙ ap (onto_first octet) (lines_of-last (next ∷ line) (All-tail IsPlain octet (next ∷ line) plain) (omega arith))
+    lines_of-plain octet (next ∷ line) (All-head IsPlain octet (next ∷ line) plain)
+    ∙ ap (onto_first octet) (lines_of-last (next ∷ line) (All-tail IsPlain octet (next ∷ line) plain) (omega arith))
 
 -- the front and the last of lines
 All-front : (lines front : List (List ℕ)) (last : List ℕ) → All IsLine lines → lines ≡ front ++ last ∷ [] → All IsLine front × IsLine last
@@ -46,7 +49,8 @@ lines_of-only octets lines divided =
     sym (ap lines_of (whole ∙ sym (append-nil (text_of lines))) ∙ lines_of-text lines [] divided.plain ∙ append-nil lines))
     (λ (cut : IsCutOff octets lines).
     let plain = All-front lines cut.front cut.last divided.plain cut.lines_are in
-    sym (ap lines_of cut.octets_are ∙ lines_of-text cut.front cut.last plain.0 ∙ ap (λ l. cut.front ++ l) (lines_of-last cut.last plain.1 cut.some) ∙ sym cut.lines_are))
+    sym (ap lines_of cut.octets_are ∙ lines_of-text cut.front cut.last plain.0
+    ∙ ap (λ l. cut.front ++ l) (lines_of-last cut.last plain.1 cut.some) ∙ sym cut.lines_are))
     divided.whole
 
 -- a line feed before the octets is an empty line before their lines
@@ -74,7 +78,8 @@ no_lines octets divided =
     divided.whole
 
 -- an ordinary octet before the octets is the first of their first line
-IsCutOff-plain : (octet : ℕ) (octets line : List ℕ) (lines front : List (List ℕ)) (last : List ℕ) → line ∷ lines ≡ front ++ last ∷ [] → octets ≡ text_of front ++ last → 0 < length last
+IsCutOff-plain : (octet : ℕ) (octets line : List ℕ) (lines front : List (List ℕ)) (last : List ℕ) → line ∷ lines ≡ front ++ last ∷ []
+    → octets ≡ text_of front ++ last → 0 < length last
     → IsCutOff (octet ∷ octets) ((octet ∷ line) ∷ lines)
 IsCutOff-plain octet octets line lines [] last are octets_are some =
     record {
@@ -93,7 +98,8 @@ IsCutOff-plain octet octets line lines (first ∷ front) last are octets_are som
       some = some;
     }
 
-IsDivided-plain : (octet : ℕ) (octets : List ℕ) (lines : List (List ℕ)) → IsPlain octet → IsDivided octets lines → IsDivided (octet ∷ octets) (onto_first octet lines)
+IsDivided-plain : (octet : ℕ) (octets : List ℕ) (lines : List (List ℕ)) → IsPlain octet → IsDivided octets lines
+    → IsDivided (octet ∷ octets) (onto_first octet lines)
 IsDivided-plain octet octets [] plain divided =
     record {
       plain = All-cons IsLine (octet ∷ []) [] (All-cons IsPlain octet [] plain (All-nil IsPlain)) (All-nil IsLine);
@@ -107,10 +113,12 @@ IsDivided-plain octet octets [] plain divided =
     }
 IsDivided-plain octet octets (line ∷ lines) plain divided =
     record {
-      plain = All-cons IsLine (octet ∷ line) lines (All-cons IsPlain octet line plain (All-head IsLine line lines divided.plain)) (All-tail IsLine line lines divided.plain);
+      plain = All-cons IsLine (octet ∷ line) lines (All-cons IsPlain octet line plain (All-head IsLine line lines divided.plain))
+          (All-tail IsLine line lines divided.plain);
       whole = ⊎_elim
           (λ (whole : octets ≡ text_of (line ∷ lines)). inl (ap (λ l. octet ∷ l) whole))
-          (λ (cut : IsCutOff octets (line ∷ lines)). inr (IsCutOff-plain octet octets line lines cut.front cut.last cut.lines_are cut.octets_are cut.some))
+          (λ (cut : IsCutOff octets (line ∷ lines)). inr (IsCutOff-plain octet octets line lines cut.front cut.last cut.lines_are
+          cut.octets_are cut.some))
           divided.whole;
     }
 
@@ -120,8 +128,10 @@ IsDivided-lines_of [] = record { plain = All-nil IsLine; whole = inl refl }
 IsDivided-lines_of (octet ∷ octets) =
     let rest = IsDivided-lines_of octets in
     ⊎_elim
-    (λ (feed : octet ≡ 10). subst (λ o. IsDivided (o ∷ octets) (lines_of (o ∷ octets))) (sym feed) (IsDivided-feed octets (lines_of octets) rest))
-    (λ (plain : IsPlain octet). subst (IsDivided (octet ∷ octets)) (sym (lines_of-plain octet octets plain)) (IsDivided-plain octet octets (lines_of octets) plain rest))
+    (λ (feed : octet ≡ 10). subst (λ o. IsDivided (o ∷ octets) (lines_of (o ∷ octets))) (sym feed)
+    (IsDivided-feed octets (lines_of octets) rest))
+    (λ (plain : IsPlain octet). subst (IsDivided (octet ∷ octets)) (sym (lines_of-plain octet octets plain))
+    (IsDivided-plain octet octets (lines_of octets) plain rest))
     (cases_eq octet 10)
 
 -- `a`, an empty line, and `b` without a line feed

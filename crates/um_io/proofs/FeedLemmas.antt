@@ -19,8 +19,10 @@ IsLine-front octets n fits none =
     none k (omega arith) low (eq-eqb (slice_index octets k) 10 (sym (get_or-take n octets k 0 low) ∙ is)))
 
 -- what a search for a line feed finds
-pub MatchOption-feed : (octets : List ℕ) (r : Option ℕ) → IsFirstByte (is_byte 10) octets r → MatchOption r (IsLine octets) (IsFirstFeed octets)
-MatchOption-feed octets None none = subst IsLine (take_all (length octets) octets (le_refl (length octets))) (IsLine-front octets (length octets) (le_refl (length octets)) none)
+pub MatchOption-feed : (octets : List ℕ) (r : Option ℕ) → IsFirstByte (is_byte 10) octets r
+    → MatchOption r (IsLine octets) (IsFirstFeed octets)
+MatchOption-feed octets None none = subst IsLine (take_all (length octets) octets (le_refl (length octets)))
+    (IsLine-front octets (length octets) (le_refl (length octets)) none)
 MatchOption-feed octets (Some n) found =
     let high = found.0.high in record {
       within = high;
@@ -29,7 +31,8 @@ MatchOption-feed octets (Some n) found =
     }
 
 -- the octets before stay the same, and have no line feed
-pub IsFirstFeed-behind : (front octets : List ℕ) (n : ℕ) → IsLine front → IsFirstFeed octets n → IsFirstFeed (front ++ octets) (length front + n)
+pub IsFirstFeed-behind : (front octets : List ℕ) (n : ℕ) → IsLine front → IsFirstFeed octets n
+    → IsFirstFeed (front ++ octets) (length front + n)
 IsFirstFeed-behind front octets n plain first =
     let high = first.within in record {
       within = omega (arith, length-append front octets);
@@ -38,12 +41,14 @@ IsFirstFeed-behind front octets n plain first =
     }
 
 -- two parts of a list, one behind the other
-pub slice_range-joined : (octets : List ℕ) (i j k : ℕ) → i ≤ j → j ≤ k → slice_range octets i j ++ slice_range octets j k ≡ slice_range octets i k
+pub slice_range-joined : (octets : List ℕ) (i j k : ℕ) → i ≤ j → j ≤ k
+    → slice_range octets i j ++ slice_range octets j k ≡ slice_range octets i k
 slice_range-joined octets i j k first second =
     let size : (j - i) + (k - j) ≡ k - i = omega arith in
     let at : i + (j - i) ≡ j = omega arith in
     let rest : drop (j - i) (drop i octets) ≡ drop j octets = drop-drop (j - i) i octets ∙ ap (λ n. drop n octets) at in
-    ap (λ l. take (j - i) (drop i octets) ++ take (k - j) l) (sym rest) ∙ sym (take-add (j - i) (k - j) (drop i octets)) ∙ ap (λ n. take n (drop i octets)) size
+    ap (λ l. take (j - i) (drop i octets) ++ take (k - j) l) (sym rest) ∙ sym (take-add (j - i) (k - j) (drop i octets))
+    ∙ ap (λ n. take n (drop i octets)) size
 
 -- the front of a part of a list
 pub slice_range-front : (octets : List ℕ) (i k n : ℕ) → n ≤ k - i → take n (slice_range octets i k) ≡ slice_range octets i (i + n)
@@ -55,27 +60,33 @@ slice_range-front octets i k n fits =
 pub slice_range-rest : (octets : List ℕ) (i k n : ℕ) → i + n ≤ k → drop n (slice_range octets i k) ≡ slice_range octets (i + n) k
 slice_range-rest octets i k n fits =
     let size : k - i ≡ n + (k - (i + n)) = omega arith in
-    ap (λ m. drop n (take m (drop i octets))) size ∙ drop-take n (k - (i + n)) (drop i octets) ∙ ap (λ l. take (k - (i + n)) l) (drop-drop n i octets)
+    ap (λ m. drop n (take m (drop i octets))) size ∙ drop-take n (k - (i + n)) (drop i octets)
+    ∙ ap (λ l. take (k - (i + n)) l) (drop-drop n i octets)
 
 -- the octets before have no line feed, and those behind them have none
-pub IsLine-upto : (octets : List ℕ) (i j k : ℕ) → i ≤ j → j ≤ k → IsLine (slice_range octets i j) → IsLine (slice_range octets j k) → IsLine (slice_range octets i k)
+pub IsLine-upto : (octets : List ℕ) (i j k : ℕ) → i ≤ j → j ≤ k → IsLine (slice_range octets i j) → IsLine (slice_range octets j k)
+    → IsLine (slice_range octets i k)
 IsLine-upto octets i j k first second before behind =
-    subst IsLine (slice_range-joined octets i j k first second) (All-append IsPlain (slice_range octets i j) (slice_range octets j k) before behind)
+    subst IsLine (slice_range-joined octets i j k first second) (All-append IsPlain (slice_range octets i j) (slice_range octets j k)
+    before behind)
 
 -- the octets before have no line feed, and those behind them have none up to the first
-pub IsLine-upto_feed : (octets : List ℕ) (i j k n : ℕ) → i ≤ j → j ≤ k → k ≤ length octets → IsLine (slice_range octets i j) → IsFirstFeed (slice_range octets j k) n → IsLine (slice_range octets i (j + n))
+pub IsLine-upto_feed : (octets : List ℕ) (i j k n : ℕ) → i ≤ j → j ≤ k → k ≤ length octets → IsLine (slice_range octets i j)
+    → IsFirstFeed (slice_range octets j k) n → IsLine (slice_range octets i (j + n))
 IsLine-upto_feed octets i j k n first second fits before found =
     let high = found.within in
     let size = length-between octets j k fits in
     IsLine-upto octets i j (j + n) first (omega arith) before (subst IsLine (slice_range-front octets j k n (omega arith)) found.plain)
 
 -- where the first line feed stands, counted from further before
-pub IsFirstFeed-upto : (octets : List ℕ) (i j k n : ℕ) → i ≤ j → j ≤ k → k ≤ length octets → IsLine (slice_range octets i j) → IsFirstFeed (slice_range octets j k) n → IsFirstFeed (slice_range octets i k) (j + n - i)
+pub IsFirstFeed-upto : (octets : List ℕ) (i j k n : ℕ) → i ≤ j → j ≤ k → k ≤ length octets → IsLine (slice_range octets i j)
+    → IsFirstFeed (slice_range octets j k) n → IsFirstFeed (slice_range octets i k) (j + n - i)
 IsFirstFeed-upto octets i j k n first second fits before found =
     let size = length-between octets i j (omega arith) in
     let at : length (slice_range octets i j) + n ≡ j + n - i = omega arith in
     let joined = IsFirstFeed-behind (slice_range octets i j) (slice_range octets j k) n before found in
-    subst (λ m. IsFirstFeed (slice_range octets i k) m) at (subst (λ l. IsFirstFeed l (length (slice_range octets i j) + n)) (slice_range-joined octets i j k first second) joined)
+    subst (λ m. IsFirstFeed (slice_range octets i k) m) at (subst (λ l. IsFirstFeed l (length (slice_range octets i j) + n))
+    (slice_range-joined octets i j k first second) joined)
 
 -- what was scanned has no line feed behind what is given up, up to the greater of the two places
 pub IsLine-skipped : (octets : List ℕ) (i j n : ℕ) → IsLine (slice_range octets i j) → IsLine (slice_range octets (i + n) (max j (i + n)))
@@ -86,7 +97,8 @@ IsLine-skipped octets i j n plain =
     subst (λ m. IsLine (take m (drop (i + n) octets))) (sym none) (All-nil IsPlain))
     (λ (more : i + n ≤ j).
     let same : j ≡ max j (i + n) = omega arith in
-    subst (λ m. IsLine (slice_range octets (i + n) m)) same (subst IsLine (slice_range-rest octets i j n more) (All-drop IsPlain n (slice_range octets i j) plain)))
+    subst (λ m. IsLine (slice_range octets (i + n) m)) same (subst IsLine (slice_range-rest octets i j n more)
+    (All-drop IsPlain n (slice_range octets i j) plain)))
     (cases_lt j (i + n))
 
 -- a part of the front that stayed
@@ -96,9 +108,11 @@ slice_range-kept old new i j n within same =
     between_is new i j ∙ ap (drop i) front ∙ sym (between_is old i j)
 
 -- octets came behind those held, which stayed
-pub slice_range-came : (old new : List ℕ) (i j n : ℕ) → i ≤ j → take j new ≡ take j old → slice_range new i (j + n) ≡ slice_range old i j ++ slice_range new j (j + n)
+pub slice_range-came : (old new : List ℕ) (i j n : ℕ) → i ≤ j → take j new ≡ take j old
+    → slice_range new i (j + n) ≡ slice_range old i j ++ slice_range new j (j + n)
 slice_range-came old new i j n ordered same =
-    sym (slice_range-joined new i j (j + n) ordered (omega arith)) ∙ ap (λ l. l ++ slice_range new j (j + n)) (slice_range-kept old new i j j (le_refl j) same)
+    sym (slice_range-joined new i j (j + n) ordered (omega arith)) ∙ ap (λ l. l ++ slice_range new j (j + n))
+    (slice_range-kept old new i j j (le_refl j) same)
 
 -- the first line feed stands behind a front of the octets
 pub IsLine-before_feed : (octets : List ℕ) (m n : ℕ) → IsFirstFeed octets n → length (take m octets) ≤ n → IsLine (take m octets)

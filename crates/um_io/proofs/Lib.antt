@@ -2,5 +2,7 @@
 pub mod AnswersLemmas
 pub mod DivisionLemmas
 pub mod FeedLemmas
+pub mod KnownOctets
+pub mod LineLists
 pub mod NextLemmas
 pub mod ReadingLemmas

@@ -16,7 +16,8 @@ pub length-octets_of : (b : Buffer) → length (octets_of b) ≤ held_limit
 length-octets_of b = omega (arith, length-take (b.end - b.start) (drop b.start b.octets.items), b.within)
 
 -- what is true of every reader
-pub IsReading-from : (b : Buffer) (answered number : ℕ) (ended over : Bool) → answered ≤ input_limit → number ≤ answered → IsReading (reading_of (octets_of b) answered number ended over)
+pub IsReading-from : (b : Buffer) (answered number : ℕ) (ended over : Bool) → answered ≤ input_limit → number ≤ answered
+    → IsReading (reading_of (octets_of b) answered number ended over)
 IsReading-from b answered number ended over limit numbered =
     let octets = octets_of b in
     let m = input_limit - answered in
@@ -39,18 +40,22 @@ abbrev pub turns_left : Reading → ℕ
 turns_left r = (line_limit + 1 - (length r.held + length r.past)) + cond r.ended 0 1
 
 -- a reading that gave no failure leaves fewer turns
-pub turns_left-read : (r s : Reading) (left left' : Option (List ℕ)) (came : List ℕ) → NeedsMore r → HasCome r s left left' came → (s.ended ≡ false → 0 < length came) → IsReading s → turns_left s < turns_left r
+pub turns_left-read : (r s : Reading) (left left' : Option (List ℕ)) (came : List ℕ) → NeedsMore r → HasCome r s left left' came
+    → (s.ended ≡ false → 0 < length came) → IsReading s → turns_left s < turns_left r
 turns_left-read r s left left' came more has some valid =
     let all : length s.held + length s.past ≡ length r.held + length r.past + length came =
     omega (arith, length-append s.held s.past, length-append (r.held ++ r.past) came, length-append r.held r.past, ap length has.octets) in
     let room = valid.room in
-    let turns : turns_left r ≡ (line_limit + 1 - (length r.held + length r.past)) + 1 = ap (λ b. (line_limit + 1 - (length r.held + length r.past)) + cond b 0 1) more.ended in
+    let turns : turns_left r ≡ (line_limit + 1 - (length r.held + length r.past)) + 1 =
+    ap (λ b. (line_limit + 1 - (length r.held + length r.past)) + cond b 0 1) more.ended in
     ⊎_elim
     (λ (yes : s.ended ≡ true).
-    let now : turns_left s ≡ (line_limit + 1 - (length s.held + length s.past)) + 0 = ap (λ b. (line_limit + 1 - (length s.held + length s.past)) + cond b 0 1) yes in
+    let now : turns_left s ≡ (line_limit + 1 - (length s.held + length s.past)) + 0 =
+    ap (λ b. (line_limit + 1 - (length s.held + length s.past)) + cond b 0 1) yes in
     omega arith)
     (λ (no : s.ended ≡ false).
-    let now : turns_left s ≡ (line_limit + 1 - (length s.held + length s.past)) + 1 = ap (λ b. (line_limit + 1 - (length s.held + length s.past)) + cond b 0 1) no in
+    let now : turns_left s ≡ (line_limit + 1 - (length s.held + length s.past)) + 1 =
+    ap (λ b. (line_limit + 1 - (length s.held + length s.past)) + cond b 0 1) no in
     let grew = some no in
     omega arith)
     (cases_Bool s.ended)

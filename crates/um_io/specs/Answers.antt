@@ -11,7 +11,8 @@ use Rattle.um_io.specs.declared.lines.Next.TheVariants.{Line, End, Long, TooMany
 abbrev pub AnswersLines : Reading → Option (List ℕ) → List (List ℕ) → List ℕ → Reading → Option (List ℕ) → Type 0
 AnswersLines r left [] came r' left' = (came ≡ []) × (r' ≡ r) × (left' ≡ left)
 AnswersLines r left (line ∷ lines) came r' left' =
-    (first rest : List ℕ) × (mid : Reading) × (between : Option (List ℕ)) × (answer : Bor (List ℕ)) × (answer.now ≡ line) × (came ≡ first ++ rest)
+    (first rest : List ℕ) × (mid : Reading) × (between : Option (List ℕ)) × (answer : Bor (List ℕ)) × (answer.now ≡ line)
+    × (came ≡ first ++ rest)
     × IsStep r mid left between (Line answer) first × AnswersLines mid between lines rest r' left'
 
 -- the octets that came of a source's are these whole lines, a line that did not end within the limit of the input, and

@@ -9,7 +9,8 @@ use Rattle.um_io.specs.declared.outside.Failed.{Failed}
 
 -- so many octets without a line feed, and so many past the limit, show this
 abbrev pub Shows : ℕ → ℕ → Bool → Found → Type 0
-Shows within past ended (Line n whole) = (n ≡ within) × (whole ≡ within) × (0 < within) × (within ≤ line_limit) × (past ≡ 0) × (ended ≡ true)
+Shows within past ended (Line n whole) = (n ≡ within) × (whole ≡ within) × (0 < within) × (within ≤ line_limit) × (past ≡ 0)
+    × (ended ≡ true)
 Shows within past ended Nothing = (within ≡ 0) × (past ≡ 0) × (ended ≡ true)
 Shows within past ended Above = line_limit < within
 Shows within past ended Past = (within ≤ line_limit) × (0 < past)
@@ -22,7 +23,8 @@ pub record LacksAnswer (within past : ℕ) (ended : Bool) : Type 0 where
 
 -- what is held shows this
 abbrev pub Looks : Reading → Found → Type 0
-Looks r (Line n whole) = (IsFirstFeed r.held n × (whole ≡ n + 1)) ⊎ (IsLine r.held × Shows (length r.held) (length r.past) r.ended (Line n whole))
+Looks r (Line n whole) = (IsFirstFeed r.held n × (whole ≡ n + 1)) ⊎ (IsLine r.held
+    × Shows (length r.held) (length r.past) r.ended (Line n whole))
 Looks r found = IsLine r.held × Shows (length r.held) (length r.past) r.ended found
 
 -- octets came, and nothing was answered

@@ -31,7 +31,8 @@ pub record IsHeld (r r' : Reading) (all : List ℕ) (over : Bool) : Type 0 where
 -- what a call answers of all the octets that there are, those held and those that came
 abbrev pub Gives : Reading → Reading → List ℕ → Next → Type 0
 -- a line that ended, or what is left over at the end of the source
-Gives r r' all (Line line) = IsAnswered r r' all line.now (10 ∷ []) ⊎ (IsAnswered r r' all line.now [] × (r'.held ++ r'.past ≡ []) × (r'.ended ≡ true))
+Gives r r' all (Line line) = IsAnswered r r' all line.now (10 ∷ []) ⊎ (IsAnswered r r' all line.now [] × (r'.held ++ r'.past ≡ [])
+    × (r'.ended ≡ true))
 -- nothing is left over at the end of the source
 Gives r r' all End = IsHeld r r' all false × (all ≡ []) × (r'.ended ≡ true)
 -- a line has too many octets within the limit

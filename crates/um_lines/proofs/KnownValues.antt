@@ -87,7 +87,8 @@ module _ {Name : Type 0} (elsewhere : Name → Bool) (P : Name → List Value �
   abbrev pub Each : Table Name → Type 0
   Each [] = Unit {0}
   Each (entry ∷ table) =
-      ((count : ℕ) (values : List Value) → elsewhere entry.0 ≡ false → Fitting (fields_for entry.1 count) values → P entry.0 values) × Each table
+      ((count : ℕ) (values : List Value) → elsewhere entry.0 ≡ false → Fitting (fields_for entry.1 count) values → P entry.0 values)
+      × Each table
 
   each_of : (table : Table Name) → Each table → (entry : Name × Form) → IsOf table entry → elsewhere entry.0 ≡ false
       → (count : ℕ) (values : List Value) → Fitting (fields_for entry.1 count) values → P entry.0 values
@@ -96,7 +97,8 @@ module _ {Name : Type 0} (elsewhere : Name → Bool) (P : Name → List Value �
       elim is [
         | inl same ↦
             subst (λ e. P e.0 values) (sym same)
-            (each.0 count values (subst (λ e. elsewhere e.0 ≡ false) same here) (subst (λ e. Fitting (fields_for e.1 count) values) same fits))
+            (each.0 count values (subst (λ e. elsewhere e.0 ≡ false) same here)
+            (subst (λ e. Fitting (fields_for e.1 count) values) same fits))
         | inr later ↦ each_of table each.1 entry later here count values fits
       ]
 
@@ -114,7 +116,8 @@ line_is {Name} table elsewhere make Q none each line a m = subst Q (sym m.2) (go
         (fill_fitting _ _ meaning.1 w.filled)
 
 -- and a line that means something is no longer than a line may be
-pub line_short : {Name A : Type 0} (table : Table Name) (elsewhere : Name → Bool) (make : Option (Name × List Value) → A) (line : List ℕ) (a : A)
+pub line_short : {Name A : Type 0} (table : Table Name) (elsewhere : Name → Bool) (make : Option (Name × List Value) → A) (line : List ℕ)
+    (a : A)
     → LineIs table elsewhere make line a → length line ≤ 4096
 line_short {Name} table elsewhere make line a m = go m.0 m.1
   where

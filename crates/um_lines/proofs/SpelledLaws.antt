@@ -32,8 +32,10 @@ encoded [] small = (refl, refl)
 encoded (octet ∷ octets) small =
     let below : octet < 256 = All-head (λ o. o < 256) octet octets small in
     let rest = encoded octets (All-tail (λ o. o < 256) octet octets small) in
-    let high : hex_digit_value (slice_index lower_digits (octet / 16)) ≡ Some (octet / 16) = IsDigits-lower_digits (octet / 16) (omega arith) in
-    let low : hex_digit_value (slice_index lower_digits (octet % 16)) ≡ Some (octet % 16) = IsDigits-lower_digits (octet % 16) (omega arith) in
+    let high : hex_digit_value (slice_index lower_digits (octet / 16)) ≡ Some (octet / 16) =
+    IsDigits-lower_digits (octet / 16) (omega arith) in
+    let low : hex_digit_value (slice_index lower_digits (octet % 16)) ≡ Some (octet % 16) =
+    IsDigits-lower_digits (octet % 16) (omega arith) in
     let whole : 16 * (octet / 16) + octet % 16 ≡ octet = omega arith in
     (rw (high, low) rest.0, rw (high, low, whole) (ap (λ others. octet ∷ others) rest.1))
 
@@ -78,7 +80,13 @@ spelled_fill (Fixed text ∷ fields) values f = ([], values, (refl, refl), spell
 spelled_fill (DigitTo most ∷ fields) values (n, rest, is, within, f) =
     rw is (Number n ∷ [], rest, (n, within, refl, refl), spelled_fill fields rest f, refl)
 spelled_fill (BitDigits count ∷ fields) values (bits, rest, is, known, f) =
-    rw is (Several bits ∷ [], rest, (bits, known.0, by_recursion (λ bit. bit ≤ 1) bits known.1, refl, refl), spelled_fill fields rest f, refl)
+    rw is (
+      Several bits ∷ [],
+      rest,
+      (bits, known.0, by_recursion (λ bit. bit ≤ 1) bits known.1, refl, refl),
+      spelled_fill fields rest f,
+      refl,
+    )
 spelled_fill (HexOctets count ∷ fields) values (octets, rest, is, known, f) =
     let e = encoded octets known.1 in
     let long : length (encode_lower octets) ≡ 2 * count = omega (arith, length-encode_lower octets, known.0) in
@@ -140,19 +148,23 @@ module _ (other : ℕ) (below : other < 45) where
   cons : (word : List ℕ) (words : List (List ℕ)) → All Is word → All (All Is) words → All (All Is) (word ∷ words)
   cons word words first rest = All-cons (All Is) word words first rest
 
-  pub spelled_lack : (fields : List Field) (values : List Value) → Fitting fields values → lack fields ≡ true → All (All Is) (spelled fields values)
+  pub spelled_lack : (fields : List Field) (values : List Value) → Fitting fields values → lack fields ≡ true
+      → All (All Is) (spelled fields values)
   spelled_lack [] values f lacks = All-nil (All Is)
   spelled_lack (Fixed text ∷ fields) values f lacks =
       let parts = and_parts (list_all (λ octet. not (octet == other)) text) (lack fields) lacks in
       cons text (spelled fields values) (fixed_lack text parts.0) (spelled_lack fields values f parts.1)
   spelled_lack (DigitTo most ∷ fields) values (n, rest, is, within, f) lacks =
-      rw is (cons ((48 + n) ∷ []) (spelled fields rest) (All-cons Is (48 + n) [] (λ same. omega arith) (All-nil Is)) (spelled_lack fields rest f lacks))
+      rw is (cons ((48 + n) ∷ []) (spelled fields rest) (All-cons Is (48 + n) [] (λ same. omega arith) (All-nil Is))
+      (spelled_lack fields rest f lacks))
   spelled_lack (BitDigits count ∷ fields) values (bits, rest, is, known, f) lacks =
       rw is (cons (bit_digits bits) (spelled fields rest) (bits_lack bits) (spelled_lack fields rest f lacks))
   spelled_lack (HexOctets count ∷ fields) values (octets, rest, is, known, f) lacks =
-      rw is (cons (encode_lower octets) (spelled fields rest) (hex_lack (encode_lower octets) (encoded octets known.1).0) (spelled_lack fields rest f lacks))
+      rw is (cons (encode_lower octets) (spelled fields rest) (hex_lack (encode_lower octets) (encoded octets known.1).0)
+      (spelled_lack fields rest f lacks))
   spelled_lack (SoftOctets count ∷ fields) values (octets, rest, is, known, f) lacks =
-      rw is (cons (encode_lower octets) (spelled fields rest) (hex_lack (encode_lower octets) (encoded octets known.0.1).0) (spelled_lack fields rest f lacks))
+      rw is (cons (encode_lower octets) (spelled fields rest) (hex_lack (encode_lower octets) (encoded octets known.0.1).0)
+      (spelled_lack fields rest f lacks))
   spelled_lack (AnyOctets least most ∷ fields) values (octets, rest, is, known, f) lacks =
       rw is (cons (octets_word octets) (spelled fields rest) (any_lack octets known.2) (spelled_lack fields rest f lacks))
   spelled_lack (BlockPlace ∷ fields) values (n, rest, is, within, f) lacks =
@@ -163,13 +175,15 @@ module _ (other : ℕ) (below : other < 45) where
   join_lack unlike (part ∷ []) each = All-head (All Is) part [] each
   join_lack unlike (part ∷ next ∷ parts) each =
       All-append Is part (32 ∷ join_with_byte 32 (next ∷ parts)) (All-head (All Is) part (next ∷ parts) each)
-      (All-cons Is 32 (join_with_byte 32 (next ∷ parts)) (λ same. unlike (sym same)) (join_lack unlike (next ∷ parts) (All-tail (All Is) part (next ∷ parts) each)))
+      (All-cons Is 32 (join_with_byte 32 (next ∷ parts)) (λ same. unlike (sym same))
+      (join_lack unlike (next ∷ parts) (All-tail (All Is) part (next ∷ parts) each)))
 
 -- ---- lines
 
 -- the line of a form's values means them, if it is no longer than a line may be and not passed over
 pub spelled_means : {Name : Type 0} (table : Table Name) (elsewhere : Name → Bool) (name : Name) (text : List ℕ) (fields : List Field)
-    (values : List Value) → IsOf table (name, Just (Fixed text ∷ fields)) → elsewhere name ≡ false → lack 32 (omega arith) (Fixed text ∷ fields) ≡ true
+    (values : List Value) → IsOf table (name, Just (Fixed text ∷ fields)) → elsewhere name ≡ false
+    → lack 32 (omega arith) (Fixed text ∷ fields) ≡ true
     → Fitting (Fixed text ∷ fields) values → AreDistinct (places values)
     → length (spelled_line (Fixed text ∷ fields) values) ≤ 4096 → is_skipped (spelled_line (Fixed text ∷ fields) values) ≡ false
     → LineMeans table elsewhere (spelled_line (Fixed text ∷ fields) values) (Some (name, values))
@@ -182,7 +196,8 @@ spelled_means table elsewhere name text fields values is here lacks fits once sh
     here = here;
     filled = subst (λ all. Fill all (words (spelled_line (Fixed text ∷ fields) values)) values) (sym (append-nil (Fixed text ∷ fields)))
         (subst (λ parts. Fill (Fixed text ∷ fields) parts values)
-        (sym (words-join (spelled (Fixed text ∷ fields) values) (λ e. absurd cc) (spelled_lack 32 (omega arith) (Fixed text ∷ fields) values fits lacks)))
+        (sym (words-join (spelled (Fixed text ∷ fields) values) (λ e. absurd cc)
+        (spelled_lack 32 (omega arith) (Fixed text ∷ fields) values fits lacks)))
         (spelled_fill (Fixed text ∷ fields) values fits));
     once = once;
   },

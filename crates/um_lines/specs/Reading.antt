@@ -11,6 +11,7 @@ abbrev pub LineIs : {Name A : Type 0} → Table Name → (elsewhere : Name → B
 LineIs table elsewhere make line = By make (LineMeans table elsewhere line)
 
 -- what is read of the words of a line that is not passed over, or their first reason: only the bodies of readers need this
-abbrev pub read_words : {Name A : Type 0} → Table Name → (elsewhere : Name → Bool) → (Option (Name × List Value) → A) → List (List ℕ) → Result A LineFault
+abbrev pub read_words : {Name A : Type 0} → Table Name → (elsewhere : Name → Bool) → (Option (Name × List Value) → A) → List (List ℕ)
+    → Result A LineFault
 read_words table elsewhere make words =
     unless (form_fault elsewhere (form_of table words) words) (make (entry_says (form_of table words) words))

@@ -20,6 +20,8 @@ mod outside;
 #[cfg(test)]
 mod replay;
 #[cfg(test)]
+mod reports;
+#[cfg(test)]
 mod script;
 #[cfg(test)]
 mod show;

@@ -58,9 +58,11 @@ is_burst held line meaning means =
         (
           λ count values here none. rw none lost,
           (
-            λ count values here (bsic, rest, is, known, (bits, rest', is', known', none)). rw (is, is', none) (none_held held here, known.0, known.1, hard 88 bits known'),
+            λ count values here (bsic, rest, is, known, (bits, rest', is', known', none)). rw (is, is', none)
+                (none_held held here, known.0, known.1, hard 88 bits known'),
             (
-              λ count values here (bsic, rest, is, known, (octets, rest', is', known', none)). rw (is, is', none) (none_held held here, known.0, known.1, soft 88 octets known'),
+              λ count values here (bsic, rest, is, known, (octets, rest', is', known', none)). rw (is, is', none)
+                  (none_held held here, known.0, known.1, soft 88 octets known'),
               (
                 λ count values here (bits, rest, is, known, none). rw (is, none) (none_held held here, hard 148 bits known),
                 (
@@ -75,7 +77,8 @@ is_burst held line meaning means =
     ) line meaning means
 
 -- a normal burst is 148 soft values
-pub normal_burst : (held : ℕ) (line : List ℕ) (values : List ℤ) → BurstMeans held line (Normal values) → (length values ≡ 148) × AllSoft values
+pub normal_burst : (held : ℕ) (line : List ℕ) (values : List ℤ) → BurstMeans held line (Normal values)
+    → (length values ≡ 148) × AllSoft values
 normal_burst held line values means = is_burst held line (Normal values) means
 
 -- an access burst is 88 soft values and the six bits of an identity code, and no burst is held

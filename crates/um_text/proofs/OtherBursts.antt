@@ -22,7 +22,8 @@ unnamed : (held : ℕ) (kind : List ℕ) (rest : List (List ℕ)) → bytes_eq k
 unnamed held kind rest n N lost a A s S = rw (n, N, lost, a, A, s, S) refl
 
 -- another letter than those of the forms
-pub other_letter : (held letter : ℕ) (rest : List (List ℕ)) → letter ≢ 110 → letter ≢ 78 → letter ≢ 97 → letter ≢ 65 → letter ≢ 115 → letter ≢ 83
+pub other_letter : (held letter : ℕ) (rest : List (List ℕ)) → letter ≢ 110 → letter ≢ 78 → letter ≢ 97 → letter ≢ 65 → letter ≢ 115
+    → letter ≢ 83
     → read_burst held ((letter ∷ []) ∷ rest) ≡ Err Word
 other_letter held letter rest n N a A s S =
     let alone = λ (other : ℕ) (unlike : letter ≢ other). ap (λ same. same && true) (ne_eqb letter other unlike) in
@@ -40,6 +41,7 @@ other_kind held (first ∷ second ∷ kind) text many =
     unnamed held (first ∷ second ∷ kind) (words text) (alone 110) (alone 78) (lost (words text) some)
     (alone 97) (alone 65) (alone 115) (alone 83)
   where
-    lost : (rest : List (List ℕ)) → 1 ≤ length rest → (bytes_eq (first ∷ second ∷ kind) (codes "lost") && pointwise may_stand [] rest) ≡ false
+    lost : (rest : List (List ℕ)) → 1 ≤ length rest → (bytes_eq (first ∷ second ∷ kind) (codes "lost") && pointwise may_stand [] rest)
+        ≡ false
     lost [] some = absurd (omega arith)
     lost (word ∷ rest) some = and_false (bytes_eq (first ∷ second ∷ kind) (codes "lost"))

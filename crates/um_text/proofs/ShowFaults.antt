@@ -97,7 +97,8 @@ no_places sapi cr (Ua f info) = refl
 
 module _ (parts : List (List ℕ)) (w : FrameWords) (e : parts ≡ line_words w) where
   abbrev read_as : Option LineFault → Type 0
-  read_as fault = read_show parts ≡ unless fault (shown (said_frame (name_of (kind_of w.fields)) (values_of (line_fields w) (line_words w))))
+  read_as fault = read_show parts ≡ unless fault (shown (said_frame (name_of (kind_of w.fields))
+      (values_of (line_fields w) (line_words w))))
 
   reason : (fault : Option LineFault) → fields_fault (line_fields w) (line_words w) ≡ fault → read_as fault
   reason fault is =
@@ -118,7 +119,14 @@ module _ (parts : List (List ℕ)) (w : FrameWords) (e : parts ≡ line_words w)
       → Ok (S.Frame (octets_of Sdcch f)) ≡ read_show parts
   read_frame f right many said =
       let good : fields_fault (line_fields w) (line_words w) ≡ None =
-      rw (right, many, no_soft w.sapi.now w.cr.now w.fields, no_place w.sapi.now w.cr.now w.fields, no_places w.sapi.now w.cr.now w.fields) refl in
+      rw (
+        right,
+        many,
+        no_soft w.sapi.now w.cr.now w.fields,
+        no_place w.sapi.now w.cr.now w.fields,
+        no_places w.sapi.now w.cr.now
+            w.fields,
+      ) refl in
       sym (reason None good ∙ ap (λ o. Ok (shown o)) said)
 
 -- words behind `i` in which `m`, or `info`, does not stand where it is to stand

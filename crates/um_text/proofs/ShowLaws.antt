@@ -34,32 +34,50 @@ known line meaning means =
     line_is show_forms anywhere said IsKnown tt (
       λ count values here (octets, rest, is, known, none). rw (is, none) known,
       (
-        λ count values here (s, r1, e1, small, (cr, r2, e2, one, (ns, r3, e3, sent, (nr, r4, e4, got, (p, r5, e5, polls, (m, r6, e6, more, (info, r7, e7, fits, none))))))).
-          rw (e1, e2, e3, e4, e5, e6, e7, none) (record { sapi = small; numbers = (sent, got); information = (fits.0, fits.1) }),
+        λ count values here (
+          s,
+          r1,
+          e1,
+          small,
+          (
+            cr,
+            r2,
+            e2,
+            one,
+            (
+              ns,
+              r3,
+              e3,
+              sent,
+              (nr, r4, e4, got, (p, r5, e5, polls, (m, r6, e6, more, (info, r7, e7, fits, none)))),
+            ),
+          ),
+        ).
+            rw (e1, e2, e3, e4, e5, e6, e7, none) (record { sapi = small; numbers = (sent, got); information = (fits.0, fits.1) }),
         (
           λ count values here (s, r1, e1, small, (cr, r2, e2, one, (nr, r3, e3, got, (pf, r4, e4, set, none)))).
-            rw (e1, e2, e3, e4, none) (record { sapi = small; numbers = got; information = omega arith }),
+              rw (e1, e2, e3, e4, none) (record { sapi = small; numbers = got; information = omega arith }),
           (
             λ count values here (s, r1, e1, small, (cr, r2, e2, one, (nr, r3, e3, got, (pf, r4, e4, set, none)))).
-              rw (e1, e2, e3, e4, none) (record { sapi = small; numbers = got; information = omega arith }),
+                rw (e1, e2, e3, e4, none) (record { sapi = small; numbers = got; information = omega arith }),
             (
               λ count values here (s, r1, e1, small, (cr, r2, e2, one, (nr, r3, e3, got, (pf, r4, e4, set, none)))).
-                rw (e1, e2, e3, e4, none) (record { sapi = small; numbers = got; information = omega arith }),
+                  rw (e1, e2, e3, e4, none) (record { sapi = small; numbers = got; information = omega arith }),
               (
                 λ count values here (s, r1, e1, small, (cr, r2, e2, one, (p, r3, e3, set, (info, r4, e4, fits, none)))).
-                  rw (e1, e2, e3, e4, none) (record { sapi = small; numbers = tt; information = fits.1 }),
+                    rw (e1, e2, e3, e4, none) (record { sapi = small; numbers = tt; information = fits.1 }),
                 (
                   λ count values here (s, r1, e1, small, (cr, r2, e2, one, (f, r3, e3, set, none))).
-                    rw (e1, e2, e3, none) (record { sapi = small; numbers = tt; information = omega arith }),
+                      rw (e1, e2, e3, none) (record { sapi = small; numbers = tt; information = omega arith }),
                   (
                     λ count values here (s, r1, e1, small, (cr, r2, e2, one, (p, r3, e3, set, (info, r4, e4, fits, none)))).
-                      rw (e1, e2, e3, e4, none) (record { sapi = small; numbers = tt; information = fits.1 }),
+                        rw (e1, e2, e3, e4, none) (record { sapi = small; numbers = tt; information = fits.1 }),
                     (
                       λ count values here (s, r1, e1, small, (cr, r2, e2, one, (p, r3, e3, set, none))).
-                        rw (e1, e2, e3, none) (record { sapi = small; numbers = tt; information = omega arith }),
+                          rw (e1, e2, e3, none) (record { sapi = small; numbers = tt; information = omega arith }),
                       (
                         λ count values here (s, r1, e1, small, (cr, r2, e2, one, (f, r3, e3, set, (info, r4, e4, fits, none)))).
-                          rw (e1, e2, e3, e4, none) (record { sapi = small; numbers = tt; information = fits.1 }),
+                            rw (e1, e2, e3, e4, none) (record { sapi = small; numbers = tt; information = fits.1 }),
                         tt,
                       ),
                     ),
@@ -73,14 +91,17 @@ known line meaning means =
     ) line (said meaning) (meaning, means, refl)
 
 -- a frame that a line says fits
-pub said_fits : (line : List ℕ) (name : ShowName) (values : List Value) (f : Frame) → LineMeans show_forms anywhere line (Some (name, values))
+pub said_fits : (line : List ℕ) (name : ShowName) (values : List Value) (f : Frame)
+    → LineMeans show_forms anywhere line (Some (name, values))
     → said_frame name values ≡ Some f → Fits Sdcch f
 said_fits line name values f means is = go name values is (known line (Some (name, values)) means)
   where
     frames : (m : ShowLine) (o : Option Frame) → o ≡ Some f → m ≡ shown o → IsKnown (m, o) → Fits Sdcch f
-    frames m o is shows k = let pair : IsKnown (shown (Some f), Some f) = subst (λ o. IsKnown (shown o, o)) is (subst (λ m. IsKnown (m, o)) shows k) in pair
+    frames m o is shows k = let pair : IsKnown (shown (Some f), Some f) =
+        subst (λ o. IsKnown (shown o, o)) is (subst (λ m. IsKnown (m, o)) shows k) in pair
 
-    go : (name : ShowName) (values : List Value) → said_frame name values ≡ Some f → IsKnown (show_of name values, said_frame name values) → Fits Sdcch f
+    go : (name : ShowName) (values : List Value) → said_frame name values ≡ Some f → IsKnown (show_of name values, said_frame name values)
+        → Fits Sdcch f
     go F.Octets values is k = absurd cc
     go F.I values is k = frames (show_of F.I values) (said_frame F.I values) is refl k
     go F.Rr values is k = frames (show_of F.Rr values) (said_frame F.Rr values) is refl k

@@ -84,7 +84,8 @@ zeros_text : IsFrameText (replicate 23 0) (codes "unread ea\n")
 zeros_text = inr (Ea, zeros_refused, refl)
 
 -- the words of the data and of the check of a block of zeros, whose parity is 40 ones
-zeros_data : encode_lower (octets_of (take 184 (replicate 184 0 ++ replicate 40 1 ++ replicate 4 0))) ≡ codes "0000000000000000000000000000000000000000000000"
+zeros_data : encode_lower (octets_of (take 184 (replicate 184 0 ++ replicate 40 1 ++ replicate 4 0)))
+    ≡ codes "0000000000000000000000000000000000000000000000"
 unfolding encode_with
 zeros_data = refl
 

@@ -75,7 +75,8 @@ access_restored bsic burst few bits many each =
     omega (arith, length-append (bit_digits bsic) (32 ∷ bit_digits burst), length-bit_digits bsic, length-bit_digits burst) in
     subst (λ line. BurstMeans 0 line (Access bsic (softened burst))) (sym (access_line_from_left bsic burst)) (
       Some (F.Access, Several bsic ∷ Several burst ∷ []),
-      spelled_means burst_forms (burst_elsewhere 0) F.Access (codes "a") (BitDigits 6 ∷ BitDigits 88 ∷ []) (Several bsic ∷ Several burst ∷ [])
+      spelled_means burst_forms (burst_elsewhere 0) F.Access (codes "a") (BitDigits 6 ∷ BitDigits 88 ∷ [])
+          (Several bsic ∷ Several burst ∷ [])
           (inr (inr (inr (inl refl)))) refl refl (both bsic burst few bits many each) tt short refl,
       refl,
     )
@@ -83,15 +84,25 @@ access_restored bsic burst few bits many each =
 -- ---- each line is whole
 
 pub normal_whole : (burst : List ℕ) → length burst ≡ 148 → AllBits burst → IsWholeLine (normal_line burst)
-normal_whole burst many each = record { uncut = spelled_uncut (Fixed (codes "n") ∷ BitDigits 148 ∷ []) (Several burst ∷ []) refl (one (codes "n") burst each many); stays = refl }
+normal_whole burst many each = record {
+  uncut = spelled_uncut (Fixed (codes "n") ∷ BitDigits 148 ∷ []) (Several burst ∷ []) refl
+      (one (codes "n") burst each many);
+  stays = refl;
+}
 
 pub sync_whole : (burst : List ℕ) → length burst ≡ 148 → AllBits burst → IsWholeLine (sync_line burst)
-sync_whole burst many each = record { uncut = spelled_uncut (Fixed (codes "s") ∷ BitDigits 148 ∷ []) (Several burst ∷ []) refl (one (codes "s") burst each many); stays = refl }
+sync_whole burst many each = record {
+  uncut = spelled_uncut (Fixed (codes "s") ∷ BitDigits 148 ∷ []) (Several burst ∷ []) refl
+      (one (codes "s") burst each many);
+  stays = refl;
+}
 
-pub access_whole : (bsic burst : List ℕ) → length bsic ≡ 6 → AllBits bsic → length burst ≡ 88 → AllBits burst → IsWholeLine (access_line bsic burst)
+pub access_whole : (bsic burst : List ℕ) → length bsic ≡ 6 → AllBits bsic → length burst ≡ 88 → AllBits burst
+    → IsWholeLine (access_line bsic burst)
 access_whole bsic burst few bits many each = record {
   uncut = subst (All (λ octet. octet ≢ 10)) (sym (access_line_from_left bsic burst))
-      (spelled_uncut (Fixed (codes "a") ∷ BitDigits 6 ∷ BitDigits 88 ∷ []) (Several bsic ∷ Several burst ∷ []) refl (both bsic burst few bits many each));
+      (spelled_uncut (Fixed (codes "a") ∷ BitDigits 6 ∷ BitDigits 88 ∷ []) (Several bsic ∷ Several burst ∷ []) refl
+      (both bsic burst few bits many each));
   stays = refl;
 }
 

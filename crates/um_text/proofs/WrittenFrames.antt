@@ -58,7 +58,8 @@ set_bit : (b : Bool) → is_set (bit b) ≡ b
 set_bit false = refl
 set_bit true = refl
 
-is_written : (s : ℕ) (cr : Bool) (content : Content) → s ≤ 7 → NumbersFit content → InformationFits Sdcch content → Small (information content)
+is_written : (s : ℕ) (cr : Bool) (content : Content) → s ≤ 7 → NumbersFit content → InformationFits Sdcch content
+    → Small (information content)
     → IsWritten (record { sapi = s; cr = cr; content = content })
 is_written s cr (I ns nr p more info) small numbers many octets = record {
   name = F.I;
@@ -152,7 +153,25 @@ is_written s cr (Sabm p info) small numbers many octets = record {
   says = rw (set_bit cr, set_bit p) refl;
   shows = rw (set_bit cr, set_bit p) refl;
   text = refl;
-  fits = (s, _, refl, small, (bit cr, _, refl, bit_small cr, (bit p, _, refl, bit_small p, (info, _, refl, (omega arith, many, octets), refl))));
+  fits = (
+    s,
+    _,
+    refl,
+    small,
+    (
+      bit cr,
+      _,
+      refl,
+      bit_small cr,
+      (
+        bit p,
+        _,
+        refl,
+        bit_small p,
+        (info, _, refl, (omega arith, many, octets), refl),
+      ),
+    ),
+  );
   once = tt;
   spaceless = refl;
   uncut = refl;
@@ -167,7 +186,25 @@ is_written s cr (Ui p info) small numbers many octets = record {
   says = rw (set_bit cr, set_bit p) refl;
   shows = rw (set_bit cr, set_bit p) refl;
   text = refl;
-  fits = (s, _, refl, small, (bit cr, _, refl, bit_small cr, (bit p, _, refl, bit_small p, (info, _, refl, (omega arith, many, octets), refl))));
+  fits = (
+    s,
+    _,
+    refl,
+    small,
+    (
+      bit cr,
+      _,
+      refl,
+      bit_small cr,
+      (
+        bit p,
+        _,
+        refl,
+        bit_small p,
+        (info, _, refl, (omega arith, many, octets), refl),
+      ),
+    ),
+  );
   once = tt;
   spaceless = refl;
   uncut = refl;
@@ -182,7 +219,25 @@ is_written s cr (Ua f info) small numbers many octets = record {
   says = rw (set_bit cr, set_bit f) refl;
   shows = rw (set_bit cr, set_bit f) refl;
   text = refl;
-  fits = (s, _, refl, small, (bit cr, _, refl, bit_small cr, (bit f, _, refl, bit_small f, (info, _, refl, (omega arith, many, octets), refl))));
+  fits = (
+    s,
+    _,
+    refl,
+    small,
+    (
+      bit cr,
+      _,
+      refl,
+      bit_small cr,
+      (
+        bit f,
+        _,
+        refl,
+        bit_small f,
+        (info, _, refl, (omega arith, many, octets), refl),
+      ),
+    ),
+  );
   once = tt;
   spaceless = refl;
   uncut = refl;
@@ -238,7 +293,8 @@ frame_back f line fits small text =
     )
 
 -- what is written of a frame's canonical octets means these octets
-pub canonical_back : (f : Frame) (octets text line : List ℕ) → IsCanonical Sdcch f octets → Small (information f.content) → IsFrameText octets text
+pub canonical_back : (f : Frame) (octets text line : List ℕ) → IsCanonical Sdcch f octets → Small (information f.content)
+    → IsFrameText octets text
     → text ≡ line ++ codes "\n" → IsWholeLine line × ShowMeans line (S.Frame octets)
 canonical_back f octets text line canonical small is_text whole =
     let frame = canonical.frame in
@@ -247,7 +303,8 @@ canonical_back f octets text line canonical small is_text whole =
     let said : text ≡ frame_text f = one_frame_text octets text (frame_text f) is_text (inl (f, frame, refl)) in
     subst (λ o. IsWholeLine line × ShowMeans line (S.Frame o)) same (frame_back f line fits small (sym said ∙ whole))
 
-octets_fit : (octets : List ℕ) → length octets ≡ 23 → Small octets → Fitting (Fixed (codes "octets") ∷ HexOctets 23 ∷ []) (Several octets ∷ [])
+octets_fit : (octets : List ℕ) → length octets ≡ 23 → Small octets → Fitting (Fixed (codes "octets") ∷ HexOctets 23 ∷ [])
+    (Several octets ∷ [])
 octets_fit octets count small = (octets, [], refl, (count, small), refl)
 
 -- what is written of octets means them
@@ -270,7 +327,8 @@ octets_back octets line count small text =
 
 -- ---- what a frame's line gives is written as the frame that it says
 
-from_shown : (octets : List ℕ) (said : Option Frame) → S.Frame octets ≡ shown said → (f : Frame) × (said ≡ Some f) × (octets ≡ octets_of Sdcch f)
+from_shown : (octets : List ℕ) (said : Option Frame) → S.Frame octets ≡ shown said
+    → (f : Frame) × (said ≡ Some f) × (octets ≡ octets_of Sdcch f)
 from_shown octets None e = absurd cc
 from_shown octets (Some f) e = (f, refl, cc)
 

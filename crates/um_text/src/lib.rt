@@ -23,6 +23,4 @@ pub use show::{ShowLine, law_show, law_written_frames, parse_show};
 pub use um_lines::{LineFault, Text, law_words, refused_line};
 
 #[cfg(test)]
-mod report_tests;
-#[cfg(test)]
 mod tests;

@@ -7,7 +7,8 @@ returns-in-Ok-clause-comes g c = λ a left taken taken' gathered before ready.
 
 pub returns-in-Err-clause-comes : goal.returns-in-Err-clause-comes
 returns-in-Err-clause-comes g c = λ a left taken taken' gathered before ready.
-    line_refused _ _ _ _ _ _ _ _ _ _ _ before ready _ _ _ _ _ (rw c.in-Line.is at c.next.follows.holds-at-none) c.number.ensures c.in-Err.ensures.answered
+    line_refused _ _ _ _ _ _ _ _ _ _ _ before ready _ _ _ _ _ (rw c.in-Line.is at c.next.follows.holds-at-none) c.number.ensures
+    c.in-Err.ensures.answered
 
 pub returns-in-None-clause-comes : goal.returns-in-None-clause-comes
 returns-in-None-clause-comes g c = λ a left taken taken' gathered before ready.
@@ -15,7 +16,8 @@ returns-in-None-clause-comes g c = λ a left taken taken' gathered before ready.
 
 pub returns-in-Some-clause-comes : goal.returns-in-Some-clause-comes
 returns-in-Some-clause-comes g c = λ a left taken taken' gathered before ready.
-    end_refused _ _ _ _ _ _ _ _ _ _ _ before ready _ _ _ (rw c.in-End.is at c.next.follows.holds-at-none) c.number-in-Some.ensures c.in-Some.is c.finish.ensures
+    end_refused _ _ _ _ _ _ _ _ _ _ _ before ready _ _ _ (rw c.in-End.is at c.next.follows.holds-at-none) c.number-in-Some.ensures
+    c.in-Some.is c.finish.ensures
 
 pub returns-in-Long-clause-comes : goal.returns-in-Long-clause-comes
 returns-in-Long-clause-comes g c = λ a left taken taken' gathered before ready.

@@ -38,7 +38,8 @@ loop-command-preserved g c =
 pub loop-command-smaller : goal.loop-command-smaller
 loop-command-smaller g c =
     let way = way_made _ _ _ _ _ _ _ _ _ _ _ _ c.make_way.ensures.kept c.loop-command.invariant.underway c.in-Ok.ensures.gathers in
-    let rises = c.ask-turn.ensures.goes_on (is_answered c.ask-turn.result _ c.ask-turn.new.out c.settle.new.gathered _ _ c.in-None.ensures.settles) in
+    let rises = c.ask-turn.ensures.goes_on (is_answered c.ask-turn.result _ c.ask-turn.new.out c.settle.new.gathered _ _
+    c.in-None.ensures.settles) in
     let then = run_goes_on _ _ _ _ _ _ _ _ _ c.ask-turn.result _ c.ask-turn.new.out c.settle.new.gathered
     (c.ask-turn.ensures.comes _ _ _ _ _ way c.in-Ok.ensures.ready) c.in-None.ensures.settles in
     let limit = then.valid.limit in

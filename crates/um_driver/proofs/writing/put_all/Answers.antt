@@ -1,9 +1,13 @@
-use Rattle.std.proofs.Common.{arith, length-drop, length-take, ◌∙◌}
+use Rattle.std.proofs.Common.{ℕ, List, Option, take, drop, sym, take-append-drop, arith, length-drop, length-take, ◌∙◌}
 use Rattle.std.proofs.lemmas.Result.{MatchResult-from_err}
 use Rattle.std.specs.Io.KnownBytes.{Appends}
 use Rattle.um_driver.specs.Table.{TakesFront}
-use Rattle.um_driver.proofs.KnownOctets.{Appends-front, Appends-keeps, TakesFront-take}
+use Rattle.um_io.proofs.KnownOctets.{Appends-front, Appends-keeps}
 use Rattle.um_driver.proofs.writing.put_all.Goals as goal
+
+-- a front of the piece was taken
+TakesFront-take : (a b : Option (List ℕ)) (n : ℕ) (piece : List ℕ) → Appends a b (take n piece) → TakesFront a b piece
+TakesFront-take a b n piece taken = (take n piece, (drop n piece, sym (take-append-drop n piece)), taken)
 
 pub returns-in_err-written-clause-taken : goal.returns-in_err-written-clause-taken
 returns-in_err-written-clause-taken g c =

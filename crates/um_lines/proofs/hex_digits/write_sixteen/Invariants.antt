@@ -4,4 +4,5 @@ use Rattle.um_lines.proofs.hex_digits.write_sixteen.Given as goal
 
 -- the octets so far are those of the pairs of digits so far
 abbrev pub invariant-loop-i : goal.invariant-loop-i
-invariant-loop-i l = (take (l.at + l.i) l.octets ≡ hex_octets (take (2 * (l.at + l.i)) l.digits)) × (length l.octets ≡ length l.initial.octets)
+invariant-loop-i l = (take (l.at + l.i) l.octets ≡ hex_octets (take (2 * (l.at + l.i)) l.digits))
+    × (length l.octets ≡ length l.initial.octets)

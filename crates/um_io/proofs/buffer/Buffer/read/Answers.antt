@@ -19,7 +19,8 @@ returns-clause-came g c =
     (came, grown ∙ ap (λ l. l ++ came) c.move_to_front.ensures.kept, size, told.came)
 
 -- what was scanned stayed
-scanned_stays : (b : Buffer) (octets : List ℕ) → take b.end octets ≡ take b.end b.octets.items → IsLine (slice_range octets b.start b.scanned)
+scanned_stays : (b : Buffer) (octets : List ℕ) → take b.end octets ≡ take b.end b.octets.items
+    → IsLine (slice_range octets b.start b.scanned)
 scanned_stays b octets same = subst IsLine (sym (slice_range-kept b.octets.items octets b.start b.scanned b.end b.seen same)) b.plain
 
 pub invariant_of-self : goal.invariant_of-self

@@ -7,7 +7,8 @@ use Rattle.um_io.proofs.buffer.Buffer.skip.Goals as goal
 pub invariant_of-self-clause-plain : goal.invariant_of-self-clause-plain
 invariant_of-self-clause-plain c =
     let b = c.args.self.now in
-    subst (λ m. IsLine (slice_range b.octets.items (b.start + c.args.count) m)) (sym c.max-self.ensures) (IsLine-skipped b.octets.items b.start b.scanned c.args.count b.plain)
+    subst (λ m. IsLine (slice_range b.octets.items (b.start + c.args.count) m)) (sym c.max-self.ensures)
+    (IsLine-skipped b.octets.items b.start b.scanned c.args.count b.plain)
 
 pub returns-clause-rest : goal.returns-clause-rest
 returns-clause-rest c =

@@ -14,7 +14,9 @@ returns-clause-found c =
     let size = c.within-within.ensures.within in
     let held : length (take limit octets) ≡ length c.args.self.now.held = ap (λ (r : Reading). length r.held) c.self.view_is in
     rw (← c.self.view_is) (elim c.match-first_feed.branch [
-      | in-Some w ↦ rw w.result-is (IsFirstFeed-front octets limit w.in-Some.at w.in-Some.ensures.found (omega (arith, held, size, w.if-at-within.true)))
-      | in_default-2 w ↦ rw w.result-is (IsLine-before_feed octets limit w.in-Some.at w.in-Some.ensures.found (omega (arith, held, size, w.if-at-within.false)))
+      | in-Some w ↦ rw w.result-is (IsFirstFeed-front octets limit w.in-Some.at w.in-Some.ensures.found
+          (omega (arith, held, size, w.if-at-within.true)))
+      | in_default-2 w ↦ rw w.result-is (IsLine-before_feed octets limit w.in-Some.at w.in-Some.ensures.found
+          (omega (arith, held, size, w.if-at-within.false)))
       | in_default w ↦ rw w.result-is (All-take IsPlain limit octets w.in_default.ensures.found)
     ])

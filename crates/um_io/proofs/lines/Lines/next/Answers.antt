@@ -21,36 +21,77 @@ invariant_of-self g c =
     let inside = c.self-2.inside in
     let arm = c.in-Ok-Line in
     let told = rw arm.field-0-is at arm.ensures.found in
-    let found = Finds-same c.args.self.now c.find.new.self (the_view inside) (g.S.Source.left c.args.source.now) (g.S.Source.left c.find.new.source) (Ok (Line arm.length arm.whole)) c.self-2.view_is told in
-    counts-after (octets_of inside.buffer) inside.answered inside.number arm.length arm.whole inside.ended inside.over c.self-2.invariant.0 c.self-2.invariant.1 found.shows
+    let found = Finds-same c.args.self.now c.find.new.self (the_view inside) (g.S.Source.left c.args.source.now)
+    (g.S.Source.left c.find.new.source) (Ok (Line arm.length arm.whole)) c.self-2.view_is told in
+    counts-after (octets_of inside.buffer) inside.answered inside.number arm.length arm.whole inside.ended inside.over
+    c.self-2.invariant.0 c.self-2.invariant.1 found.shows
 
 pub returns-in-Ok-Line : goal.returns-in-Ok-Line
 returns-in-Ok-Line g c =
     let inside = c.self-2.inside in
     let arm = c.in-Ok-Line in
     let told = rw arm.field-0-is at arm.ensures.found in
-    let found = Finds-same c.args.self.now c.find.new.self (the_view inside) (g.S.Source.left c.args.source.now) (g.S.Source.left c.find.new.source) (Ok (Line arm.length arm.whole)) c.self-2.view_is told in
+    let found = Finds-same c.args.self.now c.find.new.self (the_view inside) (g.S.Source.left c.args.source.now)
+    (g.S.Source.left c.find.new.source) (Ok (Line arm.length arm.whole)) c.self-2.view_is told in
     let going = goes_on c.args.self.now c.self.inside c.self.view_is c.if-self.false in
-    let answers = IsNext-found c.args.self.now inside.buffer c.skip-from.new.self inside.answered inside.number arm.whole inside.ended inside.over _ _ found.came c.skip-from.result arm.length c.part.result going found.has found.needed c.self-2.invariant.0 c.self-2.invariant.1 c.skip-from.ensures.rest c.skip-from.ensures.skipped c.part.ensures found.shows in
-    ((refl, λ _. tt, answers), record { ends = tt; unasked = unasked c.args.self.now c.args.source.now c.find.new.source going c.find.ensures.unasked; failed = arm.ensures.counted })
+    let answers = IsNext-found c.args.self.now inside.buffer c.skip-from.new.self inside.answered inside.number arm.whole inside.ended
+    inside.over _ _ found.came c.skip-from.result arm.length c.part.result going found.has found.needed c.self-2.invariant.0
+    c.self-2.invariant.1 c.skip-from.ensures.rest c.skip-from.ensures.skipped c.part.ensures found.shows in (
+      (refl, λ _. tt, answers),
+      record {
+        ends = tt;
+        unasked = unasked c.args.self.now c.args.source.now c.find.new.source going
+            c.find.ensures.unasked;
+        failed = arm.ensures.counted;
+      },
+    )
 
 pub returns-in-Ok-Above : goal.returns-in-Ok-Above
 returns-in-Ok-Above g c =
     let told = rw c.in-Ok-Above.field-0-is at c.in-Ok-Above.ensures.found in
-    let found = Finds-same c.args.self.now c.find.new.self (the_view c.self-2.inside) (g.S.Source.left c.args.source.now) (g.S.Source.left c.find.new.source) (Ok Above) c.self-2.view_is told in
-    let going = goes_on c.args.self.now c.self.inside c.self.view_is c.if-self.false in
-    ((refl, λ _. tt, IsNext-above c.args.self.now (the_view c.self-2.inside) _ _ going (valid c.self-2.inside c.self-2.invariant) found), record { ends = tt; unasked = unasked c.args.self.now c.args.source.now c.find.new.source going c.find.ensures.unasked; failed = c.in-Ok-Above.ensures.counted })
+    let found = Finds-same c.args.self.now c.find.new.self (the_view c.self-2.inside) (g.S.Source.left c.args.source.now)
+    (g.S.Source.left c.find.new.source) (Ok Above) c.self-2.view_is told in
+    let going = goes_on c.args.self.now c.self.inside c.self.view_is c.if-self.false in (
+      (refl, λ _. tt, IsNext-above c.args.self.now (the_view c.self-2.inside) _ _ going (valid c.self-2.inside c.self-2.invariant) found),
+      record {
+        ends = tt;
+        unasked = unasked c.args.self.now c.args.source.now c.find.new.source going c.find.ensures.unasked;
+        failed =
+            c.in-Ok-Above.ensures.counted;
+      },
+    )
 
 pub returns-in-Ok-Past : goal.returns-in-Ok-Past
 returns-in-Ok-Past g c =
     let told = rw c.in-Ok-Past.field-0-is at c.in-Ok-Past.ensures.found in
-    let found = Finds-same c.args.self.now c.find.new.self (the_view c.self-2.inside) (g.S.Source.left c.args.source.now) (g.S.Source.left c.find.new.source) (Ok Past) c.self-2.view_is told in
-    let going = goes_on c.args.self.now c.self.inside c.self.view_is c.if-self.false in
-    ((refl, λ _. tt, IsNext-past c.args.self.now (the_view c.self-2.inside) _ _ going (valid c.self-2.inside c.self-2.invariant) found), record { ends = tt; unasked = unasked c.args.self.now c.args.source.now c.find.new.source going c.find.ensures.unasked; failed = c.in-Ok-Past.ensures.counted })
+    let found = Finds-same c.args.self.now c.find.new.self (the_view c.self-2.inside) (g.S.Source.left c.args.source.now)
+    (g.S.Source.left c.find.new.source) (Ok Past) c.self-2.view_is told in
+    let going = goes_on c.args.self.now c.self.inside c.self.view_is c.if-self.false in (
+      (refl, λ _. tt, IsNext-past c.args.self.now (the_view c.self-2.inside) _ _ going (valid c.self-2.inside c.self-2.invariant) found),
+      record {
+        ends = tt;
+        unasked = unasked c.args.self.now c.args.source.now c.find.new.source going c.find.ensures.unasked;
+        failed =
+            c.in-Ok-Past.ensures.counted;
+      },
+    )
 
 pub returns-in-Err : goal.returns-in-Err
 returns-in-Err g c =
     let told = c.in-Err.ensures in
-    let found = Finds-same c.args.self.now c.find.new.self (the_view c.self-2.inside) (g.S.Source.left c.args.source.now) (g.S.Source.left c.find.new.source) (Err c.in-Err.field-0) c.self-2.view_is told.found in
-    let going = goes_on c.args.self.now c.self.inside c.self.view_is c.if-self.false in
-    ((refl, λ _. tt, IsNext-failed c.args.self.now (the_view c.self-2.inside) _ _ c.in-Err.field-0 going (valid c.self-2.inside c.self-2.invariant) found), record { ends = tt; unasked = unasked c.args.self.now c.args.source.now c.find.new.source going c.find.ensures.unasked; failed = (told.cause, told.later) })
+    let found = Finds-same c.args.self.now c.find.new.self (the_view c.self-2.inside) (g.S.Source.left c.args.source.now)
+    (g.S.Source.left c.find.new.source) (Err c.in-Err.field-0) c.self-2.view_is told.found in
+    let going = goes_on c.args.self.now c.self.inside c.self.view_is c.if-self.false in (
+      (
+        refl,
+        λ _. tt,
+        IsNext-failed c.args.self.now (the_view c.self-2.inside) _ _ c.in-Err.field-0 going
+            (valid c.self-2.inside c.self-2.invariant) found,
+      ),
+      record {
+        ends = tt;
+        unasked =
+            unasked c.args.self.now c.args.source.now c.find.new.source going c.find.ensures.unasked;
+        failed = (told.cause, told.later);
+      },
+    )

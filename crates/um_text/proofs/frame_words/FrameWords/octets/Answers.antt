@@ -41,7 +41,8 @@ pub slice_bounds-body-end : goal.slice_bounds-body-end
 slice_bounds-body-end c =
     let many = info_length c.args.self.now.fields c.requires.length in
     let most : octet_count c.info_word.result.now ≤ 20 = rw c.info_word.ensures many.most_many in
-    let within : c.some_octets_of-count.result.1 ≤ length c.some_octets_of-count.result.0 = omega (arith, c.some_octets_of-count.ensures.count, c.some_octets_of-count.ensures.room, most) in
+    let within : c.some_octets_of-count.result.1 ≤ length c.some_octets_of-count.result.0 =
+    omega (arith, c.some_octets_of-count.ensures.count, c.some_octets_of-count.ensures.room, most) in
     sym (length-take-le c.some_octets_of-count.result.1 c.some_octets_of-count.result.0 within)
 
 pub body-body-requires-clause-least : goal.body-body-requires-clause-least
@@ -49,16 +50,21 @@ body-body-requires-clause-least c =
     let many = info_length c.args.self.now.fields c.requires.length in
     let most : octet_count c.info_word.result.now ≤ 20 = rw c.info_word.ensures many.most_many in
     let least : least_info c.args.self.now.fields ≤ octet_count c.info_word.result.now = rw c.info_word.ensures many.least_many in
-    let within : c.some_octets_of-count.result.1 ≤ length c.some_octets_of-count.result.0 = omega (arith, c.some_octets_of-count.ensures.count, c.some_octets_of-count.ensures.room, most) in
-    omega (arith, length-take-le c.some_octets_of-count.result.1 c.some_octets_of-count.result.0 within, c.some_octets_of-count.ensures.count, least)
+    let within : c.some_octets_of-count.result.1 ≤ length c.some_octets_of-count.result.0 =
+    omega (arith, c.some_octets_of-count.ensures.count, c.some_octets_of-count.ensures.room, most) in
+    omega (
+      arith,
+      length-take-le c.some_octets_of-count.result.1 c.some_octets_of-count.result.0 within,
+      c.some_octets_of-count.ensures.count,
+      least,
+    )
 
 pub returns : goal.returns
 returns c =
     let w = c.args.self.now in
     let content = content_of c.body-body.result in
     let sapi = c.digit_of-sapi.ensures.value in
-    let cr = c.is_one-cr.ensures in
-    (
+    let cr = c.is_one-cr.ensures in (
       record { sapi = c.digit_of-sapi.result; cr = c.is_one-cr.result; content = content },
       c.body-body.ensures.said (slice_index w.sapi.now 0 - 48) (slice_index w.cr.now 0 - 48) ∙ rw (sapi, cr) refl,
       c.write.ensures.octets,

@@ -1,7 +1,11 @@
-use super::*;
+//! What is written of frames and of what is received, and the lines of `show`, by single calls.
 use bit_blocks::Bits;
 use std::test::Fail;
 use um_block::{Received, ReceivedAccess, ReceivedSync};
+use um_text::{
+    LineFault, ShowLine, Text, access_report, block_report, frame_line, octets_line, parse_show,
+    sync_report,
+};
 
 // The first octets, the octet that fills the rest, and what they are written as.
 const FRAMES: [([u8; 5], u8, &str); 24] = [

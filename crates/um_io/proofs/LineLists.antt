@@ -98,4 +98,11 @@ text-push (k ∷ ls) l u =
 pub length-text-push : (ls : List (List ℕ)) (l : List ℕ) → length (text_of (ls ++ l ∷ [])) ≡ length (text_of ls ++ l) + 1
 length-text-push ls l =
     let e = ap length (text-push ls l []) in
-    omega (arith, e, length-append (text_of (ls ++ l ∷ [])) [], length-append (text_of ls) (l ++ 10 ∷ []), length-append l (10 ∷ []), length-append (text_of ls) l)
+    omega (
+      arith,
+      e,
+      length-append (text_of (ls ++ l ∷ [])) [],
+      length-append (text_of ls) (l ++ 10 ∷ []),
+      length-append l (10 ∷ []),
+      length-append (text_of ls) l,
+    )

@@ -3,7 +3,6 @@ use Rattle.std.proofs.Common.{◌≡◌, ℕ, ◌+◌, List, [], ◌++◌, lengt
 use Rattle.std.specs.Io.KnownBytes.{Appends, Consumes, Keeps}
 use Rattle.std.proofs.Math.Seq.{take-add}
 use Rattle.std.proofs.lemmas.List.{take_rest}
-use Rattle.um_driver.specs.Table.{TakesFront}
 
 -- nothing taken
 pub Appends-nil : (known : Option (List ℕ)) → Appends known known []
@@ -35,10 +34,6 @@ Appends-keeps None b c x first then = tt
 Appends-keeps (Some xs) None c x first then = absurd first
 Appends-keeps (Some xs) (Some ys) None x first then = absurd then
 Appends-keeps (Some xs) (Some ys) (Some zs) x first then = then ∙ first
-
--- a front of the piece was taken
-pub TakesFront-take : (a b : Option (List ℕ)) (n : ℕ) (piece : List ℕ) → Appends a b (take n piece) → TakesFront a b piece
-TakesFront-take a b n piece taken = (take n piece, (drop n piece, sym (take-append-drop n piece)), taken)
 
 -- a front of the piece, and then n octets of the rest of it
 pub Appends-front : (a b c : Option (List ℕ)) (w n : ℕ) (piece : List ℕ) → Appends a b (take w piece) →
