@@ -13,16 +13,18 @@ use Rattle.lapdm_window.specs.Ends.{EndState, Outcome, ◌then◌}
 use Rattle.lapdm_window.specs.Rules.{counts, has_piece, with_next, sends_piece}
 use Rattle.lapdm_window.specs.Answers.{acked_by}
 use Rattle.lapdm_window.specs.Standing.{Stands}
-use Rattle.lapdm_window.proofs.Following.{counted, counts-is}
+use Rattle.lapdm_window.proofs.Lemmas.{counted, counts-is}
 use Rattle.lapdm_end.specs.declared.link.Link.{Link}
 use Rattle.lapdm_end.specs.Links.{IsLinkOf}
 use Rattle.lapdm_end.specs.Windows.{Runs, Gives, sends_waiting}
 use Rattle.lapdm_end.proofs.Rules.{sends_piece-is}
 
-pub Gives-as : {l : Link} {w : Window} {a b : Effects} {e : EndState} {o : Outcome} (p : Outcome) → p ≡ o → Gives l w a b e o → Gives l w a b e p
+pub Gives-as : {l : Link} {w : Window} {a b : Effects} {e : EndState} {o : Outcome} (p : Outcome) → p ≡ o → Gives l w a b e o →
+    Gives l w a b e p
 Gives-as {l} {w} {a} {b} {e} p same g = subst (Gives l w a b e) (sym same) g
 
-pub Gives-then : {l : Link} {w v : Window} {a b d : Effects} {e : EndState} {o : Outcome} (rule : EndState → Outcome) → Gives l w a b e o → ((f : EndState) → Runs l w f → Gives l v b d f (rule f)) → Gives l v a d e (o then rule)
+pub Gives-then : {l : Link} {w v : Window} {a b d : Effects} {e : EndState} {o : Outcome} (rule : EndState → Outcome) → Gives l w a b e o →
+    ((f : EndState) → Runs l w f → Gives l v b d f (rule f)) → Gives l v a d e (o then rule)
 Gives-then {l} {w} {v} {a} {b} {d} {e} {o} rule g obeys =
     let h : Gives l v b d o.after (rule o.after) = obeys o.after g.runs in
     let fs = (rule o.after).frames in
@@ -30,7 +32,9 @@ Gives-then {l} {w} {v} {a} {b} {d} {e} {o} rule g obeys =
     record {
       runs = h.runs;
       kept = h.kept ∙ g.kept;
-      frames = h.frames ∙ ap (λ bs. bs ++ map (octets_of l.channel) fs) g.frames ∙ append_assoc a.frames (map (octets_of l.channel) o.frames) (map (octets_of l.channel) fs) ∙ ap (λ bs. a.frames ++ bs) (sym (map-append (octets_of l.channel) o.frames fs));
+      frames = h.frames ∙ ap (λ bs. bs ++ map (octets_of l.channel) fs) g.frames
+          ∙ append_assoc a.frames (map (octets_of l.channel) o.frames) (map (octets_of l.channel) fs) ∙ ap
+          (λ bs. a.frames ++ bs) (sym (map-append (octets_of l.channel) o.frames fs));
       notices = h.notices ∙ ap (λ ms. ms ++ ns) g.notices ∙ append_assoc a.notices o.notices ns;
     }
 
@@ -39,21 +43,41 @@ abbrev pub notices_for : A.Acked → List Notice
 notices_for (V.Message number) = N.Acked number ∷ []
 notices_for other = []
 
-by-answer : (l : Link) (v : Window) (a b : Effects) (e : EndState) (r : A.Acked) → IsLinkOf l e → e.state ≡ Open → Stands v (counted r e).after → b.frames ≡ a.frames → b.notices ≡ a.notices ++ notices_for r → Gives l v a b e (counted r e)
-by-answer l v a b e V.Nothing link open_now h fs ns = record { runs = record { link = link; state = open_now; window = h }; kept = refl; frames = fs ∙ sym (append-nil a.frames); notices = ns }
-by-answer l v a b e V.Piece link open_now h fs ns = record { runs = record { link = record { role = link.role; sapi = link.sapi; channel = link.channel }; state = open_now; window = h }; kept = refl; frames = fs ∙ sym (append-nil a.frames); notices = ns }
-by-answer l v a b e (V.Message number) link open_now h fs ns = record { runs = record { link = record { role = link.role; sapi = link.sapi; channel = link.channel }; state = open_now; window = h }; kept = refl; frames = fs ∙ sym (append-nil a.frames); notices = ns }
+by-answer : (l : Link) (v : Window) (a b : Effects) (e : EndState) (r : A.Acked) → IsLinkOf l e → e.state ≡ Open →
+    Stands v (counted r e).after → b.frames ≡ a.frames → b.notices ≡ a.notices ++ notices_for r → Gives l v a b e (counted r e)
+by-answer l v a b e V.Nothing link open_now h fs ns = record {
+  runs = record { link = link; state = open_now; window = h };
+  kept = refl;
+  frames = fs ∙ sym (append-nil a.frames);
+  notices = ns;
+}
+by-answer l v a b e V.Piece link open_now h fs ns = record {
+  runs = record
+      { link = record { role = link.role; sapi = link.sapi; channel = link.channel }; state = open_now; window = h };
+  kept = refl;
+  frames = fs ∙ sym (append-nil a.frames);
+  notices = ns;
+}
+by-answer l v a b e (V.Message number) link open_now h fs ns = record {
+  runs = record { link = record { role = link.role; sapi = link.sapi; channel = link.channel }; state = open_now; window = h };
+  kept = refl;
+  frames = fs ∙ sym (append-nil a.frames);
+  notices = ns;
+}
 
-pub Gives-counted : {l : Link} {w v : Window} {a b : Effects} {e : EndState} (nr : ℕ) (r : A.Acked) → Runs l w e → r ≡ acked_by nr e → Stands v (counts nr e).after → b.frames ≡ a.frames → b.notices ≡ a.notices ++ notices_for r → Gives l v a b e (counts nr e)
+pub Gives-counted : {l : Link} {w v : Window} {a b : Effects} {e : EndState} (nr : ℕ) (r : A.Acked) → Runs l w e → r ≡ acked_by nr e →
+    Stands v (counts nr e).after → b.frames ≡ a.frames → b.notices ≡ a.notices ++ notices_for r → Gives l v a b e (counts nr e)
 Gives-counted {l} {w} {v} {a} {b} {e} nr r h is stands fs ns =
     let same : counts nr e ≡ counted r e = counts-is nr e ∙ ap (λ x. counted x e) (sym is) in
     Gives-as (counts nr e) same (by-answer l v a b e r h.link h.state (subst (λ (o : Outcome). Stands v o.after) same stands) fs ns)
 
-pub Gives-from : {l : Link} {w : Window} {a b : Effects} {f : EndState} {o : Outcome} (e : EndState) → f.kept ≡ e.kept → Gives l w a b f o → Gives l w a b e o
+pub Gives-from : {l : Link} {w : Window} {a b : Effects} {f : EndState} {o : Outcome} (e : EndState) → f.kept ≡ e.kept → Gives l w a b f o →
+    Gives l w a b e o
 Gives-from e same g = record { runs = g.runs; kept = g.kept ∙ same; frames = g.frames; notices = g.notices }
 
 -- the end is another one with this window, and the same in all else that the rules of Open see
-pub runs_on : {l : Link} {w : Window} {e : EndState} (v : Window) (f : EndState) → Runs l w e → f.role ≡ e.role → f.sapi ≡ e.sapi → f.channel ≡ e.channel → f.state ≡ e.state → Stands v f → Runs l v f
+pub runs_on : {l : Link} {w : Window} {e : EndState} (v : Window) (f : EndState) → Runs l w e → f.role ≡ e.role → f.sapi ≡ e.sapi →
+    f.channel ≡ e.channel → f.state ≡ e.state → Stands v f → Runs l v f
 runs_on v f h role sapi channel same window =
     record {
       link = record { role = h.link.role ∙ sym role; sapi = h.link.sapi ∙ sym sapi; channel = h.link.channel ∙ sym channel };
@@ -62,7 +86,8 @@ runs_on v f h role sapi channel same window =
     }
 
 -- the next piece goes out
-pub Gives-next : {l : Link} {w v : Window} {a b : Effects} (e : EndState) → Runs l w e → has_piece e ≡ true → Stands v (with_next e) → ((f : EndState) → Runs l v f → Gives l v a b f (sends_waiting false f)) → Gives l v a b e (sends_piece e)
+pub Gives-next : {l : Link} {w v : Window} {a b : Effects} (e : EndState) → Runs l w e → has_piece e ≡ true → Stands v (with_next e) →
+    ((f : EndState) → Runs l v f → Gives l v a b f (sends_waiting false f)) → Gives l v a b e (sends_piece e)
 Gives-next {l} {w} {v} {a} {b} e h has stands obeys =
     let runs : Runs l v (with_next e) = runs_on v (with_next e) h refl refl refl refl stands in
     Gives-as (sends_piece e) (sends_piece-is e has) (Gives-from e refl (obeys (with_next e) runs))

@@ -6,19 +6,20 @@ use Rattle.segmenting.specs.declared.joiner.Joined.{Joined}
 use Rattle.segmenting.specs.declared.joiner.Joined.TheVariants as J
 use Rattle.segmenting.specs.Pieces.{Piece, longest}
 use Rattle.segmenting.specs.Joining.{open_part, answer_to, latest}
-use Rattle.segmenting.proofs.Joins.{within_some, latest_after-last}
+use Rattle.segmenting.proofs.Lemmas.{within_some, latest_after-last}
 use Rattle.lapdm_window.specs.declared.Notice.{Notice}
 use Rattle.lapdm_window.specs.declared.Info.{Info}
 use Rattle.lapdm_window.specs.declared.Info.TheVariants as I
 use Rattle.lapdm_window.specs.declared.State.TheVariants.{Open}
 use Rattle.lapdm_window.specs.Ends.{EndState, Outcome, stays, ◌then◌, waits, next_piece, vr}
 use Rattle.lapdm_window.specs.Rules.{acknowledges, reports_acked, counts, has_piece, with_next, sends_piece, sends_next, accepts, answers_piece, rejects, reject_is_due, with_reject, takes_i, notices_of}
-use Rattle.lapdm_window.proofs.Following.{rejects-due, rejects-not_due}
-use Rattle.lapdm_window.proofs.Numbers.{waits-one}
+use Rattle.lapdm_window.proofs.Lemmas.{rejects-due, rejects-not_due, waits-one}
 use Rattle.lapdm_end.specs.Windows.{sends_waiting, says_rej, refuses_piece, takes_piece}
 
-outcome-is : (e : EndState) (fs fs' : List Frame) (ns ns' : List Notice) → fs ≡ fs' → ns ≡ ns' → (let o : Outcome = record { after = e; frames = fs; notices = ns } in o) ≡ record { after = e; frames = fs'; notices = ns' }
-outcome-is e fs fs' ns ns' f n = ap (λ gs. record { after = e; frames = gs; notices = ns }) f ∙ ap (λ ms. record { after = e; frames = fs'; notices = ms }) n
+outcome-is : (e : EndState) (fs fs' : List Frame) (ns ns' : List Notice) → fs ≡ fs' → ns ≡ ns' →
+    (let o : Outcome = record { after = e; frames = fs; notices = ns } in o) ≡ record { after = e; frames = fs'; notices = ns' }
+outcome-is e fs fs' ns ns' f n = ap (λ gs. record { after = e; frames = gs; notices = ns }) f ∙ ap
+    (λ ms. record { after = e; frames = fs'; notices = ms }) n
 
 pub then-assoc : (o : Outcome) (f g : EndState → Outcome) → (o then f then g) ≡ (o then (λ e. f e then g))
 then-assoc o f g =
@@ -35,14 +36,16 @@ vr-counted false more e = refl
 pub vr-counts : (nr : ℕ) (e : EndState) → vr (counts nr e).after ≡ vr e
 vr-counts nr e = vr-counted (acknowledges nr e) (next_piece e).1 e
 
-by-sequence : (same : Bool) (o : Outcome) (a b c d : EndState → Outcome) → (if same then (o then a then b) else (o then c then d)) ≡ (o then (λ e. if same then (a e then b) else (c e then d)))
+by-sequence : (same : Bool) (o : Outcome) (a b c d : EndState → Outcome) → (if same then (o then a then b) else (o then c then d)) ≡ (o then
+    (λ e. if same then (a e then b) else (c e then d)))
 by-sequence true o a b c d = then-assoc o a b
 by-sequence false o a b c d = then-assoc o c d
 
 pub takes_i-is : (ns nr : ℕ) (p : Bool) (piece : Piece) (e : EndState) → takes_i ns nr p piece e ≡ (counts nr e then takes_piece ns p piece)
 takes_i-is ns nr p piece e =
     by-sequence (nat_eq ns (vr e)) (counts nr e) (accepts piece) (answers_piece p) (rejects p) sends_next
-    ∙ ap (λ v. counts nr e then (λ f. if nat_eq ns v then (accepts piece f then answers_piece p) else (rejects p f then sends_next))) (sym (vr-counts nr e))
+    ∙ ap (λ v. counts nr e then (λ f. if nat_eq ns v then (accepts piece f then answers_piece p) else (rejects p f then sends_next)))
+    (sym (vr-counts nr e))
 
 -- what the window says of a piece
 abbrev joined_in : Info → Joined
@@ -61,32 +64,39 @@ pub record IsRefused (b d answer : Bool) : Type 0 where
   pub same : b ≡ false
   pub due : d ≡ answer
 
-pub is_accepted : (same due : Bool) (joined answer : Joined) → I.Accepted joined ≡ (if same then I.Accepted answer else I.OutOfSequence due) → IsAccepted same joined answer
+pub is_accepted : (same due : Bool) (joined answer : Joined) → I.Accepted joined ≡ (if same then I.Accepted answer else I.OutOfSequence due)
+    → IsAccepted same joined answer
 is_accepted true due joined answer h = record { same = refl; joined = ap joined_in h }
 is_accepted false due joined answer h = cc
 
-pub is_refused : (same due reject : Bool) (answer : Joined) → I.OutOfSequence reject ≡ (if same then I.Accepted answer else I.OutOfSequence due) → IsRefused same reject due
+pub is_refused : (same due reject : Bool) (answer : Joined) → I.OutOfSequence reject
+    ≡ (if same then I.Accepted answer else I.OutOfSequence due) → IsRefused same reject due
 is_refused true due reject answer h = cc
 is_refused false due reject answer h = record { same = refl; due = ap due_in h }
 
-pub takes_piece-same : (ns : ℕ) (p : Bool) (piece : Piece) (e : EndState) → nat_eq ns (vr e) ≡ true → takes_piece ns p piece e ≡ (accepts piece e then answers_piece p)
+pub takes_piece-same : (ns : ℕ) (p : Bool) (piece : Piece) (e : EndState) → nat_eq ns (vr e) ≡ true →
+    takes_piece ns p piece e ≡ (accepts piece e then answers_piece p)
 takes_piece-same ns p piece e h = rw h
 
 rejects-is : (due p : Bool) (e : EndState) → due ≡ reject_is_due p e → rejects p e ≡ says_rej due p (with_reject e)
 rejects-is true p e h = rejects-due p e (sym h)
 rejects-is false p e h = rejects-not_due p e (sym h)
 
-pub takes_piece-other : (ns : ℕ) (due p : Bool) (piece : Piece) (e : EndState) → nat_eq ns (vr e) ≡ false → due ≡ reject_is_due p e → takes_piece ns p piece e ≡ refuses_piece due p (with_reject e)
+pub takes_piece-other : (ns : ℕ) (due p : Bool) (piece : Piece) (e : EndState) → nat_eq ns (vr e) ≡ false → due ≡ reject_is_due p e →
+    takes_piece ns p piece e ≡ refuses_piece due p (with_reject e)
 takes_piece-other ns due p piece e h is = rw h (ap (λ o. o then sends_next) (rejects-is due p e is))
 
 -- the message that the last piece completed is the one that is reported
-whole-latest : (ps : List Piece) (octets : List ℕ) → length (open_part ps ++ octets) ≤ longest → latest (ps ++ (octets, false) ∷ []) ≡ open_part ps ++ octets
+whole-latest : (ps : List Piece) (octets : List ℕ) → length (open_part ps ++ octets) ≤ longest →
+    latest (ps ++ (octets, false) ∷ []) ≡ open_part ps ++ octets
 whole-latest ps octets h = latest_after-last [] ps octets ∙ ap (λ o. unwrap_or o []) (within_some (open_part ps ++ octets) h)
 
 abbrev answered : Bool → Bool → Joined
 answered over more = if over then J.Oversize else (if more then J.More else J.Whole)
 
-reported : (over : Bool) (ps : List Piece) (octets : List ℕ) (more : Bool) → over ≡ nat_lt longest (length (open_part ps ++ octets)) → notices_of (answered over more) more (latest (ps ++ (octets, more) ∷ [])) ≡ notices_of (answered over more) more (open_part ps ++ octets)
+reported : (over : Bool) (ps : List Piece) (octets : List ℕ) (more : Bool) → over ≡ nat_lt longest (length (open_part ps ++ octets)) →
+    notices_of (answered over more) more (latest (ps ++ (octets, more) ∷ []))
+    ≡ notices_of (answered over more) more (open_part ps ++ octets)
 reported true ps octets true h = refl
 reported true ps octets false h = refl
 reported false ps octets true h = refl
@@ -94,9 +104,11 @@ reported false ps octets false h =
     let fits : length (open_part ps ++ octets) ≤ longest = grind (arith, nat_tests) in
     ap (λ m. notices_of J.Whole false m) (whole-latest ps octets fits)
 
-pub notices-latest : (ps : List Piece) (octets : List ℕ) (more : Bool) (joined : Joined) → joined ≡ answer_to ps (octets, more) → notices_of joined more (latest (ps ++ (octets, more) ∷ [])) ≡ notices_of (answer_to ps (octets, more)) more (open_part ps ++ octets)
+pub notices-latest : (ps : List Piece) (octets : List ℕ) (more : Bool) (joined : Joined) → joined ≡ answer_to ps (octets, more) →
+    notices_of joined more (latest (ps ++ (octets, more) ∷ [])) ≡ notices_of (answer_to ps (octets, more)) more (open_part ps ++ octets)
 notices-latest ps octets more joined h =
-    ap (λ j. notices_of j more (latest (ps ++ (octets, more) ∷ []))) h ∙ reported (nat_lt longest (length (open_part ps ++ octets))) ps octets more refl
+    ap (λ j. notices_of j more (latest (ps ++ (octets, more) ∷ []))) h
+    ∙ reported (nat_lt longest (length (open_part ps ++ octets))) ps octets more refl
 
 -- the next piece
 pub waits-next : (e : EndState) → has_piece e ≡ true → waits (with_next e) ≡ true

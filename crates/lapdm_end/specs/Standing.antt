@@ -1,5 +1,5 @@
 -- What an end stands for, by its state.
-use Rattle.std.specs.Prelude.{◌≡◌, ℕ, []}
+use Rattle.std.specs.Prelude.{◌≡◌, ℕ}
 use Rattle.lapdm_frame.specs.declared.Channel.{Channel}
 use Rattle.lapdm_window.specs.declared.Sapi.{Sapi}
 use Rattle.lapdm_window.specs.declared.State.{State}
@@ -20,21 +20,15 @@ sapi_of m = m.link.sapi
 abbrev pub state_of : End → State
 state_of m = m.state
 
--- before the link is open nothing was taken, and nothing accepted
-pub record IsUnopened (w : Window) (e : EndState) : Type 0 where
-  pub taken : e.taken ≡ []
-  pub accepted : e.accepted ≡ []
-  pub window : W.Stands w e
-
 -- while the SABM awaits its answer
 pub record IsOpening (w : Window) (retries : ℕ) (e : EndState) : Type 0 where
-  pub unopened : IsUnopened w e
+  pub window : W.Stands w e
   pub count : retries ≡ e.retries
 
 -- the retry count is kept where a frame awaits an answer, in Open by the window, which holds what is not
 -- acknowledged up to the end of Open
 abbrev pub InState : State → Window → ℕ → EndState → Type 0
-InState Idle w retries e = IsUnopened w e
+InState Idle w retries e = W.Stands w e
 InState Opening w retries e = IsOpening w retries e
 InState Open w retries e = W.Stands w e
 InState Closing w retries e = retries ≡ e.retries

@@ -6,7 +6,7 @@ use Rattle.segmenting.specs.Pieces.{Piece}
 use Rattle.lapdm_window.specs.declared.State.TheVariants.{Open}
 use Rattle.lapdm_window.specs.declared.window.Window.{Window}
 use Rattle.lapdm_window.specs.declared.effects.Effects.{Effects}
-use Rattle.lapdm_window.specs.Ends.{EndState, Outcome, stays, sends, ◌then◌, response, waits, vr}
+use Rattle.lapdm_window.specs.Ends.{EndState, Outcome, stays, sends_frame, ◌then◌, response, waits, vr}
 use Rattle.lapdm_window.specs.Rules.{waiting_frame, accepts, answers_piece, rejects, sends_next}
 use Rattle.lapdm_window.specs.Standing.{Stands}
 use Rattle.lapdm_end.specs.declared.link.Link.{Link}
@@ -26,16 +26,16 @@ pub record Gives (l : Link) (w : Window) (old new : Effects) (e : EndState) (o :
   pub notices : new.notices ≡ old.notices ++ o.notices
 
 -- with the link, the windows and the effects before and afterwards, the rule was followed
-abbrev pub Obeys : (EndState → Outcome) → Link → Window → Window → Effects → Effects → Type 0
-Obeys rule l w v old new = (e : EndState) → Runs l w e → Gives l v old new e (rule e)
+abbrev pub ObeysInOpen : (EndState → Outcome) → Link → Window → Window → Effects → Effects → Type 0
+ObeysInOpen rule l w v old new = (e : EndState) → Runs l w e → Gives l v old new e (rule e)
 
 -- the piece that waits goes out, if one does
 abbrev pub sends_waiting : Bool → EndState → Outcome
-sends_waiting p e = if waits e then sends (waiting_frame p e) e else stays e
+sends_waiting p e = if waits e then sends_frame (waiting_frame p e) e else stays e
 
 -- a REJ, if one is due
 abbrev pub says_rej : Bool → Bool → EndState → Outcome
-says_rej due p e = if due then sends (response e (Rej (vr e) p)) e else stays e
+says_rej due p e = if due then sends_frame (response e (Rej (vr e) p)) e else stays e
 
 abbrev pub refuses_piece : Bool → Bool → EndState → Outcome
 refuses_piece due p e = says_rej due p e then sends_next

@@ -7,10 +7,7 @@ ghost use Rattle.lapdm_window.specs.Standing.{channel_of as window_channel};
 use crate::Role;
 use crate::link::{Link, no_effects};
 use lapdm_frame::{Body, Channel};
-use lapdm_window::{Effects, Message, Reason, Refused, Sapi, State, Timer, Window};
-
-// How often a SABM or a DISC goes out again before the link is given up.
-const MOST_RETRIES: u8 = 5;
+use lapdm_window::{Effects, Message, Reason, Refused, Sapi, State, Timer, Window, n200};
 
 /// One end of a link.
 #[derive(Debug, Drop)]
@@ -32,7 +29,7 @@ impl End {
     ghost use Rattle.lapdm_window.specs.declared.State.TheVariants as S;
     ghost use Rattle.lapdm_window.specs.Ends.{EndState, start};
     ghost use Rattle.lapdm_window.specs.Calls.{first_of, frame_refusals, after_call, begins, sabm, disc, ticks, Opens, OpensBare, Sends, SendsUnit, Closes, Ticks, Idles};
-    ghost use Rattle.lapdm_window.specs.Tables.{closes};
+    ghost use Rattle.lapdm_window.specs.Tables.{becomes_closed};
     ghost use Rattle.lapdm_end.specs.Links.{role_of};
     ghost use Rattle.lapdm_end.specs.Standing.{Stands, channel_of, sapi_of, state_of};
     ghost use Rattle.lapdm_end.specs.Following.{Follows, IsRefusedAs};
@@ -71,8 +68,10 @@ impl End {
 
     /// Asks the other end to open the link, with this information.
     pub fn open(&mut self, info: &[u8]) -> Result<Effects, Refused>
+        requires { sapi_of self.old ≡ Sapi.Zero }
         ensures refusal { IsRefusedAs (Opens info.now) self.old result }
-        ensures follows { IfOk result (λ effects. Follows (after_call (Opens info.now)) self.old effects self.new) }
+        ensures follows { IfOk result
+            (λ effects. Follows (after_call (Opens info.now)) self.old effects self.new) }
         ensures refused { OnErr result (self.new ≡ self.old) }
         ensures sapi { sapi_of self.new ≡ sapi_of self.old }
         ensures channel { channel_of self.new ≡ channel_of self.old }
@@ -88,8 +87,10 @@ impl End {
 
     /// Asks the other end to open the link, with no information.
     pub fn open_bare(&mut self) -> Result<Effects, Refused>
+        requires { sapi_of self.old ≡ Sapi.Three }
         ensures refusal { IsRefusedAs OpensBare self.old result }
-        ensures follows { IfOk result (λ effects. Follows (after_call OpensBare) self.old effects self.new) }
+        ensures follows { IfOk result
+            (λ effects. Follows (after_call OpensBare) self.old effects self.new) }
         ensures refused { OnErr result (self.new ≡ self.old) }
         ensures sapi { sapi_of self.new ≡ sapi_of self.old }
         ensures channel { channel_of self.new ≡ channel_of self.old }
@@ -103,7 +104,8 @@ impl End {
     /// Sends a message over the link.
     pub fn send(&mut self, message: &[u8]) -> Result<Effects, Refused>
         ensures refusal { IsRefusedAs (Sends message.now) self.old result }
-        ensures follows { IfOk result (λ effects. Follows (after_call (Sends message.now)) self.old effects self.new) }
+        ensures follows { IfOk result
+            (λ effects. Follows (after_call (Sends message.now)) self.old effects self.new) }
         ensures refused { OnErr result (self.new ≡ self.old) }
         ensures sapi { sapi_of self.new ≡ sapi_of self.old }
         ensures channel { channel_of self.new ≡ channel_of self.old }
@@ -122,7 +124,8 @@ impl End {
     /// Sends a message in one unnumbered frame, outside the link.
     pub fn unit(&mut self, message: &[u8]) -> Result<Effects, Refused>
         ensures refusal { IsRefusedAs (SendsUnit message.now) self.old result }
-        ensures follows { IfOk result (λ effects. Follows (after_call (SendsUnit message.now)) self.old effects self.new) }
+        ensures follows { IfOk result
+            (λ effects. Follows (after_call (SendsUnit message.now)) self.old effects self.new) }
         ensures unchanged { self.new ≡ self.old }
     {
         if let Some(refusal) = self.frame_refusal(message) {
@@ -138,7 +141,8 @@ impl End {
     /// Closes the link. What is not acknowledged is given up.
     pub fn close(&mut self) -> Result<Effects, Refused>
         ensures refusal { IsRefusedAs Closes self.old result }
-        ensures follows { IfOk result (λ effects. Follows (after_call Closes) self.old effects self.new) }
+        ensures follows { IfOk result
+            (λ effects. Follows (after_call Closes) self.old effects self.new) }
         ensures refused { OnErr result (self.new ≡ self.old) }
         ensures sapi { sapi_of self.new ≡ sapi_of self.old }
         ensures channel { channel_of self.new ≡ channel_of self.old }
@@ -154,7 +158,8 @@ impl End {
     /// The timer T200 has run out.
     pub fn timer(&mut self) -> Result<Effects, Refused>
         ensures refusal { IsRefusedAs Ticks self.old result }
-        ensures follows { IfOk result (λ effects. Follows (after_call Ticks) self.old effects self.new) }
+        ensures follows { IfOk result
+            (λ effects. Follows (after_call Ticks) self.old effects self.new) }
         ensures refused { OnErr result (self.new ≡ self.old) }
         ensures sapi { sapi_of self.new ≡ sapi_of self.old }
         ensures channel { channel_of self.new ≡ channel_of self.old }
@@ -176,7 +181,8 @@ impl End {
 
     // Why a frame has no room for this, or needs more.
     fn frame_refusal(&self, message: &[u8]) -> Option<Refused>
-        ensures refusal { (e : EndState) → Stands self.now e → result ≡ first_of (frame_refusals message.now e) }
+        ensures refusal { (e : EndState) → Stands self.now e
+            → result ≡ first_of (frame_refusals message.now e) }
         ensures fits { IfNone result (length message.now ≤ n201 (channel_of self.now)) }
     {
         if message.is_empty() {
@@ -191,6 +197,7 @@ impl End {
     fn begin(&mut self, info: &[u8]) -> Effects
         requires idle { state_of self.old ≡ S.Idle }
         requires fits { length info.now ≤ n201 (channel_of self.old) }
+        requires bare { sapi_of self.old ≡ Sapi.Three → info.now ≡ [] }
         ensures follows { Follows (begins info.now) self.old result self.new }
         ensures sapi { sapi_of self.new ≡ sapi_of self.old }
         ensures channel { channel_of self.new ≡ channel_of self.old }
@@ -202,7 +209,8 @@ impl End {
     }
 
     fn sabm(&self) -> Effects
-        ensures frames { (e : EndState) → Stands self.now e → result.frames ≡ octets_of e.channel (sabm e) ∷ [] }
+        ensures frames { (e : EndState) → Stands self.now e
+            → result.frames ≡ octets_of e.channel (sabm e) ∷ [] }
         ensures notices { result.notices ≡ [] }
     {
         let body = Body::Sabm {
@@ -213,14 +221,15 @@ impl End {
     }
 
     fn disc(&self) -> Effects
-        ensures frames { (e : EndState) → Stands self.now e → result.frames ≡ octets_of e.channel (disc e) ∷ [] }
+        ensures frames { (e : EndState) → Stands self.now e
+            → result.frames ≡ octets_of e.channel (disc e) ∷ [] }
         ensures notices { result.notices ≡ [] }
     {
         self.link.only_command(Body::Disc { p: true })
     }
 
     fn close_with(&mut self, reason: Reason) -> Effects
-        ensures follows { Follows (closes reason) self.old result self.new }
+        ensures follows { Follows (becomes_closed reason) self.old result self.new }
         ensures sapi { sapi_of self.new ≡ sapi_of self.old }
         ensures channel { channel_of self.new ≡ channel_of self.old }
     {
@@ -235,7 +244,7 @@ impl End {
         ensures sapi { sapi_of self.new ≡ sapi_of self.old }
         ensures channel { channel_of self.new ≡ channel_of self.old }
     {
-        if self.retries >= MOST_RETRIES {
+        if self.retries >= n200(self.link.channel, State::Opening) {
             return self.close_with(Reason::Failed);
         }
         self.retries += 1;
@@ -248,7 +257,7 @@ impl End {
         ensures sapi { sapi_of self.new ≡ sapi_of self.old }
         ensures channel { channel_of self.new ≡ channel_of self.old }
     {
-        if self.retries >= MOST_RETRIES {
+        if self.retries >= n200(self.link.channel, State::Closing) {
             return self.close_with(Reason::Failed);
         }
         self.retries += 1;
@@ -263,14 +272,14 @@ impl End {
         ensures sapi { sapi_of self.new ≡ sapi_of self.old }
         ensures channel { channel_of self.new ≡ channel_of self.old }
     {
-        if !self.window.on_reject() {
-            return Err(Refused::NotRunning);
+        match self.window.on_timer() {
+            Timer::NotRunning => Err(Refused::NotRunning),
+            Timer::Spent => Ok(self.close_with(Reason::Failed)),
+            Timer::Again => {
+                let mut effects = no_effects();
+                self.link.send_waiting(true, &self.window, &mut effects);
+                Ok(effects)
+            }
         }
-        if self.window.on_timer() != Timer::Again {
-            return Ok(self.close_with(Reason::Failed));
-        }
-        let mut effects = no_effects();
-        self.link.send_waiting(true, &self.window, &mut effects);
-        Ok(effects)
     }
 }

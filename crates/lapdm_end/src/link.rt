@@ -54,7 +54,8 @@ impl Link {
         requires numbers { NumbersFit (content_of body) }
         requires information { InformationFits self.channel (content_of body) }
         requires room { length effects.old.frames < 2 }
-        ensures frames { effects.new.frames ≡ effects.old.frames ++ octets_of self.channel (framed self cr (content_of body.entry)) ∷ [] }
+        ensures frames { effects.new.frames ≡ effects.old.frames
+            ++ octets_of self.channel (framed self cr (content_of body.entry)) ∷ [] }
         ensures notices { effects.new.notices ≡ effects.old.notices }
     {
         let sapi = self.sapi_number();
@@ -66,7 +67,8 @@ impl Link {
         requires numbers { NumbersFit (content_of body) }
         requires information { InformationFits self.channel (content_of body) }
         requires room { length effects.old.frames < 2 }
-        ensures frames { effects.new.frames ≡ effects.old.frames ++ octets_of self.channel (command_by self (content_of body.entry)) ∷ [] }
+        ensures frames { effects.new.frames ≡ effects.old.frames
+            ++ octets_of self.channel (command_by self (content_of body.entry)) ∷ [] }
         ensures notices { effects.new.notices ≡ effects.old.notices }
     {
         self.send(self.command_cr(), body, effects);
@@ -76,7 +78,8 @@ impl Link {
         requires numbers { NumbersFit (content_of body) }
         requires information { InformationFits self.channel (content_of body) }
         requires room { length effects.old.frames < 2 }
-        ensures frames { effects.new.frames ≡ effects.old.frames ++ octets_of self.channel (response_by self (content_of body.entry)) ∷ [] }
+        ensures frames { effects.new.frames ≡ effects.old.frames
+            ++ octets_of self.channel (response_by self (content_of body.entry)) ∷ [] }
         ensures notices { effects.new.notices ≡ effects.old.notices }
     {
         self.send(!self.command_cr(), body, effects);
@@ -86,7 +89,8 @@ impl Link {
     pub(crate) fn only_command(self, body: Body<'_>) -> Effects
         requires numbers { NumbersFit (content_of body) }
         requires information { InformationFits self.channel (content_of body) }
-        ensures frames { result.frames ≡ octets_of self.channel (command_by self (content_of body.entry)) ∷ [] }
+        ensures frames { result.frames
+            ≡ octets_of self.channel (command_by self (content_of body.entry)) ∷ [] }
         ensures notices { result.notices ≡ [] }
     {
         let mut effects = no_effects();
@@ -96,7 +100,8 @@ impl Link {
 
     // The fill frame.
     pub(crate) fn fill(self) -> Effects
-        ensures frames { result.frames ≡ octets_of self.channel (fill (command_cr (role_of self.role))) ∷ [] }
+        ensures frames { result.frames
+            ≡ octets_of self.channel (fill (command_cr (role_of self.role))) ∷ [] }
         ensures notices { result.notices ≡ [] }
     {
         let mut effects = no_effects();

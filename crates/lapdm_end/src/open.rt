@@ -1,6 +1,6 @@
 //! The rules of Open, over the window and the effects.
 
-ghost use Rattle.std.specs.Prelude.{◌≡◌, ◌+◌, ◌≤◌, ◌++◌, Bool, length};
+ghost use Rattle.std.specs.Prelude.{◌≡◌, ◌+◌, ◌≤◌, [], ◌++◌, Bool, length};
 ghost use Rattle.lapdm_frame.specs.Layout.{n201};
 ghost use Rattle.segmenting.specs.Joining.{latest};
 ghost use Rattle.lapdm_window.specs.Ends.{EndState};
@@ -33,14 +33,15 @@ fn report(joined: Joined, more: bool, window: &Window, effects: &mut Effects)
 }
 
 impl Link {
-    ghost use Rattle.lapdm_end.specs.Windows.{Obeys, sends_waiting, says_rej, refuses_piece, takes_piece};
+    ghost use Rattle.lapdm_end.specs.Windows.{ObeysInOpen, sends_waiting, says_rej, refuses_piece, takes_piece};
 
     // Sends the piece that waits, if one does.
     pub(crate) fn send_waiting(self, p: bool, window: &Window, effects: &mut Effects)
         requires channel { channel_of window.now ≡ self.channel }
         requires room { length effects.old.frames ≤ 1 }
         ensures most { length effects.new.frames ≤ length effects.old.frames + 1 }
-        ensures follows { Obeys (sends_waiting p) self window.now window.now effects.old effects.new }
+        ensures follows { ObeysInOpen (sends_waiting p) self window.now window.now
+            effects.old effects.new }
     {
         let Some(piece) = window.waiting() else {
             return;
@@ -60,7 +61,8 @@ impl Link {
         requires room { length effects.old.frames ≤ 1 }
         ensures channel { channel_of window.new ≡ channel_of window.old }
         ensures most { length effects.new.frames ≤ length effects.old.frames + 1 }
-        ensures follows { Obeys sends_next self window.old window.new effects.old effects.new }
+        ensures follows { ObeysInOpen sends_next self window.old window.new
+            effects.old effects.new }
     {
         if !window.send_next() {
             return;
@@ -75,7 +77,8 @@ impl Link {
         ensures channel { channel_of window.new ≡ channel_of window.old }
         ensures frames { effects.new.frames ≡ effects.old.frames }
         ensures most { length effects.new.notices ≤ length effects.old.notices + 1 }
-        ensures follows { Obeys (counts nr) self window.old window.new effects.old effects.new }
+        ensures follows { ObeysInOpen (counts nr) self window.old window.new
+            effects.old effects.new }
     {
         match window.on_ack(nr) {
             Acked::Nothing | Acked::Piece => {}
@@ -86,7 +89,8 @@ impl Link {
     fn say_rr(self, f: bool, window: &Window, effects: &mut Effects)
         requires room { length effects.old.frames ≤ 1 }
         ensures most { length effects.new.frames ≤ length effects.old.frames + 1 }
-        ensures follows { Obeys (says_rr f) self window.now window.now effects.old effects.new }
+        ensures follows { ObeysInOpen (says_rr f) self window.now window.now
+            effects.old effects.new }
     {
         let nr = window.vr();
         self.respond(Body::Rr { nr, pf: f }, effects);
@@ -95,9 +99,10 @@ impl Link {
     // Answers a piece that was accepted.
     fn answer_piece(self, p: bool, window: &mut Window, effects: &mut Effects)
         requires channel { channel_of window.old ≡ self.channel }
-        requires room { length effects.old.frames ≤ 0 }
+        requires room { effects.old.frames ≡ [] }
         ensures channel { channel_of window.new ≡ channel_of window.old }
-        ensures follows { Obeys (answers_piece p) self window.old window.new effects.old effects.new }
+        ensures follows { ObeysInOpen (answers_piece p) self window.old window.new
+            effects.old effects.new }
     {
         if p {
             self.say_rr(true, window, effects);
@@ -114,7 +119,8 @@ impl Link {
     fn say_rej(self, due: bool, p: bool, window: &Window, effects: &mut Effects)
         requires room { length effects.old.frames ≤ 1 }
         ensures most { length effects.new.frames ≤ length effects.old.frames + 1 }
-        ensures follows { Obeys (says_rej due p) self window.now window.now effects.old effects.new }
+        ensures follows { ObeysInOpen (says_rej due p) self window.now window.now
+            effects.old effects.new }
     {
         if !due {
             return;
@@ -126,9 +132,10 @@ impl Link {
     // Answers a piece out of sequence.
     fn refuse_piece(self, due: bool, p: bool, window: &mut Window, effects: &mut Effects)
         requires channel { channel_of window.old ≡ self.channel }
-        requires room { length effects.old.frames ≤ 0 }
+        requires room { effects.old.frames ≡ [] }
         ensures channel { channel_of window.new ≡ channel_of window.old }
-        ensures follows { Obeys (refuses_piece due p) self window.old window.new effects.old effects.new }
+        ensures follows { ObeysInOpen (refuses_piece due p) self window.old window.new
+            effects.old effects.new }
     {
         self.say_rej(due, p, window, effects);
         self.send_next(window, effects);
@@ -137,7 +144,8 @@ impl Link {
     fn answer_poll(self, poll: bool, window: &Window, effects: &mut Effects)
         requires room { length effects.old.frames ≤ 1 }
         ensures most { length effects.new.frames ≤ length effects.old.frames + 1 }
-        ensures follows { Obeys (answers_poll poll) self window.now window.now effects.old effects.new }
+        ensures follows { ObeysInOpen (answers_poll poll) self window.now window.now
+            effects.old effects.new }
     {
         if !poll {
             return;
@@ -150,7 +158,8 @@ impl Link {
         requires channel { channel_of window.old ≡ self.channel }
         requires room { length effects.old.frames ≤ 1 }
         ensures channel { channel_of window.new ≡ channel_of window.old }
-        ensures follows { Obeys sends_again self window.old window.new effects.old effects.new }
+        ensures follows { ObeysInOpen sends_again self window.old window.new
+            effects.old effects.new }
     {
         if window.on_reject() {
             self.send_waiting(false, window, effects);
@@ -162,10 +171,11 @@ impl Link {
     pub(crate) fn take_rr(self, nr: u8, poll: bool, window: &mut Window, effects: &mut Effects)
         requires number { nr ≤ 7 }
         requires channel { channel_of window.old ≡ self.channel }
-        requires no_frames { length effects.old.frames ≤ 0 }
-        requires no_notices { length effects.old.notices ≤ 0 }
+        requires no_frames { effects.old.frames ≡ [] }
+        requires no_notices { effects.old.notices ≡ [] }
         ensures channel { channel_of window.new ≡ channel_of window.old }
-        ensures follows { Obeys (takes_rr nr poll) self window.old window.new effects.old effects.new }
+        ensures follows { ObeysInOpen (takes_rr nr poll) self window.old window.new
+            effects.old effects.new }
     {
         self.count(nr, window, effects);
         self.answer_poll(poll, window, effects);
@@ -175,10 +185,11 @@ impl Link {
     pub(crate) fn take_rej(self, nr: u8, poll: bool, window: &mut Window, effects: &mut Effects)
         requires number { nr ≤ 7 }
         requires channel { channel_of window.old ≡ self.channel }
-        requires no_frames { length effects.old.frames ≤ 0 }
-        requires no_notices { length effects.old.notices ≤ 0 }
+        requires no_frames { effects.old.frames ≡ [] }
+        requires no_notices { effects.old.notices ≡ [] }
         ensures channel { channel_of window.new ≡ channel_of window.old }
-        ensures follows { Obeys (takes_rej nr poll) self window.old window.new effects.old effects.new }
+        ensures follows { ObeysInOpen (takes_rej nr poll) self window.old window.new
+            effects.old effects.new }
     {
         self.count(nr, window, effects);
         self.answer_poll(poll, window, effects);
@@ -198,10 +209,11 @@ impl Link {
         requires some { 1 ≤ length piece.octets.now }
         requires size { length piece.octets.now ≤ n201 self.channel }
         requires channel { channel_of window.old ≡ self.channel }
-        requires no_frames { length effects.old.frames ≤ 0 }
+        requires no_frames { effects.old.frames ≡ [] }
         requires room { length effects.old.notices ≤ 1 }
         ensures channel { channel_of window.new ≡ channel_of window.old }
-        ensures follows { Obeys (takes_piece ns p (piece.entry.octets.now, piece.entry.more)) self window.old window.new effects.old effects.new }
+        ensures follows { ObeysInOpen (takes_piece ns p (piece.entry.octets.now, piece.entry.more))
+            self window.old window.new effects.old effects.new }
     {
         match window.on_info(ns, p, piece.octets, piece.more) {
             Info::Accepted(joined) => {
@@ -226,10 +238,11 @@ impl Link {
         requires some { 1 ≤ length piece.octets.now }
         requires size { length piece.octets.now ≤ n201 self.channel }
         requires channel { channel_of window.old ≡ self.channel }
-        requires no_frames { length effects.old.frames ≤ 0 }
-        requires no_notices { length effects.old.notices ≤ 0 }
+        requires no_frames { effects.old.frames ≡ [] }
+        requires no_notices { effects.old.notices ≡ [] }
         ensures channel { channel_of window.new ≡ channel_of window.old }
-        ensures follows { Obeys (takes_i ns nr p (piece.entry.octets.now, piece.entry.more)) self window.old window.new effects.old effects.new }
+        ensures follows { ObeysInOpen (takes_i ns nr p (piece.entry.octets.now, piece.entry.more))
+            self window.old window.new effects.old effects.new }
     {
         self.count(nr, window, effects);
         self.take_piece(ns, p, piece, window, effects);

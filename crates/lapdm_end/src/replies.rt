@@ -1,12 +1,11 @@
 //! What an end does with a frame that leaves its window as it is.
 
 ghost use Rattle.std.specs.Prelude.{◌≡◌};
-ghost use Rattle.lapdm_frame.specs.declared.Channel.{Channel};
 ghost use Rattle.lapdm_frame.specs.Content.{content_of};
 ghost use Rattle.lapdm_frame.specs.Frames.{InformationFits};
-ghost use Rattle.lapdm_window.specs.declared.State.{State};
 ghost use Rattle.lapdm_window.specs.Ends.{EndState};
 ghost use Rattle.lapdm_window.specs.Tables.{is_taken, is_poll, dm_to_poll};
+ghost use Rattle.lapdm_end.specs.declared.ends.End.{End as LinkEnd};
 ghost use Rattle.lapdm_end.specs.Replies.{outcome_of, IsReady};
 
 use crate::Role;
@@ -58,7 +57,7 @@ pub(crate) fn is_poll(command: bool, body: &Body<'_>) -> bool
 
 fn dm_if<'a>(poll: bool) -> Reply<'a>
     ensures reply { (e : EndState) → dm_to_poll poll e ≡ outcome_of result e }
-    ensures ready { (channel : Channel) (state : State) → IsReady channel state result }
+    ensures ready { (m : LinkEnd) → IsReady m result }
 {
     if poll { Reply::Dm } else { Reply::Nothing }
 }
@@ -82,8 +81,9 @@ impl End {
     fn to_sabm_in_idle<'a>(&self, info: &'a [u8]) -> Reply<'a>
         requires idle { state_of self.now ≡ S.Idle }
         requires information { length info.now ≤ n201 (channel_of self.now) }
-        ensures reply { (e : EndState) → Stands self.now e → sabm_in_idle e.sapi e.role info.now e ≡ outcome_of result e }
-        ensures ready { IsReady (channel_of self.now) (state_of self.now) result }
+        ensures reply { (e : EndState) → Stands self.now e
+            → sabm_in_idle e.sapi e.role info.now e ≡ outcome_of result e }
+        ensures ready { IsReady self.now result }
     {
         match (self.link.sapi, self.link.role) {
             (Sapi::Zero, Role::Mobile) => Reply::Dm,
@@ -107,8 +107,9 @@ impl End {
     pub(crate) fn in_idle<'a>(&self, poll: bool, body: &Body<'a>) -> Reply<'a>
         requires idle { state_of self.now ≡ S.Idle }
         requires information { InformationFits (channel_of self.now) (content_of body.now) }
-        ensures reply { (e : EndState) → Stands self.now e → in_idle poll (content_of body.now) e ≡ outcome_of result e }
-        ensures ready { IsReady (channel_of self.now) (state_of self.now) result }
+        ensures reply { (e : EndState) → Stands self.now e
+            → in_idle poll (content_of body.now) e ≡ outcome_of result e }
+        ensures ready { IsReady self.now result }
     {
         match *body {
             Body::Sabm { info, .. } => self.to_sabm_in_idle(info),
@@ -125,8 +126,9 @@ impl End {
 
     fn to_sabm_in_opening<'a>(&self, info: &'a [u8]) -> Reply<'a>
         requires information { length info.now ≤ n201 (channel_of self.now) }
-        ensures reply { (e : EndState) → Stands self.now e → sabm_in_opening e.sapi info.now e ≡ outcome_of result e }
-        ensures ready { IsReady (channel_of self.now) (state_of self.now) result }
+        ensures reply { (e : EndState) → Stands self.now e
+            → sabm_in_opening e.sapi info.now e ≡ outcome_of result e }
+        ensures ready { IsReady self.now result }
     {
         match self.link.sapi {
             Sapi::Zero => Reply::Nothing,
@@ -144,8 +146,9 @@ impl End {
     fn to_ua_in_opening<'a>(&self, info: &'a [u8]) -> Reply<'a>
         requires opening { state_of self.now ≡ S.Opening }
         requires information { length info.now ≤ n201 (channel_of self.now) }
-        ensures reply { (e : EndState) → Stands self.now e → ua_in_opening info.now e ≡ outcome_of result e }
-        ensures ready { IsReady (channel_of self.now) (state_of self.now) result }
+        ensures reply { (e : EndState) → Stands self.now e
+            → ua_in_opening info.now e ≡ outcome_of result e }
+        ensures ready { IsReady self.now result }
     {
         if self.is_kept(info) {
             return Reply::Opened(info);
@@ -159,8 +162,9 @@ impl End {
     pub(crate) fn in_opening<'a>(&self, body: &Body<'a>) -> Reply<'a>
         requires opening { state_of self.now ≡ S.Opening }
         requires information { InformationFits (channel_of self.now) (content_of body.now) }
-        ensures reply { (e : EndState) → Stands self.now e → in_opening (content_of body.now) e ≡ outcome_of result e }
-        ensures ready { IsReady (channel_of self.now) (state_of self.now) result }
+        ensures reply { (e : EndState) → Stands self.now e
+            → in_opening (content_of body.now) e ≡ outcome_of result e }
+        ensures ready { IsReady self.now result }
     {
         match *body {
             Body::Sabm { info, .. } => self.to_sabm_in_opening(info),
@@ -179,8 +183,9 @@ impl End {
 
     pub(crate) fn to_sabm_in_open<'a>(&self, info: &'a [u8]) -> Reply<'a>
         requires information { length info.now ≤ n201 (channel_of self.now) }
-        ensures reply { (e : EndState) → Stands self.now e → sabm_in_open info.now e ≡ outcome_of result e }
-        ensures ready { IsReady (channel_of self.now) (state_of self.now) result }
+        ensures reply { (e : EndState) → Stands self.now e
+            → sabm_in_open info.now e ≡ outcome_of result e }
+        ensures ready { IsReady self.now result }
     {
         if let (Sapi::Zero, Role::Mobile) = (self.link.sapi, self.link.role) {
             return Reply::Nothing;
@@ -194,7 +199,7 @@ impl End {
 
     pub(crate) fn in_closing<'a>(&self, body: &Body<'a>) -> Reply<'a>
         ensures reply { (e : EndState) → in_closing (content_of body.now) e ≡ outcome_of result e }
-        ensures ready { IsReady (channel_of self.now) (state_of self.now) result }
+        ensures ready { IsReady self.now result }
     {
         match *body {
             Body::Ua { f: true, info } => {
@@ -218,8 +223,9 @@ impl End {
     }
 
     pub(crate) fn in_closed<'a>(&self, poll: bool, body: &Body<'a>) -> Reply<'a>
-        ensures reply { (e : EndState) → in_closed poll (content_of body.now) e ≡ outcome_of result e }
-        ensures ready { IsReady (channel_of self.now) (state_of self.now) result }
+        ensures reply { (e : EndState)
+            → in_closed poll (content_of body.now) e ≡ outcome_of result e }
+        ensures ready { IsReady self.now result }
     {
         match *body {
             Body::Sabm { .. } | Body::Disc { .. } => Reply::Dm,

@@ -1,12 +1,12 @@
 //! The frames that an end takes.
 
 ghost use Rattle.std.specs.Prelude.{◌≡◌, ◌≤◌, [], ◌∷◌, ◌++◌, length};
-ghost use Rattle.lapdm_frame.specs.Layout.{n201};
+ghost use Rattle.lapdm_frame.specs.Layout.{n201, most_information};
 ghost use Rattle.lapdm_frame.specs.Content.{content_of, frame_of};
 ghost use Rattle.lapdm_frame.specs.Frames.{NumbersFit, InformationFits, Fits, octets_of};
 ghost use Rattle.lapdm_window.specs.declared.State.TheVariants as S;
 ghost use Rattle.lapdm_window.specs.Ends.{EndState, response};
-ghost use Rattle.lapdm_window.specs.Tables.{opens, closes, opened_by, in_open, in_state, after_content, after_frame};
+ghost use Rattle.lapdm_window.specs.Tables.{becomes_open, becomes_closed, opened_by, in_open, in_state, after_content, after_frame};
 ghost use Rattle.lapdm_end.specs.Units.{unit_notices};
 
 use crate::ends::End;
@@ -18,8 +18,8 @@ use segmenting::Piece;
 
 // A unit with information is reported.
 fn take_unit(info: &[u8], effects: &mut Effects)
-    requires information { length info.now ≤ 20 }
-    requires no_notices { length effects.old.notices ≤ 0 }
+    requires information { length info.now ≤ most_information }
+    requires no_notices { effects.old.notices ≡ [] }
     ensures frames { effects.new.frames ≡ effects.old.frames }
     ensures notices { effects.new.notices ≡ effects.old.notices ++ unit_notices info.now }
 {
@@ -31,7 +31,7 @@ fn take_unit(info: &[u8], effects: &mut Effects)
 
 impl End {
     ghost use Rattle.lapdm_end.specs.declared.replies.Reply.TheVariants.{Released};
-    ghost use Rattle.lapdm_end.specs.Replies.{outcome_of, IsReady};
+    ghost use Rattle.lapdm_end.specs.Replies.{outcome_of, IsReady, MayBeOpenedBy};
     ghost use Rattle.lapdm_end.specs.Standing.{Stands, channel_of, sapi_of, state_of};
     ghost use Rattle.lapdm_end.specs.Following.{Follows, Obeys};
 
@@ -54,9 +54,10 @@ impl End {
     fn take_content(&mut self, command: bool, body: &Body<'_>, effects: &mut Effects)
         requires numbers { NumbersFit (content_of body.now) }
         requires information { InformationFits (channel_of self.old) (content_of body.now) }
-        requires no_frames { length effects.old.frames ≤ 0 }
-        requires no_notices { length effects.old.notices ≤ 0 }
-        ensures follows { Obeys (after_content command (content_of body.now)) self.old self.new effects.old effects.new }
+        requires no_frames { effects.old.frames ≡ [] }
+        requires no_notices { effects.old.notices ≡ [] }
+        ensures follows { Obeys (after_content command (content_of body.now)) self.old self.new
+            effects.old effects.new }
         ensures sapi { sapi_of self.new ≡ sapi_of self.old }
         ensures channel { channel_of self.new ≡ channel_of self.old }
     {
@@ -70,9 +71,10 @@ impl End {
     fn take_in_state(&mut self, command: bool, body: &Body<'_>, effects: &mut Effects)
         requires numbers { NumbersFit (content_of body.now) }
         requires information { InformationFits (channel_of self.old) (content_of body.now) }
-        requires no_frames { length effects.old.frames ≤ 0 }
-        requires no_notices { length effects.old.notices ≤ 0 }
-        ensures follows { Obeys (λ e. in_state e.state command (content_of body.now) e) self.old self.new effects.old effects.new }
+        requires no_frames { effects.old.frames ≡ [] }
+        requires no_notices { effects.old.notices ≡ [] }
+        ensures follows { Obeys (λ e. in_state e.state command (content_of body.now) e)
+            self.old self.new effects.old effects.new }
         ensures sapi { sapi_of self.new ≡ sapi_of self.old }
         ensures channel { channel_of self.new ≡ channel_of self.old }
     {
@@ -101,9 +103,10 @@ impl End {
         requires open { state_of self.old ≡ S.Open }
         requires numbers { NumbersFit (content_of body.now) }
         requires information { InformationFits (channel_of self.old) (content_of body.now) }
-        requires no_frames { length effects.old.frames ≤ 0 }
-        requires no_notices { length effects.old.notices ≤ 0 }
-        ensures follows { Obeys (in_open command (content_of body.now)) self.old self.new effects.old effects.new }
+        requires no_frames { effects.old.frames ≡ [] }
+        requires no_notices { effects.old.notices ≡ [] }
+        ensures follows { Obeys (in_open command (content_of body.now)) self.old self.new
+            effects.old effects.new }
         ensures sapi { sapi_of self.new ≡ sapi_of self.old }
         ensures channel { channel_of self.new ≡ channel_of self.old }
     {
@@ -138,9 +141,9 @@ impl End {
     }
 
     fn carry_out(&mut self, reply: Reply<'_>, effects: &mut Effects)
-        requires ready { IsReady (channel_of self.old) (state_of self.old) reply }
-        requires no_frames { length effects.old.frames ≤ 0 }
-        requires no_notices { length effects.old.notices ≤ 0 }
+        requires ready { IsReady self.old reply }
+        requires no_frames { effects.old.frames ≡ [] }
+        requires no_notices { effects.old.notices ≡ [] }
         ensures follows { Obeys (outcome_of reply.entry) self.old self.new effects.old effects.new }
         ensures sapi { sapi_of self.new ≡ sapi_of self.old }
         ensures channel { channel_of self.new ≡ channel_of self.old }
@@ -160,8 +163,10 @@ impl End {
     fn answer(&self, body: Body<'_>, effects: &mut Effects)
         requires numbers { NumbersFit (content_of body) }
         requires information { InformationFits (channel_of self.now) (content_of body) }
-        requires no_frames { length effects.old.frames ≤ 0 }
-        ensures frames { (e : EndState) → Stands self.now e → effects.new.frames ≡ effects.old.frames ++ octets_of (channel_of self.now) (response e (content_of body.entry)) ∷ [] }
+        requires no_frames { effects.old.frames ≡ [] }
+        ensures frames { (e : EndState) → Stands self.now e
+            → effects.new.frames ≡ effects.old.frames
+            ++ octets_of (channel_of self.now) (response e (content_of body.entry)) ∷ [] }
         ensures notices { effects.new.notices ≡ effects.old.notices }
     {
         self.link.respond(body, effects);
@@ -169,10 +174,9 @@ impl End {
 
     // The other end opens the link.
     fn be_opened(&mut self, info: &[u8], effects: &mut Effects)
-        requires idle { state_of self.old ≡ S.Idle }
-        requires information { length info.now ≤ n201 (channel_of self.old) }
-        requires no_frames { length effects.old.frames ≤ 0 }
-        requires no_notices { length effects.old.notices ≤ 0 }
+        requires may { MayBeOpenedBy self.old info.now }
+        requires no_frames { effects.old.frames ≡ [] }
+        requires no_notices { effects.old.notices ≡ [] }
         ensures follows { Obeys (opened_by info.now) self.old self.new effects.old effects.new }
         ensures sapi { sapi_of self.new ≡ sapi_of self.old }
         ensures channel { channel_of self.new ≡ channel_of self.old }
@@ -187,8 +191,8 @@ impl End {
     fn go_open(&mut self, info: &[u8], effects: &mut Effects)
         requires opening { state_of self.old ≡ S.Opening }
         requires information { length info.now ≤ n201 (channel_of self.old) }
-        requires no_notices { length effects.old.notices ≤ 0 }
-        ensures follows { Obeys (opens info.now) self.old self.new effects.old effects.new }
+        requires no_notices { effects.old.notices ≡ [] }
+        ensures follows { Obeys (becomes_open info.now) self.old self.new effects.old effects.new }
         ensures sapi { sapi_of self.new ≡ sapi_of self.old }
         ensures channel { channel_of self.new ≡ channel_of self.old }
     {
@@ -197,9 +201,9 @@ impl End {
     }
 
     pub(crate) fn end_with(&mut self, reason: Reason, effects: &mut Effects)
-        requires no_notices { length effects.old.notices ≤ 0 }
+        requires no_notices { effects.old.notices ≡ [] }
         ensures frames { effects.new.frames ≡ effects.old.frames }
-        ensures follows { Obeys (closes reason) self.old self.new effects.old effects.new }
+        ensures follows { Obeys (becomes_closed reason) self.old self.new effects.old effects.new }
         ensures sapi { sapi_of self.new ≡ sapi_of self.old }
         ensures channel { channel_of self.new ≡ channel_of self.old }
     {
@@ -209,8 +213,8 @@ impl End {
 
     // The other end closes the link.
     fn be_released(&mut self, effects: &mut Effects)
-        requires no_frames { length effects.old.frames ≤ 0 }
-        requires no_notices { length effects.old.notices ≤ 0 }
+        requires no_frames { effects.old.frames ≡ [] }
+        requires no_notices { effects.old.notices ≡ [] }
         ensures follows { Obeys (outcome_of Released) self.old self.new effects.old effects.new }
         ensures sapi { sapi_of self.new ≡ sapi_of self.old }
         ensures channel { channel_of self.new ≡ channel_of self.old }

@@ -16,7 +16,8 @@ use Rattle.lapdm_frame.proofs.Uniqueness.{information_bound, only_frame}
 information_at : (o : List ℕ) (start n k : ℕ) → k < n → get_or (slice_range o start (start + n)) k 0 ≡ get_or o (start + k) 0
 information_at o start n k below = let within : k < start + n - start = omega arith in rw (get_or-take, get_or-drop)
 
-same_information : (channel : Channel) (f : Frame) (o p : List ℕ) → IsFrame channel f o → IsFrame channel f p → (k : ℕ) → header channel + 3 ≤ k → k < header channel + 3 + length (information f.content) → get_or o k 0 ≡ get_or p k 0
+same_information : (channel : Channel) (f : Frame) (o p : List ℕ) → IsFrame channel f o → IsFrame channel f p → (k : ℕ) →
+    header channel + 3 ≤ k → k < header channel + 3 + length (information f.content) → get_or o k 0 ≡ get_or p k 0
 same_information channel f o p is_o is_p k low high =
     let start = header channel + 3 in
     let n = length (information f.content) in
@@ -28,7 +29,8 @@ same_information channel f o p is_o is_p k low high =
     let slices = is_o.at_information ∙ sym is_p.at_information in
     rw there at (sym of_o ∙ ap (λ xs. get_or xs i 0) slices ∙ of_p)
 
-same_octet : (channel : Channel) (f : Frame) (o p : List ℕ) → IsCanonical channel f o → IsCanonical channel f p → (k : ℕ) → k < length o → get_or o k 0 ≡ get_or p k 0
+same_octet : (channel : Channel) (f : Frame) (o p : List ℕ) → IsCanonical channel f o → IsCanonical channel f p → (k : ℕ) → k < length o →
+    get_or o k 0 ≡ get_or p k 0
 same_octet channel f o p is_o is_p k within =
     let start = header channel in
     elim (cases_lt k start) [
@@ -99,7 +101,8 @@ octets_canonical Sdcch f fits =
           let there : length info ≤ k - 3 = omega arith in
           let within : k - 3 < 20 = omega arith in
           let past : 3 ≤ k = omega arith in
-          past_sdcch (address f) (control f.content) (length_octet f.content) (filled 20 info) k past ∙ filled_after 20 info bound (k - 3) there within;
+          past_sdcch (address f) (control f.content) (length_octet f.content) (filled 20 info) k past
+          ∙ filled_after 20 info bound (k - 3) there within;
     }
 octets_canonical Sacch f fits =
     let info = information f.content in
@@ -118,7 +121,8 @@ octets_canonical Sacch f fits =
           let there : length info ≤ k - 5 = omega arith in
           let within : k - 5 < 18 = omega arith in
           let past : 5 ≤ k = omega arith in
-          past_sacch 0 0 (address f) (control f.content) (length_octet f.content) (filled 18 info) k past ∙ filled_after 18 info bound (k - 5) there within;
+          past_sacch 0 0 (address f) (control f.content) (length_octet f.content) (filled 18 info) k past
+          ∙ filled_after 18 info bound (k - 5) there within;
     }
   where
     below_two : (k : ℕ) → k < 2 → get_or (octets_of Sacch f) k 0 ≡ 0
@@ -138,11 +142,14 @@ only_canonical channel f fits =
 
 -- a block of fill into which the parts of a frame are written one after another
 abbrev pub overwritten : (start a k l : ℕ) → (zeros info : List ℕ) → List ℕ
-overwritten start a k l zeros info = put_mid (start + 3) (start + 3 + length info - (start + 3)) (set (set (set (zeros ++ drop start (replicate {A = ℕ} 23 0x2b)) start a) (start + 1) k) (start + 2) l) info
+overwritten start a k l zeros info = put_mid (start + 3) (start + 3 + length info - (start + 3))
+    (set (set (set (zeros ++ drop start (replicate {A = ℕ} 23 0x2b)) start a) (start + 1) k) (start + 2) l) info
 
-fill_left : (size before : ℕ) (info : List ℕ) → drop (before + length info - before) (replicate {A = ℕ} size 0x2b) ≡ replicate (size - length info) 0x2b
+fill_left : (size before : ℕ) (info : List ℕ) → drop (before + length info - before) (replicate {A = ℕ} size 0x2b)
+    ≡ replicate (size - length info) 0x2b
 fill_left size before info = let e : before + length info - before ≡ length info = omega arith in rw (e, drop-replicate)
 
-pub written : (channel : Channel) (a k l : ℕ) (info : List ℕ) → overwritten (header channel) a k l (replicate (header channel) 0) info ≡ replicate (header channel) 0 ++ a ∷ k ∷ l ∷ [] ++ info ++ replicate (n201 channel - length info) 0x2b
+pub written : (channel : Channel) (a k l : ℕ) (info : List ℕ) → overwritten (header channel) a k l (replicate (header channel) 0) info
+    ≡ replicate (header channel) 0 ++ a ∷ k ∷ l ∷ [] ++ info ++ replicate (n201 channel - length info) 0x2b
 written Sdcch a k l info = ap (λ xs. a ∷ k ∷ l ∷ (info ++ xs)) (fill_left 20 3 info)
 written Sacch a k l info = ap (λ xs. 0 ∷ 0 ∷ a ∷ k ∷ l ∷ (info ++ xs)) (fill_left 18 5 info)

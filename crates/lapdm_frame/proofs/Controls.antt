@@ -23,7 +23,8 @@ bit_injective true false e = absurd (omega arith)
 bit_injective true true e = refl
 
 -- two contents with one control octet differ in their information alone
-pub same_control : (octet : ℕ) (a b : Content) → IsControl octet a → IsControl octet b → (goes : Bool) (info : List ℕ) → with_information a goes info ≡ with_information b goes info
+pub same_control : (octet : ℕ) (a b : Content) → IsControl octet a → IsControl octet b → (goes : Bool) (info : List ℕ) →
+    with_information a goes info ≡ with_information b goes info
 same_control octet (I ns nr p more info) (I ns' nr' p' more' info') h h' goes list =
     let sent : ns ≡ ns' = omega (arith, bit_bound p, bit_bound p') in
     let received : nr ≡ nr' = omega (arith, bit_bound p, bit_bound p') in
@@ -60,7 +61,8 @@ with_own_information (Disc p) = refl
 with_own_information (Ua f info) = refl
 
 -- so with the same information they are the same
-pub same_content : (octet : ℕ) (a b : Content) → IsControl octet a → IsControl octet b → goes_on a ≡ goes_on b → information a ≡ information b → a ≡ b
+pub same_content : (octet : ℕ) (a b : Content) → IsControl octet a → IsControl octet b → goes_on a ≡ goes_on b →
+    information a ≡ information b → a ≡ b
 same_content octet a b h h' going informing =
     let own = with_own_information a in
     let other = with_own_information b in

@@ -23,7 +23,9 @@ module _ (k : ℕ) where
   final_is = bit_of (k / 16 % 2) (omega arith)
 
   -- an octet that is of none of these is of no content
-  unknown : k ≢ control (I (k / 2 % 8) (k / 32) final false []) → k ≢ control (Rr (k / 32) final) → k ≢ control (Rnr (k / 32) final) → k ≢ control (Rej (k / 32) final) → k ≢ control (Sabm final []) → k ≢ control (Dm final) → k ≢ control (Ui final []) → k ≢ control (Disc final) → k ≢ control (Ua final []) → (content : Content) → ¬ IsControl k content
+  unknown : k ≢ control (I (k / 2 % 8) (k / 32) final false []) → k ≢ control (Rr (k / 32) final) → k ≢ control (Rnr (k / 32) final) →
+      k ≢ control (Rej (k / 32) final) → k ≢ control (Sabm final []) → k ≢ control (Dm final) → k ≢ control (Ui final []) →
+      k ≢ control (Disc final) → k ≢ control (Ua final []) → (content : Content) → ¬ IsControl k content
   unknown i rr rnr rej sabm dm ui disc ua (I ns nr p more info) is_k = i (omega (arith, final_is, bit_bound p))
   unknown i rr rnr rej sabm dm ui disc ua (Rr nr pf) is_k = rr (omega (arith, final_is, bit_bound pf))
   unknown i rr rnr rej sabm dm ui disc ua (Rnr nr pf) is_k = rnr (omega (arith, final_is, bit_bound pf))
@@ -90,14 +92,16 @@ still_control k (Ui p info') goes info is_k = is_k
 still_control k (Ua f info') goes info is_k = is_k
 still_control k other goes info is_k = is_k
 
-carried : (a : Content) (goes : Bool) (info : List ℕ) → HasNoInformation (with_information a goes info) ⊎ (information (with_information a goes info) ≡ info)
+carried : (a : Content) (goes : Bool) (info : List ℕ) → HasNoInformation (with_information a goes info) ⊎
+    (information (with_information a goes info) ≡ info)
 carried (I ns nr p more info') goes info = inr refl
 carried (Sabm p info') goes info = inr refl
 carried (Ui p info') goes info = inr refl
 carried (Ua f info') goes info = inr refl
 carried other goes info = inl tt
 
-goes_on_with : (a : Content) (goes : Bool) (info : List ℕ) → IsInformationFrame (with_information a goes info) → goes_on (with_information a goes info) ≡ goes
+goes_on_with : (a : Content) (goes : Bool) (info : List ℕ) → IsInformationFrame (with_information a goes info) →
+    goes_on (with_information a goes info) ≡ goes
 goes_on_with (I ns nr p more info') goes info is_i = refl
 goes_on_with other goes info is_i = absurd is_i
 
@@ -130,7 +134,8 @@ module _ (most : ℕ) (content : Content) (octet : ℕ) where
     ]
   ]
 
-  more_known : HasRoom most content octet → (l_of octet ≡ 0 → ¬ IsInformationFrame content) → HasNoLengthFault most content octet ⊎ ((reason : Refusal) × IsLengthFault most content octet reason)
+  more_known : HasRoom most content octet → (l_of octet ≡ 0 → ¬ IsInformationFrame content) →
+      HasNoLengthFault most content octet ⊎ ((reason : Refusal) × IsLengthFault most content octet reason)
   more_known room informs = elim (kind_known content) [
     | inl is_i ↦ inl (record { room = room; informs = informs; more = λ _. is_i })
     | inr other ↦ elim (cases_eq (m_of octet) 1) [
@@ -149,7 +154,8 @@ module _ (most : ℕ) (content : Content) (octet : ℕ) where
   ]
 
 module _ (channel : Channel) (octets : List ℕ) (count : length octets ≡ 23) where
-  of_content : address_in channel octets < 32 → address_in channel octets % 2 ≢ 0 → (found : Content) → IsControl (control_in channel octets) found → HasOneReading channel octets
+  of_content : address_in channel octets < 32 → address_in channel octets % 2 ≢ 0 → (found : Content) →
+      IsControl (control_in channel octets) found → HasOneReading channel octets
   of_content low odd found is_found =
       let octet = length_in channel octets in
       let goes = nat_eq (m_of octet) 1 in
@@ -158,7 +164,15 @@ module _ (channel : Channel) (octets : List ℕ) (count : length octets ≡ 23) 
       let known = still_control (control_in channel octets) found goes info is_found in
       elim (fault_known (n201 channel) content octet) [
         | inl fault ↦
-            let is_frame = frame_found channel octets content (record { count = count; low = low; odd = odd; known = known; fault = fault; carried = carried found goes info; goes_on = goes_on_with found goes info }) in
+            let is_frame = frame_found channel octets content (record {
+              count = count;
+              low = low;
+              odd = odd;
+              known = known;
+              fault = fault;
+              carried = carried found goes info;
+              goes_on = goes_on_with found goes info;
+            }) in
             inl (_, only_frame channel _ octets is_frame)
         | inr (reason, fault) ↦ inr (reason, fault_refuses channel octets content known (past_address channel octets low odd) reason fault)
       ]

@@ -23,7 +23,8 @@ module _ (channel : Channel) (octets : List ℕ) where
   pub none_yet : NoneBefore channel octets 0
   none_yet = record { none = λ reason before. absurd (omega arith) }
 
-  one_more : (n : ℕ) (reason : Refusal) → place reason ≡ n → NoneBefore channel octets n → ¬ AppliesTo channel octets reason → NoneBefore channel octets (n + 1)
+  one_more : (n : ℕ) (reason : Refusal) → place reason ≡ n → NoneBefore channel octets n → ¬ AppliesTo channel octets reason →
+      NoneBefore channel octets (n + 1)
   one_more n reason here passed fails = record {
     none = λ earlier before. elim (cases_lt (place earlier) n) [
       | inl below ↦ passed.none earlier below
@@ -33,7 +34,8 @@ module _ (channel : Channel) (octets : List ℕ) where
     ];
   }
 
-  pub refused : (reason : Refusal) → NoneBefore channel octets (place reason) → AppliesTo channel octets reason → IsOnlyRefusal channel octets reason
+  pub refused : (reason : Refusal) → NoneBefore channel octets (place reason) → AppliesTo channel octets reason →
+      IsOnlyRefusal channel octets reason
   refused reason passed applies = only_refusal channel octets reason (record { applies = applies; first = passed.none })
 
   pub past_lpd : address_in channel octets < 32 → NoneBefore channel octets 1
@@ -53,7 +55,8 @@ module _ (channel : Channel) (octets : List ℕ) where
     ])
 
     -- what is wrong with the length is why the octets are refused
-    pub fault_refuses : (reason : Refusal) → IsLengthFault (n201 channel) content (length_in channel octets) reason → IsOnlyRefusal channel octets reason
+    pub fault_refuses : (reason : Refusal) → IsLengthFault (n201 channel) content (length_in channel octets) reason →
+        IsOnlyRefusal channel octets reason
     fault_refuses El ends = refused El past_control ends
     fault_refuses Length fault = refused Length (one_more 3 El refl past_control fault.0) (elim fault.1 [
       | inl above ↦ inl above
@@ -61,7 +64,8 @@ module _ (channel : Channel) (octets : List ℕ) where
     ])
     fault_refuses Empty fault = refused Empty (past_length fault.0) (fault.1, (content, known, fault.2))
     fault_refuses More fault =
-        let past_empty = one_more 5 Empty refl (past_length fault.0) (λ applies. fault.1 applies.0 (information_frame _ applies.1.0 content applies.1.1 known applies.1.2)) in
+        let past_empty = one_more 5 Empty refl (past_length fault.0)
+        (λ applies. fault.1 applies.0 (information_frame _ applies.1.0 content applies.1.1 known applies.1.2)) in
         refused More past_empty (fault.2, λ (other, is_other, is_i). fault.3 (information_frame _ other content is_other known is_i))
     fault_refuses other fault = absurd fault
 
@@ -70,8 +74,13 @@ bit_of zero below = refl
 bit_of (suc zero) below = refl
 bit_of (suc (suc n)) below = absurd (omega arith)
 
-information_fits : (channel : Channel) (content : Content) → length (information content) ≤ n201 channel → (length (information content) ≡ 0 → ¬ IsInformationFrame content) → InformationFits channel content
-information_fits channel (I ns nr p more info) bound informs = (elim (cases_lt 0 (length info)) [ inl some ↦ some | inr none ↦ absurd (informs (omega arith) tt) ], bound)
+information_fits : (channel : Channel) (content : Content) → length (information content) ≤ n201 channel →
+    (length (information content) ≡ 0 → ¬ IsInformationFrame content) → InformationFits channel content
+information_fits channel (I ns nr p more info) bound informs = (
+  elim
+      (cases_lt 0 (length info)) [ inl some ↦ some | inr none ↦ absurd (informs (omega arith) tt) ],
+  bound,
+)
 information_fits channel other bound informs = bound
 
 pub kind_known : (content : Content) → IsInformationFrame content ⊎ ¬ IsInformationFrame content
@@ -127,13 +136,18 @@ module _ (channel : Channel) (octets : List ℕ) (content : Content) (passes : P
   ]
 
   -- the octets are this frame
-  pub frame_found : IsFrame channel (record { sapi = address_in channel octets / 4; cr = nat_eq (address_in channel octets / 2 % 2) 1; content = content }) octets
+  pub frame_found : IsFrame channel (record {
+    sapi = address_in channel octets / 4;
+    cr = nat_eq (address_in channel octets / 2 % 2) 1;
+    content = content;
+  }) octets
   frame_found = record {
     count = passes.count;
     fits = record {
       sapi = omega (arith, passes.low);
       numbers = passes.known.0;
-      information = information_fits channel content (omega (arith, size_found, passes.fault.room.bound)) (λ e. passes.fault.informs (sym size_found ∙ e));
+      information = information_fits channel content (omega (arith, size_found, passes.fault.room.bound))
+          (λ e. passes.fault.informs (sym size_found ∙ e));
     };
     at_address = omega (arith, passes.odd, bit_of (address_in channel octets / 2 % 2) (omega arith));
     at_control = passes.known.1;

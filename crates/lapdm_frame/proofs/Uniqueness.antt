@@ -12,7 +12,8 @@ use Rattle.lapdm_frame.specs.Refusals.{IsInformationFrame, AppliesTo, place, IsR
 use Rattle.lapdm_frame.specs.Readings.{IsOnlyFrame, IsOnlyRefusal}
 use Rattle.lapdm_frame.proofs.Controls.{bit_bound, bit_injective, same_content, no_information, nothing_informed, information_frame}
 
-same_parts : (s s' : ℕ) (c c' : Bool) (a b : Content) → s ≡ s' → c ≡ c' → a ≡ b → ◌≡◌ {A = Frame} (record { sapi = s; cr = c; content = a }) (record { sapi = s'; cr = c'; content = b })
+same_parts : (s s' : ℕ) (c c' : Bool) (a b : Content) → s ≡ s' → c ≡ c' → a ≡ b →
+    ◌≡◌ {A = Frame} (record { sapi = s; cr = c; content = a }) (record { sapi = s'; cr = c'; content = b })
 same_parts s s' c c' a b e e' e'' = cc
 
 -- octets are one frame at most
@@ -20,17 +21,23 @@ pub same_frame : (channel : Channel) (octets : List ℕ) (f g : Frame) → IsFra
 same_frame channel octets f g is_f is_g =
     let cr : bit f.cr ≡ bit g.cr = omega (arith, is_f.at_address, is_g.at_address, bit_bound f.cr, bit_bound g.cr) in
     let sapi : f.sapi ≡ g.sapi = omega (arith, is_f.at_address, is_g.at_address, bit_bound f.cr, bit_bound g.cr) in
-    let more : bit (goes_on f.content) ≡ bit (goes_on g.content) = omega (arith, is_f.at_length, is_g.at_length, bit_bound (goes_on f.content), bit_bound (goes_on g.content)) in
-    let size : length (information f.content) ≡ length (information g.content) = omega (arith, is_f.at_length, is_g.at_length, bit_bound (goes_on f.content), bit_bound (goes_on g.content)) in
-    let info : information f.content ≡ information g.content = sym is_f.at_information ∙ ap (λ n. slice_range octets (header channel + 3) (header channel + 3 + n)) size ∙ is_g.at_information in
-    let content = same_content (control f.content) f.content g.content (is_f.fits.numbers, refl) (is_g.fits.numbers, sym is_f.at_control ∙ is_g.at_control) (bit_injective _ _ more) info in
+    let more : bit (goes_on f.content) ≡ bit (goes_on g.content) = omega
+    (arith, is_f.at_length, is_g.at_length, bit_bound (goes_on f.content), bit_bound (goes_on g.content)) in
+    let size : length (information f.content) ≡ length (information g.content) = omega
+    (arith, is_f.at_length, is_g.at_length, bit_bound (goes_on f.content), bit_bound (goes_on g.content)) in
+    let info : information f.content ≡ information g.content = sym is_f.at_information ∙ ap
+    (λ n. slice_range octets (header channel + 3) (header channel + 3 + n)) size ∙ is_g.at_information in
+    let content = same_content (control f.content) f.content g.content (is_f.fits.numbers, refl)
+    (is_g.fits.numbers, sym is_f.at_control ∙ is_g.at_control) (bit_injective _ _ more) info in
     same_parts f.sapi g.sapi f.cr g.cr f.content g.content sapi (bit_injective _ _ cr) content
 
-some_information : (channel : Channel) (content : Content) → InformationFits channel content → IsInformationFrame content → 1 ≤ length (information content)
+some_information : (channel : Channel) (content : Content) → InformationFits channel content → IsInformationFrame content →
+    1 ≤ length (information content)
 some_information channel (I ns nr p more info) fits is_i = fits.0
 some_information channel other fits is_i = absurd is_i
 
-pub information_bound : (channel : Channel) (content : Content) → InformationFits channel content → length (information content) ≤ n201 channel
+pub information_bound : (channel : Channel) (content : Content) → InformationFits channel content →
+    length (information content) ≤ n201 channel
 information_bound channel (I ns nr p more info) fits = fits.1
 information_bound channel other fits = fits
 
@@ -39,7 +46,8 @@ not_on (I ns nr p more info) differs = absurd (differs tt)
 not_on other differs = refl
 
 -- no reason applies to a frame
-pub never_refused : (channel : Channel) (octets : List ℕ) (f : Frame) → IsFrame channel f octets → (reason : Refusal) → ¬ AppliesTo channel octets reason
+pub never_refused : (channel : Channel) (octets : List ℕ) (f : Frame) → IsFrame channel f octets → (reason : Refusal) →
+    ¬ AppliesTo channel octets reason
 never_refused channel octets f is_f Lpd applies = omega (arith, is_f.at_address, is_f.fits.sapi, bit_bound f.cr)
 never_refused channel octets f is_f Ea applies = omega (arith, is_f.at_address, bit_bound f.cr)
 never_refused channel octets f is_f Control applies = applies f.content (is_f.fits.numbers, is_f.at_control)
@@ -49,7 +57,8 @@ never_refused channel octets f is_f Length applies =
     elim applies [
       | inl above ↦ omega (arith, is_f.at_length, bit_bound (goes_on f.content))
       | inr (some, (other, is_other, silent)) ↦
-          let none = ap length (nothing_informed f.content (no_information _ other f.content is_other (is_f.fits.numbers, is_f.at_control) silent)) in
+          let none = ap length (nothing_informed f.content (no_information _ other f.content is_other
+          (is_f.fits.numbers, is_f.at_control) silent)) in
           omega (arith, is_f.at_length, bit_bound (goes_on f.content))
     ]
 never_refused channel octets f is_f Empty applies =
@@ -87,7 +96,8 @@ only_frame channel f octets is_f = record {
   unrefused = λ reason refused. never_refused channel octets f is_f reason refused.applies;
 }
 
-pub only_refusal : (channel : Channel) (octets : List ℕ) (reason : Refusal) → IsRefused channel octets reason → IsOnlyRefusal channel octets reason
+pub only_refusal : (channel : Channel) (octets : List ℕ) (reason : Refusal) → IsRefused channel octets reason →
+    IsOnlyRefusal channel octets reason
 only_refusal channel octets reason refused = record {
   refused = refused;
   only = λ other is_other. same_reason channel octets other reason is_other refused;

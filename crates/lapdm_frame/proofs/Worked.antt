@@ -4,7 +4,8 @@ use Rattle.lapdm_frame.specs.declared.Channel.TheVariants.{Sdcch, Sacch}
 use Rattle.lapdm_frame.specs.Content.{I, Rr, fill}
 use Rattle.lapdm_frame.specs.Frames.{octets_of}
 
-numbered : octets_of Sdcch (record { sapi = 0; cr = false; content = I 5 2 true false (0x06 ∷ 0x01 ∷ []) }) ≡ 0x01 ∷ 0x5a ∷ 0x09 ∷ 0x06 ∷ 0x01 ∷ replicate 18 0x2b
+numbered : octets_of Sdcch (record { sapi = 0; cr = false; content = I 5 2 true false (0x06 ∷ 0x01 ∷ []) })
+    ≡ 0x01 ∷ 0x5a ∷ 0x09 ∷ 0x06 ∷ 0x01 ∷ replicate 18 0x2b
 numbered = refl
 
 ready : octets_of Sdcch (record { sapi = 0; cr = true; content = Rr 7 false }) ≡ 0x03 ∷ 0xe1 ∷ 0x01 ∷ replicate 20 0x2b

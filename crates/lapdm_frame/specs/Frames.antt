@@ -26,7 +26,7 @@ control (Ui p info) = 16 * bit p + 3
 control (Disc p) = 16 * bit p + 67
 control (Ua f info) = 16 * bit f + 99
 
--- the length octet (section 3.6): L in bits 8 to 3, M in bit 2, EL = 1
+-- the length octet (section 3.7): L in bits 8 to 3 (3.7.3), M in bit 2 (3.7.2), EL = 1 (3.7.1)
 abbrev pub length_octet : Content → ℕ
 length_octet content = 4 * length (information content) + 2 * bit (goes_on content) + 1
 

@@ -9,10 +9,14 @@ header Sdcch = 0
 header Sacch = 2
 
 -- the most octets of information in a frame (N201, section 5.8.3): what the octets before the address,
--- address, control and length leave of 23; the 18 of SACCH is this project's own choice
+-- address, control and length leave of 23
 abbrev pub n201 : Channel → ℕ
 n201 Sdcch = 20
 n201 Sacch = 18
+
+-- and the most on any channel
+abbrev pub most_information : ℕ
+most_information = n201 Sdcch
 
 -- in a block, the octets of address, control and length
 abbrev pub address_in : Channel → List ℕ → ℕ

@@ -16,7 +16,8 @@ abbrev pub IsLengthFault : ℕ → Content → ℕ → Refusal → Type 0
 IsLengthFault most content octet El = el_of octet ≡ 0
 IsLengthFault most content octet Length = (el_of octet ≢ 0) × ((most < l_of octet) ⊎ ((0 < l_of octet) × HasNoInformation content))
 IsLengthFault most content octet Empty = HasRoom most content octet × (l_of octet ≡ 0) × IsInformationFrame content
-IsLengthFault most content octet More = HasRoom most content octet × (l_of octet ≡ 0 → ¬ IsInformationFrame content) × (m_of octet ≡ 1) × ¬ IsInformationFrame content
+IsLengthFault most content octet More = HasRoom most content octet × (l_of octet ≡ 0 → ¬ IsInformationFrame content) × (m_of octet ≡ 1)
+    × ¬ IsInformationFrame content
 IsLengthFault most content octet other = ⊥
 
 -- none of them applies

@@ -33,4 +33,5 @@ HasOneReading channel octets = ((f : Frame) × IsOnlyFrame channel f octets) ⊎
 
 -- the information is lent from the block itself, behind the length octet
 abbrev pub LiesIn : Channel → Bor (List ℕ) → Body → Type 0
-LiesIn channel block body = IfSome (borrowed body) (λ info. (info.ref_ptr.0 ≡ block.ref_ptr.0) × (info.ref_ptr.1 ≡ block.ref_ptr.1 + header channel + 3))
+LiesIn channel block body = IfSome (borrowed body) (λ info. (info.ref_ptr.0 ≡ block.ref_ptr.0)
+    × (info.ref_ptr.1 ≡ block.ref_ptr.1 + header channel + 3))

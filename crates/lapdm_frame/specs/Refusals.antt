@@ -28,7 +28,7 @@ HasNoInformation other = Unit {0}
 abbrev pub IsControlOf : (Content → Type 0) → ℕ → Type 0
 IsControlOf Kind octet = (content : Content) × IsControl octet content × Kind content
 
--- L, M and EL of a length octet (GSM 04.06, section 3.6)
+-- L, M and EL of a length octet (GSM 04.06, sections 3.7.3, 3.7.2 and 3.7.1)
 abbrev pub l_of : ℕ → ℕ
 l_of octet = octet / 4
 

@@ -8,10 +8,12 @@ ghost use Rattle.lapdm_frame.specs.Readings.{IsOnlyCanonical, HasOneReading};
 
 /// Any 23 octets are exactly one frame, or are refused for exactly one reason, and never both.
 pub fn law_one_reading()
-    ensures { (channel : Channel) (octets : List ℕ) → length octets ≡ 23 → HasOneReading channel octets }
+    ensures { (channel : Channel) (octets : List ℕ) → length octets ≡ 23
+        → HasOneReading channel octets }
 {}
 
 /// Any frame that fits has exactly one canonical list of octets, and they are no other frame.
 pub fn law_one_writing()
-    ensures { (channel : Channel) (f : Frame) → Fits channel f → IsOnlyCanonical channel f (octets_of channel f) }
+    ensures { (channel : Channel) (f : Frame) → Fits channel f
+        → IsOnlyCanonical channel f (octets_of channel f) }
 {}

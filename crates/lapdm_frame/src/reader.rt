@@ -12,9 +12,12 @@ use crate::{Body, Channel, FrameView, Refusal};
 fn body_of<'a>(control: u8, more: bool, info: &'a [u8]) -> Option<Body<'a>>
     ensures known { IfSome result (λ body. IsControl control (content_of body)) }
     ensures unknown { IfNone result ((content : Content) → ¬ IsControl control content) }
-    ensures carried { IfSome result (λ body. HasNoInformation (content_of body) ⊎ (information (content_of body) ≡ info.now)) }
-    ensures lent { IfSome result (λ body. IfSome (borrowed body) (λ part. part.ref_ptr ≡ info.entry.ref_ptr)) }
-    ensures goes_on { IfSome result (λ body. IsInformationFrame (content_of body) → goes_on (content_of body) ≡ more) }
+    ensures carried { IfSome result
+        (λ body. HasNoInformation (content_of body) ⊎ (information (content_of body) ≡ info.now)) }
+    ensures lent { IfSome result
+        (λ body. IfSome (borrowed body) (λ part. part.ref_ptr ≡ info.entry.ref_ptr)) }
+    ensures goes_on { IfSome result
+        (λ body. IsInformationFrame (content_of body) → goes_on (content_of body) ≡ more) }
 {
     let nr = control / 32;
     let pf = control / 16 % 2 == 1;

@@ -1,7 +1,7 @@
 //! Frames to octets.
 
 ghost use Rattle.std.specs.Prelude.{◌≡◌, ◌≤◌, ◌↔◌, IsTrue, length};
-ghost use Rattle.lapdm_frame.specs.Layout.{n201};
+ghost use Rattle.lapdm_frame.specs.Layout.{n201, most_information};
 ghost use Rattle.lapdm_frame.specs.Content.{content_of, frame_of, information, goes_on, fill};
 ghost use Rattle.lapdm_frame.specs.Frames.{address, control, length_octet, NumbersFit, InformationFits, Fits, octets_of};
 ghost use Rattle.lapdm_frame.specs.Readings.{IsOnlyCanonical};
@@ -63,7 +63,7 @@ fn control_of(body: &Body<'_>) -> u8
 
 // The length octet.
 fn length_of(body: &Body<'_>) -> u8
-    requires { length (information (content_of body.now)) ≤ 20 }
+    requires { length (information (content_of body.now)) ≤ most_information }
     ensures { result ≡ length_octet (content_of body.now) }
 {
     let more = matches!(*body, Body::I { more: true, .. });

@@ -1,5 +1,5 @@
 -- Each frame that arrives, and each call, keeps both directions.
-use Rattle.std.proofs.Common.{◌≡◌, refl, sym, ◌∙◌, ap, arith, ℕ, ◌+◌, Bool, true, false, not, ◌&&◌, if◌then◌else◌, nat_eq, nat_lt, List, [], ◌∷◌, length, Option, Some, None}
+use Rattle.std.proofs.Common.{◌≡◌, refl, sym, ◌∙◌, ap, arith, ℕ, ◌+◌, Bool, true, false, not, ◌&&◌, if◌then◌else◌, nat_eq, nat_lt, List, [], ◌∷◌, Option, Some, None}
 use Rattle.std.specs.Str.{bytes_eq}
 use Rattle.std.specs.List.{cons_option}
 use Rattle.std.proofs.lemmas.Bool.{false≢true}
@@ -13,13 +13,12 @@ use Rattle.lapdm_window.specs.declared.State.{State}
 use Rattle.lapdm_window.specs.declared.State.TheVariants.{Idle, Opening, Open, Closing, Closed}
 use Rattle.lapdm_window.specs.declared.Reason.{Reason}
 use Rattle.lapdm_window.specs.declared.Reason.TheVariants as R
-use Rattle.lapdm_window.specs.declared.Refused.{Refused}
 use Rattle.lapdm_window.specs.declared.Refused.TheVariants as No
-use Rattle.lapdm_window.specs.Ends.{Role, Mobile, Network, EndState, Outcome, stays, sends, ◌then◌, next_piece, waits, awaits, awaits_in, vr, n200}
+use Rattle.lapdm_window.specs.Ends.{Role, Mobile, Network, EndState, Outcome, stays, sends_frame, ◌then◌, next_piece, waits, awaits, awaits_in, vr, n200}
 use Rattle.lapdm_window.specs.Rules.{is_open, sends_next, acknowledges, reports_acked, counts, accepts, answers_piece, rejects, takes_i, answers_poll, takes_rr, sends_again, takes_rej}
-use Rattle.lapdm_window.specs.Tables.{is_command, is_taken, is_poll, says_dm, says_ua, opens, closes, opened_by, sabm_in_idle, dm_to_poll, in_idle, other_ua, sabm_in_opening, in_opening, answers_sabm, in_open, in_closing, in_closed, in_state, after_content, after_frame}
-use Rattle.lapdm_window.specs.Calls.{Call, Opens, OpensBare, Sends, SendsUnit, Closes, Ticks, Idles, first_of, refusal_of, put_refusals, with_taken, repeated, after_call}
-use Rattle.lapdm_window.proofs.Counting.{all_pieces-taken}
+use Rattle.lapdm_window.specs.Tables.{is_command, is_taken, is_poll, says_dm, says_ua, becomes_open, becomes_closed, opened_by, sabm_in_idle, dm_to_poll, in_idle, other_ua, sabm_in_opening, in_opening, answers_sabm, in_open, in_closing, in_closed, in_state, after_content, after_frame}
+use Rattle.lapdm_window.specs.Calls.{Call, Opens, OpensBare, Sends, SendsUnit, Closes, Ticks, Idles, refusal_of, put_refusals, with_taken, repeated, after_call}
+use Rattle.lapdm_window.proofs.Lemmas.{all_pieces-taken, passes, not_false, is_message}
 use Rattle.lapdm_link.proofs.Queues.{piece_of, number_of, is_on, pieces_on, numbers_on}
 use Rattle.lapdm_link.proofs.Directions.{IsDirection, waits_for_one, piece_gone, number_gone, more_pieces}
 use Rattle.lapdm_link.proofs.Keeping.{IsBoth, After, Keeps, quiet, moved, after-then, keeps-then, keeps-stays, keeps-sends_next, keeps-sends_again, keeps-answers_poll, keeps-answers_piece, keeps-rejects, piece_sent, after-counts, after-accepts, is_waiting}
@@ -107,18 +106,18 @@ keeps-says_dm t x y out says comes hears h = quiet t x y out says comes hears h
 keeps-says_ua : (info : Message) → Keeps (says_ua info)
 keeps-says_ua info t x y out says comes hears h = quiet t x y out says comes hears h
 
-keeps-opens : (info : Message) → Keeps (opens info)
+keeps-opens : (info : Message) → Keeps (becomes_open info)
 keeps-opens info t x y out says comes hears h =
     quiet t (record x { state = Open }) y out says comes hears (moved Open x.kept x.rejecting x.retries h)
 
-keeps-closes : (reason : Reason) → Keeps (closes reason)
+keeps-closes : (reason : Reason) → Keeps (becomes_closed reason)
 keeps-closes reason t x y out says comes hears h =
     quiet t (record x { state = Closed }) y out says comes hears (moved Closed x.kept x.rejecting x.retries h)
 
 keeps-opened_by : (info : Message) → Keeps (opened_by info)
 keeps-opened_by info t x y out says comes hears h =
-    after-then t (opens info (record x { kept = info })) (says_ua info) y out says comes comes hears hears
-    (λ o s. keeps-says_ua info t (opens info (record x { kept = info })).after y o s comes hears)
+    after-then t (becomes_open info (record x { kept = info })) (says_ua info) y out says comes comes hears hears
+    (λ o s. keeps-says_ua info t (becomes_open info (record x { kept = info })).after y o s comes hears)
     (keeps-opens info t (record x { kept = info }) y out says comes hears (moved x.state info x.rejecting x.retries h))
 
 keeps-if : (b : Bool) (f g : EndState → Outcome) → Keeps f → Keeps g → Keeps (λ x. if b then f x else g x)
@@ -152,7 +151,7 @@ keeps-sabm_in_opening Three (i ∷ is) = keeps-stays
 keeps-in_opening : (c : Content) → Keeps (in_opening c)
 keeps-in_opening (Sabm p info) = λ t x. keeps-sabm_in_opening x.sapi info t x
 keeps-in_opening (Ua true info) =
-    λ t x. keeps-if (bytes_eq info x.kept) (opens info) (other_ua x.sapi) (keeps-opens info) (keeps-other_ua x.sapi) t x
+    λ t x. keeps-if (bytes_eq info x.kept) (becomes_open info) (other_ua x.sapi) (keeps-opens info) (keeps-other_ua x.sapi) t x
 keeps-in_opening (Ua false info) = keeps-stays
 keeps-in_opening (Dm true) = keeps-closes R.Refused
 keeps-in_opening (Dm false) = keeps-stays
@@ -184,7 +183,7 @@ after-in_open cmd (Sabm p info) t x y out says comes hears h =
     keeps-if (answers_sabm x.sapi x.role && bytes_eq info x.kept) (says_ua info) stays (keeps-says_ua info) keeps-stays t x y out says comes
     hears h
 after-in_open cmd (Disc p) t x y out says comes hears h =
-    keeps-then (closes R.Released) (says_ua []) (keeps-closes R.Released) (keeps-says_ua []) t x y out says comes hears h
+    keeps-then (becomes_closed R.Released) (says_ua []) (keeps-closes R.Released) (keeps-says_ua []) t x y out says comes hears h
 after-in_open cmd (Dm f) t x y out says comes hears h = keeps-closes R.Failed t x y out says comes hears h
 after-in_open cmd (Rnr nr pf) t x y out says comes hears h = keeps-stays t x y out says comes hears h
 after-in_open cmd (Ui p info) t x y out says comes hears h = keeps-stays t x y out says comes hears h
@@ -237,23 +236,6 @@ lost f fs t x y out says h = gone t x y out says (piece_of (is_on t f) f.content
     (numbers_on t fs) h
 
 -- the calls that are not refused
-pub record Passes (b : Bool) (refusal : Refused) (others : List (Bool × Refused)) : Type 0 where
-  pub no : b ≡ false
-  pub rest : first_of others ≡ None
-
-pub passes : (b : Bool) (refusal : Refused) (others : List (Bool × Refused)) → first_of ((b, refusal) ∷ others) ≡ None →
-    Passes b refusal others
-passes true refusal others h = cc
-passes false refusal others h = record { no = refl; rest = h }
-
-pub is_message : (m : Message) (x : EndState) → first_of (put_refusals m x) ≡ None → IsMessage m
-is_message m x h =
-    let some = passes _ _ _ h in
-    let most = passes _ _ _ some.rest in
-    let a : nat_eq (length m) 0 ≡ false = some.no in
-    let b : nat_lt 251 (length m) ≡ false = most.no in
-    record { some = grind (arith, nat_tests); most = grind (arith, nat_tests) }
-
 taken_by : (m : Message) {t : Sapi} {x y : EndState} {out comes : List (ℕ × Piece)} {says hears : List ℕ} → IsMessage m →
     IsBoth t x y out says comes hears → IsBoth t (with_taken m x) y out says comes hears
 taken_by m {t} {x} {y} {out} {comes} {says} {hears} good h = record {
@@ -265,7 +247,8 @@ taken_by m {t} {x} {y} {out} {comes} {says} {hears} good h = record {
 
 ticks_if : (s : State) (b : Bool) (t : Sapi) (x y : EndState) (out : List (ℕ × Piece)) (says : List ℕ) (comes : List (ℕ × Piece))
     (hears : List ℕ) → awaits_in s (waits x) ≡ true → IsBoth t x y out says comes hears →
-    After t (if b then sends (repeated s x) (record x { retries = x.retries + 1 }) else closes R.Failed x) y out says comes hears
+    After t (if b then sends_frame (repeated s x) (record x { retries = x.retries + 1 }) else becomes_closed R.Failed x) y out says comes
+    hears
 ticks_if s false t x y out says comes hears due h = keeps-closes R.Failed t x y out says comes hears h
 ticks_if Idle true t x y out says comes hears due h = absurd (false≢true due)
 ticks_if Closed true t x y out says comes hears due h = absurd (false≢true due)
@@ -276,10 +259,6 @@ ticks_if Closing true t x y out says comes hears due h =
 ticks_if Open true t x y out says comes hears due h =
     piece_sent true t (record x { retries = x.retries + 1 }) y out says comes hears (waits_for_one _ _ _ _ _ _ (is_waiting x due) h.there)
     (moved x.state x.kept x.rejecting (x.retries + 1) h)
-
-pub not_false : (b : Bool) → not b ≡ false → b ≡ true
-not_false true h = refl
-not_false false h = sym h
 
 pub called : (call : Call) (t : Sapi) (x y : EndState) (out : List (ℕ × Piece)) (says : List ℕ) (comes : List (ℕ × Piece))
     (hears : List ℕ) → refusal_of call x ≡ None → IsBoth t x y out says comes hears → After t (after_call call x) y out says comes hears

@@ -11,24 +11,22 @@ use Rattle.lapdm_window.specs.declared.State.TheVariants as S
 use Rattle.lapdm_window.specs.declared.Reason.TheVariants as R
 use Rattle.lapdm_window.specs.declared.Notice.{Notice}
 use Rattle.lapdm_window.specs.declared.Refused.TheVariants as No
-use Rattle.lapdm_window.specs.Ends.{EndState, Outcome, IsEnd, sends, waits, awaits, awaits_in, wholly_acked, n200}
+use Rattle.lapdm_window.specs.Ends.{EndState, Outcome, KeepsWindow, sends_frame, waits, awaits, awaits_in, wholly_acked, n200}
 use Rattle.lapdm_window.specs.Rules.{is_open, sends_next}
-use Rattle.lapdm_window.specs.Tables.{closes}
+use Rattle.lapdm_window.specs.Tables.{becomes_closed}
 use Rattle.lapdm_window.specs.Calls.{Call, Opens, OpensBare, Sends, SendsUnit, Closes, Ticks, Idles, is_idle, refusal_of, put_refusals, frame_refusals, with_taken, repeated, after_call}
-use Rattle.lapdm_window.proofs.Counting.{wholly_acked-taken}
-use Rattle.lapdm_window.proofs.Moves.{IsEnd-taken}
+use Rattle.lapdm_window.proofs.Lemmas.{wholly_acked-taken, KeepsWindow-taken, is_message, not_false, passes, is_idle-is, is_open-is}
 use Rattle.lapdm_link.specs.Claims.{sent_in, closes_in, opened_in, closed_in}
 use Rattle.lapdm_link.proofs.Telling.{silent, in-sends_next}
 use Rattle.lapdm_link.proofs.Reports.{IsStep, step-silent, step-closes}
 use Rattle.lapdm_link.proofs.Told.{Phase, HasTold, has_told-more, AllSaid, all_said}
-use Rattle.lapdm_link.proofs.Arriving.{is_message, not_false, passes}
 
 -- what holds of an end at a call that is not refused
 pub record IsCalled (x : EndState) (call : Call) (o : Outcome) : Type 0 where
   pub role : o.after.role ≡ x.role
   pub sapi : o.after.sapi ≡ x.sapi
   pub channel : o.after.channel ≡ x.channel
-  pub end : IsEnd o.after
+  pub end : KeepsWindow o.after
   pub told : (cs : List Call) (ns : List Notice) → HasTold x cs ns → HasTold o.after (cs ++ call ∷ []) (ns ++ o.notices)
   pub said : (cs : List Call) (ns : List Notice) → HasTold x cs ns → AllSaid (cs ++ call ∷ []) ns o.notices
 
@@ -54,7 +52,8 @@ asked-told x mid call a cs ns h =
           (a.phase _ _ _ h.phase);
     }
 
-called-by : (x mid : EndState) (call : Call) (o : Outcome) → mid.role ≡ x.role → mid.sapi ≡ x.sapi → mid.channel ≡ x.channel → IsEnd mid →
+called-by : (x mid : EndState) (call : Call) (o : Outcome) → mid.role ≡ x.role → mid.sapi ≡ x.sapi → mid.channel ≡ x.channel →
+    KeepsWindow mid →
     IsAsked x call mid → IsStep mid o → IsCalled x call o
 called-by x mid call o role sapi channel end a s = record {
   role = s.role ∙ role;
@@ -77,22 +76,8 @@ asked-plainly x call a b = record {
   phase = λ o c k h. subst (λ (cs : List Call). Phase x.state o c (k + length cs)) (sym b) (no_more x.state o c k h);
 }
 
-moved-end : (x : EndState) (s : State) (m : Message) (r : ℕ) → IsEnd x → IsEnd (record x { state = s; kept = m; retries = r })
+moved-end : (x : EndState) (s : State) (m : Message) (r : ℕ) → KeepsWindow x → KeepsWindow (record x { state = s; kept = m; retries = r })
 moved-end x s m r e = record { messages = e.messages; sent = e.sent; behind = e.behind; window = e.window }
-
-is_idle-is : (s : State) → is_idle s ≡ true → s ≡ S.Idle
-is_idle-is S.Idle h = refl
-is_idle-is S.Opening h = absurd (false≢true h)
-is_idle-is S.Open h = absurd (false≢true h)
-is_idle-is S.Closing h = absurd (false≢true h)
-is_idle-is S.Closed h = absurd (false≢true h)
-
-pub is_open-is : (s : State) → is_open s ≡ true → s ≡ S.Open
-is_open-is S.Open h = refl
-is_open-is S.Idle h = absurd (false≢true h)
-is_open-is S.Opening h = absurd (false≢true h)
-is_open-is S.Closing h = absurd (false≢true h)
-is_open-is S.Closed h = absurd (false≢true h)
 
 begins-phase : (s : State) → s ≡ S.Idle → (o c k : ℕ) → Phase s o c k → Phase S.Opening o c (k + 0)
 begins-phase s e o c k h = let g : Phase S.Idle o c k = subst (λ (t : State). Phase t o c k) e h in (g.0, g.1, omega (arith, g.2))
@@ -101,7 +86,7 @@ ends-phase : (s : State) → s ≡ S.Open → (o c k : ℕ) → Phase s o c k �
 ends-phase s e o c k h = let g : Phase S.Open o c k = subst (λ (t : State). Phase t o c k) e h in (g.0, g.1)
 
 ticks_if : (s : State) (b : Bool) (x : EndState) → x.state ≡ s → awaits_in s (waits x) ≡ true →
-    IsStep x (if b then sends (repeated s x) (record x { retries = x.retries + 1 }) else closes R.Failed x)
+    IsStep x (if b then sends_frame (repeated s x) (record x { retries = x.retries + 1 }) else becomes_closed R.Failed x)
 ticks_if s true x e due =
     record {
       role = refl;
@@ -119,7 +104,7 @@ ticks_if S.Closing false x e due = step-closes S.Closing R.Failed [] x e refl
 step-next : (x : EndState) → IsStep x (sends_next x)
 step-next x = let h = in-sends_next x in record { role = h.role; sapi = h.sapi; channel = h.channel; tells = h.tells; end = h.end }
 
-pub is_called : (call : Call) (x : EndState) → refusal_of call x ≡ None → IsEnd x → IsCalled x call (after_call call x)
+pub is_called : (call : Call) (x : EndState) → refusal_of call x ≡ None → KeepsWindow x → IsCalled x call (after_call call x)
 is_called (Opens info) x ok h =
     let mid : EndState = record x { state = S.Opening; kept = info; retries = 0 } in
     let is_now : x.state ≡ S.Idle =
@@ -135,7 +120,7 @@ is_called OpensBare x ok h =
     (step-silent mid _)
 is_called (Sends m) x ok h =
     let good : IsMessage m = is_message m x (passes (not (is_open x.state)) No.NotOpen (put_refusals m x) ok).rest in
-    called-by x (with_taken m x) (Sends m) _ refl refl refl (IsEnd-taken x m h good)
+    called-by x (with_taken m x) (Sends m) _ refl refl refl (KeepsWindow-taken x m h good)
     (record { taken = refl; accepted = refl; acked = wholly_acked-taken x m h; phase = no_more x.state }) (step-next (with_taken m x))
 is_called (SendsUnit m) x ok h = called-by x x (SendsUnit m) _ refl refl refl h (asked-plainly x (SendsUnit m) refl refl) (step-silent x _)
 is_called Closes x ok h =

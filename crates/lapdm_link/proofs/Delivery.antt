@@ -7,7 +7,7 @@ use Rattle.lapdm_frame.specs.Content.{Frame}
 use Rattle.segmenting.specs.Pieces.{Message, Piece, IsMessage}
 use Rattle.lapdm_window.specs.declared.Sapi.{Sapi}
 use Rattle.lapdm_window.specs.declared.Sapi.TheVariants.{Zero, Three}
-use Rattle.lapdm_window.specs.Ends.{Role, Mobile, Network, EndState, Outcome, IsEnd, start}
+use Rattle.lapdm_window.specs.Ends.{Role, Mobile, Network, EndState, Outcome, KeepsWindow, start}
 use Rattle.lapdm_window.specs.Calls.{Call, refusal_of, after_call}
 use Rattle.lapdm_window.specs.Tables.{after_frame}
 use Rattle.lapdm_link.proofs.Queues.{piece_of, number_of, is_on, pieces_on, numbers_on}
@@ -21,7 +21,7 @@ use Rattle.lapdm_link.proofs.Directions.{IsDirection}
 use Rattle.lapdm_link.proofs.Keeping.{IsBoth, After, turned}
 use Rattle.lapdm_link.proofs.Arriving.{arrives, lost, called}
 use Rattle.lapdm_link.proofs.Foreign.{foreign-frame, foreign-call, blind-pieces, blind-numbers}
-use Rattle.lapdm_link.proofs.Views.{is_end, end_with_way, end_does, end_does-else, way_same, way_does, way_does-other}
+use Rattle.lapdm_link.proofs.Views.{is_end, end_does, end_does-else, way_same, way_does, way_does-other}
 
 -- both directions of a link, seen from one of its ends
 abbrev pub IsCarried : Role → Sapi → World → Type 0
@@ -112,7 +112,7 @@ other_way Network w = refl
 pub carried-lost : (w : World) → AllCarried w → (r : Role) → AllCarried (without_first (other r) w)
 carried-lost w h r =
     let fs : List Frame = rest (way (other r) w) in
-    seen_by r (without_first (other r) w) (λ s. carried-as (end_with_way r s (other r) fs w) (end_with_way (other r) s (other r) fs w)
+    seen_by r (without_first (other r) w) (λ s. carried-as refl refl
     (ap (pieces_on s) (unchanged r fs w)) (ap (numbers_on s) (unchanged r fs w))
     (ap (pieces_on s) (way_same (other r) fs w)) (ap (numbers_on s) (way_same (other r) fs w))
     (rest_lost s _ _ _ _ (way (other r) w) (h r s)))
@@ -141,28 +141,23 @@ arrives_first f fs t x y out says i h =
     subst (λ (qs : List Frame). After t (after_frame f x) y out says (pieces_on t (rest qs)) (numbers_on t (rest qs))) (sym i.first)
     (arrives f i.others t x y out says (subst (λ (qs : List Frame). IsBoth t x y out says (pieces_on t qs) (numbers_on t qs)) i.first h))
 
-pub carried-frame : (w : World) → AllCarried w → (r : Role) (s : Sapi) (f : Frame) → IsEnd (end_of r s w) →
+pub carried-frame : (w : World) → AllCarried w → (r : Role) (s : Sapi) (f : Frame) → KeepsWindow (end_of r s w) →
     IsAsSent (Some f) (way (other r) w) →
     AllCarried (acted r s (after_frame f (end_of r s (without_first (other r) w))) (without_first (other r) w))
 carried-frame w h r s f end known =
     let fs : List Frame = rest (way (other r) w) in
     let w' : World = without_first (other r) w in
-    let same : end_of r s w' ≡ end_of r s w = end_with_way r s (other r) fs w in
     let h' : AllCarried w' = carried-lost w h r in
     let o : Outcome = after_frame f (end_of r s w') in
     let there : After s (after_frame f (end_of r s w)) (end_of (other r) s w) (pieces_on s (way r w)) (numbers_on s (way r w))
     (pieces_on s fs) (numbers_on s fs) = arrives_first f (way (other r) w) s _ _ _ _ (is_first f (way (other r) w) known) (h r s) in
-    let there' : After s o (end_of (other r) s w) (pieces_on s (way r w)) (numbers_on s (way r w)) (pieces_on s fs) (numbers_on s fs) =
-    subst (λ (x : EndState). After s (after_frame f x) (end_of (other r) s w) (pieces_on s (way r w)) (numbers_on s (way r w))
-    (pieces_on s fs) (numbers_on s fs)) (sym same) there in
-    let end' : IsEnd (end_of r s w') = subst IsEnd (sym same) end in
     acts r s o w'
-    (carried-as refl (end_with_way (other r) s (other r) fs w)
+    (carried-as refl refl
     (ap (λ (q : List Frame). pieces_on s q ++ pieces_on s o.frames) (unchanged r fs w))
     (ap (λ (q : List Frame). numbers_on s q ++ numbers_on s o.frames) (unchanged r fs w))
-    (ap (pieces_on s) (way_same (other r) fs w)) (ap (numbers_on s) (way_same (other r) fs w)) there')
-    (λ s' n. foreign-frame piece_of blind-pieces f (end_of r s w') s s' end' (h' r s).here.sapi n)
-    (λ s' n. foreign-frame number_of blind-numbers f (end_of r s w') s s' end' (h' r s).here.sapi n) (h' r)
+    (ap (pieces_on s) (way_same (other r) fs w)) (ap (numbers_on s) (way_same (other r) fs w)) there)
+    (λ s' n. foreign-frame piece_of blind-pieces f (end_of r s w') s s' end (h' r s).here.sapi n)
+    (λ s' n. foreign-frame number_of blind-numbers f (end_of r s w') s s' end (h' r s).here.sapi n) (h' r)
   where
     unchanged : (r : Role) (fs : List Frame) (w : World) → way r (with_way (other r) fs w) ≡ way r w
     unchanged Mobile fs w = refl
@@ -171,8 +166,7 @@ carried-frame w h r s f end known =
 pub carried-rival : (w : World) → AllCarried w → (info : Message) → AllCarried (with_frames Mobile (rival_frame info ∷ []) w)
 carried-rival w h info =
     seen_by Mobile (with_frames Mobile (rival_frame info ∷ []) w)
-    (λ s. carried-as (end_with_way Mobile s Mobile (w.ways.up ++ rival_frame info ∷ []) w)
-    (end_with_way Network s Mobile (w.ways.up ++ rival_frame info ∷ []) w)
+    (λ s. carried-as refl refl
     (pieces-more s w.ways.up (rival_frame info ∷ []) ∙ append-nil (pieces_on s w.ways.up)) (numbers-more s w.ways.up (rival_frame info ∷ [])
     ∙ append-nil (numbers_on s w.ways.up)) refl refl (h Mobile s))
 

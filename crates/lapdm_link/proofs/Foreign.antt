@@ -8,8 +8,8 @@ use Rattle.lapdm_window.specs.declared.Sapi.TheVariants.{Zero, Three}
 use Rattle.lapdm_window.specs.declared.State.{State}
 use Rattle.lapdm_window.specs.declared.State.TheVariants as S
 use Rattle.lapdm_window.specs.declared.Reason.TheVariants as R
-use Rattle.lapdm_window.specs.Ends.{EndState, IsEnd, sapi_number, sends, command_cr, n200}
-use Rattle.lapdm_window.specs.Tables.{after_frame, closes}
+use Rattle.lapdm_window.specs.Ends.{EndState, KeepsWindow, sapi_number, sends_frame, command_cr, n200}
+use Rattle.lapdm_window.specs.Tables.{after_frame, becomes_closed}
 use Rattle.lapdm_window.specs.Calls.{Call, Opens, OpensBare, Sends, SendsUnit, Closes, Ticks, Idles, with_taken, repeated, after_call}
 use Rattle.lapdm_link.proofs.Queues.{piece_of, number_of, is_on}
 use Rattle.lapdm_link.specs.Claims.{is_sapi}
@@ -42,7 +42,7 @@ foreign look blind Says s s' (f ∷ fs) h a =
     ∙ ap (λ b. look b f.content) (other_number s s' h) ∙ blind.elsewhere f.content in
     ap (λ o. cons_option o (seen look s' fs)) none ∙ foreign look blind Says s s' fs h a.2
 
-pub foreign-frame : {T : Type 0} (look : Look T) → IsBlind look → (f : Frame) (x : EndState) (s s' : Sapi) → IsEnd x → x.sapi ≡ s →
+pub foreign-frame : {T : Type 0} (look : Look T) → IsBlind look → (f : Frame) (x : EndState) (s s' : Sapi) → KeepsWindow x → x.sapi ≡ s →
     is_sapi s' s ≡ false → seen look s' (after_frame f x).frames ≡ []
 foreign-frame look blind f x s s' e same h =
     foreign look blind (Answers x (after_frame f x).after) x.sapi s' _ (subst (λ (t : Sapi). is_sapi s' t ≡ false) (sym same) h)
@@ -57,7 +57,7 @@ all-any s [] h = tt
 all-any s (f ∷ fs) h = (h.0, tt, all-any s fs h.2)
 
 any-ticks : (s : State) (b : Bool) (x : EndState) →
-    AllFrames Any x.sapi (if b then sends (repeated s x) (record x { retries = x.retries + 1 }) else closes R.Failed x).frames
+    AllFrames Any x.sapi (if b then sends_frame (repeated s x) (record x { retries = x.retries + 1 }) else becomes_closed R.Failed x).frames
 any-ticks s false x = tt
 any-ticks S.Idle true x = (refl, tt, tt)
 any-ticks S.Opening true x = (refl, tt, tt)

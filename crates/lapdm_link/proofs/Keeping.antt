@@ -8,7 +8,7 @@ use Rattle.lapdm_window.specs.declared.State.{State}
 use Rattle.segmenting.specs.Pieces.{Message, Piece, IsMessage}
 use Rattle.lapdm_window.specs.declared.Sapi.{Sapi}
 use Rattle.lapdm_window.specs.declared.Sapi.TheVariants.{Zero, Three}
-use Rattle.lapdm_window.specs.Ends.{EndState, Outcome, stays, sends, ◌then◌, response, all_pieces, next_piece, waits, va, vr, sapi_number}
+use Rattle.lapdm_window.specs.Ends.{EndState, Outcome, stays, sends_frame, ◌then◌, response, all_pieces, next_piece, waits, va, vr, sapi_number}
 use Rattle.lapdm_window.specs.Rules.{waiting_frame, has_next, with_next, sends_piece, sends_next, acknowledges, with_acked, reports_acked, counts, with_accepted, accepts, says_rr, answers_piece, with_reject, reject_is_due, rejects, answers_poll, sends_again}
 use Rattle.lapdm_link.proofs.Queues.{piece_of, number_of, is_on, pieces_on, numbers_on}
 use Rattle.lapdm_link.proofs.Directions.{IsDirection, next_waits, waits_for_one, piece_out, piece_in, number_in, number_gone, number_out}
@@ -108,7 +108,7 @@ moved s k b r h = record {
   back = h.back;
 }
 
-keeps-due : (p due : Bool) → Keeps (λ x. if due then sends (response x (Rej (vr x) p)) (with_reject x) else stays x)
+keeps-due : (p due : Bool) → Keeps (λ x. if due then sends_frame (response x (Rej (vr x) p)) (with_reject x) else stays x)
 keeps-due p false t x y out says comes hears h = quiet t x y out says comes hears h
 keeps-due p true t x y out says comes hears h =
     let said : IsBoth t x y (out ++ []) (says ++ vr x ∷ []) comes hears =
@@ -130,7 +130,7 @@ is_waiting x h = grind (arith, nat_tests)
 
 pub piece_sent : (p : Bool) (t : Sapi) (x y : EndState) (out : List (ℕ × Piece)) (says : List ℕ) (comes : List (ℕ × Piece))
     (hears : List ℕ) → x.sent ≡ x.acked + 1 → IsBoth t x y out says comes hears →
-    After t (sends (waiting_frame p x) x) y out says comes hears
+    After t (sends_frame (waiting_frame p x) x) y out says comes hears
 piece_sent p t x y out says comes hears one h =
     let said : IsBoth t x y (out ++ (va x, next_piece x) ∷ []) (says ++ vr x ∷ []) comes hears =
     record { here = h.here; other = h.other; there = piece_out _ _ _ _ _ _ one h.there; back = number_out _ _ _ _ _ _ h.back } in
@@ -164,7 +164,7 @@ keeps-sends_next t x y out says comes hears h = keeps-next_if (has_next x) t x y
 
 keeps-again_if : (b : Bool) (t : Sapi) (x y : EndState) (out : List (ℕ × Piece)) (says : List ℕ) (comes : List (ℕ × Piece))
     (hears : List ℕ) → waits x ≡ b → IsBoth t x y out says comes hears →
-    After t (if b then sends (waiting_frame false x) x else sends_next x) y out says comes hears
+    After t (if b then sends_frame (waiting_frame false x) x else sends_next x) y out says comes hears
 keeps-again_if true t x y out says comes hears has h =
     piece_sent false t x y out says comes hears (waits_for_one _ _ _ _ _ _ (is_waiting x has) h.there) h
 keeps-again_if false t x y out says comes hears has h = keeps-sends_next t x y out says comes hears h

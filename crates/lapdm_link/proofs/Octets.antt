@@ -14,20 +14,19 @@ use Rattle.lapdm_window.specs.declared.State.{State}
 use Rattle.lapdm_window.specs.declared.State.TheVariants as S
 use Rattle.lapdm_window.specs.declared.Reason.TheVariants as R
 use Rattle.lapdm_window.specs.declared.Refused.TheVariants as No
-use Rattle.lapdm_window.specs.Ends.{Role, Mobile, Network, EndState, Outcome, IsEnd, all_pieces, waits, awaits, awaits_in, sends, n200}
+use Rattle.lapdm_window.specs.Ends.{Role, Mobile, Network, EndState, Outcome, KeepsWindow, all_pieces, waits, awaits, awaits_in, sends_frame, n200}
 use Rattle.lapdm_window.specs.Rules.{is_open, sends_next}
-use Rattle.lapdm_window.specs.Tables.{after_frame, closes}
+use Rattle.lapdm_window.specs.Tables.{after_frame, becomes_closed}
 use Rattle.lapdm_window.specs.Calls.{Call, Opens, OpensBare, Sends, SendsUnit, Closes, Ticks, Idles, refusal_of, put_refusals, with_taken, repeated, after_call}
-use Rattle.lapdm_window.proofs.Moves.{IsEnd-taken}
+use Rattle.lapdm_window.proofs.Lemmas.{KeepsWindow-taken, waits_within, is_message, not_false, passes}
 use Rattle.lapdm_link.specs.Events.{Event, other, rival_frame}
 use Rattle.lapdm_link.specs.Worlds.{World, start_on, refusal, answer, after}
 use Rattle.lapdm_link.proofs.Views.{end_of, way, rest, without_first, with_frames}
 use Rattle.lapdm_link.specs.Claims.{Line, Asked, Rivals, Told, answer_lines}
 use Rattle.lapdm_link.proofs.Reports.{step-frame}
-use Rattle.lapdm_link.proofs.Arriving.{is_message, not_false, passes}
-use Rattle.lapdm_link.proofs.Telling.{AllFrames, IsNumbered, SaysWell, InOpen, in-sends_next, waits_within}
+use Rattle.lapdm_link.proofs.Telling.{AllFrames, IsNumbered, SaysWell, InOpen, in-sends_next}
 use Rattle.lapdm_link.proofs.Taking.{Answers, OpensBy, Remains, IsOver, IsOpenedBy, IsTaken, taken-frame}
-use Rattle.lapdm_link.proofs.Views.{each_end, end_with_way, end_does, end_does-else, way_does, way_does-other, acted}
+use Rattle.lapdm_link.proofs.Views.{each_end, each_lost, end_does, end_does-else, way_does, way_does-other, acted}
 use Rattle.lapdm_link.proofs.ByKind.{KnowsBy, by_kind}
 use Rattle.lapdm_link.proofs.Order.{AllReported}
 use Rattle.lapdm_link.proofs.Fitting.{each_way}
@@ -136,7 +135,8 @@ pub record OutcomeOctets (o : Outcome) : Type 0 where
   pub end : EndOctets o.after
   pub frames : AllSay o.frames
 
-frame-octets : (f : Frame) (x : EndState) → AreOctets (information f.content) → IsEnd x → EndOctets x → OutcomeOctets (after_frame f x)
+frame-octets : (f : Frame) (x : EndState) → AreOctets (information f.content) → KeepsWindow x → EndOctets x →
+    OutcomeOctets (after_frame f x)
 frame-octets f x octets e h =
     let t : IsTaken f.content x (after_frame f x) = taken-frame f x e in
     let k : AreOctets (after_frame f x).after.kept = kept-octets f.content x (after_frame f x) octets h.kept t.goes in
@@ -157,7 +157,7 @@ all-well : (x : EndState) (s : Sapi) (fs : List Frame) → EndOctets x → AllFr
 all-well x s [] h k a = tt
 all-well x s (f ∷ fs) h k a = (well-octets x f.content h k.1 a.1, all-well x s fs h k.2 a.2)
 
-repeated-octets : (t : State) (x : EndState) → awaits_in t (waits x) ≡ true → IsEnd x → EndOctets x →
+repeated-octets : (t : State) (x : EndState) → awaits_in t (waits x) ≡ true → KeepsWindow x → EndOctets x →
     AreOctets (information (repeated t x).content)
 repeated-octets S.Idle x due e h = absurd (false≢true due)
 repeated-octets S.Closed x due e h = absurd (false≢true due)
@@ -165,18 +165,19 @@ repeated-octets S.Opening x due e h = h.kept
 repeated-octets S.Closing x due e h = none
 repeated-octets S.Open x due e h = piece-octets (all_pieces x) x.acked (all-octets (n201 x.channel) x.taken h.taken) (waits_within x e due)
 
-ticks-octets : (t : State) (b : Bool) (x : EndState) → awaits_in t (waits x) ≡ true → IsEnd x → EndOctets x →
-    OutcomeOctets (if b then sends (repeated t x) (record x { retries = x.retries + 1 }) else closes R.Failed x)
+ticks-octets : (t : State) (b : Bool) (x : EndState) → awaits_in t (waits x) ≡ true → KeepsWindow x → EndOctets x →
+    OutcomeOctets (if b then sends_frame (repeated t x) (record x { retries = x.retries + 1 }) else becomes_closed R.Failed x)
 ticks-octets t true x due e h = record { end = record { kept = h.kept; taken = h.taken }; frames = (repeated-octets t x due e h, tt) }
 ticks-octets t false x due e h = record { end = record { kept = h.kept; taken = h.taken }; frames = tt }
 
-call-octets : (call : Call) (x : EndState) → CallOctets call → refusal_of call x ≡ None → IsEnd x → EndOctets x →
+call-octets : (call : Call) (x : EndState) → CallOctets call → refusal_of call x ≡ None → KeepsWindow x → EndOctets x →
     OutcomeOctets (after_call call x)
 call-octets (Opens info) x c ok e h = record { end = record { kept = c; taken = h.taken }; frames = (c, tt) }
 call-octets OpensBare x c ok e h = record { end = record { kept = none; taken = h.taken }; frames = (none, tt) }
 call-octets (Sends m) x c ok e h =
     let y : EndState = with_taken m x in
-    let end : IsEnd y = IsEnd-taken x m e (is_message m x (passes (not (is_open x.state)) No.NotOpen (put_refusals m x) ok).rest) in
+    let end : KeepsWindow y = KeepsWindow-taken x m e (is_message m x
+    (passes (not (is_open x.state)) No.NotOpen (put_refusals m x) ok).rest) in
     let i : InOpen y (sends_next y) = in-sends_next y in
     let g : EndOctets y = record { kept = h.kept; taken = messages-push x.taken m h.taken c } in
     record {
@@ -202,19 +203,11 @@ acted-octets r s o w h g = record {
 }
 
 lost-octets : (w : World) → WorldOctets w → (sender : Role) → WorldOctets (without_first sender w)
-lost-octets w h Mobile = record {
-  ends = λ r s. subst EndOctets (sym (end_with_way r s Mobile (rest w.ways.up) w)) (h.ends r s);
-  ways = each_way (λ r. AllSay (way r (without_first Mobile w))) Mobile (say-rest w.ways.up (h.ways Mobile)) (h.ways Network);
-}
-lost-octets w h Network =
-    record {
-      ends = λ r s. subst EndOctets (sym (end_with_way r s Network (rest w.ways.down) w)) (h.ends r s);
-      ways = each_way (λ r. AllSay (way r (without_first Network w))) Network (say-rest w.ways.down (h.ways Network)) (h.ways Mobile);
-    }
+lost-octets w h sender = record { ends = h.ends; ways = each_lost (λ r fs. AllSay fs) (λ r fs say. say-rest fs say) sender w h.ways }
 
 rival-octets : (w : World) → WorldOctets w → (info : Message) → AreOctets info → WorldOctets (with_frames Mobile (rival_frame info ∷ []) w)
 rival-octets w h info g = record {
-  ends = λ r s. subst EndOctets (sym (end_with_way r s Mobile (w.ways.up ++ rival_frame info ∷ []) w)) (h.ends r s);
+  ends = h.ends;
   ways = each_way (λ r. AllSay (way r (with_frames Mobile (rival_frame info ∷ []) w))) Mobile
       (say-append w.ways.up (rival_frame info ∷ []) (h.ways Mobile) (g, tt)) (h.ways Network);
 }
@@ -229,9 +222,8 @@ octets-step w ls event reported known h =
     (λ r s f octets l.
     (let w' : World = without_first (other r) w in
     let h' : WorldOctets w' = lost-octets w h (other r) in
-    let e : IsEnd (end_of r s w') = subst IsEnd (sym (end_with_way r s (other r) (rest (way (other r) w)) w)) (reported r s).end in
     acted-octets r s (after_frame f (end_of r s w')) w' h'
-    (frame-octets f (end_of r s w') octets e (h'.ends r s))))
+    (frame-octets f (end_of r s w') octets (reported r s).end (h'.ends r s))))
     (λ sender l. lost-octets w h sender)
     (λ info ok l. rival-octets w h info l.0)
     event known

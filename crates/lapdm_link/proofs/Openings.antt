@@ -15,8 +15,8 @@ use Rattle.lapdm_window.specs.declared.Reason.TheVariants as R
 use Rattle.lapdm_window.specs.declared.Notice.{Notice}
 use Rattle.lapdm_window.specs.declared.Notice.TheVariants as N
 use Rattle.lapdm_window.specs.declared.Refused.TheVariants as No
-use Rattle.lapdm_window.specs.Ends.{Role, Mobile, Network, EndState, Outcome, IsEnd, sends, stays, sapi_number, n200}
-use Rattle.lapdm_window.specs.Tables.{after_frame, closes}
+use Rattle.lapdm_window.specs.Ends.{Role, Mobile, Network, EndState, Outcome, KeepsWindow, sends_frame, stays, sapi_number, n200}
+use Rattle.lapdm_window.specs.Tables.{after_frame, becomes_closed}
 use Rattle.lapdm_window.specs.Calls.{Call, Opens, OpensBare, Sends, SendsUnit, Closes, Ticks, Idles, is_idle, refusal_of, frame_refusals, with_taken, repeated, sabm, after_call}
 use Rattle.lapdm_window.specs.Rules.{is_open, has_next, sends_piece, sends_next}
 use Rattle.lapdm_link.proofs.Queues.{is_on}
@@ -27,11 +27,10 @@ use Rattle.lapdm_link.proofs.Views.{end_of, way, rest, without_first, with_frame
 use Rattle.lapdm_link.proofs.Views.{acted}
 use Rattle.lapdm_link.specs.Claims.{Line, Asked, Rivals, Told, opened_in, HasCause, is_sapi}
 use Rattle.lapdm_link.proofs.Telling.{AllFrames, IsNumbered, InOpen, in-sends_next}
-use Rattle.lapdm_link.proofs.Arriving.{passes, not_false}
-use Rattle.lapdm_link.proofs.Asked.{is_open-is}
+use Rattle.lapdm_window.proofs.Lemmas.{passes, not_false, is_open-is}
 use Rattle.lapdm_link.proofs.Taking.{HasBegun, Answers, MayOpen, OpensBy, Remains, IsOver, IsOpenedBy, IsTaken, taken-frame, elsewhere}
 use Rattle.lapdm_link.proofs.Foreign.{other_number}
-use Rattle.lapdm_link.proofs.Views.{each_end, end_with_way, end_does, end_does-else, way_does, way_does-other}
+use Rattle.lapdm_link.proofs.Views.{each_end, each_lost, end_does, end_does-else, way_does, way_does-other}
 use Rattle.lapdm_link.proofs.ByKind.{IsPlaced}
 use Rattle.lapdm_link.proofs.Standing.{AllStand}
 use Rattle.lapdm_link.proofs.Delivery.{IsFirst, is_first, by_link}
@@ -215,7 +214,8 @@ contains-first : (ls more : List Line) (l : Line) → Contains (ls ++ l ∷ more
 contains-first ls more l = Contains-append_right ls (l ∷ more) l (0, omega (arith), refl)
 
 ticks-opened : (t : State) (b : Bool) (x : EndState) →
-    filter_map opened_in (if b then sends (repeated t x) (record x { retries = x.retries + 1 }) else closes R.Failed x).notices ≡ []
+    filter_map opened_in (if b then sends_frame (repeated t x) (record x { retries = x.retries + 1 }) else becomes_closed R.Failed
+    x).notices ≡ []
 ticks-opened t true x = refl
 ticks-opened t false x = refl
 
@@ -258,7 +258,7 @@ reached-closing Network Three ls k h = h
 
 acting-ticks : (t : State) (b : Bool) (r : Role) (s : Sapi) (x : EndState) (ls : List Line) → x.state ≡ t → x.sapi ≡ s →
     IsReached r s ls x.state x.kept →
-    IsActing r s (if b then sends (repeated t x) (record x { retries = x.retries + 1 }) else closes R.Failed x) ls
+    IsActing r s (if b then sends_frame (repeated t x) (record x { retries = x.retries + 1 }) else becomes_closed R.Failed x) ls
 acting-ticks t true r s x ls e same h = record {
   here = (where-all _ _ (repeated-caused r s ls t x e (subst (λ (u : State). IsReached r s ls u x.kept) e h)), tt);
   elsewhere = λ s' n. (where-elsewhere s s' (repeated t x) _ n (repeated-sapi t x ∙ ap sapi_number same), tt);
@@ -398,28 +398,10 @@ caused-answer Network Three ls x z (Ua f info) a h g = three Network ls x z info
 caused-answer r s ls x z c a h g = tt
 
 pub openings-lost : (w : World) (ls : List Line) → AllOpenings w ls → (sender : Role) → AllOpenings (without_first sender w) ls
-openings-lost w ls h Mobile Mobile s =
-    record {
-      sent = all-rest Mobile s w.ways.up ls (h Mobile s).sent;
-      reached = reached-at Mobile s ls _ _ (end_with_way Mobile s Mobile (rest w.ways.up) w) (h Mobile s).reached;
-    }
-openings-lost w ls h Mobile Network s =
-    record {
-      sent = (h Network s).sent;
-      reached = reached-at Network s ls _ _ (end_with_way Network s Mobile (rest w.ways.up) w)
-          (h Network s).reached;
-    }
-openings-lost w ls h Network Mobile s =
-    record {
-      sent = (h Mobile s).sent;
-      reached = reached-at Mobile s ls _ _ (end_with_way Mobile s Network (rest w.ways.down) w)
-          (h Mobile s).reached;
-    }
-openings-lost w ls h Network Network s =
-    record {
-      sent = all-rest Network s w.ways.down ls (h Network s).sent;
-      reached = reached-at Network s ls _ _ (end_with_way Network s Network (rest w.ways.down) w) (h Network s).reached;
-    }
+openings-lost w ls h sender r s = record {
+  sent = each_lost (λ r' fs. AllCaused r' s ls fs) (λ r' fs caused. all-rest r' s fs ls caused) sender w (λ r'. (h r' s).sent) r;
+  reached = (h r s).reached;
+}
 
 -- what opens an end
 empty_kept : (k : Message) → k ≡ [] → 1 ≤ length k → ⊥
@@ -538,7 +520,7 @@ first-caused : (r : Role) (s : Sapi) (ls : List Line) (f : Frame) (fs : List Fra
     Where (is_on s f) (IsCaused r s ls f.content)
 first-caused r s ls f fs i h = let g : AllCaused r s ls (f ∷ i.others) = subst (AllCaused r s ls) i.first h in g.0
 
-pub openings-frame : (w : World) (ls : List Line) → AllOpenings w ls → (r : Role) (s : Sapi) (f : Frame) → IsEnd (end_of r s w) →
+pub openings-frame : (w : World) (ls : List Line) → AllOpenings w ls → (r : Role) (s : Sapi) (f : Frame) → KeepsWindow (end_of r s w) →
     (end_of r s w).role ≡ r → (end_of r s w).sapi ≡ s → IsAsSent (Some f) (way (other r) w) →
     AllOpenings (acted r s (after_frame f (end_of r s (without_first (other r) w))) (without_first (other r) w))
     (ls ++ map (Told r s) (after_frame f (end_of r s (without_first (other r) w))).notices)
@@ -546,23 +528,20 @@ pub openings-frame : (w : World) (ls : List Line) → AllOpenings w ls → (r : 
 openings-frame w ls h r s f end role same known =
     let w' : World = without_first (other r) w in
     let x : EndState = end_of r s w' in
-    let x_is : x ≡ end_of r s w = end_with_way r s (other r) (rest (way (other r) w)) w in
     let o : Outcome = after_frame f x in
-    let t : IsTaken f.content x o = taken-frame f x (subst IsEnd (sym x_is) end) in
-    let x_role : x.role ≡ r = ap (λ (e : EndState). e.role) x_is ∙ role in
-    let x_sapi : x.sapi ≡ s = ap (λ (e : EndState). e.sapi) x_is ∙ same in
+    let t : IsTaken f.content x o = taken-frame f x end in
     let more : List Line = map (Told r s) o.notices in
     let h' : AllOpenings w' ls = openings-lost w ls h (other r) in
     let away : is_on s f ≡ false → o.notices ≡ [] =
-    λ e. ap (λ (p : Outcome). p.notices) (elsewhere f x (ap (λ (u : Sapi). is_on u f) x_sapi ∙ e)) in
+    λ e. ap (λ (p : Outcome). p.notices) (elsewhere f x (ap (λ (u : Sapi). is_on u f) same ∙ e)) in
     let cause : Where (is_on s f) (IsCaused (other r) s ls f.content) =
     first-caused (other r) s ls f (way (other r) w) (is_first f (way (other r) w) known) (h (other r) s).sent in
-    let a : IsAnswered r s o ls = answered r s (is_on s f) f.content x o ls x_role x_sapi away t.goes cause (h' r s).reached in
+    let a : IsAnswered r s o ls = answered r s (is_on s f) f.content x o ls role same away t.goes cause (h' r s).reached in
     let before : IsReached r s (ls ++ more) x.state x.kept = reached-more r s x.state x.kept ls more (h' r s).reached in
     let act : IsActing r s o (ls ++ more) = record {
       here = all-answered r s x.sapi x o.after (ls ++ more) o.frames t.frames before a.reached;
       elsewhere = λ s' n. all-elsewhere (Answers x o.after) r s s' (ls ++ more) o.frames n
-          (subst (λ (u : Sapi). AllFrames (Answers x o.after) u o.frames) x_sapi t.frames);
+          (subst (λ (u : Sapi). AllFrames (Answers x o.after) u o.frames) same t.frames);
       reached = a.reached;
     } in
     (acting r s o w' (ls ++ more) (openings-more w' ls more h') act, a.after)

@@ -11,7 +11,7 @@ use Rattle.lapdm_window.specs.declared.State.{State}
 use Rattle.lapdm_window.specs.declared.State.TheVariants as S
 use Rattle.lapdm_window.specs.declared.Notice.{Notice}
 use Rattle.lapdm_window.specs.declared.Notice.TheVariants as N
-use Rattle.lapdm_window.specs.Ends.{Role, Mobile, Network, EndState, Outcome, IsEnd, start}
+use Rattle.lapdm_window.specs.Ends.{Role, Mobile, Network, EndState, Outcome, KeepsWindow, start}
 use Rattle.lapdm_window.specs.Calls.{Call, refusal_of, after_call}
 use Rattle.lapdm_window.specs.Tables.{after_frame}
 use Rattle.lapdm_link.specs.Events.{Event, Deliver, Why, other, rival_frame}
@@ -22,7 +22,7 @@ use Rattle.lapdm_link.specs.Claims.{Line, Asked, Rivals, Told, answer_lines, lin
 use Rattle.lapdm_link.proofs.Reports.{IsStep, step-frame}
 use Rattle.lapdm_link.proofs.Told.{Phase, HasTold, has_told-more, MaySay, AllSaid, all_said}
 use Rattle.lapdm_link.proofs.Asked.{IsCalled, is_called}
-use Rattle.lapdm_link.proofs.Views.{each_end, end_with_way, end_does, end_does-else, notices-told, notices-else, calls-told, calls-asked, notices-asked, calls-called, notices-called, calls-called_else, notices-called_else, calls-rival, notices-rival}
+use Rattle.lapdm_link.proofs.Views.{each_end, end_does, end_does-else, notices-told, notices-else, calls-told, calls-asked, notices-asked, calls-called, notices-called, calls-called_else, notices-called_else, calls-rival, notices-rival}
 use Rattle.lapdm_link.proofs.ByKind.{IsPlaced, KnowsBy, by_kind}
 use Rattle.lapdm_link.proofs.Standing.{AllStand, stand-append, stands}
 
@@ -30,7 +30,7 @@ use Rattle.lapdm_link.proofs.Standing.{AllStand, stand-append, stands}
 pub record IsReported (r : Role) (s : Sapi) (e : EndState) (cs : List Call) (ns : List Notice) : Type 0 where
   pub role : e.role ≡ r
   pub sapi : e.sapi ≡ s
-  pub end : IsEnd e
+  pub end : KeepsWindow e
   pub told : HasTold e cs ns
 
 abbrev pub AllReported : World → List Line → Type 0
@@ -67,7 +67,7 @@ module _ (w : World) (ls : List Line) (h : AllReported w ls) where
   refused = (λ r s. reported-as r s _ _ _ _ _ _ refl (ap (calls r s) (append-nil ls)) (ap (notices r s) (append-nil ls)) (h r s), tt)
 
   moved_way : (sender : Role) (fs : List Frame) → AllReported (with_way sender fs w) ls
-  moved_way sender fs r s = reported-as r s _ _ _ _ _ _ (end_with_way r s sender fs w) refl refl (h r s)
+  moved_way sender fs r s = reported-as r s _ _ _ _ _ _ refl refl refl (h r s)
 
 called : (w : World) (ls : List Line) → AllReported w ls → (r : Role) (s : Sapi) (call : Call) → IsPlaced r s call →
     refusal_of call (end_of r s w) ≡ None → Follows ls (acted r s (after_call call (end_of r s w)) w)
@@ -119,7 +119,7 @@ taken w ls h r s f =
 rival : (w : World) (ls : List Line) → AllReported w ls → (info : Message) → Follows ls (with_frames Mobile (rival_frame info ∷ []) w)
     (Rivals info ∷ [])
 rival w ls h info = (
-  λ r s. reported-as r s _ _ _ _ _ _ (end_with_way r s Mobile (w.ways.up ++ rival_frame info ∷ []) w)
+  λ r s. reported-as r s _ _ _ _ _ _ refl
       (calls-rival r s ls info) (notices-rival r s ls info) (h r s),
   (tt, tt),
 )
@@ -148,7 +148,7 @@ in_order-run (event ∷ events) w ls h =
     let run = in_order-run events (after event w) (ls ++ new) step.0 in
     (run.0, subst (AllReported run.0) (append_assoc ls new more) run.1, stand-append MayStand ls new more step.1 run.2)
 
-started : (r : Role) (s : Sapi) (channel : Channel) → IsEnd (start r s channel)
+started : (r : Role) (s : Sapi) (channel : Channel) → KeepsWindow (start r s channel)
 started r s channel = record { messages = All-nil IsMessage; sent = omega arith; behind = omega arith; window = omega arith }
 
 told_nothing : (r : Role) (s : Sapi) (channel : Channel) → HasTold (start r s channel) [] []

@@ -14,8 +14,8 @@ use Rattle.lapdm_window.specs.declared.Reason.{Reason}
 use Rattle.lapdm_window.specs.declared.Reason.TheVariants as R
 use Rattle.lapdm_window.specs.declared.Notice.{Notice}
 use Rattle.lapdm_window.specs.declared.Notice.TheVariants as N
-use Rattle.lapdm_window.specs.Ends.{Role, Mobile, Network, EndState, Outcome, IsEnd, stays, ◌then◌, wholly_acked}
-use Rattle.lapdm_window.specs.Tables.{is_command, is_poll, says_ua, opens, opened_by, sabm_in_idle, dm_to_poll, in_idle, other_ua, sabm_in_opening, in_opening, answers_sabm, in_open, in_closing, in_closed, in_state, after_content, after_frame}
+use Rattle.lapdm_window.specs.Ends.{Role, Mobile, Network, EndState, Outcome, KeepsWindow, stays, ◌then◌, wholly_acked}
+use Rattle.lapdm_window.specs.Tables.{is_command, is_poll, says_ua, becomes_open, opened_by, sabm_in_idle, dm_to_poll, in_idle, other_ua, sabm_in_opening, in_opening, answers_sabm, in_open, in_closing, in_closed, in_state, after_content, after_frame}
 use Rattle.lapdm_link.specs.Claims.{acked_in}
 use Rattle.lapdm_link.proofs.Telling.{ending_in, Numbers, MayTell, Tells, silent, InOpen, in-takes_i, in-takes_rr, in-takes_rej}
 
@@ -25,7 +25,7 @@ pub record IsStep (x : EndState) (o : Outcome) : Type 0 where
   pub sapi : o.after.sapi ≡ x.sapi
   pub channel : o.after.channel ≡ x.channel
   pub tells : Tells x o.notices o.after
-  pub end : IsEnd x → IsEnd o.after
+  pub end : KeepsWindow x → KeepsWindow o.after
 
 step-open : {x : EndState} {o : Outcome} → InOpen x o → IsStep x o
 step-open h = record { role = h.role; sapi = h.sapi; channel = h.channel; tells = h.tells; end = h.end }
@@ -94,7 +94,7 @@ step-other_ua Zero x e = step-closes Opening R.Contention [] x e refl
 step-other_ua Three x e = step-silent x _
 
 step-ua_in_opening : (same : Bool) (info : Message) (x : EndState) → x.state ≡ Opening →
-    IsStep x (if same then opens info x else other_ua x.sapi x)
+    IsStep x (if same then becomes_open info x else other_ua x.sapi x)
 step-ua_in_opening true info x e = step-told x x.kept Open (N.Opened info) [] refl refl tt (may_open-opening x info e)
 step-ua_in_opening false info x e = step-other_ua x.sapi x e
 
@@ -111,7 +111,7 @@ step-ua_if : (b : Bool) (info : Message) (x : EndState) → IsStep x (if b then 
 step-ua_if true info x = step-silent x _
 step-ua_if false info x = step-silent x _
 
-step-in_open : (cmd : Bool) (c : Content) (x : EndState) → x.state ≡ Open → IsEnd x → IsStep x (in_open cmd c x)
+step-in_open : (cmd : Bool) (c : Content) (x : EndState) → x.state ≡ Open → KeepsWindow x → IsStep x (in_open cmd c x)
 step-in_open cmd (I ns nr p more info) x e h = step-open (in-takes_i ns nr p (info, more) x e h)
 step-in_open cmd (Rr nr pf) x e h = step-open (in-takes_rr nr (cmd && pf) x e h)
 step-in_open cmd (Rej nr pf) x e h = step-open (in-takes_rej nr (cmd && pf) x e h)
@@ -136,21 +136,21 @@ step-in_closed poll (Sabm p info) x = step-silent x _
 step-in_closed poll (Disc p) x = step-silent x _
 step-in_closed poll other x = step-dm_to_poll poll x
 
-step-in_state : (s : State) (cmd : Bool) (c : Content) (x : EndState) → x.state ≡ s → IsEnd x → IsStep x (in_state s cmd c x)
+step-in_state : (s : State) (cmd : Bool) (c : Content) (x : EndState) → x.state ≡ s → KeepsWindow x → IsStep x (in_state s cmd c x)
 step-in_state Idle cmd c x e h = step-in_idle (is_poll cmd c) c x e
 step-in_state Opening cmd c x e h = step-in_opening c x e
 step-in_state Open cmd c x e h = step-in_open cmd c x e h
 step-in_state Closing cmd c x e h = step-in_closing c x e
 step-in_state Closed cmd c x e h = step-in_closed (is_poll cmd c) c x
 
-step-content : (cmd : Bool) (c : Content) (x : EndState) → IsEnd x → IsStep x (after_content cmd c x)
+step-content : (cmd : Bool) (c : Content) (x : EndState) → KeepsWindow x → IsStep x (after_content cmd c x)
 step-content cmd (Ui p []) x h = step-silent x _
 step-content cmd (Ui p (i ∷ is)) x h = step-told x x.kept x.state (N.Unit (i ∷ is)) [] refl refl tt refl
 step-content cmd other x h = step-in_state x.state cmd other x refl h
 
-step-if : (b : Bool) (cmd : Bool) (c : Content) (x : EndState) → IsEnd x → IsStep x (if b then after_content cmd c x else stays x)
+step-if : (b : Bool) (cmd : Bool) (c : Content) (x : EndState) → KeepsWindow x → IsStep x (if b then after_content cmd c x else stays x)
 step-if true cmd c x h = step-content cmd c x h
 step-if false cmd c x h = step-silent x []
 
-pub step-frame : (f : Frame) (x : EndState) → IsEnd x → IsStep x (after_frame f x)
+pub step-frame : (f : Frame) (x : EndState) → KeepsWindow x → IsStep x (after_frame f x)
 step-frame f x h = step-if _ (is_command x f) f.content x h

@@ -15,8 +15,8 @@ use Rattle.lapdm_window.specs.declared.Reason.{Reason}
 use Rattle.lapdm_window.specs.declared.Reason.TheVariants as R
 use Rattle.lapdm_window.specs.declared.Notice.{Notice}
 use Rattle.lapdm_window.specs.declared.Notice.TheVariants as N
-use Rattle.lapdm_window.specs.Ends.{Role, Mobile, Network, EndState, Outcome, IsEnd, all_pieces, stays, ◌then◌}
-use Rattle.lapdm_window.specs.Tables.{is_command, is_poll, says_ua, opens, sabm_in_idle, dm_to_poll, in_idle, other_ua, sabm_in_opening, in_opening, answers_sabm, in_open, in_closing, in_closed, in_state, after_content, after_frame}
+use Rattle.lapdm_window.specs.Ends.{Role, Mobile, Network, EndState, Outcome, KeepsWindow, all_pieces, stays, ◌then◌}
+use Rattle.lapdm_window.specs.Tables.{is_command, is_poll, says_ua, becomes_open, sabm_in_idle, dm_to_poll, in_idle, other_ua, sabm_in_opening, in_opening, answers_sabm, in_open, in_closing, in_closed, in_state, after_content, after_frame}
 use Rattle.lapdm_link.specs.Claims.{opened_in, unit_got_in}
 use Rattle.lapdm_link.proofs.Queues.{is_on}
 use Rattle.lapdm_link.proofs.Telling.{MayTell, Walks, AllFrames, IsNumbered, SaysWell, InOpen, in-takes_i, in-takes_rr, in-takes_rej}
@@ -123,7 +123,7 @@ no_opened s (n ∷ ns) t h w =
     let first : (filter_map opened_in (n ∷ []) ≡ []) × IsLate w.0 = may_not s n w.0 h w.1 in
     filter_map-append opened_in (n ∷ []) ns ∙ ap (λ ms. ms ++ filter_map opened_in ns) first.0 ∙ no_opened w.0 ns t first.1 w.2
 
-taken-open : (c : Content) (x : EndState) (o : Outcome) → x.state ≡ Open → IsEnd x → InOpen x o → IsTaken c x o
+taken-open : (c : Content) (x : EndState) (o : Outcome) → x.state ≡ Open → KeepsWindow x → InOpen x o → IsTaken c x o
 taken-open c x o is_now e h = record {
   frames = all-answers x o.after x.sapi o.frames h.frames (h.well e);
   goes = inl (inl (record {
@@ -189,7 +189,7 @@ taken-other_ua c Zero x = taken-over c x R.Contention [] tt
 taken-other_ua c Three x = taken-quiet c x _ tt
 
 taken-ua_in_opening : (same : Bool) (info : Message) (x : EndState) → x.state ≡ Opening → bytes_eq info x.kept ≡ same →
-    IsTaken (Ua true info) x (if same then opens info x else other_ua x.sapi x)
+    IsTaken (Ua true info) x (if same then becomes_open info x else other_ua x.sapi x)
 taken-ua_in_opening true info x e same =
     let as_kept : info ≡ x.kept = (bytes_eq-Decides info x.kept).0 same in
     taken-opened _ x x.kept info [] (sym as_kept) tt (refl, e, as_kept)
@@ -210,7 +210,7 @@ taken-ua_if p true true info x e same = taken-quiet _ x _ (refl, inl (e, sym ((b
 taken-ua_if p true false info x e same = taken-quiet _ x _ tt
 taken-ua_if p false s info x e same = taken-quiet _ x _ tt
 
-taken-in_open : (cmd : Bool) (c : Content) (x : EndState) → x.state ≡ Open → IsEnd x → IsTaken c x (in_open cmd c x)
+taken-in_open : (cmd : Bool) (c : Content) (x : EndState) → x.state ≡ Open → KeepsWindow x → IsTaken c x (in_open cmd c x)
 taken-in_open cmd (I ns nr p more info) x e h = taken-open _ x _ e h (in-takes_i ns nr p (info, more) x e h)
 taken-in_open cmd (Rr nr pf) x e h = taken-open _ x _ e h (in-takes_rr nr (cmd && pf) x e h)
 taken-in_open cmd (Rej nr pf) x e h = taken-open _ x _ e h (in-takes_rej nr (cmd && pf) x e h)
@@ -235,24 +235,24 @@ taken-in_closed poll (Sabm p info) x = taken-quiet _ x _ (refl, tt, tt)
 taken-in_closed poll (Disc p) x = taken-quiet _ x _ (refl, tt, tt)
 taken-in_closed poll other x = taken-dm_to_poll poll other x
 
-taken-in_state : (s : State) (cmd : Bool) (c : Content) (x : EndState) → x.state ≡ s → IsEnd x → IsTaken c x (in_state s cmd c x)
+taken-in_state : (s : State) (cmd : Bool) (c : Content) (x : EndState) → x.state ≡ s → KeepsWindow x → IsTaken c x (in_state s cmd c x)
 taken-in_state Idle cmd c x e h = taken-in_idle (is_poll cmd c) c x e
 taken-in_state Opening cmd c x e h = taken-in_opening c x e
 taken-in_state Open cmd c x e h = taken-in_open cmd c x e h
 taken-in_state Closing cmd c x e h = taken-in_closing c x e
 taken-in_state Closed cmd c x e h = taken-in_closed (is_poll cmd c) c x
 
-taken-content : (cmd : Bool) (c : Content) (x : EndState) → IsEnd x → IsTaken c x (after_content cmd c x)
+taken-content : (cmd : Bool) (c : Content) (x : EndState) → KeepsWindow x → IsTaken c x (after_content cmd c x)
 taken-content cmd (Ui p []) x h = taken-quiet _ x _ tt
 taken-content cmd (Ui p (i ∷ is)) x h =
     record { frames = tt; goes = inl (inl (record { state = refl; kept = refl; none = refl })); unit = inr (i ∷ is, refl, refl) }
 taken-content cmd other x h = taken-in_state x.state cmd other x refl h
 
-taken-if : (b cmd : Bool) (c : Content) (x : EndState) → IsEnd x → IsTaken c x (if b then after_content cmd c x else stays x)
+taken-if : (b cmd : Bool) (c : Content) (x : EndState) → KeepsWindow x → IsTaken c x (if b then after_content cmd c x else stays x)
 taken-if true cmd c x h = taken-content cmd c x h
 taken-if false cmd c x h = taken-quiet c x [] tt
 
-pub taken-frame : (f : Frame) (x : EndState) → IsEnd x → IsTaken f.content x (after_frame f x)
+pub taken-frame : (f : Frame) (x : EndState) → KeepsWindow x → IsTaken f.content x (after_frame f x)
 taken-frame f x h = taken-if _ (is_command x f) f.content x h
 
 -- a frame of another SAPI is ignored

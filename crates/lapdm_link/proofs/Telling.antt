@@ -1,5 +1,5 @@
 -- What an end tells, and the frames that it sends, in Open: with whatever frames arrive.
-use Rattle.std.proofs.Common.{◌≡◌, refl, sym, ◌∙◌, ap, subst, arith, ℕ, ◌+◌, ◌%◌, ◌<◌, ◌≤◌, Bool, true, false, if◌then◌else◌, nat_eq, nat_lt, List, [], ◌∷◌, ◌++◌, length, get_or, Option, Some, None, append_assoc}
+use Rattle.std.proofs.Common.{◌≡◌, refl, sym, ◌∙◌, ap, subst, arith, ℕ, ◌+◌, ◌<◌, ◌≤◌, Bool, true, false, if◌then◌else◌, nat_eq, nat_lt, List, [], ◌∷◌, ◌++◌, length, get_or, Option, Some, None, append_assoc}
 use Rattle.std.specs.List.{filter_map, flat_map}
 use Rattle.std.proofs.lemmas.List.{append-nil, length-append}
 use Rattle.std.proofs.lemmas.List.Elements.{filter_map-append}
@@ -10,16 +10,15 @@ use Rattle.segmenting.specs.declared.joiner.Joined.TheVariants as J
 use Rattle.lapdm_frame.specs.Layout.{n201}
 use Rattle.segmenting.specs.Pieces.{Message, Piece, longest, pieces}
 use Rattle.segmenting.specs.Joining.{within, endings, open_part, answer_to}
-use Rattle.segmenting.proofs.Joins.{endings-more, endings-last}
+use Rattle.segmenting.proofs.Lemmas.{endings-more, endings-last}
 use Rattle.lapdm_window.specs.declared.Sapi.{Sapi}
 use Rattle.lapdm_window.specs.declared.State.{State}
 use Rattle.lapdm_window.specs.declared.State.TheVariants.{Idle, Opening, Open, Closed}
 use Rattle.lapdm_window.specs.declared.Notice.{Notice}
 use Rattle.lapdm_window.specs.declared.Notice.TheVariants as N
-use Rattle.lapdm_window.specs.Ends.{EndState, Outcome, IsEnd, stays, sends, ◌then◌, response, all_pieces, next_piece, waits, wholly_acked, vr, capped, sapi_number}
+use Rattle.lapdm_window.specs.Ends.{EndState, Outcome, KeepsWindow, stays, sends_frame, ◌then◌, response, all_pieces, next_piece, waits, wholly_acked, vr, capped, sapi_number}
 use Rattle.lapdm_window.specs.Rules.{waiting_frame, has_next, sends_piece, sends_next, acknowledges, with_acked, acked_number, reports_acked, counts, notices_of, accepts, says_rr, answers_piece, with_reject, reject_is_due, rejects, takes_i, answers_poll, takes_rr, sends_again, takes_rej}
-use Rattle.lapdm_window.proofs.Counting.{wholly_acked-more, wholly_acked-last}
-use Rattle.lapdm_window.proofs.Moves.{IsEnd-acked}
+use Rattle.lapdm_window.proofs.Lemmas.{wholly_acked-more, wholly_acked-last, KeepsWindow-acked, three_bits, waits_within}
 use Rattle.lapdm_link.specs.Claims.{acked_in, unit_got_in}
 
 -- what a notice says that accepted pieces end: a message, or none where it is oversize
@@ -124,9 +123,6 @@ SaysWell ps (Rr nr pf) = nr ≤ 7
 SaysWell ps (Rej nr pf) = nr ≤ 7
 SaysWell ps other = Unit {0}
 
-pub three_bits : (n : ℕ) → n % 8 ≤ 7
-three_bits n = grind arith
-
 -- what the rules of Open do but for DISC, DM and SABM
 pub record InOpen (x : EndState) (o : Outcome) : Type 0 where
   pub role : o.after.role ≡ x.role
@@ -136,9 +132,9 @@ pub record InOpen (x : EndState) (o : Outcome) : Type 0 where
   pub state : o.after.state ≡ x.state
   pub frames : AllFrames IsNumbered x.sapi o.frames
   pub tells : Tells x o.notices o.after
-  pub end : IsEnd x → IsEnd o.after
+  pub end : KeepsWindow x → KeepsWindow o.after
   pub no_units : filter_map unit_got_in o.notices ≡ []
-  pub well : IsEnd x → AllFrames (SaysWell (all_pieces x)) x.sapi o.frames
+  pub well : KeepsWindow x → AllFrames (SaysWell (all_pieces x)) x.sapi o.frames
 
 abbrev Stays : (EndState → Outcome) → Type 0
 Stays rule = (x : EndState) → InOpen x (rule x)
@@ -166,7 +162,7 @@ in-then x o rule h g = record {
 
 -- only the reject condition and the retry count change
 plainly : (x : EndState) (b : Bool) (r : ℕ) (fs : List Frame) → AllFrames IsNumbered x.sapi fs →
-    (IsEnd x → AllFrames (SaysWell (all_pieces x)) x.sapi fs) →
+    (KeepsWindow x → AllFrames (SaysWell (all_pieces x)) x.sapi fs) →
     InOpen x (record { after = record x { rejecting = b; retries = r }; frames = fs; notices = [] })
 plainly x b r fs h g = record {
   role = refl;
@@ -187,7 +183,7 @@ in-stays x = plainly x x.rejecting x.retries [] tt (λ e. tt)
 in-says_rr : (f : Bool) → Stays (says_rr f)
 in-says_rr f x = plainly x x.rejecting x.retries (says_rr f x).frames (refl, tt, tt) (λ e. (refl, three_bits (length x.accepted), tt))
 
-in-rejects-if : (p due : Bool) → Stays (λ x. if due then sends (response x (Rej (vr x) p)) (with_reject x) else stays x)
+in-rejects-if : (p due : Bool) → Stays (λ x. if due then sends_frame (response x (Rej (vr x) p)) (with_reject x) else stays x)
 in-rejects-if p true x = plainly x true x.retries _ (refl, tt, tt) (λ e. (refl, three_bits (length x.accepted), tt))
 in-rejects-if p false x = in-stays x
 
@@ -223,14 +219,8 @@ in-if false c f g x e h k = k
 pub in-sends_next : Stays sends_next
 in-sends_next x = in-if (has_next x) (has_next x) sends_piece stays x refl (in-sends_piece x) (in-stays x)
 
-pub waits_within : (x : EndState) → IsEnd x → waits x ≡ true → x.acked < length (all_pieces x)
-waits_within x h w =
-    let low : x.acked ≤ x.sent = h.behind in
-    let high : x.sent ≤ length (all_pieces x) = h.sent in
-    grind (arith, nat_tests)
-
 in-sends_again : Stays sends_again
-in-sends_again x = in-if (waits x) (waits x) (λ e. sends (waiting_frame false e) e) sends_next x refl
+in-sends_again x = in-if (waits x) (waits x) (λ e. sends_frame (waiting_frame false e) e) sends_next x refl
     (λ w. plainly x x.rejecting x.retries _ (refl, tt, tt)
     (λ e. (refl, (three_bits x.acked, three_bits (length x.accepted), (x.acked, waits_within x e w, refl)), tt))) (in-sends_next x)
 
@@ -253,7 +243,7 @@ reports-acked true x is_now is one within =
       state = refl;
       frames = tt;
       tells = silent x (with_acked x) refl refl (wholly_acked-more x one within is) refl;
-      end = IsEnd-acked x;
+      end = KeepsWindow-acked x;
       no_units = refl;
       well =
           λ e. tt;
@@ -274,25 +264,25 @@ reports-acked false x is_now is one within =
         numbers = (ap capped last, tt);
         walks = subst (λ (s : State). Walks s (N.Acked (acked_number x) ∷ []) s) (sym is_now) (Open, refl, refl);
       };
-      end = IsEnd-acked x;
+      end = KeepsWindow-acked x;
       no_units = refl;
       well = λ e. tt;
     }
 
-acknowledges_next : (x : EndState) (nr : ℕ) → IsEnd x → acknowledges nr x ≡ true → x.sent ≡ x.acked + 1
+acknowledges_next : (x : EndState) (nr : ℕ) → KeepsWindow x → acknowledges nr x ≡ true → x.sent ≡ x.acked + 1
 acknowledges_next x nr h acks =
     let low : x.acked ≤ x.sent = h.behind in
     let high : x.sent ≤ x.acked + 1 = h.window in
     grind (arith, nat_tests)
 
-counts_if : (b : Bool) (nr : ℕ) (x : EndState) → x.state ≡ Open → IsEnd x → acknowledges nr x ≡ b →
+counts_if : (b : Bool) (nr : ℕ) (x : EndState) → x.state ≡ Open → KeepsWindow x → acknowledges nr x ≡ b →
     InOpen x (if b then reports_acked (next_piece x).1 x else stays x)
 counts_if true nr x is_now h acks =
     let one : x.sent ≡ x.acked + 1 = acknowledges_next x nr h acks in
     reports-acked (next_piece x).1 x is_now refl one (omega (arith, h.sent))
 counts_if false nr x is_now h acks = in-stays x
 
-in-counts : (nr : ℕ) (x : EndState) → x.state ≡ Open → IsEnd x → InOpen x (counts nr x)
+in-counts : (nr : ℕ) (x : EndState) → x.state ≡ Open → KeepsWindow x → InOpen x (counts nr x)
 in-counts nr x is_now h = counts_if (acknowledges nr x) nr x is_now h refl
 
 -- a piece is accepted
@@ -357,7 +347,7 @@ in-accepts p x is_now =
     }
 
 -- the rules as a whole
-in-takes_i-if : (b : Bool) (nr : ℕ) (p : Bool) (piece : Piece) (x : EndState) → x.state ≡ Open → IsEnd x →
+in-takes_i-if : (b : Bool) (nr : ℕ) (p : Bool) (piece : Piece) (x : EndState) → x.state ≡ Open → KeepsWindow x →
     InOpen x (if b then (counts nr x then accepts piece then answers_piece p) else (counts nr x then rejects p then sends_next))
 in-takes_i-if true nr p piece x is_now h =
     let counted = in-counts nr x is_now h in
@@ -368,15 +358,15 @@ in-takes_i-if false nr p piece x is_now h =
     let rejected = in-then x (counts nr x) (rejects p) counted (in-rejects p (counts nr x).after) in
     in-then x (counts nr x then rejects p) sends_next rejected (in-sends_next (counts nr x then rejects p).after)
 
-pub in-takes_i : (ns nr : ℕ) (p : Bool) (piece : Piece) (x : EndState) → x.state ≡ Open → IsEnd x → InOpen x (takes_i ns nr p piece x)
+pub in-takes_i : (ns nr : ℕ) (p : Bool) (piece : Piece) (x : EndState) → x.state ≡ Open → KeepsWindow x → InOpen x (takes_i ns nr p piece x)
 in-takes_i ns nr p piece x is_now h = in-takes_i-if (nat_eq ns (vr x)) nr p piece x is_now h
 
-pub in-takes_rr : (nr : ℕ) (poll : Bool) (x : EndState) → x.state ≡ Open → IsEnd x → InOpen x (takes_rr nr poll x)
+pub in-takes_rr : (nr : ℕ) (poll : Bool) (x : EndState) → x.state ≡ Open → KeepsWindow x → InOpen x (takes_rr nr poll x)
 in-takes_rr nr poll x is_now h =
     let polled = in-then x (counts nr x) (answers_poll poll) (in-counts nr x is_now h) (in-answers_poll poll (counts nr x).after) in
     in-then x (counts nr x then answers_poll poll) sends_next polled (in-sends_next (counts nr x then answers_poll poll).after)
 
-pub in-takes_rej : (nr : ℕ) (poll : Bool) (x : EndState) → x.state ≡ Open → IsEnd x → InOpen x (takes_rej nr poll x)
+pub in-takes_rej : (nr : ℕ) (poll : Bool) (x : EndState) → x.state ≡ Open → KeepsWindow x → InOpen x (takes_rej nr poll x)
 in-takes_rej nr poll x is_now h =
     let polled = in-then x (counts nr x) (answers_poll poll) (in-counts nr x is_now h) (in-answers_poll poll (counts nr x).after) in
     in-then x (counts nr x then answers_poll poll) sends_again polled (in-sends_again (counts nr x then answers_poll poll).after)

@@ -8,9 +8,9 @@ use Rattle.lapdm_window.specs.declared.State.{State}
 use Rattle.lapdm_window.specs.declared.State.TheVariants as S
 use Rattle.lapdm_window.specs.declared.Notice.{Notice}
 use Rattle.lapdm_window.specs.declared.Notice.TheVariants as N
-use Rattle.lapdm_window.specs.Ends.{EndState, IsEnd, wholly_acked, capped}
+use Rattle.lapdm_window.specs.Ends.{EndState, KeepsWindow, wholly_acked, capped}
 use Rattle.lapdm_window.specs.Calls.{Call}
-use Rattle.lapdm_window.proofs.Counting.{wholly_acked-most}
+use Rattle.lapdm_window.proofs.Lemmas.{wholly_acked-most}
 use Rattle.lapdm_link.specs.Claims.{sent_in, closes_in, acked_in, opened_in, closed_in}
 use Rattle.lapdm_link.proofs.Telling.{ending_in, Numbers, MayTell, Walks, Tells}
 
@@ -153,7 +153,7 @@ all_said-walks s (m ∷ ms) t cs ns w numbers room h = (
   all_said-walks w.0 ms t cs (ns ++ m ∷ []) w.2 (numbers-rest m ms ns numbers) (room-rest m ms ns _ room) (phase-one s m w.0 cs ns w.1 h),
 )
 
-pub all_said : (x z : EndState) (cs : List Call) (ns ms : List Notice) → IsEnd z → Tells x ms z → HasTold x cs ns → AllSaid cs ns ms
+pub all_said : (x z : EndState) (cs : List Call) (ns ms : List Notice) → KeepsWindow z → Tells x ms z → HasTold x cs ns → AllSaid cs ns ms
 all_said x z cs ns ms end t h =
     all_said-walks x.state ms z.state cs ns t.walks (subst (λ (k : ℕ). Numbers k ms) (sym h.acked) t.numbers)
     (omega (arith, h.acked, t.acked, wholly_acked-most z, ap length h.taken, ap length t.taken)) h.phase

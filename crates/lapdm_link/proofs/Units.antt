@@ -15,8 +15,8 @@ use Rattle.lapdm_window.specs.declared.State.TheVariants as S
 use Rattle.lapdm_window.specs.declared.Reason.TheVariants as R
 use Rattle.lapdm_window.specs.declared.Notice.{Notice}
 use Rattle.lapdm_window.specs.declared.Refused.TheVariants as No
-use Rattle.lapdm_window.specs.Ends.{Role, Mobile, Network, EndState, Outcome, IsEnd, sends, n200}
-use Rattle.lapdm_window.specs.Tables.{after_frame, closes}
+use Rattle.lapdm_window.specs.Ends.{Role, Mobile, Network, EndState, Outcome, KeepsWindow, sends_frame, n200}
+use Rattle.lapdm_window.specs.Tables.{after_frame, becomes_closed}
 use Rattle.lapdm_window.specs.Calls.{Call, Opens, OpensBare, Sends, SendsUnit, Closes, Ticks, Idles, refusal_of, with_taken, repeated, after_call}
 use Rattle.lapdm_link.proofs.Queues.{is_on}
 use Rattle.lapdm_link.specs.Events.{other, rival_frame}
@@ -27,10 +27,10 @@ use Rattle.lapdm_link.proofs.Views.{acted}
 use Rattle.lapdm_link.specs.Claims.{Line, Asked, Rivals, Told, calls, notices, is_sapi, unit_sent_in, unit_got_in, units_got, units_sent, IsSubsequence}
 use Rattle.lapdm_link.proofs.Keeping.{is_here}
 use Rattle.lapdm_link.proofs.Telling.{AllFrames, IsNumbered, in-sends_next}
-use Rattle.lapdm_link.proofs.Arriving.{passes}
+use Rattle.lapdm_window.proofs.Lemmas.{passes}
 use Rattle.lapdm_link.proofs.Taking.{Answers, IsTaken, taken-frame, unit_of, ReportsUnit, elsewhere}
 use Rattle.lapdm_link.proofs.Foreign.{IsBlind, seen, foreign-call}
-use Rattle.lapdm_link.proofs.Views.{is_end, each_end, end_with_way, way_same, way_does, way_does-other, notices-told, notices-else, calls-told, calls-called, notices-called, calls-called_else, notices-called_else, calls-rival, notices-rival}
+use Rattle.lapdm_link.proofs.Views.{is_end, each_end, each_lost, way_same, way_does, way_does-other, notices-told, notices-else, calls-told, calls-called, notices-called, calls-called_else, notices-called_else, calls-rival, notices-rival}
 use Rattle.lapdm_link.proofs.Delivery.{IsFirst, is_first}
 use Rattle.lapdm_link.proofs.Subsequences.{sub-more, sub-both, sub-less}
 
@@ -76,8 +76,9 @@ numbered-no_units s t (f ∷ fs) h = ap (λ o. cons_option o (units_on s fs)) (n
 
 -- a call sends the unit that it names, and reports none
 ticks-units : (s : Sapi) (t : State) (b : Bool) (x : EndState) →
-    (units_on s (if b then sends (repeated t x) (record x { retries = x.retries + 1 }) else closes R.Failed x).frames ≡ []) ×
-    (filter_map unit_got_in (if b then sends (repeated t x) (record x { retries = x.retries + 1 }) else closes R.Failed x).notices ≡ [])
+    (units_on s (if b then sends_frame (repeated t x) (record x { retries = x.retries + 1 }) else becomes_closed R.Failed x).frames ≡ []) ×
+    (filter_map unit_got_in (if b then sends_frame (repeated t x)
+    (record x { retries = x.retries + 1 }) else becomes_closed R.Failed x).notices ≡ [])
 ticks-units s t false x = (refl, refl)
 ticks-units s S.Idle true x = (refl, refl)
 ticks-units s S.Opening true x = (refl, refl)
@@ -189,10 +190,9 @@ rest-units gs s [] ys h = h
 rest-units gs s (f ∷ fs) ys h = sub-gone gs (unit_of (is_on s f) f.content) (units_on s fs) ys h
 
 pub units-lost : (w : World) (ls : List Line) → AllUnits w ls → (sender : Role) → AllUnits (without_first sender w) ls
-units-lost w ls h Mobile Mobile s = rest-units (units_got Network s ls) s w.ways.up _ (h Mobile s)
-units-lost w ls h Mobile Network s = h Network s
-units-lost w ls h Network Mobile s = h Mobile s
-units-lost w ls h Network Network s = rest-units (units_got Mobile s ls) s w.ways.down _ (h Network s)
+units-lost w ls h sender r s =
+    each_lost (λ r' fs. IsSubsequence (units_got (other r') s ls ++ units_on s fs) (units_sent r' s ls))
+    (λ r' fs u. rest-units (units_got (other r') s ls) s fs _ u) sender w (λ r'. h r' s) r
 
 -- a frame arrives
 unit_comes : (here : Bool) (c : Content) (ns : List Notice) (gs rest_of ys : List Message) →
@@ -214,21 +214,19 @@ other_twice : (r : Role) → other (other r) ≡ r
 other_twice Mobile = refl
 other_twice Network = refl
 
-pub units-frame : (w : World) (ls : List Line) → AllUnits w ls → (r : Role) (s : Sapi) (f : Frame) → IsEnd (end_of r s w) →
+pub units-frame : (w : World) (ls : List Line) → AllUnits w ls → (r : Role) (s : Sapi) (f : Frame) → KeepsWindow (end_of r s w) →
     (end_of r s w).sapi ≡ s → IsAsSent (Some f) (way (other r) w) →
     AllUnits (acted r s (after_frame f (end_of r s (without_first (other r) w))) (without_first (other r) w))
     (ls ++ map (Told r s) (after_frame f (end_of r s (without_first (other r) w))).notices)
 units-frame w ls h r s f end same known =
     let w' : World = without_first (other r) w in
     let x : EndState = end_of r s w' in
-    let x_is : x ≡ end_of r s w = end_with_way r s (other r) (rest (way (other r) w)) w in
     let o : Outcome = after_frame f x in
-    let t : IsTaken f.content x o = taken-frame f x (subst IsEnd (sym x_is) end) in
-    let x_sapi : x.sapi ≡ s = ap (λ (e : EndState). e.sapi) x_is ∙ same in
+    let t : IsTaken f.content x o = taken-frame f x end in
     let i : IsFirst f (way (other r) w) = is_first f (way (other r) w) known in
     let none : (s' : Sapi) → units_on s' o.frames ≡ [] = λ s'. no_units s' x.sapi x o.after o.frames t.frames in
     let away : is_on s f ≡ false → filter_map unit_got_in o.notices ≡ [] =
-    λ e. ap (λ (p : Outcome). filter_map unit_got_in p.notices) (elsewhere f x (ap (λ (u : Sapi). is_on u f) x_sapi ∙ e)) in
+    λ e. ap (λ (p : Outcome). filter_map unit_got_in p.notices) (elsewhere f x (ap (λ (u : Sapi). is_on u f) same ∙ e)) in
     let before : IsSubsequence (units_got r s ls ++ cons_option (unit_of (is_on s f) f.content) (units_on s i.others))
     (units_sent (other r) s ls) =
     units-as (units_got (other (other r)) s ls) _ (units_on s (way (other r) w)) _ (units_sent (other r) s ls) _

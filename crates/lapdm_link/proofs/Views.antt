@@ -91,9 +91,6 @@ end_else Network Three e w Mobile Three h = refl
 end_else Network Three e w Network Zero h = refl
 end_else Network Three e w Network Three h = absurd (false≢true (sym h))
 
-pub end_with_way : (r : Role) (s : Sapi) (sender : Role) (fs : List Frame) (w : World) → end_of r s (with_way sender fs w) ≡ end_of r s w
-end_with_way r s sender fs w = refl
-
 pub way_same : (r : Role) (fs : List Frame) (w : World) → way r (with_way r fs w) ≡ fs
 way_same Mobile fs w = refl
 way_same Network fs w = refl
@@ -101,9 +98,6 @@ way_same Network fs w = refl
 pub way_other : (r : Role) (fs : List Frame) (w : World) → way (other r) (with_way r fs w) ≡ way (other r) w
 way_other Mobile fs w = refl
 way_other Network fs w = refl
-
-pub way_with_end : (r : Role) (r' : Role) (s' : Sapi) (e : EndState) (w : World) → way r (with_end r' s' e w) ≡ way r w
-way_with_end r r' s' e w = refl
 
 -- lines of one end, and of each other one
 is_end-self : (r : Role) (s : Sapi) → is_end r s r s ≡ true
@@ -167,20 +161,25 @@ notices-rival r s ls info = notices-append r s ls (Rivals info ∷ []) ∙ appen
 
 -- after what an end did
 pub end_does : (r : Role) (s : Sapi) (o : Outcome) (w : World) → end_of r s (acted r s o w) ≡ o.after
-end_does r s o w = end_with_way r s r (way r (with_end r s o.after w) ++ o.frames) (with_end r s o.after w) ∙ end_same r s o.after w
+end_does r s o w = end_same r s o.after w
 
 pub end_does-else : (r : Role) (s : Sapi) (o : Outcome) (w : World) (r' : Role) (s' : Sapi) → is_end r' s' r s ≡ false →
     end_of r' s' (acted r s o w) ≡ end_of r' s' w
-end_does-else r s o w r' s' h = end_with_way r' s' r (way r (with_end r s o.after w) ++ o.frames) (with_end r s o.after w)
-    ∙ end_else r s o.after w r' s' h
+end_does-else r s o w r' s' h = end_else r s o.after w r' s' h
 
 pub way_does : (r : Role) (s : Sapi) (o : Outcome) (w : World) → way r (acted r s o w) ≡ way r w ++ o.frames
 way_does r s o w = way_same r (way r (with_end r s o.after w) ++ o.frames) (with_end r s o.after w)
-    ∙ ap (λ fs. fs ++ o.frames) (way_with_end r r s o.after w)
 
 pub way_does-other : (r : Role) (s : Sapi) (o : Outcome) (w : World) → way (other r) (acted r s o w) ≡ way (other r) w
 way_does-other r s o w = way_other r (way r (with_end r s o.after w) ++ o.frames) (with_end r s o.after w)
-    ∙ way_with_end (other r) r s o.after w
+
+-- what holds of each way, where the first on one is gone
+pub each_lost : (P : Role → List Frame → Type 0) → ((r : Role) (fs : List Frame) → P r fs → P r (rest fs)) → (sender : Role) (w : World) →
+    ((r : Role) → P r (way r w)) → (r : Role) → P r (way r (without_first sender w))
+each_lost P gone Mobile w h Mobile = gone Mobile w.ways.up (h Mobile)
+each_lost P gone Mobile w h Network = h Network
+each_lost P gone Network w h Mobile = h Mobile
+each_lost P gone Network w h Network = gone Network w.ways.down (h Network)
 
 -- the lines of a call
 asked-first : (r : Role) (s : Sapi) (ls : List Line) (call : Call) (ns : List Notice) →

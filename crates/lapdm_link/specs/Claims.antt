@@ -7,6 +7,7 @@ use Rattle.lapdm_window.specs.declared.Sapi.TheVariants.{Zero, Three}
 use Rattle.lapdm_window.specs.declared.Notice.{Notice}
 use Rattle.lapdm_window.specs.declared.Notice.TheVariants as N
 use Rattle.lapdm_window.specs.Ends.{Role, Mobile, Network, capped}
+pub use Rattle.lapdm_window.specs.Steps.{got_in}
 use Rattle.lapdm_window.specs.Calls.{Call, Opens, OpensBare, Sends, SendsUnit, Closes}
 use Rattle.lapdm_link.specs.Events.{EventBy, Open, OpenBare, Ask, Rival, Answer, Refuses, Does, Who, End, call_of, other}
 
@@ -76,10 +77,6 @@ abbrev pub closes_in : Call → Option Call
 closes_in Closes = Some Closes
 closes_in other = None
 
-abbrev pub got_in : Notice → Option Message
-got_in (N.Got m) = Some m
-got_in other = None
-
 abbrev pub unit_got_in : Notice → Option Message
 unit_got_in (N.Unit m) = Some m
 unit_got_in other = None
@@ -140,7 +137,8 @@ abbrev pub HasCause : Role → Sapi → Message → List Line → Type 0
 HasCause Mobile Zero info before = Contains before (Told Network Zero (N.Opened info)) × Contains before (Asked Mobile Zero (Opens info))
 HasCause Network Zero info before = Contains before (Asked Mobile Zero (Opens info)) ⊎ Contains before (Rivals info)
 HasCause r Three info before =
-    Contains before (Asked (other r) Three OpensBare) ⊎ (Contains before (Asked r Three OpensBare) × Contains before (Told (other r) Three (N.Opened [])))
+    Contains before (Asked (other r) Three OpensBare) ⊎ (Contains before (Asked r Three OpensBare)
+    × Contains before (Told (other r) Three (N.Opened [])))
 
 -- The claims on delivery, of every session in which frames arrive as they were sent or not at all, for each end r of
 -- each link s and the other end of that link. In turn: the other end hands up a beginning of the messages that r took;
@@ -152,7 +150,8 @@ pub record Claims (ls : List Line) : Type 0 where
   pub acknowledged : (r : Role) (s : Sapi) (n : ℕ) (before : List Line) → StandsAfter before (Told r s (N.Acked n)) ls →
       (n ≡ capped (length (acked r s before) + 1)) × (length (acked r s before) + 1 ≤ length (got (other r) s before))
   pub units : (r : Role) (s : Sapi) → IsSubsequence (units_got (other r) s ls) (units_sent r s ls)
-  pub cause : (r : Role) (s : Sapi) (info : Message) (before : List Line) → StandsAfter before (Told r s (N.Opened info)) ls → HasCause r s info before
+  pub cause : (r : Role) (s : Sapi) (info : Message) (before : List Line) → StandsAfter before (Told r s (N.Opened info)) ls →
+      HasCause r s info before
   pub once : (r : Role) (s : Sapi) → length (opened r s ls) ≤ 1
   pub no_oversize : (r : Role) (s : Sapi) (before : List Line) → ¬ StandsAfter before (Told r s N.Oversize) ls
 
@@ -177,7 +176,8 @@ pub record OrderClaims (ls : List Line) : Type 0 where
       (n ≡ capped (length (acked r s before) + 1)) × (length (acked r s before) + 1 ≤ length (sent r s before))
   pub opened_once : (r : Role) (s : Sapi) → length (opened r s ls) ≤ 1
   pub closed_once : (r : Role) (s : Sapi) → length (closed r s ls) ≤ 1
-  pub inside : (r : Role) (s : Sapi) (notice : Notice) (before : List Line) → IsOfOpenEnd notice → StandsAfter before (Told r s notice) ls → IsOpenEnd r s before
+  pub inside : (r : Role) (s : Sapi) (notice : Notice) (before : List Line) → IsOfOpenEnd notice → StandsAfter before (Told r s notice) ls →
+      IsOpenEnd r s before
 
 -- at each end at most as many messages are acknowledged as the other handed up
 abbrev pub CountsAgree : List Line → Type 0

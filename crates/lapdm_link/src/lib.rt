@@ -12,22 +12,26 @@ ghost use Rattle.lapdm_link.specs.Claims.{lines, Claims, OrderClaims, CountsAgre
 /// took, each message once, and whatever is reported as acknowledged was handed up before. Other mobiles may ask for
 /// the link at any moment.
 pub fn law_delivery()
-    ensures { (channel : Channel) (events : List Event) → IsHarmless events (start_on channel) → Claims (lines events (answers events (start_on channel))) }
+    ensures { (channel : Channel) (events : List Event) → IsHarmless events (start_on channel)
+        → Claims (lines events (answers events (start_on channel))) }
 {}
 
 /// Law: whatever frames arrive, what is reported as acknowledged was sent before, and each end opens its link at most
 /// once and reports nothing of it before and after.
 pub fn law_order()
-    ensures { (channel : Channel) (events : List Event) → OrderClaims (lines events (answers events (start_on channel))) }
+    ensures { (channel : Channel) (events : List Event)
+        → OrderClaims (lines events (answers events (start_on channel))) }
 {}
 
 /// Law: at no end of such a session are more messages acknowledged than the other end handed up.
 pub fn law_counts()
-    ensures { (channel : Channel) (events : List Event) → IsHarmless events (start_on channel) → CountsAgree (lines events (answers events (start_on channel))) }
+    ensures { (channel : Channel) (events : List Event) → IsHarmless events (start_on channel)
+        → CountsAgree (lines events (answers events (start_on channel))) }
 {}
 
 /// Law: where each frame that arrives is one that can be read, a step gives at most two frames and two notices, and
 /// each frame can be written.
 pub fn law_frames()
-    ensures { (channel : Channel) (events : List Event) → All (IsReadable channel) events → All (IsSendable channel) (answers events (start_on channel)) }
+    ensures { (channel : Channel) (events : List Event) → All (IsReadable channel) events
+        → All (IsSendable channel) (answers events (start_on channel)) }
 {}

@@ -71,7 +71,9 @@ impl Mobile {
     pub fn open(&mut self, info: &[u8]) -> Result<Effects, Refused>
         requires { sapi_of (end_of self.old) ≡ S.Zero }
         ensures refusal { IsRefusedAs (Opens info.now) (end_of self.old) result }
-        ensures follows { IfOk result (λ effects. Follows (after_call (Opens info.now)) (end_of self.old) effects (end_of self.new)) }
+        ensures follows { IfOk result
+            (λ effects. Follows (after_call (Opens info.now)) (end_of self.old) effects
+            (end_of self.new)) }
         ensures refused { OnErr result (self.new ≡ self.old) }
         ensures sapi { sapi_of (end_of self.new) ≡ sapi_of (end_of self.old) }
         ensures channel { channel_of (end_of self.new) ≡ channel_of (end_of self.old) }
@@ -83,7 +85,8 @@ impl Mobile {
     pub fn open_bare(&mut self) -> Result<Effects, Refused>
         requires { sapi_of (end_of self.old) ≡ S.Three }
         ensures refusal { IsRefusedAs OpensBare (end_of self.old) result }
-        ensures follows { IfOk result (λ effects. Follows (after_call OpensBare) (end_of self.old) effects (end_of self.new)) }
+        ensures follows { IfOk result
+            (λ effects. Follows (after_call OpensBare) (end_of self.old) effects (end_of self.new)) }
         ensures refused { OnErr result (self.new ≡ self.old) }
         ensures sapi { sapi_of (end_of self.new) ≡ sapi_of (end_of self.old) }
         ensures channel { channel_of (end_of self.new) ≡ channel_of (end_of self.old) }
@@ -94,7 +97,9 @@ impl Mobile {
     /// Sends a message over the link.
     pub fn send(&mut self, message: &[u8]) -> Result<Effects, Refused>
         ensures refusal { IsRefusedAs (Sends message.now) (end_of self.old) result }
-        ensures follows { IfOk result (λ effects. Follows (after_call (Sends message.now)) (end_of self.old) effects (end_of self.new)) }
+        ensures follows { IfOk result
+            (λ effects. Follows (after_call (Sends message.now)) (end_of self.old) effects
+            (end_of self.new)) }
         ensures refused { OnErr result (self.new ≡ self.old) }
         ensures sapi { sapi_of (end_of self.new) ≡ sapi_of (end_of self.old) }
         ensures channel { channel_of (end_of self.new) ≡ channel_of (end_of self.old) }
@@ -105,7 +110,9 @@ impl Mobile {
     /// Sends a message in one unnumbered frame, outside the link.
     pub fn unit(&mut self, message: &[u8]) -> Result<Effects, Refused>
         ensures refusal { IsRefusedAs (SendsUnit message.now) (end_of self.old) result }
-        ensures follows { IfOk result (λ effects. Follows (after_call (SendsUnit message.now)) (end_of self.old) effects (end_of self.new)) }
+        ensures follows { IfOk result
+            (λ effects. Follows (after_call (SendsUnit message.now)) (end_of self.old) effects
+            (end_of self.new)) }
         ensures refused { OnErr result (self.new ≡ self.old) }
         ensures sapi { sapi_of (end_of self.new) ≡ sapi_of (end_of self.old) }
         ensures channel { channel_of (end_of self.new) ≡ channel_of (end_of self.old) }
@@ -116,7 +123,8 @@ impl Mobile {
     /// Closes the link. What is not acknowledged is given up.
     pub fn close(&mut self) -> Result<Effects, Refused>
         ensures refusal { IsRefusedAs Closes (end_of self.old) result }
-        ensures follows { IfOk result (λ effects. Follows (after_call Closes) (end_of self.old) effects (end_of self.new)) }
+        ensures follows { IfOk result
+            (λ effects. Follows (after_call Closes) (end_of self.old) effects (end_of self.new)) }
         ensures refused { OnErr result (self.new ≡ self.old) }
         ensures sapi { sapi_of (end_of self.new) ≡ sapi_of (end_of self.old) }
         ensures channel { channel_of (end_of self.new) ≡ channel_of (end_of self.old) }
@@ -127,7 +135,8 @@ impl Mobile {
     /// The timer T200 has run out.
     pub fn timer(&mut self) -> Result<Effects, Refused>
         ensures refusal { IsRefusedAs Ticks (end_of self.old) result }
-        ensures follows { IfOk result (λ effects. Follows (after_call Ticks) (end_of self.old) effects (end_of self.new)) }
+        ensures follows { IfOk result
+            (λ effects. Follows (after_call Ticks) (end_of self.old) effects (end_of self.new)) }
         ensures refused { OnErr result (self.new ≡ self.old) }
         ensures sapi { sapi_of (end_of self.new) ≡ sapi_of (end_of self.old) }
         ensures channel { channel_of (end_of self.new) ≡ channel_of (end_of self.old) }
@@ -145,7 +154,8 @@ impl Mobile {
     /// Takes a frame that came in.
     pub fn take(&mut self, frame: &FrameView<'_>) -> Effects
         requires { Fits (channel_of (end_of self.old)) (frame_of frame.now) }
-        ensures follows { Follows (after_frame (frame_of frame.now)) (end_of self.old) result (end_of self.new) }
+        ensures follows { Follows (after_frame (frame_of frame.now)) (end_of self.old) result
+            (end_of self.new) }
         ensures sapi { sapi_of (end_of self.new) ≡ sapi_of (end_of self.old) }
         ensures channel { channel_of (end_of self.new) ≡ channel_of (end_of self.old) }
     {

@@ -71,7 +71,8 @@ impl Network {
     pub fn open_bare(&mut self) -> Result<Effects, Refused>
         requires { sapi_of (end_of self.old) ≡ S.Three }
         ensures refusal { IsRefusedAs OpensBare (end_of self.old) result }
-        ensures follows { IfOk result (λ effects. Follows (after_call OpensBare) (end_of self.old) effects (end_of self.new)) }
+        ensures follows { IfOk result
+            (λ effects. Follows (after_call OpensBare) (end_of self.old) effects (end_of self.new)) }
         ensures refused { OnErr result (self.new ≡ self.old) }
         ensures sapi { sapi_of (end_of self.new) ≡ sapi_of (end_of self.old) }
         ensures channel { channel_of (end_of self.new) ≡ channel_of (end_of self.old) }
@@ -82,7 +83,9 @@ impl Network {
     /// Sends a message over the link.
     pub fn send(&mut self, message: &[u8]) -> Result<Effects, Refused>
         ensures refusal { IsRefusedAs (Sends message.now) (end_of self.old) result }
-        ensures follows { IfOk result (λ effects. Follows (after_call (Sends message.now)) (end_of self.old) effects (end_of self.new)) }
+        ensures follows { IfOk result
+            (λ effects. Follows (after_call (Sends message.now)) (end_of self.old) effects
+            (end_of self.new)) }
         ensures refused { OnErr result (self.new ≡ self.old) }
         ensures sapi { sapi_of (end_of self.new) ≡ sapi_of (end_of self.old) }
         ensures channel { channel_of (end_of self.new) ≡ channel_of (end_of self.old) }
@@ -93,7 +96,9 @@ impl Network {
     /// Sends a message in one unnumbered frame, outside the link.
     pub fn unit(&mut self, message: &[u8]) -> Result<Effects, Refused>
         ensures refusal { IsRefusedAs (SendsUnit message.now) (end_of self.old) result }
-        ensures follows { IfOk result (λ effects. Follows (after_call (SendsUnit message.now)) (end_of self.old) effects (end_of self.new)) }
+        ensures follows { IfOk result
+            (λ effects. Follows (after_call (SendsUnit message.now)) (end_of self.old) effects
+            (end_of self.new)) }
         ensures refused { OnErr result (self.new ≡ self.old) }
         ensures sapi { sapi_of (end_of self.new) ≡ sapi_of (end_of self.old) }
         ensures channel { channel_of (end_of self.new) ≡ channel_of (end_of self.old) }
@@ -104,7 +109,8 @@ impl Network {
     /// Closes the link. What is not acknowledged is given up.
     pub fn close(&mut self) -> Result<Effects, Refused>
         ensures refusal { IsRefusedAs Closes (end_of self.old) result }
-        ensures follows { IfOk result (λ effects. Follows (after_call Closes) (end_of self.old) effects (end_of self.new)) }
+        ensures follows { IfOk result
+            (λ effects. Follows (after_call Closes) (end_of self.old) effects (end_of self.new)) }
         ensures refused { OnErr result (self.new ≡ self.old) }
         ensures sapi { sapi_of (end_of self.new) ≡ sapi_of (end_of self.old) }
         ensures channel { channel_of (end_of self.new) ≡ channel_of (end_of self.old) }
@@ -115,7 +121,8 @@ impl Network {
     /// The timer T200 has run out.
     pub fn timer(&mut self) -> Result<Effects, Refused>
         ensures refusal { IsRefusedAs Ticks (end_of self.old) result }
-        ensures follows { IfOk result (λ effects. Follows (after_call Ticks) (end_of self.old) effects (end_of self.new)) }
+        ensures follows { IfOk result
+            (λ effects. Follows (after_call Ticks) (end_of self.old) effects (end_of self.new)) }
         ensures refused { OnErr result (self.new ≡ self.old) }
         ensures sapi { sapi_of (end_of self.new) ≡ sapi_of (end_of self.old) }
         ensures channel { channel_of (end_of self.new) ≡ channel_of (end_of self.old) }
@@ -133,7 +140,8 @@ impl Network {
     /// Takes a frame that came in.
     pub fn take(&mut self, frame: &FrameView<'_>) -> Effects
         requires { Fits (channel_of (end_of self.old)) (frame_of frame.now) }
-        ensures follows { Follows (after_frame (frame_of frame.now)) (end_of self.old) result (end_of self.new) }
+        ensures follows { Follows (after_frame (frame_of frame.now)) (end_of self.old) result
+            (end_of self.new) }
         ensures sapi { sapi_of (end_of self.new) ≡ sapi_of (end_of self.old) }
         ensures channel { channel_of (end_of self.new) ≡ channel_of (end_of self.old) }
     {

@@ -6,7 +6,7 @@ use Rattle.std.proofs.Math.Seq.{drop-append_seam}
 use Rattle.std.proofs.lemmas.List.{length-append, length-drop, length-take-le, drop-drop, get_or-drop}
 use Rattle.std.proofs.lemmas.Bool.{false≢true}
 use Rattle.segmenting.specs.Pieces.{Message, Piece, IsMessage, cut, pieces, count_of}
-use Rattle.segmenting.proofs.Cutting.{length-pieces, begins_within, piece_is}
+use Rattle.segmenting.proofs.Lemmas.{length-pieces, begins_within, piece_is}
 
 abbrev octets_in : Option Piece → List ℕ
 octets_in None = []
@@ -40,25 +40,30 @@ pub record HasSize (n : ℕ) (octets : List ℕ) : Type 0 where
   pub some : 1 ≤ length octets
   pub most : length octets ≤ n
 
-pub size_of : (n i : ℕ) (m : Message) (octets : List ℕ) (more : Bool) → 0 < n → IsMessage m → i < length (pieces n m) → slice_get (pieces n m) i ≡ Some (octets, more) → HasSize n octets
+pub size_of : (n i : ℕ) (m : Message) (octets : List ℕ) (more : Bool) → 0 < n → IsMessage m → i < length (pieces n m) →
+    slice_get (pieces n m) i ≡ Some (octets, more) → HasSize n octets
 size_of n i m octets more room h within is =
     let l = length m - i * n in
     let begins : i * n < length m = begins_within n i m room h.some within in
     let same : octets ≡ take (min l n) (drop (i * n) m) = ap octets_in (sym is ∙ piece_is n i m room h within) in
-    let size : length (take (min l n) (drop (i * n) m)) ≡ min l n = length-take-le (min l n) (drop (i * n) m) (omega (arith, length-drop (i * n) m)) in
+    let size : length (take (min l n) (drop (i * n) m)) ≡ min l n = length-take-le (min l n) (drop (i * n) m)
+    (omega (arith, length-drop (i * n) m)) in
     record { some = omega (arith, ap length same); most = omega (arith, ap length same) }
 
 -- the pieces of the first message are the first of all
-pub first_pieces : (n place : ℕ) (held : List Message) (d : Piece) → 1 ≤ length held → place < length (pieces n (get_or held 0 [])) → get_or (flat_map (pieces n) held) place d ≡ get_or (pieces n (get_or held 0 [])) place d
+pub first_pieces : (n place : ℕ) (held : List Message) (d : Piece) → 1 ≤ length held → place < length (pieces n (get_or held 0 [])) →
+    get_or (flat_map (pieces n) held) place d ≡ get_or (pieces n (get_or held 0 [])) place d
 first_pieces n place [] d some_held h = absurd (omega (arith, some_held))
 first_pieces n place (m ∷ ms) d some_held h = get_or-append (pieces n m) (flat_map (pieces n) ms) d place h
 
-pub within_all : (n place : ℕ) (held : List Message) → 1 ≤ length held → place < length (pieces n (get_or held 0 [])) → place < length (flat_map (pieces n) held)
+pub within_all : (n place : ℕ) (held : List Message) → 1 ≤ length held → place < length (pieces n (get_or held 0 [])) →
+    place < length (flat_map (pieces n) held)
 within_all n place [] some_held h = absurd (omega (arith, some_held))
 within_all n place (m ∷ ms) some_held h = omega (arith, length-append (pieces n m) (flat_map (pieces n) ms), h)
 
 -- behind the first message's pieces are those of the others
-pub other_pieces : (n place : ℕ) (held : List Message) → 1 ≤ length held → place ≡ length (pieces n (get_or held 0 [])) → drop place (flat_map (pieces n) held) ≡ flat_map (pieces n) (drop 1 held)
+pub other_pieces : (n place : ℕ) (held : List Message) → 1 ≤ length held → place ≡ length (pieces n (get_or held 0 [])) →
+    drop place (flat_map (pieces n) held) ≡ flat_map (pieces n) (drop 1 held)
 other_pieces n place [] some_held h = absurd (omega (arith, some_held))
 other_pieces n place (m ∷ ms) some_held h =
     ap (λ i. drop i (pieces n m ++ flat_map (pieces n) ms)) h ∙ drop-append_seam (pieces n m) (flat_map (pieces n) ms)
@@ -69,8 +74,10 @@ drop-next xs ys i j h = sym (drop-drop 1 i xs) ∙ ap (drop 1) h ∙ drop-drop 1
 
 pub get_or-same : (xs ys : List Piece) (i j : ℕ) (d : Piece) → drop i xs ≡ drop j ys → get_or xs i d ≡ get_or ys j d
 get_or-same xs ys i j d h =
-    let left : get_or (drop i xs) 0 d ≡ get_or xs i d = get_or-drop i xs 0 d ∙ ap (λ k. get_or xs k d) (let e : i + 0 ≡ i = omega arith in e) in
-    let right : get_or (drop j ys) 0 d ≡ get_or ys j d = get_or-drop j ys 0 d ∙ ap (λ k. get_or ys k d) (let e : j + 0 ≡ j = omega arith in e) in
+    let left : get_or (drop i xs) 0 d ≡ get_or xs i d = get_or-drop i xs 0 d ∙ ap
+    (λ k. get_or xs k d) (let e : i + 0 ≡ i = omega arith in e) in
+    let right : get_or (drop j ys) 0 d ≡ get_or ys j d = get_or-drop j ys 0 d ∙ ap
+    (λ k. get_or ys k d) (let e : j + 0 ≡ j = omega arith in e) in
     sym left ∙ ap (λ zs. get_or zs 0 d) h ∙ right
 
 pub within-same : (xs ys : List Piece) (i j : ℕ) → drop i xs ≡ drop j ys → i < length xs → j < length ys

@@ -7,7 +7,7 @@ use Rattle.lapdm_window.specs.declared.Acked as A
 use Rattle.lapdm_window.specs.declared.Acked.TheVariants as V
 use Rattle.lapdm_window.specs.declared.Notice.TheVariants as N
 use Rattle.lapdm_window.specs.declared.State.TheVariants as S
-use Rattle.lapdm_window.specs.Ends.{EndState, Outcome, stays, sends, reports, waits, next_piece, command, response, va, vr}
+use Rattle.lapdm_window.specs.Ends.{EndState, Outcome, stays, sends_frame, reports, waits, next_piece, command, response, va, vr}
 use Rattle.lapdm_window.specs.Rules.{acknowledges, with_acked, acked_number, reports_acked, counts, reject_is_due, with_reject, rejects, waiting_frame, has_piece, is_open, sends_piece, sends_next}
 use Rattle.lapdm_window.specs.Answers.{acked_by, waiting_piece}
 
@@ -17,7 +17,8 @@ counted V.Nothing e = stays e
 counted V.Piece e = stays (with_acked e)
 counted (V.Message number) e = reports (N.Acked number) (with_acked e)
 
-counted_by : (acks more : Bool) (e : EndState) → (if acks then reports_acked more e else stays e) ≡ counted (if acks then (if more then V.Piece else V.Message (acked_number e)) else V.Nothing) e
+counted_by : (acks more : Bool) (e : EndState) → (if acks then reports_acked more e else stays e)
+    ≡ counted (if acks then (if more then V.Piece else V.Message (acked_number e)) else V.Nothing) e
 counted_by true true e = refl
 counted_by true false e = refl
 counted_by false more e = refl
@@ -31,7 +32,8 @@ held_before true rejecting h = absurd (false≢true (sym h))
 held_before false true h = refl
 held_before false false h = absurd (false≢true (sym h))
 
-pub rejects-due : (p : Bool) (e : EndState) → reject_is_due p e ≡ true → rejects p e ≡ sends (response e (Rej (vr e) p)) (with_reject e)
+pub rejects-due : (p : Bool) (e : EndState) → reject_is_due p e ≡ true →
+    rejects p e ≡ sends_frame (response e (Rej (vr e) p)) (with_reject e)
 rejects-due p e h = rw h
 
 pub rejects-not_due : (p : Bool) (e : EndState) → reject_is_due p e ≡ false → rejects p e ≡ stays (with_reject e)
@@ -46,7 +48,8 @@ none_waits : (waiting : Bool) (next piece : Piece) → Some piece ≡ (if waitin
 none_waits true next piece h = sym (ap piece_in h)
 none_waits false next piece h = cc
 
-pub waiting_frame-is : (p : Bool) (piece : Piece) (e : EndState) → Some piece ≡ waiting_piece e → waiting_frame p e ≡ command e (I (va e) (vr e) p piece.1 piece.0)
+pub waiting_frame-is : (p : Bool) (piece : Piece) (e : EndState) → Some piece ≡ waiting_piece e →
+    waiting_frame p e ≡ command e (I (va e) (vr e) p piece.1 piece.0)
 waiting_frame-is p piece e h =
     ap (λ (next : Piece). command e (I (va e) (vr e) p next.1 next.0)) (none_waits (waits e) (next_piece e) piece h)
 

@@ -1,7 +1,13 @@
+mod Counting
+mod Few
+mod FirstPieces
+mod Following
+mod Keeping
+pub mod Lemmas
+mod Moves
+mod Numbers
+mod Refusing
 mod Rows
 mod Sessions
-pub mod Numbers
-pub mod FirstPieces
-pub mod Counting
-pub mod Moves
-pub mod Following
+mod Stepping
+mod Thens

@@ -1,13 +1,13 @@
 -- What the numbers modulo 8 tell of the counts.
 use Rattle.std.proofs.Common.{◌≡◌, ◌≢◌, arith, ℕ, ◌+◌, ◌-◌, ◌%◌, ◌^◌, min, true, false}
 use Rattle.std.proofs.lemmas.Bool.Decides.{nat_tests}
-use Rattle.lapdm_window.specs.Ends.{EndState, IsEnd, waits, vs, va, capped}
+use Rattle.lapdm_window.specs.Ends.{EndState, KeepsWindow, waits, vs, va, capped}
 
 -- equal numbers mean that nothing waits
-pub nothing_sent : (e : EndState) → IsEnd e → vs e ≡ va e → e.sent ≡ e.acked
+pub nothing_sent : (e : EndState) → KeepsWindow e → vs e ≡ va e → e.sent ≡ e.acked
 nothing_sent e h same = grind (arith, h.behind, h.window)
 
-pub one_sent : (e : EndState) → IsEnd e → vs e ≢ va e → e.sent ≡ e.acked + 1
+pub one_sent : (e : EndState) → KeepsWindow e → vs e ≢ va e → e.sent ≡ e.acked + 1
 one_sent e h other = grind (arith, h.behind, h.window)
 
 pub waits-nothing : (e : EndState) → e.sent ≡ e.acked → waits e ≡ false

@@ -99,11 +99,15 @@ abbrev ready : ℕ → Seen
 ready control = sent (0x01 ∷ control ∷ 0x01 ∷ []) 20
 
 oversize_message : session (record (start Network Zero Sdcch) { state = S.Open; kept = 0x01 ∷ [] })
-    (piece_of 0 true (replicate 20 7) ∷ piece_of 1 true (replicate 20 7) ∷ piece_of 2 true (replicate 20 7) ∷ piece_of 3 true (replicate 20 7)
-    ∷ piece_of 4 true (replicate 20 7) ∷ piece_of 5 true (replicate 20 7) ∷ piece_of 6 true (replicate 20 7) ∷ piece_of 7 true (replicate 20 7)
-    ∷ piece_of 0 true (replicate 20 7) ∷ piece_of 1 true (replicate 20 7) ∷ piece_of 2 true (replicate 20 7) ∷ piece_of 3 true (replicate 20 7)
+    (piece_of 0 true (replicate 20 7) ∷ piece_of 1 true (replicate 20 7) ∷ piece_of 2 true (replicate 20 7) ∷ piece_of 3 true
+    (replicate 20 7)
+    ∷ piece_of 4 true (replicate 20 7) ∷ piece_of 5 true (replicate 20 7) ∷ piece_of 6 true (replicate 20 7) ∷ piece_of 7 true
+    (replicate 20 7)
+    ∷ piece_of 0 true (replicate 20 7) ∷ piece_of 1 true (replicate 20 7) ∷ piece_of 2 true (replicate 20 7) ∷ piece_of 3 true
+    (replicate 20 7)
     ∷ piece_of 4 true (replicate 20 7) ∷ piece_of 5 false (7 ∷ []) ∷ piece_of 6 false (0xaa ∷ []) ∷ [])
     ≡ ready 0x21 ∷ ready 0x41 ∷ ready 0x61 ∷ ready 0x81 ∷ ready 0xa1 ∷ ready 0xc1 ∷ ready 0xe1 ∷ ready 0x01
     ∷ ready 0x21 ∷ ready 0x41 ∷ ready 0x61 ∷ ready 0x81 ∷ ready 0xa1
-    ∷ Ok (block (0x01 ∷ 0xc1 ∷ 0x01 ∷ []) 20 ∷ [], N.Oversize ∷ []) ∷ Ok (block (0x01 ∷ 0xe1 ∷ 0x01 ∷ []) 20 ∷ [], N.Got (0xaa ∷ []) ∷ []) ∷ []
+    ∷ Ok (block (0x01 ∷ 0xc1 ∷ 0x01 ∷ []) 20 ∷ [], N.Oversize ∷ []) ∷ Ok
+    (block (0x01 ∷ 0xe1 ∷ 0x01 ∷ []) 20 ∷ [], N.Got (0xaa ∷ []) ∷ []) ∷ []
 oversize_message = refl

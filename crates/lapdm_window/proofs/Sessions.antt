@@ -87,7 +87,10 @@ idle_on channel = record { mobile = start Mobile Zero channel; network = start N
 abbrev open_pair : Pair
 open_pair =
     let idle = idle_on Sdcch in
-    record idle { mobile = record idle.mobile { state = S.Open; kept = 0x01 ∷ [] }; network = record idle.network { state = S.Open; kept = 0x01 ∷ [] } }
+    record idle {
+      mobile = record idle.mobile { state = S.Open; kept = 0x01 ∷ [] };
+      network = record idle.network { state = S.Open; kept = 0x01 ∷ [] };
+    }
 
 abbrev block : List ℕ → ℕ → List ℕ
 block octets fill = octets ++ replicate fill 0x2b
@@ -135,12 +138,14 @@ release : session open_pair
     (Mob (Sends (0xaa ∷ [])) ∷ Mob (Sends (0xbb ∷ [])) ∷ Mob (Sends (0xcc ∷ [])) ∷ Mob Closes ∷ Up ∷ Up ∷ Down ∷ Down ∷ Mob Closes ∷ [])
     ≡ sent (0x01 ∷ 0x00 ∷ 0x05 ∷ 0xaa ∷ []) 19 ∷ nothing ∷ nothing ∷ sent (0x01 ∷ 0x53 ∷ 0x01 ∷ []) 20
     ∷ Ok (N.Got (0xaa ∷ []) ∷ [], block (0x01 ∷ 0x21 ∷ 0x01 ∷ []) 20 ∷ [])
-    ∷ Ok (N.Closed R.Released ∷ [], block (0x01 ∷ 0x73 ∷ 0x01 ∷ []) 20 ∷ []) ∷ nothing ∷ Ok (N.Closed R.Released ∷ [], []) ∷ Err No.NotOpen ∷ []
+    ∷ Ok (N.Closed R.Released ∷ [], block (0x01 ∷ 0x73 ∷ 0x01 ∷ []) 20 ∷ []) ∷ nothing ∷ Ok
+    (N.Closed R.Released ∷ [], []) ∷ Err No.NotOpen ∷ []
 release = refl
 
 -- both ends release the link at once
 release_at_once : session open_pair (Mob Closes ∷ Net Closes ∷ Up ∷ Down ∷ Down ∷ Up ∷ [])
-    ≡ sent (0x01 ∷ 0x53 ∷ 0x01 ∷ []) 20 ∷ sent (0x03 ∷ 0x53 ∷ 0x01 ∷ []) 20 ∷ sent (0x01 ∷ 0x73 ∷ 0x01 ∷ []) 20 ∷ sent (0x03 ∷ 0x73 ∷ 0x01 ∷ []) 20
+    ≡ sent (0x01 ∷ 0x53 ∷ 0x01 ∷ []) 20 ∷ sent (0x03 ∷ 0x53 ∷ 0x01 ∷ []) 20 ∷ sent (0x01 ∷ 0x73 ∷ 0x01 ∷ []) 20 ∷ sent
+    (0x03 ∷ 0x73 ∷ 0x01 ∷ []) 20
     ∷ Ok (N.Closed R.Released ∷ [], []) ∷ Ok (N.Closed R.Released ∷ [], []) ∷ []
 release_at_once = refl
 

@@ -1,16 +1,17 @@
 -- The calls of an end, and why each is refused.
-use Rattle.std.specs.Prelude.{◌+◌, Bool, true, false, not, if◌then◌else◌, nat_eq, nat_lt, nat_le, List, [], ◌∷◌, ◌++◌, length, Option, Some, None}
+use Rattle.std.specs.Prelude.{◌≡◌, ◌+◌, Bool, true, false, not, if◌then◌else◌, nat_eq, nat_lt, nat_le, List, [], ◌∷◌, ◌++◌, length, Option, Some, None}
 use Rattle.lapdm_frame.specs.Layout.{n201}
 use Rattle.lapdm_frame.specs.Content.{Sabm, Ui, Disc, Frame, fill}
 use Rattle.segmenting.specs.Pieces.{Message, longest}
+use Rattle.lapdm_window.specs.declared.Sapi.TheVariants.{Zero, Three}
 use Rattle.lapdm_window.specs.declared.State.{State}
 use Rattle.lapdm_window.specs.declared.State.TheVariants.{Idle, Opening, Closing}
 use Rattle.lapdm_window.specs.declared.Reason.TheVariants as R
 use Rattle.lapdm_window.specs.declared.Refused.{Refused}
 use Rattle.lapdm_window.specs.declared.Refused.TheVariants as No
-use Rattle.lapdm_window.specs.Ends.{EndState, Outcome, sends, command, command_cr, unacked, awaits, n200}
+use Rattle.lapdm_window.specs.Ends.{EndState, Outcome, sends_frame, command, command_cr, unacked, awaits, n200}
 use Rattle.lapdm_window.specs.Rules.{is_open, sends_next, waiting_frame}
-use Rattle.lapdm_window.specs.Tables.{closes}
+use Rattle.lapdm_window.specs.Tables.{becomes_closed}
 
 -- what an end may be asked: to open the link with some information or with none, to send a message, to
 -- send a message in one unnumbered frame, to close the link, that the timer T200 has run out, and to send
@@ -23,6 +24,12 @@ pub data Call : Type 0 where
   Closes : Call
   Ticks : Call
   Idles : Call
+
+-- the calls that an end has: the link of SAPI 0 is opened by some information, that of SAPI 3 by none
+abbrev pub HasCall : EndState → Call → Type 0
+HasCall e (Opens info) = e.sapi ≡ Zero
+HasCall e OpensBare = e.sapi ≡ Three
+HasCall e other = Unit {0}
 
 abbrev pub is_idle : State → Bool
 is_idle Idle = true
@@ -63,7 +70,7 @@ abbrev pub disc : EndState → Frame
 disc e = command e (Disc true)
 
 abbrev pub begins : Message → EndState → Outcome
-begins info e = let later = record e { state = Opening; kept = info; retries = 0 } in sends (sabm later) later
+begins info e = let later = record e { state = Opening; kept = info; retries = 0 } in sends_frame (sabm later) later
 
 -- the end takes a message
 abbrev pub with_taken : Message → EndState → EndState
@@ -75,19 +82,19 @@ repeated Opening e = sabm e
 repeated Closing e = disc e
 repeated other e = waiting_frame true e
 
--- the timer has run out
+-- the timer has run out (section 5.5.7 in Open)
 abbrev pub ticks : EndState → Outcome
 ticks e =
     if nat_lt e.retries (n200 e.channel e.state)
-    then sends (repeated e.state e) (record e { retries = e.retries + 1 })
-    else closes R.Failed e
+    then sends_frame (repeated e.state e) (record e { retries = e.retries + 1 })
+    else becomes_closed R.Failed e
 
 -- what an end does at a call that is not refused
 abbrev pub after_call : Call → EndState → Outcome
 after_call (Opens info) e = begins info e
 after_call OpensBare e = begins [] e
 after_call (Sends m) e = sends_next (with_taken m e)
-after_call (SendsUnit m) e = sends (command e (Ui false m)) e
-after_call Closes e = sends (disc e) (record e { state = Closing; retries = 0 })
+after_call (SendsUnit m) e = sends_frame (command e (Ui false m)) e
+after_call Closes e = sends_frame (disc e) (record e { state = Closing; retries = 0 })
 after_call Ticks e = ticks e
-after_call Idles e = sends (fill (command_cr e.role)) e
+after_call Idles e = sends_frame (fill (command_cr e.role)) e

@@ -1,12 +1,13 @@
 -- One end of one data link (GSM 04.06, section 5), with its whole history: counts have no bound, and nothing
 -- is forgotten.
-use Rattle.std.specs.Prelude.{ℕ, ◌+◌, ◌-◌, ◌%◌, ◌^◌, ◌≤◌, min, Bool, true, false, not, nat_eq, List, [], ◌∷◌, ◌++◌, length, take, count_by, slice_index_or, All}
+use Rattle.std.specs.Prelude.{◌≡◌, ℕ, ◌+◌, ◌-◌, ◌%◌, ◌^◌, ◌≤◌, min, Bool, true, false, not, nat_eq, List, [], ◌∷◌, ◌++◌, length, take, slice_index_or, All}
 use Rattle.std.specs.List.{flat_map}
 use Rattle.lapdm_frame.specs.declared.Channel.{Channel}
 use Rattle.lapdm_frame.specs.declared.Channel.TheVariants.{Sdcch}
 use Rattle.lapdm_frame.specs.Layout.{n201}
 use Rattle.lapdm_frame.specs.Content.{Content, Frame}
 use Rattle.segmenting.specs.Pieces.{Message, Piece, IsMessage, pieces}
+use Rattle.segmenting.specs.Joining.{ended}
 use Rattle.lapdm_window.specs.declared.Sapi.{Sapi}
 use Rattle.lapdm_window.specs.declared.Sapi.TheVariants.{Zero, Three}
 use Rattle.lapdm_window.specs.declared.State.{State}
@@ -61,11 +62,26 @@ abbrev pub next_piece : EndState → Piece
 next_piece e = slice_index_or (all_pieces e) e.acked ([], false)
 
 -- the window is one frame (section 5.8.4): at most one piece is sent and not acknowledged
-pub record IsEnd (e : EndState) : Type 0 where
+pub record KeepsWindow (e : EndState) : Type 0 where
   pub messages : All IsMessage e.taken
   pub sent : e.sent ≤ length (all_pieces e)
   pub behind : e.acked ≤ e.sent
   pub window : e.sent ≤ e.acked + 1
+
+-- the link was not open yet
+abbrev pub IsUnopened : State → Type 0
+IsUnopened Idle = Unit {0}
+IsUnopened Opening = Unit {0}
+IsUnopened other = ⊥
+
+-- what holds of an end after whatever calls and frames: the kept information fits in a frame, and on SAPI 3
+-- there is none; before Open no message was taken, and no piece accepted
+pub record IsEnd (e : EndState) : Type 0 where
+  pub window : KeepsWindow e
+  pub kept : length e.kept ≤ n201 e.channel
+  pub bare : e.sapi ≡ Three → e.kept ≡ []
+  pub taken : IsUnopened e.state → e.taken ≡ []
+  pub accepted : IsUnopened e.state → e.accepted ≡ []
 
 -- an I frame waits for its acknowledgement
 abbrev pub waits : EndState → Bool
@@ -81,9 +97,9 @@ va e = e.acked % 8
 abbrev pub vr : EndState → ℕ
 vr e = length e.accepted % 8
 
--- how many messages are wholly acknowledged: each has one piece that ends it, its last
+-- how many messages are wholly acknowledged: so many as the acknowledged pieces end
 abbrev pub wholly_acked : EndState → ℕ
-wholly_acked e = count_by (λ p. not p.1) (take e.acked (all_pieces e))
+wholly_acked e = ended (take e.acked (all_pieces e))
 
 abbrev pub unacked : EndState → ℕ
 unacked e = length e.taken - wholly_acked e
@@ -92,8 +108,7 @@ unacked e = length e.taken - wholly_acked e
 abbrev pub capped : ℕ → ℕ
 capped n = min n (2 ^ 64 - 1)
 
--- how often a frame goes out again before the link is given up (N200, section 5.8.2; these numbers are
--- this project's own choice)
+-- how often a frame goes out again before the link is given up (N200, section 5.8.2)
 abbrev pub n200 : Channel → State → ℕ
 n200 Sdcch Open = 23
 n200 channel state = 5
@@ -117,8 +132,8 @@ pub record Outcome : Type 0 where
 abbrev pub stays : EndState → Outcome
 stays e = record { after = e; frames = []; notices = [] }
 
-abbrev pub sends : Frame → EndState → Outcome
-sends f e = record { after = e; frames = f ∷ []; notices = [] }
+abbrev pub sends_frame : Frame → EndState → Outcome
+sends_frame f e = record { after = e; frames = f ∷ []; notices = [] }
 
 abbrev pub reports : Notice → EndState → Outcome
 reports n e = record { after = e; frames = []; notices = n ∷ [] }

@@ -10,7 +10,7 @@ use Rattle.lapdm_window.specs.declared.State.{State}
 use Rattle.lapdm_window.specs.declared.State.TheVariants.{Open}
 use Rattle.lapdm_window.specs.declared.Notice.{Notice}
 use Rattle.lapdm_window.specs.declared.Notice.TheVariants.{Got, Acked, Oversize}
-use Rattle.lapdm_window.specs.Ends.{EndState, Outcome, stays, sends, reports, ◌then◌, command, response, waits, all_pieces, next_piece, wholly_acked, vs, va, vr, capped}
+use Rattle.lapdm_window.specs.Ends.{EndState, Outcome, stays, sends_frame, reports, ◌then◌, command, response, waits, all_pieces, next_piece, wholly_acked, vs, va, vr, capped}
 
 -- the piece that waits, as an I frame (section 5.5.1)
 abbrev pub waiting_frame : Bool → EndState → Frame
@@ -25,7 +25,7 @@ abbrev pub with_next : EndState → EndState
 with_next e = record e { sent = e.sent + 1; retries = 0 }
 
 abbrev pub sends_piece : EndState → Outcome
-sends_piece e = sends (waiting_frame false (with_next e)) (with_next e)
+sends_piece e = sends_frame (waiting_frame false (with_next e)) (with_next e)
 
 abbrev pub is_open : State → Bool
 is_open Open = true
@@ -59,7 +59,8 @@ reports_acked false e = reports (Acked (acked_number e)) (with_acked e)
 abbrev pub counts : ℕ → EndState → Outcome
 counts nr e = if acknowledges nr e then reports_acked (next_piece e).1 e else stays e
 
--- what is reported of an accepted piece: the message that it completes, or that one was too long
+-- what is reported of an accepted piece: the message that it completes, or that one was too long; so what is
+-- handed up is what `messages` of all accepted pieces gains (the law `law_got`)
 abbrev pub notices_of : Joined → Bool → Message → List Notice
 notices_of J.Whole more m = Got m ∷ []
 notices_of J.Oversize false m = Oversize ∷ []
@@ -77,7 +78,7 @@ accepts piece e = record {
 }
 
 abbrev pub says_rr : Bool → EndState → Outcome
-says_rr f e = sends (response e (Rr (vr e) f)) e
+says_rr f e = sends_frame (response e (Rr (vr e) f)) e
 
 -- an accepted piece is acknowledged: at a poll by RR, and else by the next I frame where one goes out
 -- (this project's own rule)
@@ -85,17 +86,17 @@ abbrev pub answers_piece : Bool → EndState → Outcome
 answers_piece true e = says_rr true e then sends_next
 answers_piece false e = if has_next e then sends_piece e else says_rr false e
 
--- a REJ is due at each poll, and else only outside the reject condition (this project's own rule)
+-- a REJ is due at each poll, and else only outside the reject condition (section 5.6.1)
 abbrev pub reject_is_due : Bool → EndState → Bool
 reject_is_due p e = p || not e.rejecting
 
--- a piece out of sequence is dropped, and the reject condition holds
+-- a piece out of sequence is dropped, and the reject condition holds (section 5.6.1)
 abbrev pub with_reject : EndState → EndState
 with_reject e = record e { rejecting = true }
 
 abbrev pub rejects : Bool → EndState → Outcome
 rejects p e =
-    if reject_is_due p e then sends (response e (Rej (vr e) p)) (with_reject e) else stays e
+    if reject_is_due p e then sends_frame (response e (Rej (vr e) p)) (with_reject e) else stays e
 
 -- an I frame in Open (section 5.5.2)
 abbrev pub takes_i : ℕ → ℕ → Bool → Piece → EndState → Outcome
@@ -111,9 +112,9 @@ answers_poll poll e = if poll then says_rr true e else stays e
 abbrev pub takes_rr : ℕ → Bool → EndState → Outcome
 takes_rr nr poll e = counts nr e then answers_poll poll then sends_next
 
--- the piece that waits goes out again, or the next one
+-- the piece that waits goes out again (section 5.5.4), or the next one
 abbrev pub sends_again : EndState → Outcome
-sends_again e = if waits e then sends (waiting_frame false e) e else sends_next e
+sends_again e = if waits e then sends_frame (waiting_frame false e) e else sends_next e
 
 -- a REJ in Open (section 5.5.4)
 abbrev pub takes_rej : ℕ → Bool → EndState → Outcome

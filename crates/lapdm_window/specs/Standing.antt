@@ -6,7 +6,7 @@ use Rattle.lapdm_frame.specs.Layout.{n201}
 use Rattle.segmenting.specs.Pieces.{Message, pieces}
 use Rattle.segmenting.specs.Joiners.{HasTaken}
 use Rattle.lapdm_window.specs.declared.window.Window.{Window}
-use Rattle.lapdm_window.specs.Ends.{EndState, IsEnd, all_pieces, waits, wholly_acked, vs, va, vr, capped}
+use Rattle.lapdm_window.specs.Ends.{EndState, KeepsWindow, all_pieces, waits, wholly_acked, vs, va, vr, capped}
 
 -- the channel that the window is for
 abbrev pub channel_of : Window → Channel
@@ -36,7 +36,7 @@ pub record Holds (held : List Message) (place : ℕ) (e : EndState) : Type 0 whe
 -- the window stands for the end: it also holds what is not acknowledged, and the retry count where a piece
 -- waits
 pub record Stands (w : Window) (e : EndState) : Type 0 where
-  pub end : IsEnd e
+  pub end : KeepsWindow e
   pub tracks : Tracks w e
   pub holds : Holds w.held.items w.place e
   pub retries : IsTrue (waits e) → w.retries ≡ e.retries

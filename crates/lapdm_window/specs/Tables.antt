@@ -1,7 +1,6 @@
--- The tables of the frames that an end takes, by its state. A kind that a table does not name is ignored.
--- The standard's are the answer to a SABM at the network, the comparison of a UA with the SABM at the
--- mobile (contention resolution, GSM 04.06, section 5.4.1.4), and the answers to a DISC in Idle and Open;
--- all else is this project's own rule.
+-- The tables of the frames that an end takes, by its state (GSM 04.06, section 5.4). A kind that a table
+-- does not name is ignored; that, and what a table has beside the sections named at it, is this project's
+-- own rule.
 use Rattle.std.specs.Prelude.{Bool, true, false, not, ◌&&◌, if◌then◌else◌, nat_eq, [], ◌∷◌}
 use Rattle.std.specs.Bool.{beq}
 use Rattle.std.specs.Str.{bytes_eq}
@@ -14,7 +13,7 @@ use Rattle.lapdm_window.specs.declared.State.TheVariants.{Idle, Opening, Open, C
 use Rattle.lapdm_window.specs.declared.Reason.{Reason}
 use Rattle.lapdm_window.specs.declared.Reason.TheVariants as R
 use Rattle.lapdm_window.specs.declared.Notice.TheVariants as N
-use Rattle.lapdm_window.specs.Ends.{Role, Mobile, Network, EndState, Outcome, stays, sends, reports, ◌then◌, command_cr, sapi_number, response}
+use Rattle.lapdm_window.specs.Ends.{Role, Mobile, Network, EndState, Outcome, stays, sends_frame, reports, ◌then◌, command_cr, sapi_number, response}
 use Rattle.lapdm_window.specs.Rules.{takes_i, takes_rr, takes_rej}
 
 -- whether the other end sent the frame as a command
@@ -42,20 +41,20 @@ is_poll is_command other = false
 
 -- every DM and UA has F = 1
 abbrev pub says_dm : EndState → Outcome
-says_dm e = sends (response e (Dm true)) e
+says_dm e = sends_frame (response e (Dm true)) e
 
 abbrev pub says_ua : Message → EndState → Outcome
-says_ua info e = sends (response e (Ua true info)) e
+says_ua info e = sends_frame (response e (Ua true info)) e
 
-abbrev pub opens : Message → EndState → Outcome
-opens info e = reports (N.Opened info) (record e { state = Open })
+abbrev pub becomes_open : Message → EndState → Outcome
+becomes_open info e = reports (N.Opened info) (record e { state = Open })
 
-abbrev pub closes : Reason → EndState → Outcome
-closes reason e = reports (N.Closed reason) (record e { state = Closed })
+abbrev pub becomes_closed : Reason → EndState → Outcome
+becomes_closed reason e = reports (N.Closed reason) (record e { state = Closed })
 
--- Idle: a SABM of the other end opens the link where it may, and its information is kept
+-- Idle: a SABM of the other end opens the link where it may (section 5.4.1.2), and its information is kept
 abbrev pub opened_by : Message → EndState → Outcome
-opened_by info e = opens info (record e { kept = info }) then says_ua info
+opened_by info e = becomes_open info (record e { kept = info }) then says_ua info
 
 abbrev pub sabm_in_idle : Sapi → Role → Message → EndState → Outcome
 sabm_in_idle Zero Mobile info e = says_dm e
@@ -64,6 +63,7 @@ sabm_in_idle Zero Network (x ∷ xs) e = opened_by (x ∷ xs) e
 sabm_in_idle Three role [] e = opened_by [] e
 sabm_in_idle Three role (x ∷ xs) e = stays e
 
+-- a poll, and a DISC, is answered by DM (section 5.4.5)
 abbrev pub dm_to_poll : Bool → EndState → Outcome
 dm_to_poll poll e = if poll then says_dm e else stays e
 
@@ -72,9 +72,10 @@ in_idle poll (Sabm p info) e = sabm_in_idle e.sapi e.role info e
 in_idle poll (Disc p) e = says_dm e
 in_idle poll other e = dm_to_poll poll e
 
--- Opening: on SAPI 0 a UA with other information than that of the SABM answers another mobile
+-- Opening: a UA opens the link, and a DM refuses it (section 5.4.1.2); on SAPI 0 a UA with other information
+-- than that of the SABM answers another mobile (contention resolution, section 5.4.1.4)
 abbrev pub other_ua : Sapi → EndState → Outcome
-other_ua Zero e = closes R.Contention e
+other_ua Zero e = becomes_closed R.Contention e
 other_ua Three e = stays e
 
 abbrev pub sabm_in_opening : Sapi → Message → EndState → Outcome
@@ -84,12 +85,13 @@ sabm_in_opening Three (x ∷ xs) e = stays e
 
 abbrev pub in_opening : Content → EndState → Outcome
 in_opening (Sabm p info) e = sabm_in_opening e.sapi info e
-in_opening (Ua true info) e = if bytes_eq info e.kept then opens info e else other_ua e.sapi e
-in_opening (Dm true) e = closes R.Refused e
+in_opening (Ua true info) e = if bytes_eq info e.kept then becomes_open info e else other_ua e.sapi e
+in_opening (Dm true) e = becomes_closed R.Refused e
 in_opening (Disc p) e = says_dm e
 in_opening other e = stays e
 
--- Open: the SABM that opened the link is answered again, except by a mobile on SAPI 0, which sent it
+-- Open: the SABM that opened the link is answered again, except by a mobile on SAPI 0, which sent it; a DISC
+-- ends the link (section 5.4.4.2), and so does a DM
 abbrev pub answers_sabm : Sapi → Role → Bool
 answers_sabm Zero Mobile = false
 answers_sabm sapi role = true
@@ -100,14 +102,14 @@ in_open is_command (Rr nr pf) e = takes_rr nr (is_command && pf) e
 in_open is_command (Rej nr pf) e = takes_rej nr (is_command && pf) e
 in_open is_command (Sabm p info) e =
     if answers_sabm e.sapi e.role && bytes_eq info e.kept then says_ua info e else stays e
-in_open is_command (Disc p) e = closes R.Released e then says_ua []
-in_open is_command (Dm f) e = closes R.Failed e
+in_open is_command (Disc p) e = becomes_closed R.Released e then says_ua []
+in_open is_command (Dm f) e = becomes_closed R.Failed e
 in_open is_command other e = stays e
 
--- Closing
+-- Closing: the link has ended at a UA or a DM (section 5.4.4.2)
 abbrev pub in_closing : Content → EndState → Outcome
-in_closing (Ua true []) e = closes R.Released e
-in_closing (Dm true) e = closes R.Released e
+in_closing (Ua true []) e = becomes_closed R.Released e
+in_closing (Dm true) e = becomes_closed R.Released e
 in_closing (Disc p) e = says_ua [] e
 in_closing other e = stays e
 

@@ -3,14 +3,31 @@
 //! definition of a whole end. No call takes memory.
 #![tactic(auto)]
 
+ghost use Rattle.std.specs.Prelude.{◌≡◌, ◌≤◌};
+ghost use Rattle.lapdm_window.specs.Ends.{n200 as most_repeats};
+
 mod effects;
+mod laws;
 mod message;
 mod window;
 
 pub use effects::{Effects, Frames, Notices};
+use lapdm_frame::Channel;
+pub use laws::{law_end, law_few, law_frames_fit, law_got, law_wholly_acked};
 pub use message::Message;
 use segmenting::Joined;
 pub use window::Window;
+
+/// How often a frame goes out again in a state before the link is given up: N200 of GSM 04.06.
+pub fn n200(channel: Channel, state: State) -> u8
+    ensures value { result ≡ most_repeats channel state }
+    ensures most { result ≤ 23 }
+{
+    match (channel, state) {
+        (Channel::Sdcch, State::Open) => 23,
+        _ => 5,
+    }
+}
 
 /// The service access point of a link.
 #[derive(Clone, Copy, PartialEq, Eq, Debug)]
@@ -68,7 +85,9 @@ pub enum Notice {
 
 // What an unused place of a list of notices holds.
 impl Default for Notice {
-    fn default() -> Notice {
+    fn default() -> Notice
+        ensures { result ≡ Notice.Oversize }
+    {
         Notice::Oversize
     }
 }

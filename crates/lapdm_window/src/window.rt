@@ -1,10 +1,10 @@
 //! The window of one frame.
 
 ghost use Rattle.std.specs.Prelude.{◌≡◌, ◌≢◌, ◌+◌, ◌<◌, ◌≤◌, ◌↔◌, length, [], slice_index_or, All, IsTrue, IsSome, IfSome};
-ghost use Rattle.lapdm_frame.specs.Layout.{n201};
-ghost use Rattle.segmenting.specs.Pieces.{IsMessage, count_of};
+ghost use Rattle.lapdm_frame.specs.Layout.{n201, most_information};
+ghost use Rattle.segmenting.specs.Pieces.{IsMessage, longest, count_of};
 
-use crate::{Acked, Info, Message, Refused, Timer};
+use crate::{Acked, Info, Message, Refused, State, Timer, n200};
 use arrayvec::ArrayVec;
 use lapdm_frame::Channel;
 use segmenting::{Joiner, LONGEST, Piece, Pieces};
@@ -39,8 +39,7 @@ impl Window {
     ghost use Rattle.segmenting.specs.Pieces.{pieces};
     ghost use Rattle.segmenting.specs.Joining.{latest};
     ghost use Rattle.lapdm_window.specs.declared.Sapi.{Sapi};
-    ghost use Rattle.lapdm_window.specs.declared.State.TheVariants as S;
-    ghost use Rattle.lapdm_window.specs.Ends.{EndState, Role, start, waits, vs, va, vr, n200};
+    ghost use Rattle.lapdm_window.specs.Ends.{EndState, Role, start, waits, vs, va, vr};
     ghost use Rattle.lapdm_window.specs.Rules.{has_piece, with_next, counts};
     ghost use Rattle.lapdm_window.specs.Calls.{with_taken};
     ghost use Rattle.lapdm_window.specs.Answers.{put_refusal, waiting_piece, acked_by, info_answer, after_info, timer_answer, after_timer};
@@ -48,7 +47,8 @@ impl Window {
 
     /// The window of an end on SDCCH, which has taken nothing.
     pub fn new() -> Window
-        ensures stands { (role : Role) (sapi : Sapi) → Stands result (start role sapi Channel.Sdcch) }
+        ensures stands { (role : Role) (sapi : Sapi)
+            → Stands result (start role sapi Channel.Sdcch) }
         ensures channel { channel_of result ≡ Channel.Sdcch }
     {
         Window::new_on(Channel::Sdcch)
@@ -151,7 +151,7 @@ impl Window {
     pub fn on_info(&mut self, ns: u8, p: bool, piece: &[u8], more: bool) -> Info
         requires ns { ns ≤ 7 }
         requires some { 1 ≤ length piece.now }
-        requires most { length piece.now ≤ 20 }
+        requires most { length piece.now ≤ most_information }
         ensures answer { (e : EndState) → Stands self.old e
             → result ≡ info_answer ns p (piece.now, more) e }
         ensures taken { (e : EndState) → Stands self.old e
@@ -182,12 +182,13 @@ impl Window {
         ensures counted { (e : EndState) → Stands self.old e
             → Stands self.new (after_timer result e) }
         ensures waiting { result ≡ Timer.Again → IsWaiting self.new }
+        ensures unchanged { result ≡ Timer.NotRunning → self.new ≡ self.old }
         ensures channel { channel_of self.new ≡ channel_of self.old }
     {
         if self.vs == self.va {
             return Timer::NotRunning;
         }
-        if self.retries >= self.most_retries() {
+        if self.retries >= n200(self.channel, State::Open) {
             return Timer::Spent;
         }
         self.retries += 1;
@@ -221,7 +222,7 @@ impl Window {
     /// The message that the last piece accepted made whole, and no octets where it made none.
     pub fn message(&self) -> &[u8]
         ensures latest { (e : EndState) → Stands self.now e → result.now ≡ latest e.accepted }
-        ensures most { length result.now ≤ 251 }
+        ensures most { length result.now ≤ longest }
     {
         self.joiner.message()
     }
@@ -235,15 +236,5 @@ impl Window {
     {
         let message = &self.held.as_slice()[0];
         Pieces::new_on(message.octets(), self.channel).piece(self.place)
-    }
-
-    // How often a piece goes out again before the link is given up.
-    fn most_retries(&self) -> u8
-        ensures { result ≡ n200 self.now.channel S.Open }
-    {
-        match self.channel {
-            Channel::Sdcch => 23,
-            Channel::Sacch => 5,
-        }
     }
 }

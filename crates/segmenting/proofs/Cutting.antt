@@ -8,7 +8,7 @@ use Rattle.std.proofs.lemmas.List.{append-nil, take-append-drop, length-take-le,
 use Rattle.lapdm_frame.specs.declared.Channel.{Channel}
 use Rattle.lapdm_frame.specs.declared.Channel.TheVariants.{Sdcch, Sacch}
 use Rattle.lapdm_frame.specs.Layout.{n201}
-use Rattle.segmenting.specs.Pieces.{Message, Piece, IsMessage, IsFull, AreCut, octets_of, ArePieces, cut, pieces}
+use Rattle.segmenting.specs.Pieces.{Message, Piece, IsMessage, IsFull, AreCut, joined_octets, ArePieces, cut, pieces, most_pieces}
 
 -- a list of k times n octets and then some, at most n: it fills k pieces, and a last one
 pub record Fills (n k : ℕ) (m : List ℕ) : Type 0 where
@@ -23,7 +23,10 @@ fills n m some_room h =
 
 fills_rest : (n k : ℕ) (m : List ℕ) → Fills n (suc k) m → Fills n k (drop n m)
 fills_rest n k m h =
-    record { above = omega (arith, suc-mul k n, length-drop n m, h.above, h.below); below = omega (arith, suc-mul k n, length-drop n m, h.above, h.below) }
+    record {
+      above = omega (arith, suc-mul k n, length-drop n m, h.above, h.below);
+      below = omega (arith, suc-mul k n, length-drop n m, h.above, h.below);
+    }
 
 AreCut-cons : (n : ℕ) (p : Piece) (ps : List Piece) → IsFull n p → AreCut n ps → AreCut n (p ∷ ps)
 AreCut-cons n p [] h rest = absurd rest
@@ -32,25 +35,26 @@ AreCut-cons n p (q ∷ ps) h rest = (h, rest)
 AreCut-cut : (n k : ℕ) (m : List ℕ) → Fills n k m → AreCut n (cut n k m)
 AreCut-cut n zero m h = record { some = omega (arith, h.above); most = omega (arith, h.below); more = refl }
 AreCut-cut n (suc k) m h =
-    AreCut-cons n _ _ (record { size = length-take-le n m (omega (arith, suc-mul k n, h.above)); more = refl }) (AreCut-cut n k (drop n m) (fills_rest n k m h))
+    AreCut-cons n _ _ (record { size = length-take-le n m (omega (arith, suc-mul k n, h.above)); more = refl })
+    (AreCut-cut n k (drop n m) (fills_rest n k m h))
 
-octets_of-cut : (n k : ℕ) (m : List ℕ) → octets_of (cut n k m) ≡ m
-octets_of-cut n zero m = append-nil m
-octets_of-cut n (suc k) m = ap (λ rest. take n m ++ rest) (octets_of-cut n k (drop n m)) ∙ take-append-drop n m
+joined_octets-cut : (n k : ℕ) (m : List ℕ) → joined_octets (cut n k m) ≡ m
+joined_octets-cut n zero m = append-nil m
+joined_octets-cut n (suc k) m = ap (λ rest. take n m ++ rest) (joined_octets-cut n k (drop n m)) ∙ take-append-drop n m
 
 -- the pieces of a message as a list are its pieces
 pub are_pieces : (n : ℕ) (m : Message) → 0 < n → IsMessage m → ArePieces n m (pieces n m)
 are_pieces n m some_room h =
-    record { octets = octets_of-cut n _ m; cut = AreCut-cut n _ m (fills n m some_room h) }
+    record { octets = joined_octets-cut n _ m; cut = AreCut-cut n _ m (fills n m some_room h) }
 
 -- what is cut so is cut by counting
 record IsCounted (n : ℕ) (ps : List Piece) (k : ℕ) : Type 0 where
-  same : ps ≡ cut n k (octets_of ps)
-  fill : Fills n k (octets_of ps)
+  same : ps ≡ cut n k (joined_octets ps)
+  fill : Fills n k (joined_octets ps)
 
 one_more : (n k : ℕ) (octets : List ℕ) (ps : List Piece) → length octets ≡ n → IsCounted n ps k → IsCounted n ((octets, true) ∷ ps) (suc k)
 one_more n k octets ps size h =
-    let rest = octets_of ps in
+    let rest = joined_octets ps in
     let first : take n (octets ++ rest) ≡ octets = ap (λ i. take i (octets ++ rest)) (sym size) ∙ take-append_seam octets rest in
     let others : drop n (octets ++ rest) ≡ rest = ap (λ i. drop i (octets ++ rest)) (sym size) ∙ drop-append_seam octets rest in
     let tail : ps ≡ cut n k (drop n (octets ++ rest)) = h.same ∙ ap (cut n k) (sym others) in
@@ -68,13 +72,19 @@ counted n ((octets, more) ∷ []) h = (
   0,
   record {
     same = ap (λ (p : Piece). p ∷ []) (cc (append-nil octets, h.more));
-    fill = record { above = omega (arith, ap length (append-nil octets), h.some); below = omega (arith, ap length (append-nil octets), h.most) };
+    fill = record {
+      above = omega (arith, ap length (append-nil octets), h.some);
+      below = omega (arith, ap length (append-nil octets), h.most);
+    };
   },
 )
 counted n ((octets, more) ∷ q ∷ ps) h =
     let rest = counted n (q ∷ ps) h.1 in
-    let b : more ≡ true = h.0.more in
-    (suc rest.0, subst (λ (b : Bool). IsCounted n ((octets, b) ∷ q ∷ ps) (suc rest.0)) (sym b) (one_more n rest.0 octets (q ∷ ps) h.0.size rest.1))
+    let b : more ≡ true = h.0.more in (
+      suc rest.0,
+      subst (λ (b : Bool). IsCounted n ((octets, b) ∷ q ∷ ps) (suc rest.0)) (sym b)
+          (one_more n rest.0 octets (q ∷ ps) h.0.size rest.1),
+    )
 
 count_is : (n k : ℕ) (m : List ℕ) → 0 < n → Fills n k m → (length m - 1) / n ≡ k
 count_is n k m some_room h =
@@ -85,9 +95,9 @@ count_is n k m some_room h =
 pub only_pieces : (n : ℕ) (m : Message) (ps : List Piece) → 0 < n → ArePieces n m ps → ps ≡ pieces n m
 only_pieces n m ps some_room h =
     let c = counted n ps h.cut in
-    let e : octets_of ps ≡ m = h.octets in
-    let k : (length (octets_of ps) - 1) / n ≡ c.0 = count_is n c.0 (octets_of ps) some_room c.1.fill in
-    c.1.same ∙ ap (λ i. cut n i (octets_of ps)) (sym k) ∙ ap (pieces n) e
+    let e : joined_octets ps ≡ m = h.octets in
+    let k : (length (joined_octets ps) - 1) / n ≡ c.0 = count_is n c.0 (joined_octets ps) some_room c.1.fill in
+    c.1.same ∙ ap (λ i. cut n i (joined_octets ps)) (sym k) ∙ ap (pieces n) e
 
 pub one_cutting : (n : ℕ) (m : Message) (ps : List Piece) → 0 < n → IsMessage m → ArePieces n m ps ↔ (ps ≡ pieces n m)
 one_cutting n m ps some_room h =
@@ -108,7 +118,8 @@ drop-drop_next n i m = drop-drop (i * n) n m ∙ ap (λ j. drop j m) (omega (ari
 pub slice_get-cut_full : (n k i : ℕ) (m : List ℕ) → i < k → slice_get (cut n k m) i ≡ Some (take n (drop (i * n) m), true)
 slice_get-cut_full n zero i m h = absurd (omega (arith, h))
 slice_get-cut_full n (suc k) zero m h = let none : 0 ≡ 0 * n = omega arith in ap (λ j. Some (take n (drop j m), true)) none
-slice_get-cut_full n (suc k) (suc i) m h = slice_get-cut_full n k i (drop n m) (omega arith) ∙ ap (λ (rest : List ℕ). Some (take n rest, true)) (drop-drop_next n i m)
+slice_get-cut_full n (suc k) (suc i) m h = slice_get-cut_full n k i (drop n m) (omega arith) ∙ ap
+    (λ (rest : List ℕ). Some (take n rest, true)) (drop-drop_next n i m)
 
 pub slice_get-cut_last : (n k : ℕ) (m : List ℕ) → slice_get (cut n k m) k ≡ Some (drop (k * n) m, false)
 slice_get-cut_last n zero m = let none : 0 ≡ 0 * n = omega arith in ap (λ j. Some (drop j m, false)) none
@@ -132,7 +143,8 @@ begins_within n i m room some_octets h =
     omega (arith, mul-le-mul_right n below)
 
 -- and the piece at a place is this part of it
-pub piece_is : (n i : ℕ) (m : Message) → 0 < n → IsMessage m → i < length (pieces n m) → slice_get (pieces n m) i ≡ Some (take (min (length m - i * n) n) (drop (i * n) m), nat_lt n (length m - i * n))
+pub piece_is : (n i : ℕ) (m : Message) → 0 < n → IsMessage m → i < length (pieces n m) →
+    slice_get (pieces n m) i ≡ Some (take (min (length m - i * n) n) (drop (i * n) m), nat_lt n (length m - i * n))
 piece_is n i m room h within =
     let k = (length m - 1) / n in
     let f = fills n m room h in
@@ -143,17 +155,29 @@ piece_is n i m room h within =
           slice_get-cut_full n k i m below ∙ ap (λ (p : Piece). Some p) (grind (arith, nat_tests))
       | inl same ↦
           let size : length (drop (i * n) m) ≡ length m - i * n = length-drop (i * n) m in
-          let all : take (length m - i * n) (drop (i * n) m) ≡ drop (i * n) m = ap (λ j. take j (drop (i * n) m)) (sym size) ∙ take-length (drop (i * n) m) in
+          let all : take (length m - i * n) (drop (i * n) m) ≡ drop (i * n) m = ap
+          (λ j. take j (drop (i * n) m)) (sym size) ∙ take-length (drop (i * n) m) in
           let last : length m - i * n ≤ n = subst (λ (j : ℕ). length m - j * n ≤ n) (sym same) (omega (arith, f.below)) in
-          ap (λ j. slice_get (cut n k m) j) same ∙ slice_get-cut_last n k m ∙ ap (λ j. Some (drop (j * n) m, false)) (sym same) ∙ ap (λ (p : Piece). Some p) (grind (arith, nat_tests))
+          ap (λ j. slice_get (cut n k m) j) same ∙ slice_get-cut_last n k m ∙ ap (λ j. Some (drop (j * n) m, false)) (sym same) ∙ ap
+          (λ (p : Piece). Some p) (grind (arith, nat_tests))
     ]
 
 -- the same for a number known to be the room of a channel
-pub begins_at : (channel : Channel) (r i : ℕ) (m : Message) → r ≡ n201 channel → 1 ≤ length m → i < length (pieces (n201 channel) m) → i * r < length m
+pub begins_at : (channel : Channel) (r i : ℕ) (m : Message) → r ≡ n201 channel → 1 ≤ length m → i < length (pieces (n201 channel) m) →
+    i * r < length m
 begins_at channel r i m same some_octets h =
     subst (λ (n : ℕ). i * n < length m) (sym same) (begins_within (n201 channel) i m (room_of channel).some some_octets h)
 
-pub piece_at : (channel : Channel) (r i l : ℕ) (m : Message) → r ≡ n201 channel → l ≡ min (length m - i * r) r → IsMessage m → i < length (pieces (n201 channel) m) → slice_get (pieces (n201 channel) m) i ≡ Some (take (i * r + l - i * r) (drop (i * r) m), nat_lt r (length m - i * r))
+pub piece_at : (channel : Channel) (r i l : ℕ) (m : Message) → r ≡ n201 channel → l ≡ min (length m - i * r) r → IsMessage m →
+    i < length (pieces (n201 channel) m) → slice_get (pieces (n201 channel) m) i
+    ≡ Some (take (i * r + l - i * r) (drop (i * r) m), nat_lt r (length m - i * r))
 piece_at channel r i l m same size h within =
     let e : min (length m - i * r) r ≡ i * r + l - i * r = omega arith in
-    subst (λ (n : ℕ). slice_get (pieces (n201 channel) m) i ≡ Some (take (min (length m - i * n) n) (drop (i * n) m), nat_lt n (length m - i * n))) (sym same) (piece_is (n201 channel) i m (room_of channel).some h within) ∙ ap (λ j. Some (take j (drop (i * r) m), nat_lt r (length m - i * r))) e
+    subst (λ (n : ℕ). slice_get (pieces (n201 channel) m) i ≡ Some
+    (take (min (length m - i * n) n) (drop (i * n) m), nat_lt n (length m - i * n))) (sym same)
+    (piece_is (n201 channel) i m (room_of channel).some h within) ∙ ap
+    (λ j. Some (take j (drop (i * r) m), nat_lt r (length m - i * r))) e
+
+pub few_pieces : (channel : Channel) (r l : ℕ) → r ≡ n201 channel → l ≤ 251 → (l - 1) / r + 1 ≤ most_pieces channel
+few_pieces Sdcch r l same h = subst (λ (n : ℕ). (l - 1) / n + 1 ≤ 13) (sym same) (grind arith)
+few_pieces Sacch r l same h = subst (λ (n : ℕ). (l - 1) / n + 1 ≤ 14) (sym same) (grind arith)

@@ -7,7 +7,7 @@ use Rattle.std.proofs.lemmas.Bool.{cases_lt}
 use Rattle.std.proofs.lemmas.Bool.Decides.{nat_tests}
 use Rattle.segmenting.specs.declared.joiner.Joined.TheVariants.{More, Whole, Oversize}
 use Rattle.segmenting.specs.Pieces.{Message, Piece, IsMessage, cut, pieces, longest}
-use Rattle.segmenting.specs.Joining.{within, endings, messages, open_after, open_part, answer_to, handed_up_at, handed_up, latest_after}
+use Rattle.segmenting.specs.Joining.{within, endings, messages, open_after, open_part, answer_to, handed_up_at, handed_up, latest_after, latest}
 
 pub within_some : (m : List ℕ) → length m ≤ longest → within m ≡ Some m
 within_some m h = grind (arith, nat_tests)
@@ -16,10 +16,11 @@ pub within_none : (m : List ℕ) → longest < length m → within m ≡ None
 within_none m h = grind (arith, nat_tests)
 
 -- the pieces of one message end it
-endings-cut : (n k : ℕ) (begun m : List ℕ) (ps : List Piece) → endings begun (cut n k m ++ ps) ≡ within (begun ++ m) ∷ endings [] ps
+pub endings-cut : (n k : ℕ) (begun m : List ℕ) (ps : List Piece) → endings begun (cut n k m ++ ps) ≡ within (begun ++ m) ∷ endings [] ps
 endings-cut n zero begun m ps = refl
 endings-cut n (suc k) begun m ps =
-    endings-cut n k (begun ++ take n m) (drop n m) ps ∙ ap (λ whole. within whole ∷ endings [] ps) (append_assoc begun (take n m) (drop n m) ∙ ap (λ rest. begun ++ rest) (take-append-drop n m))
+    endings-cut n k (begun ++ take n m) (drop n m) ps ∙ ap (λ whole. within whole ∷ endings [] ps)
+    (append_assoc begun (take n m) (drop n m) ∙ ap (λ rest. begun ++ rest) (take-append-drop n m))
 
 -- the pieces of any messages give just these messages
 pub messages_come_back : (n : ℕ) (ms : List Message) → All IsMessage ms → messages (flat_map (pieces n) ms) ≡ ms
@@ -27,10 +28,12 @@ messages_come_back n [] h = refl
 messages_come_back n (m ∷ ms) h =
     let first : IsMessage m = All-head IsMessage m ms h in
     let rest = messages_come_back n ms (All-tail IsMessage m ms h) in
-    ap (filter_map (λ ending. ending)) (endings-cut n ((length m - 1) / n) [] m (flat_map (pieces n) ms) ∙ ap (λ e. e ∷ endings [] (flat_map (pieces n) ms)) (within_some m first.most)) ∙ ap (λ others. m ∷ others) rest
+    ap (filter_map (λ ending. ending)) (endings-cut n ((length m - 1) / n) [] m (flat_map (pieces n) ms) ∙ ap
+    (λ e. e ∷ endings [] (flat_map (pieces n) ms)) (within_some m first.most)) ∙ ap (λ others. m ∷ others) rest
 
 -- what one more piece does to the three functions of a list of pieces
-pub open_after-more : (begun : List ℕ) (ps : List Piece) (octets : List ℕ) → open_after begun (ps ++ (octets, true) ∷ []) ≡ open_after begun ps ++ octets
+pub open_after-more : (begun : List ℕ) (ps : List Piece) (octets : List ℕ) →
+    open_after begun (ps ++ (octets, true) ∷ []) ≡ open_after begun ps ++ octets
 open_after-more begun [] octets = refl
 open_after-more begun ((o, true) ∷ ps) octets = open_after-more (begun ++ o) ps octets
 open_after-more begun ((o, false) ∷ ps) octets = open_after-more [] ps octets
@@ -45,7 +48,8 @@ endings-more begun [] octets = refl
 endings-more begun ((o, true) ∷ ps) octets = endings-more (begun ++ o) ps octets
 endings-more begun ((o, false) ∷ ps) octets = ap (λ others. within (begun ++ o) ∷ others) (endings-more [] ps octets)
 
-pub endings-last : (begun : List ℕ) (ps : List Piece) (octets : List ℕ) → endings begun (ps ++ (octets, false) ∷ []) ≡ endings begun ps ++ within (open_after begun ps ++ octets) ∷ []
+pub endings-last : (begun : List ℕ) (ps : List Piece) (octets : List ℕ) →
+    endings begun (ps ++ (octets, false) ∷ []) ≡ endings begun ps ++ within (open_after begun ps ++ octets) ∷ []
 endings-last begun [] octets = refl
 endings-last begun ((o, true) ∷ ps) octets = endings-last (begun ++ o) ps octets
 endings-last begun ((o, false) ∷ ps) octets = ap (λ others. within (begun ++ o) ∷ others) (endings-last [] ps octets)
@@ -56,7 +60,8 @@ latest_after-more begun ((o, true) ∷ ps) octets = latest_after-more (begun ++ 
 latest_after-more begun ((o, false) ∷ []) octets = refl
 latest_after-more begun ((o, false) ∷ p ∷ ps) octets = latest_after-more [] (p ∷ ps) octets
 
-pub latest_after-last : (begun : List ℕ) (ps : List Piece) (octets : List ℕ) → latest_after begun (ps ++ (octets, false) ∷ []) ≡ unwrap_or (within (open_after begun ps ++ octets)) []
+pub latest_after-last : (begun : List ℕ) (ps : List Piece) (octets : List ℕ) →
+    latest_after begun (ps ++ (octets, false) ∷ []) ≡ unwrap_or (within (open_after begun ps ++ octets)) []
 latest_after-last begun [] octets = refl
 latest_after-last begun ((o, true) ∷ ps) octets = latest_after-last (begun ++ o) ps octets
 latest_after-last begun ((o, false) ∷ []) octets = refl
@@ -76,17 +81,44 @@ nothing_yet ps octets =
       | inr fits ↦ ap (λ j. handed_up_at j (open_part ps ++ octets)) (answer_to-fits ps (octets, true) fits)
     ]
 
-at_the_last : (ps : List Piece) (octets : List ℕ) → handed_up ps (octets, false) ≡ filter_map (λ ending. ending) (within (open_part ps ++ octets) ∷ [])
+at_the_last : (ps : List Piece) (octets : List ℕ) → handed_up ps (octets, false) ≡ filter_map
+    (λ ending. ending) (within (open_part ps ++ octets) ∷ [])
 at_the_last ps octets =
     let m = open_part ps ++ octets in
     elim (cases_lt longest (length m)) [
-      | inl over ↦ ap (λ j. handed_up_at j m) (answer_to-over ps (octets, false) over) ∙ ap (λ e. filter_map (λ ending. ending) (e ∷ [])) (sym (within_none m over))
-      | inr fits ↦ ap (λ j. handed_up_at j m) (answer_to-fits ps (octets, false) fits) ∙ ap (λ e. filter_map (λ ending. ending) (e ∷ [])) (sym (within_some m fits))
+      | inl over ↦ ap (λ j. handed_up_at j m) (answer_to-over ps (octets, false) over) ∙ ap
+          (λ e. filter_map (λ ending. ending) (e ∷ [])) (sym (within_none m over))
+      | inr fits ↦ ap (λ j. handed_up_at j m) (answer_to-fits ps (octets, false) fits) ∙ ap
+          (λ e. filter_map (λ ending. ending) (e ∷ [])) (sym (within_some m fits))
     ]
 
 -- the messages of one more piece
 pub messages-push : (ps : List Piece) (p : Piece) → messages (ps ++ p ∷ []) ≡ messages ps ++ handed_up ps p
 messages-push ps (octets, true) =
-    ap (filter_map (λ ending. ending)) (endings-more [] ps octets) ∙ sym (append-nil (messages ps)) ∙ ap (λ ms. messages ps ++ ms) (sym (nothing_yet ps octets))
+    ap (filter_map (λ ending. ending)) (endings-more [] ps octets) ∙ sym (append-nil (messages ps)) ∙ ap
+    (λ ms. messages ps ++ ms) (sym (nothing_yet ps octets))
 messages-push ps (octets, false) =
-    ap (filter_map (λ ending. ending)) (endings-last [] ps octets) ∙ filter_map-append (λ ending. ending) (endings [] ps) (within (open_part ps ++ octets) ∷ []) ∙ ap (λ ms. messages ps ++ ms) (sym (at_the_last ps octets))
+    ap (filter_map (λ ending. ending)) (endings-last [] ps octets) ∙ filter_map-append
+    (λ ending. ending) (endings [] ps) (within (open_part ps ++ octets) ∷ []) ∙ ap
+    (λ ms. messages ps ++ ms) (sym (at_the_last ps octets))
+
+-- what is handed up is what is shown
+pub shown : (ps : List Piece) (p : Piece) → handed_up ps p ≡ handed_up_at (answer_to ps p) (latest (ps ++ p ∷ []))
+shown ps (octets, true) =
+    let m = open_part ps ++ octets in
+    elim (cases_lt longest (length m)) [
+      | inl over ↦ ap (λ j. handed_up_at j m) (answer_to-over ps (octets, true) over)
+          ∙ ap (λ j. handed_up_at j (latest (ps ++ (octets, true) ∷ []))) (sym (answer_to-over ps (octets, true) over))
+      | inr fits ↦ ap (λ j. handed_up_at j m) (answer_to-fits ps (octets, true) fits)
+          ∙ ap (λ j. handed_up_at j (latest (ps ++ (octets, true) ∷ []))) (sym (answer_to-fits ps (octets, true) fits))
+    ]
+shown ps (octets, false) =
+    let m = open_part ps ++ octets in
+    elim (cases_lt longest (length m)) [
+      | inl over ↦ ap (λ j. handed_up_at j m) (answer_to-over ps (octets, false) over)
+          ∙ ap (λ j. handed_up_at j (latest (ps ++ (octets, false) ∷ []))) (sym (answer_to-over ps (octets, false) over))
+      | inr fits ↦
+          let whole : latest (ps ++ (octets, false) ∷ []) ≡ m =
+          latest_after-last [] ps octets ∙ ap (λ o. unwrap_or o []) (within_some m fits) in
+          ap (handed_up_at (answer_to ps (octets, false))) (sym whole)
+    ]

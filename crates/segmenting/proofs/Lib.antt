@@ -1,4 +1,6 @@
+mod Cutting
+mod Fronts
+mod Joins
+pub mod Lemmas
+mod Taking
 mod Worked
-pub mod Cutting
-pub mod Joins
-pub mod Taking

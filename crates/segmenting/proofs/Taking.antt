@@ -8,7 +8,7 @@ use Rattle.segmenting.specs.declared.joiner.Part.{Part}
 use Rattle.segmenting.specs.declared.joiner.Part.TheVariants as P
 use Rattle.segmenting.specs.Pieces.{Piece, longest}
 use Rattle.segmenting.specs.Joining.{within, open_part}
-use Rattle.segmenting.specs.Joiners.{Holds}
+use Rattle.segmenting.specs.Joiners.{HasJoined}
 use Rattle.segmenting.proofs.Joins.{within_some, within_none, open_after-more, open_after-last, latest_after-more, latest_after-last}
 
 -- what is begun is told by what is held of it
@@ -21,14 +21,16 @@ too_long ps octets h =
     omega (arith, length-append (open_part ps) octets)
 
 -- where the octets are not too many
-pub goes_on : (ps : List Piece) (octets held : List ℕ) → held ≡ open_part ps ++ octets → length held ≤ longest → Holds P.Open held (ps ++ (octets, true) ∷ [])
+pub goes_on : (ps : List Piece) (octets held : List ℕ) → held ≡ open_part ps ++ octets → length held ≤ longest →
+    HasJoined P.Open held (ps ++ (octets, true) ∷ [])
 goes_on ps octets held e h =
     record {
       begun = sym (within_some held h) ∙ ap within (e ∙ sym (open_after-more [] ps octets));
       completed = sym (latest_after-more [] ps octets);
     }
 
-pub completes : (ps : List Piece) (octets held : List ℕ) → held ≡ open_part ps ++ octets → length held ≤ longest → Holds P.Whole held (ps ++ (octets, false) ∷ [])
+pub completes : (ps : List Piece) (octets held : List ℕ) → held ≡ open_part ps ++ octets → length held ≤ longest →
+    HasJoined P.Whole held (ps ++ (octets, false) ∷ [])
 completes ps octets held e h =
     let whole : within (open_part ps ++ octets) ≡ Some held = ap within (sym e) ∙ within_some held h in
     record {
@@ -37,14 +39,16 @@ completes ps octets held e h =
     }
 
 -- where they are
-pub goes_over : (ps : List Piece) (octets held : List ℕ) → longest < length (open_part ps ++ octets) → Holds P.Over held (ps ++ (octets, true) ∷ [])
+pub goes_over : (ps : List Piece) (octets held : List ℕ) → longest < length (open_part ps ++ octets) →
+    HasJoined P.Over held (ps ++ (octets, true) ∷ [])
 goes_over ps octets held h =
     record {
       begun = sym (within_none (open_part ps ++ octets) h) ∙ ap within (sym (open_after-more [] ps octets));
       completed = sym (latest_after-more [] ps octets);
     }
 
-pub drops : (ps : List Piece) (octets : List ℕ) → longest < length (open_part ps ++ octets) → Holds P.Open [] (ps ++ (octets, false) ∷ [])
+pub drops : (ps : List Piece) (octets : List ℕ) → longest < length (open_part ps ++ octets) →
+    HasJoined P.Open [] (ps ++ (octets, false) ∷ [])
 drops ps octets h =
     record {
       begun = ap within (sym (open_after-last [] ps octets));
@@ -56,16 +60,20 @@ pub record IsWritten (ps : List Piece) (octets held : List ℕ) : Type 0 where
   pub same : held ≡ open_part ps ++ octets
   pub fits : length held ≤ longest
 
-pub written : (start : ℕ) (octets : List ℕ) (ps : List Piece) (buffer part : List ℕ) → length buffer ≡ 251 → start + length octets ≤ 251 → part ≡ octets → take start buffer ≡ open_part ps → IsWritten ps octets (take (start + length octets) (put_mid start (start + length octets - start) buffer part))
+pub written : (start : ℕ) (octets : List ℕ) (ps : List Piece) (buffer part : List ℕ) → length buffer ≡ 251 → start + length octets ≤ 251 →
+    part ≡ octets → take start buffer ≡ open_part ps → IsWritten ps octets
+    (take (start + length octets) (put_mid start (start + length octets - start) buffer part))
 written start octets ps buffer part size room same begun =
     let l : length part ≡ length octets = ap length same in
-    let e : take (start + length octets) (put_mid start (start + length octets - start) buffer part) ≡ take start buffer ++ part = take-put_mid start (start + length octets - start) buffer part (start + length octets) (omega arith) (omega arith) in
+    let e : take (start + length octets) (put_mid start (start + length octets - start) buffer part) ≡ take start buffer
+    ++ part = take-put_mid start (start + length octets - start) buffer part (start + length octets) (omega arith) (omega arith) in
     record {
       same = cc;
       fits = omega (arith, ap length e, length-append (take start buffer) part, length-take-le start buffer (omega arith));
     }
 
-pub Holds-same : (part part' : Part) (held : List ℕ) (ps : List Piece) (octets : List ℕ) (more more' : Bool) → part ≡ part' → more ≡ more' → Holds part held (ps ++ (octets, more) ∷ []) → Holds part' held (ps ++ (octets, more') ∷ [])
-Holds-same part part' held ps octets more more' e f h =
-    let g : Holds part' held (ps ++ (octets, more) ∷ []) = subst (λ (p : Part). Holds p held (ps ++ (octets, more) ∷ [])) e h in
-    subst (λ (b : Bool). Holds part' held (ps ++ (octets, b) ∷ [])) f g
+pub HasJoined-same : (part part' : Part) (held : List ℕ) (ps : List Piece) (octets : List ℕ) (more more' : Bool) → part ≡ part' →
+    more ≡ more' → HasJoined part held (ps ++ (octets, more) ∷ []) → HasJoined part' held (ps ++ (octets, more') ∷ [])
+HasJoined-same part part' held ps octets more more' e f h =
+    let g : HasJoined part' held (ps ++ (octets, more) ∷ []) = subst (λ (p : Part). HasJoined p held (ps ++ (octets, more) ∷ [])) e h in
+    subst (λ (b : Bool). HasJoined part' held (ps ++ (octets, b) ∷ [])) f g

@@ -1,8 +1,12 @@
 -- What the pieces of a message are, as the program holds them.
 use Rattle.std.specs.Prelude.{List}
+use Rattle.lapdm_frame.specs.declared.Channel.{Channel}
 use Rattle.lapdm_frame.specs.Layout.{n201}
 use Rattle.segmenting.specs.declared.pieces.Pieces.{Pieces}
 use Rattle.segmenting.specs.Pieces.{Piece, pieces}
 
 abbrev pub pieces_of : Pieces → List Piece
 pieces_of p = pieces (n201 p.channel) p.message.now
+
+abbrev pub cut_for : Pieces → Channel
+cut_for p = p.channel

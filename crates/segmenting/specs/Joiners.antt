@@ -18,10 +18,10 @@ completed_by other octets = []
 
 -- these octets are what the pieces left open, or the message that the last of them completed; where the
 -- pieces are over, only that is known
-pub record Holds (part : Part) (octets : List ℕ) (taken : List Piece) : Type 0 where
+pub record HasJoined (part : Part) (octets : List ℕ) (taken : List Piece) : Type 0 where
   pub begun : begun_by part octets ≡ within (open_part taken)
   pub completed : completed_by part octets ≡ latest taken
 
 -- the joiner has taken these pieces and no others
 abbrev pub HasTaken : Joiner → List Piece → Type 0
-HasTaken j taken = Holds j.part (take j.len j.octets) taken
+HasTaken j taken = HasJoined j.part (take j.len j.octets) taken

@@ -1,6 +1,6 @@
 -- Pieces joined to messages. A list of pieces is cut after each one whose M bit is 0 (GSM 04.06, section
--- 3.6). That more octets than a message may have are dropped is this project's own rule.
-use Rattle.std.specs.Prelude.{ℕ, true, false, if◌then◌else◌, nat_lt, List, [], ◌∷◌, ◌++◌, length, Option, Some, None, unwrap_or}
+-- 3.7.2). That more octets than a message may have are dropped is this project's own rule.
+use Rattle.std.specs.Prelude.{ℕ, true, false, not, count_by, if◌then◌else◌, nat_lt, List, [], ◌∷◌, ◌++◌, length, Option, Some, None, unwrap_or}
 use Rattle.std.specs.List.{filter_map}
 use Rattle.segmenting.specs.declared.joiner.Joined.{Joined}
 use Rattle.segmenting.specs.declared.joiner.Joined.TheVariants.{More, Whole, Oversize}
@@ -20,6 +20,10 @@ endings begun ((octets, false) ∷ ps) = within (begun ++ octets) ∷ endings []
 -- the messages that these pieces end
 abbrev pub messages : List Piece → List Message
 messages ps = filter_map (λ ending. ending) (endings [] ps)
+
+-- how many messages these pieces end: so many as there are pieces with M = 0
+abbrev pub ended : List Piece → ℕ
+ended ps = count_by (λ p. not p.1) ps
 
 -- the octets of the message that goes on after these pieces
 abbrev pub open_after : List ℕ → List Piece → List ℕ

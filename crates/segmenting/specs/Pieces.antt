@@ -1,6 +1,9 @@
--- Messages cut into pieces (GSM 04.06, section 3.6: the length L and the M bit of an I frame).
+-- Messages cut into pieces (GSM 04.06, sections 3.7.2 and 3.7.3: the M bit and the length of an
+-- I frame).
 use Rattle.std.specs.Prelude.{◌≡◌, ℕ, zero, suc, ◌+◌, ◌-◌, ◌/◌, ◌≤◌, Bool, true, false, List, [], ◌∷◌, length, take, drop}
 use Rattle.std.specs.List.{flat_map}
+use Rattle.lapdm_frame.specs.declared.Channel.{Channel}
+use Rattle.lapdm_frame.specs.declared.Channel.TheVariants.{Sdcch, Sacch}
 
 -- the octets of a message
 abbrev pub Message : Type 0
@@ -37,12 +40,12 @@ AreCut n (p ∷ []) = IsLast n p
 AreCut n (p ∷ q ∷ ps) = IsFull n p × AreCut n (q ∷ ps)
 
 -- the octets of pieces, one after another
-abbrev pub octets_of : List Piece → List ℕ
-octets_of ps = flat_map (λ p. p.0) ps
+abbrev pub joined_octets : List Piece → List ℕ
+joined_octets ps = flat_map (λ p. p.0) ps
 
 -- these are the pieces of this message in frames that have room for n octets
 pub record ArePieces (n : ℕ) (m : Message) (ps : List Piece) : Type 0 where
-  pub octets : octets_of ps ≡ m
+  pub octets : joined_octets ps ≡ m
   pub cut : AreCut n ps
 
 -- so many full pieces, and what is left as the last
@@ -57,3 +60,8 @@ pieces n m = cut n ((length m - 1) / n) m
 -- how many these are
 abbrev pub count_of : ℕ → Message → ℕ
 count_of n m = (length m - 1) / n + 1
+
+-- and the most that there are, of a longest message, on each channel
+abbrev pub most_pieces : Channel → ℕ
+most_pieces Sdcch = 13
+most_pieces Sacch = 14

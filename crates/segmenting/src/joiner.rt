@@ -1,6 +1,8 @@
 //! Pieces to messages.
 
 ghost use Rattle.std.specs.Prelude.{◌≡◌, ◌≤◌, length};
+ghost use Rattle.lapdm_frame.specs.Layout.{most_information};
+ghost use Rattle.segmenting.specs.Pieces.{longest};
 
 use crate::LONGEST;
 
@@ -29,15 +31,15 @@ enum Part {
 /// Joins pieces to messages.
 #[derive(Debug, Drop)]
 pub struct Joiner {
-    octets: [u8; 251],
+    octets: [u8; LONGEST],
     len: usize,
     part: Part,
-    ghost within: { len ≤ 251 },
+    ghost within: { len ≤ longest },
 }
 
 impl Joiner {
     ghost use Rattle.std.specs.Prelude.{◌+◌, ◌<◌, List, [], ◌∷◌, ◌++◌, take, IfSome, MatchOption};
-    ghost use Rattle.segmenting.specs.Pieces.{Piece, longest};
+    ghost use Rattle.segmenting.specs.Pieces.{Piece};
     ghost use Rattle.segmenting.specs.Joining.{answer_to, open_part, latest};
     ghost use Rattle.segmenting.specs.Joiners.{HasTaken};
 
@@ -46,7 +48,7 @@ impl Joiner {
         ensures { HasTaken result [] }
     {
         Joiner {
-            octets: [0; 251],
+            octets: [0; LONGEST],
             len: 0,
             part: Part::Open,
         }
@@ -56,7 +58,7 @@ impl Joiner {
     /// next piece that does not is dropped, and each of these answers `Oversize` too.
     pub fn take(&mut self, piece: &[u8], more: bool) -> Joined
         requires some { 1 ≤ length piece.now }
-        requires most { length piece.now ≤ 20 }
+        requires most { length piece.now ≤ most_information }
         ensures answer { (taken : List Piece) → HasTaken self.old taken
             → result ≡ answer_to taken (piece.now, more) }
         ensures after { (taken : List Piece) → HasTaken self.old taken
@@ -80,8 +82,9 @@ impl Joiner {
 
     /// The message, where the last piece taken completed one, and no octets otherwise.
     pub fn message(&self) -> &[u8]
-        ensures latest { (taken : List Piece) → HasTaken self.now taken → result.now ≡ latest taken }
-        ensures most { length result.now ≤ 251 }
+        ensures latest { (taken : List Piece) → HasTaken self.now taken
+            → result.now ≡ latest taken }
+        ensures most { length result.now ≤ longest }
     {
         match self.part {
             Part::Whole => &self.octets[..self.len],
@@ -91,7 +94,7 @@ impl Joiner {
 
     // Where the piece goes, if its message is not too long with it.
     fn place_for(&self, piece: &[u8]) -> Option<usize>
-        ensures room { IfSome result (λ start. start + length piece.now ≤ 251) }
+        ensures room { IfSome result (λ start. start + length piece.now ≤ longest) }
         ensures place { (taken : List Piece) → HasTaken self.now taken → MatchOption result
             (longest < length (open_part taken ++ piece.now))
             (λ start. take start self.now.octets ≡ open_part taken) }

@@ -7,7 +7,7 @@ mod laws;
 mod pieces;
 
 pub use joiner::{Joined, Joiner};
-pub use laws::{law_messages_come_back, law_one_cutting, law_what_is_handed_up};
+pub use laws::{law_fronts, law_messages_come_back, law_one_cutting, law_what_is_handed_up};
 pub use pieces::{Piece, Pieces};
 
 /// The most octets of a message.

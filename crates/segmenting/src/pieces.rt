@@ -2,6 +2,7 @@
 
 ghost use Rattle.std.specs.Prelude.{◌≡◌, ◌<◌, ◌≤◌, length};
 ghost use Rattle.lapdm_frame.specs.Layout.{n201};
+ghost use Rattle.segmenting.specs.Pieces.{longest};
 
 use lapdm_frame::Channel;
 
@@ -19,19 +20,20 @@ pub struct Pieces<'a> {
     message: &'a [u8],
     channel: Channel,
     ghost some: { 1 ≤ length message.now },
-    ghost most: { length message.now ≤ 251 },
+    ghost most: { length message.now ≤ longest },
 }
 
 impl<'a> Pieces<'a> {
     ghost use Rattle.std.specs.Prelude.{slice_get, Some};
-    ghost use Rattle.segmenting.specs.Pieces.{pieces};
-    ghost use Rattle.segmenting.specs.Cuttings.{pieces_of};
+    ghost use Rattle.segmenting.specs.Pieces.{pieces, most_pieces};
+    ghost use Rattle.segmenting.specs.Cuttings.{pieces_of, cut_for};
 
     /// The pieces of the message for SDCCH, of at most 20 octets each.
     pub fn new(message: &'a [u8]) -> Pieces<'a>
         requires some { 1 ≤ length message.now }
-        requires most { length message.now ≤ 251 }
-        ensures { pieces_of result ≡ pieces 20 message.now }
+        requires most { length message.now ≤ longest }
+        ensures pieces { pieces_of result ≡ pieces (n201 Channel.Sdcch) message.now }
+        ensures channel { cut_for result ≡ Channel.Sdcch }
     {
         Pieces::new_on(message, Channel::Sdcch)
     }
@@ -39,15 +41,18 @@ impl<'a> Pieces<'a> {
     /// The pieces of the message, of at most N201 octets of the channel each.
     pub fn new_on(message: &'a [u8], channel: Channel) -> Pieces<'a>
         requires some { 1 ≤ length message.now }
-        requires most { length message.now ≤ 251 }
-        ensures { pieces_of result ≡ pieces (n201 channel) message.now }
+        requires most { length message.now ≤ longest }
+        ensures pieces { pieces_of result ≡ pieces (n201 channel) message.now }
+        ensures channel { cut_for result ≡ channel }
     {
         Pieces { message, channel }
     }
 
     /// How many pieces there are: at most 13 on SDCCH, and 14 on SACCH.
     pub fn count(&self) -> usize
-        ensures { result ≡ length (pieces_of self.now) }
+        ensures count { result ≡ length (pieces_of self.now) }
+        ensures some { 1 ≤ result }
+        ensures most { result ≤ most_pieces (cut_for self.now) }
     {
         (self.message.len() - 1) / self.channel.n201() + 1
     }

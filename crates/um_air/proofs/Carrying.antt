@@ -9,9 +9,7 @@ use Rattle.lapdm_link.specs.Worlds.{World}
 use Rattle.lapdm_link.specs.Worlds as W
 use Rattle.lapdm_link.specs.Claims.{Line, Claims, OrderClaims, CountsAgree, answer_lines}
 use Rattle.lapdm_link.specs.Claims as C
-use Rattle.lapdm_link.proofs.Order.{AllReported, in_order-step, start-reported, order_claims}
-use Rattle.lapdm_link.proofs.Fitting.{IsFitting, fits-step, start-fits}
-use Rattle.lapdm_link.proofs.Sessions.{claims, counts}
+use Rattle.lapdm_link.proofs.Lemmas.{AllReported, in_order-step, start-reported, order_claims, IsFitting, fits-step, start-fits, claims, counts}
 use Rattle.um_air.specs.Air.{Octets, Event, as_read, AirState, start_on, AreSent, Answer, AirStep, AirRun}
 use Rattle.um_air.specs.Sessions.{told, lines, after, IsHarmlessAfter, IsHarmless}
 use Rattle.um_air.proofs.Seeing.{knows, AreAlike, AreOctetsOf, Carries, world_of, IsSeenStep, seen-step}
@@ -46,7 +44,7 @@ module _ (a : AirState) (octets : Ways Octets) (fs : Ways Frame) (ls : List Line
       let w : World = world_of a fs in
       let e : E.Event = as_read seen-now.read event in
       let fit : IsFitting a.channel (world_of b seen-now.ways) =
-      subst (IsFitting a.channel) seen-now.later (fits-step a.channel w ls e h.reported (knows _ _ (λ r f k. k.0) (W.refusal e w) e seen-now.known) h.fit) in
+      subst (IsFitting a.channel) seen-now.later (fits-step a.channel w e (knows _ _ (λ r f k. k.0) (W.refusal e w) e seen-now.known) h.fit) in
       let now : AllReported (world_of b seen-now.ways) (ls ++ answer_lines e (W.answer e w)) =
       subst (λ (z : World). AllReported z (ls ++ answer_lines e (W.answer e w))) seen-now.later (in_order-step w ls e h.reported).0 in
       record {

@@ -20,10 +20,7 @@ use Rattle.lapdm_link.specs.Events as E
 use Rattle.lapdm_link.specs.Events.{Open, OpenBare, Ask, Deliver, Lose, Rival, sender_of, Deed, deed, taken, Why, Nothing, unless, is_empty}
 use Rattle.lapdm_link.specs.Worlds.{World}
 use Rattle.lapdm_link.specs.Worlds as W
-use Rattle.lapdm_link.proofs.ByKind.{KnowsBy}
-use Rattle.lapdm_link.proofs.Fitting.{AllFit}
-use Rattle.lapdm_link.proofs.Octets.{AllSay}
-use Rattle.lapdm_link.proofs.Small.{deed-fits}
+use Rattle.lapdm_link.proofs.Lemmas.{KnowsBy, AllFit, AllSay, deed-fits}
 use Rattle.um_air.specs.Air.{Octets, Block, Event, as_read, AirState, start_on, Reads, Arrives, AreSent, Answer, Refuses, Does, refusal, AirStep, AirRun, turned_at, turned}
 use Rattle.um_air.specs.Sessions.{IsOctetEvent}
 use Rattle.um_air.proofs.Seeing.{ReadsWell, knows, world_of, refusal-same, known-read}
@@ -144,7 +141,7 @@ answer_at a event None is known said h =
     let reads : KnowsBy (W.refusal e w) (ReadsWell a.channel) e =
     subst (λ (q : Option Why). KnowsBy q (ReadsWell a.channel) e) (sym none) (known-read a event t.report t.read t.arrives) in
     let fit : AllFit a.channel d.frames =
-    deed-fits a.channel w h.ls e h.at.reported (knows _ _ (λ r f k. k.0) (W.refusal e w) e reads) h.at.fit none in
+    deed-fits a.channel w e (knows _ _ (λ r f k. k.0) (W.refusal e w) e reads) h.at.fit none in
     let say : AllSay d.frames = deed-octets a.channel w h.ls e h.at.reported reads h.small (says t.read event said) none in
     let bs = some_blocks a.channel a.tsc d.frames known fit say in
     record {

@@ -17,9 +17,7 @@ use Rattle.lapdm_link.specs.Events.{Open, OpenBare, Ask, Deliver, Lose, Rival, S
 use Rattle.lapdm_link.specs.Worlds.{World}
 use Rattle.lapdm_link.specs.Worlds as W
 use Rattle.lapdm_link.specs.Claims.{Line, notice_lines, answer_lines}
-use Rattle.lapdm_link.proofs.ByKind.{KnowsBy}
-use Rattle.lapdm_link.proofs.Order.{AllReported}
-use Rattle.lapdm_link.proofs.Octets.{LineOctets, AllSay, WorldOctets, octets-step, start-octets}
+use Rattle.lapdm_link.proofs.Lemmas.{KnowsBy, AllReported, LineOctets, AllSay, WorldOctets, octets-step, start-octets}
 use Rattle.um_air.specs.Air.{Octets, Event, as_read, AirState, start_on, Answer, AirStep, AirRun}
 use Rattle.um_air.specs.Sessions.{after, AreOctets, IsOctetEvent}
 use Rattle.um_air.proofs.Seeing.{ReadsWell, knows, world_of, IsSeenStep}

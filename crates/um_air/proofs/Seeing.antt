@@ -19,8 +19,7 @@ use Rattle.lapdm_link.specs.Events.{Open, OpenBare, Ask, Deliver, Lose, Rival, E
 use Rattle.lapdm_link.specs.Worlds.{World, answer_by, after_by}
 use Rattle.lapdm_link.specs.Worlds as W
 use Rattle.lapdm_link.specs.Claims.{event_lines, notice_lines, answer_lines}
-use Rattle.lapdm_link.proofs.ByKind.{Knows, KnowsBy}
-use Rattle.lapdm_link.proofs.Fitting.{AllFit}
+use Rattle.lapdm_link.proofs.Lemmas.{Knows, KnowsBy, AllFit}
 use Rattle.um_air.specs.Air.{Octets, Block, Event, as_read, AirState, Reads, Arrives, AreSent, Step, Answer, Refuses, Does, Happens, refusal, AirStep, turned}
 use Rattle.um_air.specs.Sessions.{told, after, ArrivesAsSent, IsHarmlessStep, AreOctets}
 

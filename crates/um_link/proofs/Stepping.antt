@@ -325,6 +325,15 @@ arrived sender end places w m w' ends' report sapi effects step e h hears some r
     (subst (λ (r : Role). Sends r effects.frames (record m { ends = ends' }) w') e sends)
     (subst (λ (r : Role). step ≡ step_by (E.End r) sapi (Some report) effects) e is)
 
+-- a block that may not arrive yet
+pub arrives-full : (sender end : Role) (places : List ℕ) (w : Links) → end ≡ E.other sender →
+    E.is_empty (length (blocks_from sender w)) ≡ false → E.is_full (length (blocks_from end w)) ≡ true → (a : AirState) → Stands w a →
+    (b : AirState) × Stands w b × AirStep a (E.Deliver sender places) b (A.Refuses E.AirFull)
+arrives-full sender end places w e some full =
+    stays (E.Deliver sender places) E.AirFull w
+    (λ a st. unless-false _ E.Nothing _ (on-way E.is_empty false sender w a st some) ∙ unless-true _ E.AirFull None
+    (on-way E.is_full true (E.other sender) w a st (subst (λ (r : Role). E.is_full (length (blocks_from r w)) ≡ true) e full)))
+
 room-bound : (n m : ℕ) → nat_lt 62 n ≡ false → m ≡ n → m ≤ 62
 room-bound n m h e = grind (arith, nat_tests)
 

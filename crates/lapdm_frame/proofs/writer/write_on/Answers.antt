@@ -8,7 +8,8 @@ use Rattle.lapdm_frame.proofs.writer.write_on.Goals as goal
 
 pub returns-clause-octets : goal.returns-clause-octets
 returns-clause-octets c =
-    let zeros : c.fill.new.self ≡ replicate c.header-start.result 0 = c.fill.ensures.after (λ y e. e) ∙ ap (λ n. replicate n 0) (simp length-take (omega arith)) in
+    let zeros : c.fill.new.self ≡ replicate c.header-start.result 0 = c.fill.ensures.after (λ y e. e) ∙ ap
+    (λ n. replicate n 0) (simp length-take (omega arith)) in
     let f = frame_of c.args.f.now in
     let whole = written c.args.channel (address f) (control f.content) (length_octet f.content) (information f.content) in
     cc
@@ -16,4 +17,5 @@ returns-clause-octets c =
 pub returns-clause-canonical : goal.returns-clause-canonical
 returns-clause-canonical c =
     let f = frame_of c.args.f.now in
-    subst (λ (octets : List ℕ). IsOnlyCanonical c.args.channel f octets) (sym (returns-clause-octets c)) (only_canonical c.args.channel f c.requires)
+    subst (λ (octets : List ℕ). IsOnlyCanonical c.args.channel f octets) (sym (returns-clause-octets c))
+    (only_canonical c.args.channel f c.requires)

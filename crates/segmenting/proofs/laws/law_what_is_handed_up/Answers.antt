@@ -1,5 +1,8 @@
-use Rattle.segmenting.proofs.Joins.{messages-push}
+use Rattle.segmenting.proofs.Joins.{messages-push, shown}
 use Rattle.segmenting.proofs.laws.law_what_is_handed_up.Goals as goal
 
-pub returns : goal.returns
-returns c = messages-push
+pub returns-clause-messages : goal.returns-clause-messages
+returns-clause-messages c = messages-push
+
+pub returns-clause-shown : goal.returns-clause-shown
+returns-clause-shown c = shown

@@ -1,12 +1,13 @@
 use Rattle.std.proofs.Common.{refl}
 use Rattle.lapdm_window.specs.declared.State.TheVariants.{Closing}
-use Rattle.lapdm_end.proofs.Moves.{moved, both, link_moved, Tracks-moved, IsEnd-moved}
+use Rattle.lapdm_window.proofs.Lemmas.{IsEnd-moved}
+use Rattle.lapdm_end.proofs.Moves.{moved, both, link_moved, Tracks-moved}
 use Rattle.lapdm_end.proofs.ends.End.close.Goals as goal
 
 pub returns-clause-follows : goal.returns-clause-follows
 returns-clause-follows c e h =
     both (record {
-      end = IsEnd-moved Closing e.kept 0 e h.end;
+      end = IsEnd-moved e Closing e.kept 0 h.end h.end.kept h.end.bare (λ u. absurd u);
       link = link_moved Closing e.kept 0 e h.link;
       state = refl;
       kept = h.kept;

@@ -1,4 +1,5 @@
 use Rattle.std.proofs.Common.{refl}
+use Rattle.lapdm_window.proofs.Lemmas.{IsEnd-start}
 use Rattle.lapdm_end.specs.Links.{role_of}
 use Rattle.lapdm_end.proofs.ends.End.new_on.Goals as goal
 
@@ -6,10 +7,10 @@ pub returns-clause-stands : goal.returns-clause-stands
 returns-clause-stands c =
     let window = c.new_on.ensures.stands (role_of c.args.role) c.args.sapi in
     record {
-      end = window.end;
+      end = IsEnd-start (role_of c.args.role) c.args.sapi c.args.channel;
       link = record { role = refl; sapi = refl; channel = refl };
       state = refl;
       kept = c.new.ensures;
       tracks = window.tracks;
-      now = record { taken = refl; accepted = refl; window = window };
+      now = window;
     }

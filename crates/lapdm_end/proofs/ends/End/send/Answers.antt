@@ -4,7 +4,7 @@ use Rattle.lapdm_window.specs.Ends.{EndState}
 use Rattle.lapdm_window.specs.Calls.{with_taken}
 use Rattle.lapdm_end.specs.Windows.{Runs}
 use Rattle.lapdm_end.proofs.Giving.{runs_on}
-use Rattle.lapdm_end.proofs.Moves.{Runs-open, Stands-open, Does-open}
+use Rattle.lapdm_end.proofs.Moves.{Runs-open, Stands-open, Does-open, bare_of}
 use Rattle.lapdm_end.proofs.ends.End.send.Goals as goal
 
 pub returns-clause-follows : goal.returns-clause-follows
@@ -12,5 +12,8 @@ returns-clause-follows c e h =
     let open_now : c.args.self.now.state ≡ Open = search rules in
     let runs : Runs c.args.self.now.link c.args.self.now.window e = Runs-open open_now h in
     let f : EndState = with_taken c.args.message.now e in
-    let g = c.send_next.ensures.follows f (runs_on c.put.new.self f runs refl refl refl refl (c.in_default.ensures.taken e runs.window)) in
-    (Stands-open _ open_now h.kept g, Does-open c.no_effects-effects.ensures.frames c.no_effects-effects.ensures.notices h.link.channel g)
+    let g = c.send_next.ensures.follows f (runs_on c.put.new.self f runs refl refl refl refl (c.in_default.ensures.taken e runs.window)) in (
+      Stands-open _ open_now h.kept (bare_of h) g,
+      Does-open c.no_effects-effects.ensures.frames c.no_effects-effects.ensures.notices
+          h.link.channel g,
+    )

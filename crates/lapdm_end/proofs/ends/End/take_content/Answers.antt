@@ -9,7 +9,8 @@ use Rattle.lapdm_end.proofs.Moves.{Adds-as}
 use Rattle.lapdm_end.proofs.ends.End.take_content.Goals as goal
 
 -- a frame of any other kind goes by the state
-no_unit : (b : Bool) (body : Body) (e : EndState) → ((p : Bool) (info : Bor (List ℕ)) → body ≡ B.Ui p info → ⊥) → after_content b (content_of body) e ≡ in_state e.state b (content_of body) e
+no_unit : (b : Bool) (body : Body) (e : EndState) → ((p : Bool) (info : Bor (List ℕ)) → body ≡ B.Ui p info → ⊥) →
+    after_content b (content_of body) e ≡ in_state e.state b (content_of body) e
 no_unit b (B.I ns nr p more info) e other = refl
 no_unit b (B.Rr nr pf) e other = refl
 no_unit b (B.Rnr nr pf) e other = refl

@@ -1,24 +1,28 @@
 use Rattle.std.proofs.Common.{◌≡◌, sym, ◌∙◌, ap, arith, ◌+◌}
 use Rattle.lapdm_window.specs.declared.State.TheVariants.{Closing}
 use Rattle.lapdm_window.specs.Ends.{EndState, n200}
-use Rattle.lapdm_end.proofs.Moves.{as_outcome, both, moved, link_moved, in_state, Tracks-moved, n200-closing, ticks-closes, ticks-disc, IsEnd-moved}
+use Rattle.lapdm_window.proofs.Lemmas.{IsEnd-moved}
+use Rattle.lapdm_end.proofs.Moves.{as_outcome, both, moved, link_moved, in_state, Tracks-moved, ticks-closes, ticks-disc}
 use Rattle.lapdm_end.proofs.ends.End.tick_closing.Goals as goal
 
-pub returns-then-self-ge-MOST_RETRIES-clause-follows : goal.returns-then-self-ge-MOST_RETRIES-clause-follows
-returns-then-self-ge-MOST_RETRIES-clause-follows c e h =
+pub returns-then-self-n200-clause-follows : goal.returns-then-self-n200-clause-follows
+returns-then-self-n200-clause-follows c e h =
     let m = c.args.self.now in
     let is : e.state ≡ Closing = sym h.state ∙ c.requires.closing in
+    let most : c.n200.result ≡ n200 e.channel Closing = c.n200.ensures.value ∙ ap (λ ch. n200 ch Closing) h.link.channel in
     let count : m.retries ≡ e.retries = in_state m.window m.retries e m.state Closing c.requires.closing h.now in
-    as_outcome _ _ e _ _ (ticks-closes 5 e (ap (n200 e.channel) is ∙ n200-closing e.channel) (omega (arith, c.if-self-ge-MOST_RETRIES.true, count))) (c.close_with.ensures.follows e h)
+    as_outcome _ _ e _ _ (ticks-closes c.n200.result e (ap (n200 e.channel) is ∙ sym most) (omega (arith, c.if-self-n200.true, count)))
+    (c.close_with.ensures.follows e h)
 
 pub returns-clause-follows : goal.returns-clause-follows
 returns-clause-follows c e h =
     let m = c.args.self.now in
     let is : e.state ≡ Closing = sym h.state ∙ c.requires.closing in
+    let most : c.n200.result ≡ n200 e.channel Closing = c.n200.ensures.value ∙ ap (λ ch. n200 ch Closing) h.link.channel in
     let count : m.retries ≡ e.retries = in_state m.window m.retries e m.state Closing c.requires.closing h.now in
     let f : EndState = moved e.state e.kept (e.retries + 1) e in
-    as_outcome _ _ e _ _ (ticks-disc e is (omega (arith, c.if-self-ge-MOST_RETRIES.false, count))) (both (record {
-      end = IsEnd-moved e.state e.kept (e.retries + 1) e h.end;
+    as_outcome _ _ e _ _ (ticks-disc c.n200.result e is most (omega (arith, c.if-self-n200.false, count))) (both (record {
+      end = IsEnd-moved e e.state e.kept (e.retries + 1) h.end h.end.kept h.end.bare (λ u. u);
       link = link_moved e.state e.kept (e.retries + 1) e h.link;
       state = h.state;
       kept = h.kept;

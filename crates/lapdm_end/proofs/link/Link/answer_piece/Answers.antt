@@ -11,4 +11,5 @@ returns-then-p-clause-follows c e h =
 pub returns-then-send_next-clause-follows : goal.returns-then-send_next-clause-follows
 returns-then-send_next-clause-follows c e h =
     let yes : has_piece e ≡ true = sym (c.if-send_next.ensures.answer e h.window) in
-    Gives-as _ (ap (λ p. answers_piece p e) c.if-p.false ∙ answers-next e h.state yes) (Gives-next e h yes (c.if-send_next.ensures.sent e h.window) c.send_waiting.ensures.follows)
+    Gives-as _ (ap (λ p. answers_piece p e) c.if-p.false ∙ answers-next e h.state yes)
+    (Gives-next e h yes (c.if-send_next.ensures.sent e h.window) c.send_waiting.ensures.follows)

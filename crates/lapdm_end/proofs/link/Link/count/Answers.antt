@@ -10,11 +10,14 @@ returns-in-Nothing c = record {
   frames = refl;
   most = omega arith;
   follows = λ e h. elim c.in-Nothing.is [
-    | inl is ↦ Gives-counted c.args.nr V.Nothing h (sym is ∙ c.on_ack.ensures.answer e h.window) (c.on_ack.ensures.counted e h.window) refl (sym (append-nil c.args.effects.now.notices))
-    | inr is ↦ Gives-counted c.args.nr V.Piece h (sym is ∙ c.on_ack.ensures.answer e h.window) (c.on_ack.ensures.counted e h.window) refl (sym (append-nil c.args.effects.now.notices))
+    | inl is ↦ Gives-counted c.args.nr V.Nothing h (sym is ∙ c.on_ack.ensures.answer e h.window) (c.on_ack.ensures.counted e h.window) refl
+        (sym (append-nil c.args.effects.now.notices))
+    | inr is ↦ Gives-counted c.args.nr V.Piece h (sym is ∙ c.on_ack.ensures.answer e h.window) (c.on_ack.ensures.counted e h.window) refl
+        (sym (append-nil c.args.effects.now.notices))
   ];
 }
 
 pub returns-in-Message-clause-follows : goal.returns-in-Message-clause-follows
 returns-in-Message-clause-follows c e h =
-    Gives-counted c.args.nr (V.Message c.in-Message.number) h (c.in-Message.ensures.answer e h.window) (c.in-Message.ensures.counted e h.window) refl c.push.ensures
+    Gives-counted c.args.nr (V.Message c.in-Message.number) h (c.in-Message.ensures.answer e h.window)
+    (c.in-Message.ensures.counted e h.window) refl c.push.ensures

@@ -7,4 +7,5 @@ use Rattle.lapdm_end.proofs.link.Link.send_next.Goals as goal
 pub returns-clause-follows : goal.returns-clause-follows
 returns-clause-follows c e h =
     let yes : has_piece e ≡ true = sym (c.if-not-send_next.ensures.answer e h.window) in
-    Gives-as _ (sends_next-yes e h.state yes) (Gives-next e h yes (c.if-not-send_next.ensures.sent e h.window) c.send_waiting.ensures.follows)
+    Gives-as _ (sends_next-yes e h.state yes) (Gives-next e h yes
+    (c.if-not-send_next.ensures.sent e h.window) c.send_waiting.ensures.follows)

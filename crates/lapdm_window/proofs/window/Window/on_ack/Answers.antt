@@ -9,7 +9,7 @@ use Rattle.lapdm_window.specs.Standing.{Holds}
 use Rattle.lapdm_window.proofs.Numbers.{one_sent, capped-more}
 use Rattle.lapdm_window.proofs.FirstPieces.{goes_on, ends}
 use Rattle.lapdm_window.proofs.Counting.{wholly_acked-more, wholly_acked-last}
-use Rattle.lapdm_window.proofs.Moves.{IsFirst, IsNext, next_is, IsEnd-acked, Holds-more, Holds-last, acknowledges-not_waiting, acknowledges-other, acknowledges-waiting, counts-nothing, counts-something, acked_by-piece, acked_by-message, acked-waits, remove_first, Stands-same}
+use Rattle.lapdm_window.proofs.Moves.{IsFirst, IsNext, next_is, KeepsWindow-acked, Holds-more, Holds-last, acknowledges-not_waiting, acknowledges-other, acknowledges-waiting, counts-nothing, counts-something, acked_by-piece, acked_by-message, acked-waits, remove_first, Stands-same}
 use Rattle.lapdm_window.proofs.window.Window.on_ack.Goals as goal
 use Rattle.lapdm_window.proofs.window.Window.on_ack.Goals.{then-self-via-then-self, then-self-via-else-self+then-nr-self}
 
@@ -18,7 +18,8 @@ invariant_of-self c =
     let w = c.args.self.now in
     record {
       messages = w.messages;
-      within = goes_on (n201 w.channel) w.place (slice_index_or w.held.items 0 []) c.next-more.result.octets.now (c.next-more.ensures ∙ ap (λ b. Some (c.next-more.result.octets.now, b)) c.if-more.true);
+      within = goes_on (n201 w.channel) w.place (slice_index_or w.held.items 0 []) c.next-more.result.octets.now (c.next-more.ensures ∙ ap
+          (λ b. Some (c.next-more.result.octets.now, b)) c.if-more.true);
       waiting = λ other. absurd (other refl);
       vs_fits = w.vs_fits;
       va_fits = w.vs_fits;
@@ -41,8 +42,10 @@ invariant_of-self-2 c =
 pub returns-then-self-clause-counted : goal.returns-then-self-clause-counted
 returns-then-self-clause-counted c e h =
     elim c.then-self.branch [
-      | then-self-via-then-self w ↦ Stands-same _ e _ (counts-nothing e c.args.nr (acknowledges-not_waiting e c.args.nr h.end (sym h.tracks.vs ∙ w.if-self.true ∙ h.tracks.va))) h
-      | then-self-via-else-self+then-nr-self w ↦ Stands-same _ e _ (counts-nothing e c.args.nr (acknowledges-other e c.args.nr (λ same. w.if-nr-self.true (same ∙ sym h.tracks.vs)))) h
+      | then-self-via-then-self w ↦ Stands-same _ e _ (counts-nothing e c.args.nr
+          (acknowledges-not_waiting e c.args.nr h.end (sym h.tracks.vs ∙ w.if-self.true ∙ h.tracks.va))) h
+      | then-self-via-else-self+then-nr-self w ↦ Stands-same _ e _
+          (counts-nothing e c.args.nr (acknowledges-other e c.args.nr (λ same. w.if-nr-self.true (same ∙ sym h.tracks.vs)))) h
     ]
 
 pub returns-then-more-clause-answer : goal.returns-then-more-clause-answer
@@ -50,7 +53,8 @@ returns-then-more-clause-answer c e h =
     let w = c.args.self.now in
     let x : Piece = (c.next-more.result.octets.now, c.next-more.result.more) in
     let differ : vs e ≢ va e = λ same. c.if-self.false (h.tracks.vs ∙ same ∙ sym h.tracks.va) in
-    let first : IsFirst w.channel w.held.items w.place x = record { some = w.waiting c.if-self.false; within = w.within; piece = c.next-more.ensures } in
+    let first : IsFirst w.channel w.held.items w.place x = record
+    { some = w.waiting c.if-self.false; within = w.within; piece = c.next-more.ensures } in
     let next : IsNext e x = next_is e w.channel w.held.items w.place x h.tracks.channel h.holds first in
     let acks = acknowledges-waiting e c.args.nr h.end differ (c.if-nr-self.false ∙ h.tracks.vs) in
     sym (acked_by-piece e c.args.nr acks (ap (λ p. p.1) next.piece ∙ c.if-more.true))
@@ -61,11 +65,13 @@ returns-then-more-clause-counted c e h =
     let x : Piece = (c.next-more.result.octets.now, c.next-more.result.more) in
     let differ : vs e ≢ va e = λ same. c.if-self.false (h.tracks.vs ∙ same ∙ sym h.tracks.va) in
     let one = one_sent e h.end differ in
-    let first : IsFirst w.channel w.held.items w.place x = record { some = w.waiting c.if-self.false; within = w.within; piece = c.next-more.ensures } in
+    let first : IsFirst w.channel w.held.items w.place x = record
+    { some = w.waiting c.if-self.false; within = w.within; piece = c.next-more.ensures } in
     let next : IsNext e x = next_is e w.channel w.held.items w.place x h.tracks.channel h.holds first in
     let more : (next_piece e).1 ≡ true = ap (λ p. p.1) next.piece ∙ c.if-more.true in
-    Stands-same _ (with_acked e) _ (counts-something e c.args.nr (acknowledges-waiting e c.args.nr h.end differ (c.if-nr-self.false ∙ h.tracks.vs))) (record {
-      end = IsEnd-acked e h.end;
+    Stands-same _ (with_acked e) _ (counts-something e c.args.nr
+    (acknowledges-waiting e c.args.nr h.end differ (c.if-nr-self.false ∙ h.tracks.vs))) (record {
+      end = KeepsWindow-acked e h.end;
       tracks = record {
         channel = h.tracks.channel;
         vs = h.tracks.vs;
@@ -84,11 +90,15 @@ returns-clause-answer c e h =
     let w = c.args.self.now in
     let x : Piece = (c.next-more.result.octets.now, c.next-more.result.more) in
     let differ : vs e ≢ va e = λ same. c.if-self.false (h.tracks.vs ∙ same ∙ sym h.tracks.va) in
-    let first : IsFirst w.channel w.held.items w.place x = record { some = w.waiting c.if-self.false; within = w.within; piece = c.next-more.ensures } in
+    let first : IsFirst w.channel w.held.items w.place x = record
+    { some = w.waiting c.if-self.false; within = w.within; piece = c.next-more.ensures } in
     let next : IsNext e x = next_is e w.channel w.held.items w.place x h.tracks.channel h.holds first in
     let last : (next_piece e).1 ≡ false = ap (λ p. p.1) next.piece ∙ c.if-more.false in
-    let number : c.saturating_add-self.result ≡ acked_number e = c.saturating_add-self.ensures ∙ capped-more (wholly_acked e) w.done h.tracks.done ∙ ap capped (sym (wholly_acked-last e (one_sent e h.end differ) next.within last)) in
-    ap (λ n. V.Message n) number ∙ sym (acked_by-message e c.args.nr (acknowledges-waiting e c.args.nr h.end differ (c.if-nr-self.false ∙ h.tracks.vs)) last)
+    let number : c.saturating_add-self.result ≡ acked_number e = c.saturating_add-self.ensures
+    ∙ capped-more (wholly_acked e) w.done h.tracks.done ∙ ap capped
+    (sym (wholly_acked-last e (one_sent e h.end differ) next.within last)) in
+    ap (λ n. V.Message n) number ∙ sym (acked_by-message e c.args.nr
+    (acknowledges-waiting e c.args.nr h.end differ (c.if-nr-self.false ∙ h.tracks.vs)) last)
 
 pub returns-clause-counted : goal.returns-clause-counted
 returns-clause-counted c e h =
@@ -97,22 +107,28 @@ returns-clause-counted c e h =
     let x : Piece = (c.next-more.result.octets.now, c.next-more.result.more) in
     let differ : vs e ≢ va e = λ same. c.if-self.false (h.tracks.vs ∙ same ∙ sym h.tracks.va) in
     let one = one_sent e h.end differ in
-    let first : IsFirst w.channel w.held.items w.place x = record { some = w.waiting c.if-self.false; within = w.within; piece = c.next-more.ensures } in
+    let first : IsFirst w.channel w.held.items w.place x = record
+    { some = w.waiting c.if-self.false; within = w.within; piece = c.next-more.ensures } in
     let next : IsNext e x = next_is e w.channel w.held.items w.place x h.tracks.channel h.holds first in
     let last : (next_piece e).1 ≡ false = ap (λ p. p.1) next.piece ∙ c.if-more.false in
-    let at_the_end : w.place + 1 ≡ length (pieces (n201 e.channel) m) = ends (n201 w.channel) w.place m c.next-more.result.octets.now (c.next-more.ensures ∙ ap (λ b. Some (c.next-more.result.octets.now, b)) c.if-more.false) ∙ ap (λ ch. length (pieces (n201 ch) m)) h.tracks.channel in
+    let at_the_end : w.place + 1 ≡ length (pieces (n201 e.channel) m) = ends (n201 w.channel) w.place m c.next-more.result.octets.now
+    (c.next-more.ensures ∙ ap (λ b. Some (c.next-more.result.octets.now, b)) c.if-more.false) ∙ ap
+    (λ ch. length (pieces (n201 ch) m)) h.tracks.channel in
     let items : c.remove.new.self.items ≡ drop 1 w.held.items = c.remove.ensures.items ∙ remove_first w.held.items in
-    Stands-same _ (with_acked e) _ (counts-something e c.args.nr (acknowledges-waiting e c.args.nr h.end differ (c.if-nr-self.false ∙ h.tracks.vs))) (record {
-      end = IsEnd-acked e h.end;
+    Stands-same _ (with_acked e) _ (counts-something e c.args.nr
+    (acknowledges-waiting e c.args.nr h.end differ (c.if-nr-self.false ∙ h.tracks.vs))) (record {
+      end = KeepsWindow-acked e h.end;
       tracks = record {
         channel = h.tracks.channel;
         vs = h.tracks.vs;
         va = h.tracks.vs;
         vr = h.tracks.vr;
-        done = c.saturating_add-self.ensures ∙ capped-more (wholly_acked e) w.done h.tracks.done ∙ ap capped (sym (wholly_acked-last e one next.within last));
+        done = c.saturating_add-self.ensures ∙ capped-more (wholly_acked e) w.done h.tracks.done
+            ∙ ap capped (sym (wholly_acked-last e one next.within last));
         rejecting = h.tracks.rejecting;
         joined = h.tracks.joined;
       };
-      holds = subst (λ (held : List Message). Holds held 0 (with_acked e)) (sym items) (Holds-last e w.held.items w.place one h.holds next.within last (w.waiting c.if-self.false) at_the_end);
+      holds = subst (λ (held : List Message). Holds held 0 (with_acked e)) (sym items)
+          (Holds-last e w.held.items w.place one h.holds next.within last (w.waiting c.if-self.false) at_the_end);
       retries = λ t. absurd (acked-waits e t);
     })

@@ -3,12 +3,12 @@ use Rattle.std.proofs.lemmas.Bool.Decides.{nat_tests}
 use Rattle.lapdm_frame.specs.declared.Channel.{Channel}
 use Rattle.lapdm_frame.specs.Layout.{n201}
 use Rattle.segmenting.specs.Pieces.{Message, IsMessage, count_of}
-use Rattle.segmenting.proofs.Cutting.{room_of}
+use Rattle.segmenting.proofs.Lemmas.{room_of}
 use Rattle.lapdm_window.specs.Ends.{capped}
 use Rattle.lapdm_window.specs.Calls.{with_taken}
 use Rattle.lapdm_window.specs.Standing.{Holds}
 use Rattle.lapdm_window.proofs.Counting.{wholly_acked-taken}
-use Rattle.lapdm_window.proofs.Moves.{IsEnd-taken, Holds-taken, within_held}
+use Rattle.lapdm_window.proofs.Moves.{KeepsWindow-taken, Holds-taken, within_held}
 use Rattle.lapdm_window.proofs.window.Window.put.Goals as goal
 
 pub returns-clause-taken : goal.returns-clause-taken
@@ -18,10 +18,11 @@ returns-clause-taken c e h =
     let n = n201 e.channel in
     let some_octets : 1 ≤ length m = grind (arith, nat_tests) in
     let good : IsMessage m = record { some = some_octets; most = c.if-message-gt-LONGEST.false } in
-    let within : w.place < count_of n (slice_index_or w.held.items 0 []) = subst (λ (ch : Channel). w.place < count_of (n201 ch) (slice_index_or w.held.items 0 [])) h.tracks.channel w.within in
+    let within : w.place < count_of n (slice_index_or w.held.items 0 []) = subst
+    (λ (ch : Channel). w.place < count_of (n201 ch) (slice_index_or w.held.items 0 [])) h.tracks.channel w.within in
     let items : c.push.new.self.items ≡ w.held.items ++ m ∷ [] = c.push.ensures.items ∙ ap (λ o. w.held.items ++ o ∷ []) c.new.ensures in
     record {
-      end = IsEnd-taken e m h.end good;
+      end = KeepsWindow-taken e m h.end good;
       tracks = record {
         channel = h.tracks.channel;
         vs = h.tracks.vs;
@@ -31,6 +32,7 @@ returns-clause-taken c e h =
         rejecting = h.tracks.rejecting;
         joined = h.tracks.joined;
       };
-      holds = subst (λ (held : List Message). Holds held w.place (with_taken m e)) (sym items) (Holds-taken e m w.held.items w.place h.end h.holds (within_held n w.place w.held.items (room_of e.channel).some within));
+      holds = subst (λ (held : List Message). Holds held w.place (with_taken m e)) (sym items)
+          (Holds-taken e m w.held.items w.place h.end h.holds (within_held n w.place w.held.items (room_of e.channel).some within));
       retries = h.retries;
     }

@@ -1,7 +1,7 @@
 use Rattle.std.proofs.Common.{arith, sym, ◌∙◌, [], slice_index_or}
 use Rattle.lapdm_frame.specs.Layout.{n201}
 use Rattle.segmenting.specs.Pieces.{Piece}
-use Rattle.segmenting.proofs.Cutting.{length-pieces, room_of}
+use Rattle.segmenting.proofs.Lemmas.{length-pieces, room_of}
 use Rattle.lapdm_window.proofs.Numbers.{one_sent, waits-one}
 use Rattle.lapdm_window.proofs.FirstPieces.{HasSize, size_of}
 use Rattle.lapdm_window.proofs.Moves.{IsFirst, next_is, waiting_is}
@@ -11,7 +11,8 @@ pub returns-clause-piece : goal.returns-clause-piece
 returns-clause-piece c e h =
     let w = c.args.self.now in
     let x : Piece = (c.next.result.octets.now, c.next.result.more) in
-    let first : IsFirst w.channel w.held.items w.place x = record { some = w.waiting c.if-self.false; within = w.within; piece = c.next.ensures } in
+    let first : IsFirst w.channel w.held.items w.place x = record
+    { some = w.waiting c.if-self.false; within = w.within; piece = c.next.ensures } in
     let one = one_sent e h.end (λ same. c.if-self.false (h.tracks.vs ∙ same ∙ sym h.tracks.va)) in
     waiting_is e x (waits-one e one) (next_is e w.channel w.held.items w.place x h.tracks.channel h.holds first)
 
@@ -20,5 +21,7 @@ returns-clause-size c =
     let w = c.args.self.now in
     let m = slice_index_or w.held.items 0 [] in
     let within = length-pieces (n201 w.channel) m in
-    let size : HasSize (n201 w.channel) c.next.result.octets.now = size_of (n201 w.channel) w.place m c.next.result.octets.now c.next.result.more (room_of w.channel).some (w.messages 0 [] (w.waiting c.if-self.false)) (omega (arith, within, w.within)) c.next.ensures in
+    let size : HasSize (n201 w.channel) c.next.result.octets.now = size_of
+    (n201 w.channel) w.place m c.next.result.octets.now c.next.result.more (room_of w.channel).some
+    (w.messages 0 [] (w.waiting c.if-self.false)) (omega (arith, within, w.within)) c.next.ensures in
     (size.some, size.most)

@@ -1,7 +1,7 @@
 use Rattle.std.proofs.Common.{sym, ◌∙◌}
 use Rattle.um_link.specs.Naming.{role_of}
 use Rattle.um_link.specs.Naming.{step_of}
-use Rattle.um_link.proofs.Stepping.{arrived, room-other}
+use Rattle.um_link.proofs.Stepping.{arrived, arrives-full, room-other}
 use Rattle.um_link.proofs.links.Links.deliver.Goals as goal
 
 pub goes_out-requires-clause-room : goal.goes_out-requires-clause-room
@@ -15,3 +15,8 @@ returns-clause-follows g c =
     c.goes_out.new.self c.hear-sapi.new.ends c.receive-report.result _ _ (step_of c.goes_out.result)
     c.other_end-end.ensures c.receive-report.ensures.receives c.hear-sapi.ensures.hears (sym c.has_none.ensures ∙ c.if-has_none.false)
     (sym c.is_full.ensures ∙ c.if-is_full.false) c.goes_out.ensures.sends c.goes_out.ensures.step
+
+pub returns-then-is_full-clause-follows : goal.returns-then-is_full-clause-follows
+returns-then-is_full-clause-follows g c =
+    arrives-full (role_of c.args.sender) (role_of c.other_end-end.result) c.args.places.now c.args.self.now c.other_end-end.ensures
+    (sym c.has_none.ensures ∙ c.if-has_none.false) (sym c.is_full.ensures ∙ c.if-is_full.true)

@@ -1,0 +1,8 @@
+-- What crates above cite of ends: what one keeps, what it gives and hands up, and what its counts do.
+pub use Rattle.lapdm_window.proofs.Counting.{wholly_acked-more, wholly_acked-last, wholly_acked-most, wholly_acked-taken, all_pieces-taken}
+pub use Rattle.lapdm_window.proofs.Few.{AtMost, few-frame, few-call}
+pub use Rattle.lapdm_window.proofs.Following.{counted, counts-is, rejects-due, rejects-not_due}
+pub use Rattle.lapdm_window.proofs.Keeping.{IsEnd-moved, IsEnd-start, plain_fits, Keeps, keeps-frame, keeps-call, three_bits, waits_within}
+pub use Rattle.lapdm_window.proofs.Moves.{KeepsWindow-acked, KeepsWindow-taken}
+pub use Rattle.lapdm_window.proofs.Numbers.{waits-nothing, waits-one}
+pub use Rattle.lapdm_window.proofs.Refusing.{passes, not_false, is_open-is, is_message, is_idle-is}

@@ -1,0 +1,46 @@
+-- What a call that is not refused tells.
+use Rattle.std.proofs.Common.{◌≡◌, refl, sym, arith, Bool, true, false, not, nat_eq, nat_lt, List, ◌∷◌, length, None}
+use Rattle.std.proofs.lemmas.Bool.{false≢true}
+use Rattle.std.proofs.lemmas.Bool.Decides.{nat_tests}
+use Rattle.segmenting.specs.Pieces.{Message, IsMessage}
+use Rattle.lapdm_window.specs.declared.State.{State}
+use Rattle.lapdm_window.specs.declared.State.TheVariants as S
+use Rattle.lapdm_window.specs.declared.Refused.{Refused}
+use Rattle.lapdm_window.specs.Ends.{EndState}
+use Rattle.lapdm_window.specs.Rules.{is_open}
+use Rattle.lapdm_window.specs.Calls.{first_of, put_refusals, is_idle}
+
+pub record Passes (b : Bool) (refusal : Refused) (others : List (Bool × Refused)) : Type 0 where
+  pub no : b ≡ false
+  pub rest : first_of others ≡ None
+
+pub passes : (b : Bool) (refusal : Refused) (others : List (Bool × Refused)) → first_of ((b, refusal) ∷ others) ≡ None →
+    Passes b refusal others
+passes true refusal others h = cc
+passes false refusal others h = record { no = refl; rest = h }
+
+pub not_false : (b : Bool) → not b ≡ false → b ≡ true
+not_false true h = refl
+not_false false h = sym h
+
+pub is_message : (m : Message) (x : EndState) → first_of (put_refusals m x) ≡ None → IsMessage m
+is_message m x h =
+    let some = passes _ _ _ h in
+    let most = passes _ _ _ some.rest in
+    let a : nat_eq (length m) 0 ≡ false = some.no in
+    let b : nat_lt 251 (length m) ≡ false = most.no in
+    record { some = grind (arith, nat_tests); most = grind (arith, nat_tests) }
+
+pub is_idle-is : (s : State) → is_idle s ≡ true → s ≡ S.Idle
+is_idle-is S.Idle h = refl
+is_idle-is S.Opening h = absurd (false≢true h)
+is_idle-is S.Open h = absurd (false≢true h)
+is_idle-is S.Closing h = absurd (false≢true h)
+is_idle-is S.Closed h = absurd (false≢true h)
+
+pub is_open-is : (s : State) → is_open s ≡ true → s ≡ S.Open
+is_open-is S.Open h = refl
+is_open-is S.Idle h = absurd (false≢true h)
+is_open-is S.Opening h = absurd (false≢true h)
+is_open-is S.Closing h = absurd (false≢true h)
+is_open-is S.Closed h = absurd (false≢true h)

@@ -1,0 +1,49 @@
+-- What holds of a step, of each that is not refused.
+use Rattle.std.proofs.Common.{◌≡◌, refl, ◌≤◌, length, All, Option, Some, None}
+use Rattle.std.specs.Prelude.{IfOk}
+use Rattle.std.proofs.lemmas.List.Elements.{All-weaker}
+use Rattle.lapdm_frame.specs.Frames.{Fits, octets_of}
+use Rattle.lapdm_frame.specs.Readings.{IsOnlyCanonical}
+use Rattle.lapdm_frame.proofs.Canonical.{only_canonical}
+use Rattle.lapdm_window.specs.declared.Refused.{Refused}
+use Rattle.lapdm_window.specs.Ends.{EndState, Outcome, IsEnd}
+use Rattle.lapdm_window.specs.Calls.{refusal_of, after_call}
+use Rattle.lapdm_window.specs.Tables.{after_frame}
+use Rattle.lapdm_window.specs.Steps.{Input, Asked, Received, MayTake, answer_unless, step, IsSameLink}
+use Rattle.lapdm_window.proofs.Thens.{HandsUp}
+use Rattle.lapdm_window.proofs.Few.{AtMost, few-frame, few-call}
+use Rattle.lapdm_window.proofs.Keeping.{Keeps, keeps-frame, keeps-call}
+
+unless : (refusal : Option Refused) (o : Outcome) (P : Outcome → Type 0) → (refusal ≡ None → P o) → IfOk (answer_unless refusal o) P
+unless None o P h = h refl
+unless (Some refusal) o P h = tt
+
+few : (input : Input) (e : EndState) (P : Outcome → Type 0) → ((o : Outcome) → AtMost 2 2 e o → P o) → IfOk (step input e) P
+few (Asked call) e P h = unless (refusal_of call e) (after_call call e) P (λ ok. h (after_call call e) (few-call call e))
+few (Received f) e P h = h (after_frame f e) (few-frame f e)
+
+pub step-few : (input : Input) (e : EndState) → IfOk (step input e) (λ o. (length o.frames ≤ 2) × (length o.notices ≤ 2))
+step-few input e = few input e (λ o. (length o.frames ≤ 2) × (length o.notices ≤ 2)) (λ o h. (h.frames, h.notices))
+
+pub step-hands_up : (input : Input) (e : EndState) → IfOk (step input e) (λ o. HandsUp e o)
+step-hands_up input e = few input e (λ o. HandsUp e o) (λ o h. h.handed)
+
+keeps : (input : Input) (e : EndState) (P : Outcome → Type 0) → IsEnd e → MayTake e input → ((o : Outcome) → Keeps e o → P o) →
+    IfOk (step input e) P
+keeps (Asked call) e P end may h = unless (refusal_of call e) (after_call call e) P
+    (λ ok. h (after_call call e) (keeps-call call e end may ok))
+keeps (Received f) e P end may h = h (after_frame f e) (keeps-frame f e end may)
+
+pub step-end : (input : Input) (e : EndState) → IsEnd e → MayTake e input → IfOk (step input e) (λ o. IsEnd o.after)
+step-end input e end may = keeps input e (λ o. IsEnd o.after) end may (λ o h. h.end)
+
+pub step-link : (input : Input) (e : EndState) → IsEnd e → MayTake e input → IfOk (step input e) (λ o. IsSameLink e o.after)
+step-link input e end may =
+    keeps input e (λ o. IsSameLink e o.after) end may (λ o h. record { role = h.role; sapi = h.sapi; channel = h.channel })
+
+pub step-frames : (input : Input) (e : EndState) → IsEnd e → MayTake e input →
+    IfOk (step input e) (λ o. All (λ f. IsOnlyCanonical e.channel f (octets_of e.channel f)) o.frames)
+step-frames input e end may =
+    keeps input e (λ o. All (λ f. IsOnlyCanonical e.channel f (octets_of e.channel f)) o.frames) end may
+    (λ o h. All-weaker (Fits e.channel) (λ f. IsOnlyCanonical e.channel f (octets_of e.channel f))
+    (λ f fits. only_canonical e.channel f fits) o.frames h.frames)
