@@ -1,5 +1,5 @@
 -- Answers with different lines have different texts: what a text says is read back, line by line and word by word.
-use Rattle.std.proofs.Common.{rules, ◌≡◌, ◌≢◌, ℕ, zero, suc, ◌+◌, ◌-◌, ◌<◌, ◌≤◌, ◌^◌, ◌==◌, ℤ, pos, negsuc, nat_abs, nat_le, Bool, true, false, ◌&&◌, List, [], ◌∷◌, ◌++◌, length, length-append, map, take, drop, Option, Some, None, codes, if◌then◌else◌, refl, sym, ap, ◌∙◌, subst, inl, inr, append_assoc, append-nil, arith}
+use Rattle.std.proofs.Common.{rules, ◌≡◌, ◌≢◌, ℕ, zero, suc, ◌+◌, ◌-◌, ◌<◌, ◌≤◌, ◌^◌, ◌==◌, ℤ, pos, negsuc, nat_abs, nat_le, Bool, true, false, ◌&&◌, List, [], ◌∷◌, ◌++◌, length, length-append, map, take, drop, Option, Some, None, codes, if◌then◌else◌, refl, sym, ap, ◌∙◌, inl, inr, append_assoc, append-nil, arith}
 use Rattle.std.specs.Fmt.{decimal, signed_decimal}
 use Rattle.std.specs.List.{list_all, list_any, join_with_byte, slice_split}
 use Rattle.std.specs.Str.{bytes_eq, all_ascii_digits}
@@ -62,7 +62,8 @@ lines_text (line ∷ lines) = line_text line ++ lines_text lines
 
 lines_text-append : (ls ms : List Said) → lines_text (ls ++ ms) ≡ lines_text ls ++ lines_text ms
 lines_text-append [] ms = refl
-lines_text-append (l ∷ ls) ms = ap (λ t. line_text l ++ t) (lines_text-append ls ms) ∙ sym (append_assoc (line_text l) (lines_text ls) (lines_text ms))
+lines_text-append (l ∷ ls) ms = ap (λ t. line_text l ++ t) (lines_text-append ls ms)
+    ∙ sym (append_assoc (line_text l) (lines_text ls) (lines_text ms))
 
 -- words, each with the octet behind it
 ended : List (List ℕ) → List ℕ
@@ -81,26 +82,33 @@ twelve : (a b c d e f g h i j k l : List ℕ) → a ++ (b ++ c ++ d ++ e ++ f ++
 twelve a b c d e f g h i j k l = simp append_assoc
 
 drops_text : (who tsc train metric octets check : List ℕ) →
-    who ++ (codes " drops " ++ (codes "tsc " ++ tsc ++ codes " train " ++ train ++ codes " metric " ++ metric) ++ (codes " data " ++ octets ++ codes " check " ++ check) ++ codes "\n")
-    ≡ join_with_byte 32 (who ∷ codes "drops" ∷ codes "tsc" ∷ tsc ∷ codes "train" ∷ train ∷ codes "metric" ∷ metric ∷ codes "data" ∷ octets ∷ codes "check" ∷ check ∷ []) ++ 10 ∷ []
+    who ++ (codes " drops " ++ (codes "tsc " ++ tsc ++ codes " train " ++ train ++ codes " metric " ++ metric)
+    ++ (codes " data " ++ octets ++ codes " check " ++ check) ++ codes "\n")
+    ≡ join_with_byte 32 (who ∷ codes "drops" ∷ codes "tsc" ∷ tsc ∷ codes "train" ∷ train ∷ codes "metric" ∷ metric ∷
+    codes "data" ∷ octets ∷ codes "check" ∷ check ∷ []) ++ 10 ∷ []
 unfolding ended
 drops_text who tsc train metric octets check =
-    ap (λ t. who ++ t) (twelve (codes " drops ") (codes "tsc ") tsc (codes " train ") train (codes " metric ") metric (codes " data ") octets (codes " check ") check (codes "\n"))
-    ∙ sym (ended_is (who ∷ codes "drops" ∷ codes "tsc" ∷ tsc ∷ codes "train" ∷ train ∷ codes "metric" ∷ metric ∷ codes "data" ∷ octets ∷ codes "check" ∷ check ∷ []))
+    ap (λ t. who ++ t) (twelve (codes " drops ") (codes "tsc ") tsc (codes " train ") train (codes " metric ") metric
+    (codes " data ") octets (codes " check ") check (codes "\n"))
+    ∙ sym (ended_is (who ∷ codes "drops" ∷ codes "tsc" ∷ tsc ∷ codes "train" ∷ train ∷ codes "metric" ∷ metric ∷
+    codes "data" ∷ octets ∷ codes "check" ∷ check ∷ []))
 
 ten : (a b c d e f g h i j : List ℕ) → a ++ b ++ c ++ (d ++ e ++ f ++ g ++ h ++ i) ++ j
     ≡ a ++ (b ++ (c ++ (d ++ (e ++ (f ++ (g ++ (h ++ (i ++ j))))))))
 ten a b c d e f g h i j = simp append_assoc
 
 takes_text : (who octets tsc train metric : List ℕ) →
-    who ++ (codes " takes " ++ octets ++ codes " " ++ (codes "tsc " ++ tsc ++ codes " train " ++ train ++ codes " metric " ++ metric) ++ codes "\n")
+    who ++ (codes " takes " ++ octets ++ codes " " ++ (codes "tsc " ++ tsc ++ codes " train " ++ train ++ codes " metric " ++ metric)
+    ++ codes "\n")
     ≡ join_with_byte 32 (who ∷ codes "takes" ∷ octets ∷ codes "tsc" ∷ tsc ∷ codes "train" ∷ train ∷ codes "metric" ∷ metric ∷ []) ++ 10 ∷ []
 unfolding ended
 takes_text who octets tsc train metric =
-    ap (λ t. who ++ t) (ten (codes " takes ") octets (codes " ") (codes "tsc ") tsc (codes " train ") train (codes " metric ") metric (codes "\n"))
+    ap (λ t. who ++ t) (ten (codes " takes ") octets (codes " ") (codes "tsc ") tsc (codes " train ") train
+    (codes " metric ") metric (codes "\n"))
     ∙ sym (ended_is (who ∷ codes "takes" ∷ octets ∷ codes "tsc" ∷ tsc ∷ codes "train" ∷ train ∷ codes "metric" ∷ metric ∷ []))
 
-block_is : (who : E.Who) (accepted : Option (List ℕ)) (r : Received) → who_word who ++ block_text accepted r ≡ lines_text (block_line who accepted r ∷ [])
+block_is : (who : E.Who) (accepted : Option (List ℕ)) (r : Received) →
+    who_word who ++ block_text accepted r ≡ lines_text (block_line who accepted r ∷ [])
 block_is who (Some octets) r =
     takes_text (who_word who) (encode_lower octets) (decimal r.tsc) (decimal r.wrong_training) (signed_decimal r.metric)
     ∙ sym (append-nil (line_text (block_line who (Some octets) r)))
@@ -121,7 +129,8 @@ notice_is who sapi (N.Acked n) rest = simp append_assoc
 notice_is who sapi N.Oversize rest = simp append_assoc
 notice_is who sapi (N.Closed reason) rest = simp append_assoc
 
-notices_are : (who : E.Who) (sapi : Sapi) (notices : List Notice) → notices_text who sapi notices ≡ lines_text (map (Tells who sapi) notices)
+notices_are : (who : E.Who) (sapi : Sapi) (notices : List Notice) →
+    notices_text who sapi notices ≡ lines_text (map (Tells who sapi) notices)
 notices_are who sapi [] = refl
 notices_are who sapi (notice ∷ notices) =
     ap (λ t. who_word who ++ link_word sapi ++ notice_text notice ++ codes "\n" ++ t) (notices_are who sapi notices)
@@ -140,7 +149,8 @@ text_is (A.Does s) =
     let last : List Said = All ∷ [] in
     rw (arrival_is s.who s.received, notices_are s.who s.sapi s.notices, frames_are s.who s.frames)
     (sym (lines_text-append (arrivals ++ told ++ sent) last
-    ∙ ap (λ t. t ++ lines_text last) (lines_text-append (arrivals ++ told) sent ∙ ap (λ t. t ++ lines_text sent) (lines_text-append arrivals told))))
+    ∙ ap (λ t. t ++ lines_text last) (lines_text-append (arrivals ++ told) sent
+    ∙ ap (λ t. t ++ lines_text sent) (lines_text-append arrivals told))))
 
 -- ---- no word has a space or a line feed
 
@@ -232,7 +242,8 @@ notice_plain (N.Closed reason) fits = rw (closing_plain reason) refl
 
 heard_plain : (h : Heard) (rest : List (List ℕ)) → FitsHeard h → are_plain rest ≡ true → are_plain (heard_words h rest) ≡ true
 unfolding are_plain
-heard_plain h rest fits plain = rw (number_plain h.tsc fits.tsc, number_plain h.train fits.train, signed_plain h.metric fits.metric, plain) refl
+heard_plain h rest fits plain =
+    rw (number_plain h.tsc fits.tsc, number_plain h.train fits.train, signed_plain h.metric fits.metric, plain) refl
 
 line_plain : (line : Said) → FitsLine line → are_plain (line_words line) ≡ true
 unfolding are_plain
@@ -306,7 +317,8 @@ some_words (Tells who sapi notice) e = absurd cc
 some_words (Sends who octets) e = absurd cc
 some_words All e = absurd cc
 
-same_words : (l m : Said) → FitsLine l → FitsLine m → join_with_byte 32 (line_words l) ≡ join_with_byte 32 (line_words m) → line_words l ≡ line_words m
+same_words : (l m : Said) → FitsLine l → FitsLine m →
+    join_with_byte 32 (line_words l) ≡ join_with_byte 32 (line_words m) → line_words l ≡ line_words m
 same_words l m h k e =
     sym (words-join (line_words l) (some_words l) (spaceless (line_words l) (line_plain l h))) ∙ ap words e
     ∙ words-join (line_words m) (some_words m) (spaceless (line_words m) (line_plain m k))
@@ -378,7 +390,8 @@ who_back (E.End Network) = refl
 who_back E.Other = refl
 who_back E.Nobody = refl
 
-name_back : (who : E.Who) (sapi : Sapi) → (who_read (who_word who ++ link_word sapi) ≡ who) × (sapi_read (who_word who ++ link_word sapi) ≡ sapi)
+name_back : (who : E.Who) (sapi : Sapi) →
+    (who_read (who_word who ++ link_word sapi) ≡ who) × (sapi_read (who_word who ++ link_word sapi) ≡ sapi)
 unfolding who_read sapi_read
 name_back (E.End Mobile) Zero = (refl, refl)
 name_back (E.End Mobile) Three = (refl, refl)
@@ -448,7 +461,8 @@ heard_back h fits =
     let metric : signed_read (signed_decimal h.metric) ≡ h.metric = signed_back h.metric fits.metric in
     rw (tsc, train, metric) refl
 
-notice_back : (who : E.Who) (sapi : Sapi) (notice : Notice) → FitsNotice notice → line_read (line_words (Tells who sapi notice)) ≡ Tells who sapi notice
+notice_back : (who : E.Who) (sapi : Sapi) (notice : Notice) → FitsNotice notice →
+    line_read (line_words (Tells who sapi notice)) ≡ Tells who sapi notice
 unfolding three_read notice_read
 notice_back who sapi (N.Opened m) fits = rw ((name_back who sapi).0, (name_back who sapi).1, message_back m fits) refl
 notice_back who sapi (N.Got m) fits = rw ((name_back who sapi).0, (name_back who sapi).1, message_back m fits) refl
@@ -469,7 +483,14 @@ line_back All fits = refl
 -- ---- whole answers
 
 no_line : (l : Said) (ls : List Said) → lines_text (l ∷ ls) ≢ []
-no_line l ls e = let none = ap length e in omega (arith, none, length-append (join_with_byte 32 (line_words l) ++ 10 ∷ []) (lines_text ls), length-append (join_with_byte 32 (line_words l)) (10 ∷ []))
+no_line l ls e =
+    let none = ap length e in
+    omega (
+      arith,
+      none,
+      length-append (join_with_byte 32 (line_words l) ++ 10 ∷ []) (lines_text ls),
+      length-append (join_with_byte 32 (line_words l)) (10 ∷ []),
+    )
 
 same_lines : (ls ms : List Said) → FitLines ls → FitLines ms → lines_text ls ≡ lines_text ms → ls ≡ ms
 same_lines [] [] h k e = refl
@@ -482,5 +503,6 @@ same_lines (l ∷ ls) (m ∷ ms) h k e =
     let rest : ls ≡ ms = same_lines ls ms h.1 k.1 parts.1 in
     cc
 
-pub different_lines : (x y : A.Answer) → FitLines (answer_lines x) → FitLines (answer_lines y) → answer_text x ≡ answer_text y → answer_lines x ≡ answer_lines y
+pub different_lines : (x y : A.Answer) → FitLines (answer_lines x) → FitLines (answer_lines y) →
+    answer_text x ≡ answer_text y → answer_lines x ≡ answer_lines y
 different_lines x y h k e = same_lines (answer_lines x) (answer_lines y) h k (sym (text_is x) ∙ e ∙ text_is y)
