@@ -50,3 +50,46 @@ instructions() {
 resident() {
   /usr/bin/time -f "%M kB resident: um $2, $1" "$um" "$2" <"$work/$1" >/dev/null
 }
+
+# prepare_calls: a program that sends and receives blocks by themselves is proved and built beside a copy of the crates, as $calls
+prepare_calls() {
+  local crate
+  mkdir -p "$work/copy/crates/radio_cost/src"
+  cp "$top/HANDLES" "$work/copy/"
+  for crate in um_block $(sed -n 's/^um_block: //p' "$top/crates.txt"); do
+    [ -d "$top/crates/$crate" ] || continue
+    cp -r "$top/crates/$crate" "$work/copy/crates/"
+    grep "^$crate:" "$top/crates.txt" >>"$work/copy/crates.txt"
+  done
+  echo 'radio_cost: um_block anyhow' >>"$work/copy/crates.txt"
+  cp "$here/radio/program.txt" "$work/copy/crates/radio_cost/src/main.rt"
+  (cd "$work/copy/crates/radio_cost" && rt run >"$work/build" 2>&1) || { tail -20 "$work/build"; exit 1; }
+  calls=$work/copy/crates/radio_cost/out/radio_cost
+}
+
+# beside FILE SENDS RECEIVES ROUNDS WORD ..: what the program takes with these words over the file, beside as many calls of
+# `send_block` and `receive_block` by themselves: wall time in turns, the least of all rounds, and instructions
+beside() {
+  python3 - "$um" "$calls" "$@" <<'P'
+import subprocess, sys, time
+um, calls, file, sends, receives, rounds, *words = sys.argv[1:]
+runs = {"um " + " ".join(words): [um, *words], "calls alone": [calls, sends, receives]}
+least = {name: 1e9 for name in runs}
+counted = {}
+def start(command, **more):
+    with open(file, "rb") as lines:
+        return subprocess.run(command, stdin=lines, stdout=subprocess.DEVNULL, check=True, **more)
+for turn in range(int(rounds)):
+    for name, command in runs.items():
+        begin = time.perf_counter()
+        start(command)
+        least[name] = min(least[name], time.perf_counter() - begin)
+for name, command in runs.items():
+    said = start(["valgrind", "--tool=callgrind", "--callgrind-out-file=/dev/null", *command], stderr=subprocess.PIPE).stderr
+    counted[name] = int(said.decode().split("refs:")[1].split()[0].replace(",", ""))
+for name in runs:
+    print(f"{name}: {least[name] * 1e3:.1f} ms, {counted[name]:,} instructions, {sends} blocks sent and {receives} received")
+ours, alone = runs
+print(f"ratio {least[ours] / least[alone]:.2f} in time, {counted[ours] / counted[alone]:.2f} in instructions")
+P
+}

@@ -55,36 +55,31 @@ fn turned(bursts: &[u8], from: u32, until: u32, alloc: Global) -> Result<Vec<u8>
     Ok(digits)
 }
 
+/// A word of the first line of a report.
+fn word(report: &[u8], place: usize) -> &[u8] {
+    let line = report.split(|octet| *octet == b'\n').next().unwrap_or(b"");
+    line.split(|octet| *octet == b' ').nth(place).unwrap_or(b"")
+}
+
 /// What `link` answers where a block arrives of which `replay` has this report.
 fn heard(report: &[u8], alloc: Global) -> Result<Vec<u8>, Fail> {
-    let mut words = [b"".as_slice(); 13];
-    let line = report.split(|octet| *octet == b'\n').next().unwrap_or(b"");
-    for (word, read) in words.iter_mut().zip(line.split(|octet| *octet == b' ')) {
-        *word = read;
-    }
-    let [_, _, tsc, _, train, _, metric, _, parity, _, data, _, check] = words;
+    let taken = word(report, 8) == b"ok".as_slice();
     let mut answer = Vec::new(alloc);
-    let taken = parity == b"ok".as_slice();
-    let front = if taken {
-        [b"mob takes ".as_slice(), data, b" "]
+    if taken {
+        answer.extend_from_slice(b"mob takes ")?;
+        answer.extend_from_slice(word(report, 10))?;
     } else {
-        [b"mob drops ".as_slice(), b"", b""]
-    };
-    let numbers = [
-        b"tsc ".as_slice(),
-        tsc,
-        b" train ",
-        train,
-        b" metric ",
-        metric,
-    ];
-    let back = if taken {
-        [b"".as_slice(), b"", b"", b""]
-    } else {
-        [b" data ".as_slice(), data, b" check ", check]
-    };
-    for part in front.iter().chain(numbers.iter()).chain(back.iter()) {
-        answer.extend_from_slice(part)?;
+        answer.extend_from_slice(b"mob drops")?;
+    }
+    for (name, place) in [(" tsc ", 2), (" train ", 4), (" metric ", 6)] {
+        answer.extend_from_slice(name.as_bytes())?;
+        answer.extend_from_slice(word(report, place))?;
+    }
+    if !taken {
+        answer.extend_from_slice(b" data ")?;
+        answer.extend_from_slice(word(report, 10))?;
+        answer.extend_from_slice(b" check ")?;
+        answer.extend_from_slice(word(report, 12))?;
     }
     answer.extend_from_slice(b"\nok\n")?;
     Ok(answer)

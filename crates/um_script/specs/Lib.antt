@@ -1,3 +1,4 @@
+pub mod AnswerLines
 pub mod Held
 pub mod Names
 pub mod Naming

@@ -3,6 +3,8 @@ ghost use Rattle.std.specs.Prelude.{◌≡◌, ◌+◌, ◌*◌, ◌-◌, ◌<�
 ghost use Rattle.std.specs.Fmt.{decimal};
 ghost use Rattle.hex.specs.Hex.{encode_lower};
 ghost use Rattle.bit_blocks.specs.Octets.{bits_of, octets_of};
+ghost use Rattle.um_air.specs.Air as A;
+ghost use Rattle.um_script.specs.AnswerLines.{answer_lines, FitLines};
 ghost use Rattle.um_link.specs.Naming.{answer_of, step_of, who_of, why_of};
 ghost use Rattle.um_link.specs.Standing.{FitsWho};
 ghost use Rattle.um_script.specs.StepLines.{who_word, link_word, refusal_word, closing_word, octets_word, heard_text, dropped_text, block_text, arrival_text, notice_text, notices_text, frames_text, answer_text};
@@ -251,3 +253,9 @@ fn push_frames(out: &mut Text, who: Who, frames: &[[u8; 23]])
         out.push(b"\n");
     }
 }
+
+/// Law: answers with different lines have different texts, where octets and numbers are such as the program has them.
+pub fn law_different_lines()
+    ensures { (x y : A.Answer) → FitLines (answer_lines x) → FitLines (answer_lines y) → answer_text x ≡ answer_text y →
+        answer_lines x ≡ answer_lines y }
+{}

@@ -6,7 +6,7 @@ use um_block::Received;
 use um_lines::{LineFault, Text};
 use um_link::{Air, Call, End, Event, No, Step, Way, Who};
 
-const REFUSED: [(&str, LineFault); 24] = [
+const REFUSED: [(&str, LineFault); 26] = [
     ("up flip 592", LineFault::Place),
     ("up flip 5 5", LineFault::Twice),
     ("net open 01", LineFault::Word),
@@ -31,6 +31,8 @@ const REFUSED: [(&str, LineFault); 24] = [
     ("mob unit 00-", LineFault::Digits),
     ("Mob idle", LineFault::Word),
     ("mob idle\r", LineFault::Word),
+    ("net open 0", LineFault::Word),
+    ("up flip 5 5 x", LineFault::Digits),
 ];
 
 #[test]
@@ -47,7 +49,22 @@ fn a_bad_line_has_its_first_reason(rt: HostRuntime) {
         parse_script(&[b'#'; 4097], &mut room).err(),
         Some(LineFault::Long)
     );
+    assert_eq!(rt;
+        parse_script(&[b'x'; 4097], &mut room).err(),
+        Some(LineFault::Long)
+    );
     assert!(rt; matches!(parse_script(&[b'#'; 4096], &mut room), Ok(ScriptLine::Skip)));
+}
+
+#[test]
+fn digits_are_read_in_both_cases(rt: HostRuntime) -> Result<(), Fail> {
+    let mut room = Room::new();
+    let Ok(ScriptLine::Step(Event::Rival(octets))) = parse_script(b"rival 0aFAf0Af", &mut room)
+    else {
+        return Err("no rival".into());
+    };
+    assert!(rt; octets == [0x0a, 0xfa, 0xf0, 0xaf].as_slice());
+    Ok(())
 }
 
 #[test]

@@ -1,0 +1,508 @@
+-- Answers with different lines have different texts: what a text says is read back, line by line and word by word.
+use Rattle.std.proofs.Common.{rules, ◌≡◌, ◌≢◌, ℕ, zero, suc, ◌+◌, ◌-◌, ◌<◌, ◌≤◌, ◌^◌, ◌==◌, ℤ, pos, negsuc, nat_abs, nat_le, Bool, true, false, ◌&&◌, List, [], ◌∷◌, ◌++◌, length, length-append, map, take, drop, Option, Some, None, codes, if◌then◌else◌, refl, sym, ap, ◌∙◌, inl, inr, append_assoc, append-nil, arith}
+use Rattle.std.specs.Fmt.{decimal, signed_decimal}
+use Rattle.std.specs.List.{list_all, list_any, join_with_byte, slice_split}
+use Rattle.std.specs.Str.{bytes_eq, all_ascii_digits}
+use Rattle.std.specs.Str.Parse.{digits_value}
+use Rattle.std.proofs.lemmas.Bool.{and_parts, cases_lt, cases_eq, le-leb, leb-true, ne_eqb}
+use Rattle.std.proofs.lemmas.Fmt.{digits_decimal, digits_value-decimal}
+use Rattle.std.proofs.lemmas.List.Elements.{All-nil, All-cons, All-append}
+use Rattle.std.proofs.lemmas.List.Splits.{slice_split_at, join_with_byte-slice_split}
+use Rattle.std.proofs.lemmas.Str.Parse.{IsNumeralModel, numerals_by_value, tells_all_ascii_digits}
+use Rattle.std.specs.List as L
+use Rattle.hex.specs.Hex.{encode_lower, is_hex_digit}
+use Rattle.bit_blocks.specs.Octets.{octets_of}
+use Rattle.lapdm_window.specs.declared.Sapi.{Sapi}
+use Rattle.lapdm_window.specs.declared.Sapi.TheVariants.{Zero, Three}
+use Rattle.lapdm_window.specs.declared.Reason.{Reason}
+use Rattle.lapdm_window.specs.declared.Reason.TheVariants.{Contention, Failed, Refused, Released}
+use Rattle.lapdm_window.specs.declared.Notice.{Notice}
+use Rattle.lapdm_window.specs.declared.Notice.TheVariants as N
+use Rattle.lapdm_window.specs.declared.Refused.TheVariants as Q
+use Rattle.lapdm_window.specs.Ends.{Mobile, Network}
+use Rattle.lapdm_link.specs.Events as E
+use Rattle.um_block.specs.declared.received.Received.{Received}
+use Rattle.um_air.specs.Air as A
+use Rattle.um_air.specs.Sessions.{AreOctets}
+use Rattle.um_lines.specs.Fields.{hex_octets}
+use Rattle.um_lines.specs.Words.{IsNoSpace, words}
+use Rattle.um_lines.proofs.SpelledLaws.{encoded, any_value}
+use Rattle.um_lines.proofs.WordLists.{words-join}
+use Rattle.um_script.specs.StepLines.{who_word, link_word, refusal_word, closing_word, octets_word, heard_text, dropped_text, block_text, arrival_text, notice_text, notices_text, frames_text, answer_text}
+use Rattle.um_script.specs.AnswerLines.{Heard, Said, No, Takes, Drops, Tells, Sends, All, heard, block_line, arrival_lines, answer_lines, FitsHeard, FitsNotice, FitsLine, FitLines}
+
+-- ---- the words of a line, and its text
+
+abbrev notice_words : Notice → List (List ℕ)
+notice_words (N.Opened m) = codes "opened" ∷ octets_word m ∷ []
+notice_words (N.Got m) = codes "got" ∷ octets_word m ∷ []
+notice_words (N.Unit m) = codes "unit" ∷ octets_word m ∷ []
+notice_words (N.Acked n) = codes "acked" ∷ decimal n ∷ []
+notice_words N.Oversize = codes "oversize" ∷ []
+notice_words (N.Closed reason) = codes "closed" ∷ closing_word reason ∷ []
+
+abbrev heard_words : Heard → List (List ℕ) → List (List ℕ)
+heard_words h rest = codes "tsc" ∷ decimal h.tsc ∷ codes "train" ∷ decimal h.train ∷ codes "metric" ∷ signed_decimal h.metric ∷ rest
+
+abbrev line_words : Said → List (List ℕ)
+line_words (No why) = codes "no" ∷ refusal_word why ∷ []
+line_words (Takes who octets h) = who_word who ∷ codes "takes" ∷ encode_lower octets ∷ heard_words h []
+line_words (Drops who h octets check) =
+    who_word who ∷ codes "drops" ∷ heard_words h (codes "data" ∷ encode_lower octets ∷ codes "check" ∷ encode_lower check ∷ [])
+line_words (Tells who sapi notice) = (who_word who ++ link_word sapi) ∷ notice_words notice
+line_words (Sends who octets) = who_word who ∷ codes "sends" ∷ encode_lower octets ∷ []
+line_words All = codes "ok" ∷ []
+
+abbrev line_text : Said → List ℕ
+line_text line = join_with_byte 32 (line_words line) ++ 10 ∷ []
+
+abbrev lines_text : List Said → List ℕ
+lines_text [] = []
+lines_text (line ∷ lines) = line_text line ++ lines_text lines
+
+lines_text-append : (ls ms : List Said) → lines_text (ls ++ ms) ≡ lines_text ls ++ lines_text ms
+lines_text-append [] ms = refl
+lines_text-append (l ∷ ls) ms = ap (λ t. line_text l ++ t) (lines_text-append ls ms)
+    ∙ sym (append_assoc (line_text l) (lines_text ls) (lines_text ms))
+
+-- words, each with the octet behind it
+ended : List (List ℕ) → List ℕ
+ended [] = 10 ∷ []
+ended (w ∷ []) = w ++ 10 ∷ []
+ended (w ∷ v ∷ ws) = w ++ 32 ∷ ended (v ∷ ws)
+
+ended_is : (ws : List (List ℕ)) → join_with_byte 32 ws ++ 10 ∷ [] ≡ ended ws
+unfolding ended
+ended_is [] = refl
+ended_is (w ∷ []) = refl
+ended_is (w ∷ v ∷ ws) = append_assoc w (32 ∷ join_with_byte 32 (v ∷ ws)) (10 ∷ []) ∙ ap (λ t. w ++ 32 ∷ t) (ended_is (v ∷ ws))
+
+twelve : (a b c d e f g h i j k l : List ℕ) → a ++ (b ++ c ++ d ++ e ++ f ++ g) ++ (h ++ i ++ j ++ k) ++ l
+    ≡ a ++ (b ++ (c ++ (d ++ (e ++ (f ++ (g ++ (h ++ (i ++ (j ++ (k ++ l))))))))))
+twelve a b c d e f g h i j k l = simp append_assoc
+
+drops_text : (who tsc train metric octets check : List ℕ) →
+    who ++ (codes " drops " ++ (codes "tsc " ++ tsc ++ codes " train " ++ train ++ codes " metric " ++ metric)
+    ++ (codes " data " ++ octets ++ codes " check " ++ check) ++ codes "\n")
+    ≡ join_with_byte 32 (who ∷ codes "drops" ∷ codes "tsc" ∷ tsc ∷ codes "train" ∷ train ∷ codes "metric" ∷ metric ∷
+    codes "data" ∷ octets ∷ codes "check" ∷ check ∷ []) ++ 10 ∷ []
+unfolding ended
+drops_text who tsc train metric octets check =
+    ap (λ t. who ++ t) (twelve (codes " drops ") (codes "tsc ") tsc (codes " train ") train (codes " metric ") metric
+    (codes " data ") octets (codes " check ") check (codes "\n"))
+    ∙ sym (ended_is (who ∷ codes "drops" ∷ codes "tsc" ∷ tsc ∷ codes "train" ∷ train ∷ codes "metric" ∷ metric ∷
+    codes "data" ∷ octets ∷ codes "check" ∷ check ∷ []))
+
+ten : (a b c d e f g h i j : List ℕ) → a ++ b ++ c ++ (d ++ e ++ f ++ g ++ h ++ i) ++ j
+    ≡ a ++ (b ++ (c ++ (d ++ (e ++ (f ++ (g ++ (h ++ (i ++ j))))))))
+ten a b c d e f g h i j = simp append_assoc
+
+takes_text : (who octets tsc train metric : List ℕ) →
+    who ++ (codes " takes " ++ octets ++ codes " " ++ (codes "tsc " ++ tsc ++ codes " train " ++ train ++ codes " metric " ++ metric)
+    ++ codes "\n")
+    ≡ join_with_byte 32 (who ∷ codes "takes" ∷ octets ∷ codes "tsc" ∷ tsc ∷ codes "train" ∷ train ∷ codes "metric" ∷ metric ∷ []) ++ 10 ∷ []
+unfolding ended
+takes_text who octets tsc train metric =
+    ap (λ t. who ++ t) (ten (codes " takes ") octets (codes " ") (codes "tsc ") tsc (codes " train ") train
+    (codes " metric ") metric (codes "\n"))
+    ∙ sym (ended_is (who ∷ codes "takes" ∷ octets ∷ codes "tsc" ∷ tsc ∷ codes "train" ∷ train ∷ codes "metric" ∷ metric ∷ []))
+
+block_is : (who : E.Who) (accepted : Option (List ℕ)) (r : Received) →
+    who_word who ++ block_text accepted r ≡ lines_text (block_line who accepted r ∷ [])
+block_is who (Some octets) r =
+    takes_text (who_word who) (encode_lower octets) (decimal r.tsc) (decimal r.wrong_training) (signed_decimal r.metric)
+    ∙ sym (append-nil (line_text (block_line who (Some octets) r)))
+block_is who None r =
+    drops_text (who_word who) (decimal r.tsc) (decimal r.wrong_training) (signed_decimal r.metric) (encode_lower (octets_of (take 184 r.u)))
+    (encode_lower (octets_of (take 40 (drop 184 r.u)))) ∙ sym (append-nil (line_text (block_line who None r)))
+
+arrival_is : (who : E.Who) (received : Option Received) → arrival_text who received ≡ lines_text (arrival_lines who received)
+arrival_is who None = refl
+arrival_is who (Some r) = block_is who r.accepted r
+
+notice_is : (who : E.Who) (sapi : Sapi) (notice : Notice) (rest : List ℕ) →
+    who_word who ++ link_word sapi ++ notice_text notice ++ codes "\n" ++ rest ≡ line_text (Tells who sapi notice) ++ rest
+notice_is who sapi (N.Opened m) rest = simp append_assoc
+notice_is who sapi (N.Got m) rest = simp append_assoc
+notice_is who sapi (N.Unit m) rest = simp append_assoc
+notice_is who sapi (N.Acked n) rest = simp append_assoc
+notice_is who sapi N.Oversize rest = simp append_assoc
+notice_is who sapi (N.Closed reason) rest = simp append_assoc
+
+notices_are : (who : E.Who) (sapi : Sapi) (notices : List Notice) →
+    notices_text who sapi notices ≡ lines_text (map (Tells who sapi) notices)
+notices_are who sapi [] = refl
+notices_are who sapi (notice ∷ notices) =
+    ap (λ t. who_word who ++ link_word sapi ++ notice_text notice ++ codes "\n" ++ t) (notices_are who sapi notices)
+    ∙ notice_is who sapi notice (lines_text (map (Tells who sapi) notices))
+
+frames_are : (who : E.Who) (frames : List (List ℕ)) → frames_text who frames ≡ lines_text (map (Sends who) frames)
+frames_are who [] = refl
+frames_are who (frame ∷ frames) = rw (frames_are who frames) (simp append_assoc)
+
+text_is : (x : A.Answer) → answer_text x ≡ lines_text (answer_lines x)
+text_is (A.Refuses why) = simp (append_assoc, append-nil)
+text_is (A.Does s) =
+    let arrivals : List Said = arrival_lines s.who s.received in
+    let told : List Said = map (Tells s.who s.sapi) s.notices in
+    let sent : List Said = map (Sends s.who) s.frames in
+    let last : List Said = All ∷ [] in
+    rw (arrival_is s.who s.received, notices_are s.who s.sapi s.notices, frames_are s.who s.frames)
+    (sym (lines_text-append (arrivals ++ told ++ sent) last
+    ∙ ap (λ t. t ++ lines_text last) (lines_text-append (arrivals ++ told) sent
+    ∙ ap (λ t. t ++ lines_text sent) (lines_text-append arrivals told))))
+
+-- ---- no word has a space or a line feed
+
+abbrev is_plain : List ℕ → Bool
+is_plain word = list_all (λ octet. nat_le 33 octet) word
+
+hex_above : (digit : ℕ) → is_hex_digit digit ≡ true → nat_le 33 digit ≡ true
+hex_above digit is = elim (cases_lt digit 33) [
+  | inl small ↦ absurd (grind arith)
+  | inr large ↦ le-leb 33 digit large
+]
+
+hex_plain : (word : List ℕ) → list_all is_hex_digit word ≡ true → is_plain word ≡ true
+hex_plain [] digits = refl
+hex_plain (digit ∷ word) digits =
+    let parts = and_parts (is_hex_digit digit) (list_all is_hex_digit word) digits in
+    rw (hex_above digit parts.0, hex_plain word parts.1) refl
+
+digits_plain : (word : List ℕ) → all_ascii_digits word ≡ true → is_plain word ≡ true
+digits_plain [] digits = refl
+digits_plain (digit ∷ word) digits =
+    let parts = and_parts _ (all_ascii_digits word) digits in
+    let above : nat_le 33 digit ≡ true = elim (cases_lt digit 33) [
+      | inl small ↦ (let is = parts.0 in absurd (grind arith))
+      | inr large ↦ le-leb 33 digit large
+    ] in
+    rw (above, digits_plain word parts.1) refl
+
+own : IsNumeralModel (λ ds. all_ascii_digits ds ≡ true) (digits_value 10)
+own = numerals_by_value _ tells_all_ascii_digits
+
+octets_plain : (octets : List ℕ) → AreOctets octets → is_plain (encode_lower octets) ≡ true
+octets_plain octets small = hex_plain (encode_lower octets) (encoded octets small).0
+
+message_plain : (m : List ℕ) → AreOctets m → is_plain (octets_word m) ≡ true
+message_plain [] small = refl
+message_plain (octet ∷ m) small = octets_plain (octet ∷ m) small
+
+number_plain : (n : ℕ) → n < 2 ^ 64 → is_plain (decimal n) ≡ true
+number_plain n fits = digits_plain (decimal n) (digits_decimal own n fits)
+
+signed_plain : (z : ℤ) → nat_abs z < 2 ^ 63 → is_plain (signed_decimal z) ≡ true
+signed_plain (pos n) fits = number_plain n (omega arith)
+signed_plain (negsuc n) fits = number_plain (suc n) (omega arith)
+
+who_plain : (who : E.Who) → is_plain (who_word who) ≡ true
+who_plain (E.End Mobile) = refl
+who_plain (E.End Network) = refl
+who_plain E.Other = refl
+who_plain E.Nobody = refl
+
+name_plain : (who : E.Who) (sapi : Sapi) → is_plain (who_word who ++ link_word sapi) ≡ true
+name_plain (E.End Mobile) Zero = refl
+name_plain (E.End Mobile) Three = refl
+name_plain (E.End Network) Zero = refl
+name_plain (E.End Network) Three = refl
+name_plain E.Other Zero = refl
+name_plain E.Other Three = refl
+name_plain E.Nobody Zero = refl
+name_plain E.Nobody Three = refl
+
+why_plain : (why : E.Why) → is_plain (refusal_word why) ≡ true
+why_plain E.Nothing = refl
+why_plain E.AirFull = refl
+why_plain (E.Because Q.NotIdle) = refl
+why_plain (E.Because Q.NotOpen) = refl
+why_plain (E.Because Q.NotRunning) = refl
+why_plain (E.Because Q.Empty) = refl
+why_plain (E.Because Q.TooLong) = refl
+why_plain (E.Because Q.Full) = refl
+
+closing_plain : (reason : Reason) → is_plain (closing_word reason) ≡ true
+closing_plain Contention = refl
+closing_plain Failed = refl
+closing_plain Refused = refl
+closing_plain Released = refl
+
+are_plain : List (List ℕ) → Bool
+are_plain ws = list_all is_plain ws
+
+notice_plain : (notice : Notice) → FitsNotice notice → are_plain (notice_words notice) ≡ true
+unfolding are_plain
+notice_plain (N.Opened m) fits = rw (message_plain m fits) refl
+notice_plain (N.Got m) fits = rw (message_plain m fits) refl
+notice_plain (N.Unit m) fits = rw (message_plain m fits) refl
+notice_plain (N.Acked n) fits = rw (number_plain n fits) refl
+notice_plain N.Oversize fits = refl
+notice_plain (N.Closed reason) fits = rw (closing_plain reason) refl
+
+heard_plain : (h : Heard) (rest : List (List ℕ)) → FitsHeard h → are_plain rest ≡ true → are_plain (heard_words h rest) ≡ true
+unfolding are_plain
+heard_plain h rest fits plain =
+    rw (number_plain h.tsc fits.tsc, number_plain h.train fits.train, signed_plain h.metric fits.metric, plain) refl
+
+line_plain : (line : Said) → FitsLine line → are_plain (line_words line) ≡ true
+unfolding are_plain
+line_plain (No why) fits = rw (why_plain why) refl
+line_plain (Takes who octets h) fits = rw (who_plain who, octets_plain octets fits.0, heard_plain h [] fits.1 refl) refl
+line_plain (Drops who h octets check) fits =
+    let back : List (List ℕ) = codes "data" ∷ encode_lower octets ∷ codes "check" ∷ encode_lower check ∷ [] in
+    let plain : are_plain back ≡ true = rw (octets_plain octets fits.1, octets_plain check fits.2) refl in
+    rw (who_plain who, heard_plain h back fits.0 plain) refl
+line_plain (Tells who sapi notice) fits = rw (name_plain who sapi, notice_plain notice fits) refl
+line_plain (Sends who octets) fits = rw (who_plain who, octets_plain octets fits) refl
+line_plain All fits = refl
+
+-- ---- lines are told apart by their texts
+
+plain_all : (word : List ℕ) (other : ℕ) → other < 33 → is_plain word ≡ true → L.All (λ octet. octet ≢ other) word
+plain_all [] other below plain = All-nil (λ octet. octet ≢ other)
+plain_all (octet ∷ word) other below plain =
+    let parts = and_parts (nat_le 33 octet) (is_plain word) plain in
+    let large : 33 ≤ octet = leb-true 33 octet parts.0 in
+    All-cons (λ o. o ≢ other) octet word (λ same. omega arith) (plain_all word other below parts.1)
+
+spaceless : (ws : List (List ℕ)) → are_plain ws ≡ true → L.All (L.All IsNoSpace) ws
+unfolding are_plain
+spaceless [] plain = All-nil (L.All IsNoSpace)
+spaceless (w ∷ ws) plain =
+    let parts = and_parts (is_plain w) (are_plain ws) plain in
+    All-cons (L.All IsNoSpace) w ws (plain_all w 32 (omega arith) parts.0) (spaceless ws parts.1)
+
+-- so is each octet of words and of the spaces between them
+abbrev Uncut : List ℕ → Type 0
+Uncut text = L.All (λ octet. (octet == 10) ≡ false) text
+
+uncut_append : (xs ys : List ℕ) → Uncut xs → Uncut ys → Uncut (xs ++ ys)
+uncut_append xs ys h k = All-append (λ octet. (octet == 10) ≡ false) xs ys h k
+
+uncut_word : (word : List ℕ) → is_plain word ≡ true → Uncut word
+uncut_word [] plain = All-nil (λ octet. (octet == 10) ≡ false)
+uncut_word (octet ∷ word) plain =
+    let parts = and_parts (nat_le 33 octet) (is_plain word) plain in
+    let large : 33 ≤ octet = leb-true 33 octet parts.0 in
+    All-cons (λ o. (o == 10) ≡ false) octet word (ne_eqb octet 10 (λ same. omega arith)) (uncut_word word parts.1)
+
+uncut_join : (ws : List (List ℕ)) → are_plain ws ≡ true → Uncut (join_with_byte 32 ws)
+unfolding are_plain
+uncut_join [] plain = All-nil (λ octet. (octet == 10) ≡ false)
+uncut_join (w ∷ []) plain = uncut_word w (and_parts (is_plain w) true plain).0
+uncut_join (w ∷ v ∷ ws) plain =
+    let parts = and_parts (is_plain w) (are_plain (v ∷ ws)) plain in
+    uncut_append w (32 ∷ join_with_byte 32 (v ∷ ws)) (uncut_word w parts.0)
+    (All-cons (λ octet. (octet == 10) ≡ false) 32 (join_with_byte 32 (v ∷ ws)) refl (uncut_join (v ∷ ws) parts.1))
+
+-- the first line of a text
+cut : (text rest : List ℕ) → Uncut text → slice_split (λ o. o == 10) ((text ++ 10 ∷ []) ++ rest) ≡ text ∷ slice_split (λ o. o == 10) rest
+cut text rest uncut =
+    ap (slice_split (λ o. o == 10)) (append_assoc text (10 ∷ []) rest) ∙ slice_split_at (λ o. o == 10) text 10 rest uncut refl
+
+first_line : (t u r s : List ℕ) → Uncut t → Uncut u → (t ++ 10 ∷ []) ++ r ≡ (u ++ 10 ∷ []) ++ s → (t ≡ u) × (r ≡ s)
+first_line t u r s h k e =
+    let both : t ∷ slice_split (λ o. o == 10) r ≡ u ∷ slice_split (λ o. o == 10) s =
+    sym (cut t r h) ∙ ap (slice_split (λ o. o == 10)) e ∙ cut u s k in
+    let first : t ≡ u = cc in
+    let rest : slice_split (λ o. o == 10) r ≡ slice_split (λ o. o == 10) s = cc in
+    (first, sym (join_with_byte-slice_split 10 r) ∙ ap (join_with_byte 10) rest ∙ join_with_byte-slice_split 10 s)
+
+some_words : (line : Said) → line_words line ≢ []
+some_words (No why) e = absurd cc
+some_words (Takes who octets h) e = absurd cc
+some_words (Drops who h octets check) e = absurd cc
+some_words (Tells who sapi notice) e = absurd cc
+some_words (Sends who octets) e = absurd cc
+some_words All e = absurd cc
+
+same_words : (l m : Said) → FitsLine l → FitsLine m →
+    join_with_byte 32 (line_words l) ≡ join_with_byte 32 (line_words m) → line_words l ≡ line_words m
+same_words l m h k e =
+    sym (words-join (line_words l) (some_words l) (spaceless (line_words l) (line_plain l h))) ∙ ap words e
+    ∙ words-join (line_words m) (some_words m) (spaceless (line_words m) (line_plain m k))
+
+-- ---- and a line is read back from its words
+
+who_read : List ℕ → E.Who
+who_read word =
+    if bytes_eq (take 3 word) (codes "mob") then E.End Mobile
+    else if bytes_eq (take 3 word) (codes "net") then E.End Network
+    else if bytes_eq (take 3 word) (codes "riv") then E.Other
+    else E.Nobody
+
+sapi_read : List ℕ → Sapi
+sapi_read word = if list_any (λ octet. octet == 51) word then Three else Zero
+
+signed_read : List ℕ → ℤ
+signed_read [] = pos 0
+signed_read (octet ∷ word) = if octet == 45 then negsuc (digits_value 10 word - 1) else pos (digits_value 10 (octet ∷ word))
+
+heard_read : List ℕ → List ℕ → List ℕ → Heard
+heard_read tsc train metric = record { tsc = digits_value 10 tsc; train = digits_value 10 train; metric = signed_read metric }
+
+why_read : List ℕ → E.Why
+why_read word =
+    if bytes_eq word (codes "nothing") then E.Nothing
+    else if bytes_eq word (codes "airfull") then E.AirFull
+    else if bytes_eq word (codes "notidle") then E.Because Q.NotIdle
+    else if bytes_eq word (codes "notopen") then E.Because Q.NotOpen
+    else if bytes_eq word (codes "notrunning") then E.Because Q.NotRunning
+    else if bytes_eq word (codes "empty") then E.Because Q.Empty
+    else if bytes_eq word (codes "toolong") then E.Because Q.TooLong
+    else E.Because Q.Full
+
+reason_read : List ℕ → Reason
+reason_read word =
+    if bytes_eq word (codes "contention") then Contention
+    else if bytes_eq word (codes "failed") then Failed
+    else if bytes_eq word (codes "refused") then Refused
+    else Released
+
+notice_read : List ℕ → List ℕ → Notice
+notice_read verb word =
+    if bytes_eq verb (codes "opened") then N.Opened (hex_octets word)
+    else if bytes_eq verb (codes "got") then N.Got (hex_octets word)
+    else if bytes_eq verb (codes "unit") then N.Unit (hex_octets word)
+    else if bytes_eq verb (codes "acked") then N.Acked (digits_value 10 word)
+    else N.Closed (reason_read word)
+
+two_read : List ℕ → List ℕ → Said
+two_read name word = if bytes_eq name (codes "no") then No (why_read word) else Tells (who_read name) (sapi_read name) N.Oversize
+
+three_read : List ℕ → List ℕ → List ℕ → Said
+three_read name verb word =
+    if bytes_eq verb (codes "sends") then Sends (who_read name) (hex_octets word)
+    else Tells (who_read name) (sapi_read name) (notice_read verb word)
+
+abbrev line_read : List (List ℕ) → Said
+line_read (a ∷ b ∷ []) = two_read a b
+line_read (a ∷ b ∷ c ∷ []) = three_read a b c
+line_read (a ∷ b ∷ c ∷ d ∷ e ∷ f ∷ g ∷ h ∷ i ∷ []) = Takes (who_read a) (hex_octets c) (heard_read e g i)
+line_read (a ∷ b ∷ c ∷ d ∷ e ∷ f ∷ g ∷ h ∷ i ∷ j ∷ k ∷ l ∷ []) = Drops (who_read a) (heard_read d f h) (hex_octets j) (hex_octets l)
+line_read ws = All
+
+who_back : (who : E.Who) → who_read (who_word who) ≡ who
+unfolding who_read
+who_back (E.End Mobile) = refl
+who_back (E.End Network) = refl
+who_back E.Other = refl
+who_back E.Nobody = refl
+
+name_back : (who : E.Who) (sapi : Sapi) →
+    (who_read (who_word who ++ link_word sapi) ≡ who) × (sapi_read (who_word who ++ link_word sapi) ≡ sapi)
+unfolding who_read sapi_read
+name_back (E.End Mobile) Zero = (refl, refl)
+name_back (E.End Mobile) Three = (refl, refl)
+name_back (E.End Network) Zero = (refl, refl)
+name_back (E.End Network) Three = (refl, refl)
+name_back E.Other Zero = (refl, refl)
+name_back E.Other Three = (refl, refl)
+name_back E.Nobody Zero = (refl, refl)
+name_back E.Nobody Three = (refl, refl)
+
+oversize_back : (who : E.Who) (sapi : Sapi) → two_read (who_word who ++ link_word sapi) (codes "oversize") ≡ Tells who sapi N.Oversize
+unfolding two_read who_read sapi_read
+oversize_back (E.End Mobile) Zero = refl
+oversize_back (E.End Mobile) Three = refl
+oversize_back (E.End Network) Zero = refl
+oversize_back (E.End Network) Three = refl
+oversize_back E.Other Zero = refl
+oversize_back E.Other Three = refl
+oversize_back E.Nobody Zero = refl
+oversize_back E.Nobody Three = refl
+
+why_back : (why : E.Why) → two_read (codes "no") (refusal_word why) ≡ No why
+unfolding two_read why_read
+why_back E.Nothing = refl
+why_back E.AirFull = refl
+why_back (E.Because Q.NotIdle) = refl
+why_back (E.Because Q.NotOpen) = refl
+why_back (E.Because Q.NotRunning) = refl
+why_back (E.Because Q.Empty) = refl
+why_back (E.Because Q.TooLong) = refl
+why_back (E.Because Q.Full) = refl
+
+reason_back : (reason : Reason) → reason_read (closing_word reason) ≡ reason
+unfolding reason_read
+reason_back Contention = refl
+reason_back Failed = refl
+reason_back Refused = refl
+reason_back Released = refl
+
+octets_back : (octets : List ℕ) → AreOctets octets → hex_octets (encode_lower octets) ≡ octets
+octets_back octets small = (encoded octets small).1
+
+message_back : (m : List ℕ) → AreOctets m → hex_octets (octets_word m) ≡ m
+message_back [] small = refl
+message_back (octet ∷ m) small = octets_back (octet ∷ m) small
+
+unsigned_back : (word : List ℕ) → all_ascii_digits word ≡ true → signed_read word ≡ pos (digits_value 10 word)
+unfolding signed_read
+unsigned_back [] digits = refl
+unsigned_back (digit ∷ word) digits =
+    let parts = and_parts _ (all_ascii_digits word) digits in
+    let other : (digit == 45) ≡ false = ne_eqb digit 45 (λ same. let is = parts.0 in absurd (grind arith)) in
+    rw other refl
+
+signed_back : (z : ℤ) → nat_abs z < 2 ^ 63 → signed_read (signed_decimal z) ≡ z
+unfolding signed_read
+signed_back (pos n) fits =
+    unsigned_back (decimal n) (digits_decimal own n (omega arith)) ∙ ap pos (digits_value-decimal own n (omega arith))
+signed_back (negsuc n) fits =
+    let one : suc n - 1 ≡ n = omega arith in ap (λ k. negsuc (k - 1)) (digits_value-decimal own (suc n) (omega arith)) ∙ ap negsuc one
+
+heard_back : (h : Heard) → FitsHeard h → heard_read (decimal h.tsc) (decimal h.train) (signed_decimal h.metric) ≡ h
+unfolding heard_read
+heard_back h fits =
+    let tsc : digits_value 10 (decimal h.tsc) ≡ h.tsc = digits_value-decimal own h.tsc fits.tsc in
+    let train : digits_value 10 (decimal h.train) ≡ h.train = digits_value-decimal own h.train fits.train in
+    let metric : signed_read (signed_decimal h.metric) ≡ h.metric = signed_back h.metric fits.metric in
+    rw (tsc, train, metric) refl
+
+notice_back : (who : E.Who) (sapi : Sapi) (notice : Notice) → FitsNotice notice →
+    line_read (line_words (Tells who sapi notice)) ≡ Tells who sapi notice
+unfolding three_read notice_read
+notice_back who sapi (N.Opened m) fits = rw ((name_back who sapi).0, (name_back who sapi).1, message_back m fits) refl
+notice_back who sapi (N.Got m) fits = rw ((name_back who sapi).0, (name_back who sapi).1, message_back m fits) refl
+notice_back who sapi (N.Unit m) fits = rw ((name_back who sapi).0, (name_back who sapi).1, message_back m fits) refl
+notice_back who sapi (N.Acked n) fits = rw ((name_back who sapi).0, (name_back who sapi).1, digits_value-decimal own n fits) refl
+notice_back who sapi N.Oversize fits = oversize_back who sapi
+notice_back who sapi (N.Closed reason) fits = rw ((name_back who sapi).0, (name_back who sapi).1, reason_back reason) refl
+
+line_back : (line : Said) → FitsLine line → line_read (line_words line) ≡ line
+unfolding three_read
+line_back (No why) fits = why_back why
+line_back (Takes who octets h) fits = rw (who_back who, octets_back octets fits.0, heard_back h fits.1) refl
+line_back (Drops who h octets check) fits = rw (who_back who, heard_back h fits.0, octets_back octets fits.1, octets_back check fits.2) refl
+line_back (Tells who sapi notice) fits = notice_back who sapi notice fits
+line_back (Sends who octets) fits = rw (who_back who, octets_back octets fits) refl
+line_back All fits = refl
+
+-- ---- whole answers
+
+no_line : (l : Said) (ls : List Said) → lines_text (l ∷ ls) ≢ []
+no_line l ls e =
+    let none = ap length e in
+    omega (
+      arith,
+      none,
+      length-append (join_with_byte 32 (line_words l) ++ 10 ∷ []) (lines_text ls),
+      length-append (join_with_byte 32 (line_words l)) (10 ∷ []),
+    )
+
+same_lines : (ls ms : List Said) → FitLines ls → FitLines ms → lines_text ls ≡ lines_text ms → ls ≡ ms
+same_lines [] [] h k e = refl
+same_lines [] (m ∷ ms) h k e = absurd (no_line m ms (sym e))
+same_lines (l ∷ ls) [] h k e = absurd (no_line l ls e)
+same_lines (l ∷ ls) (m ∷ ms) h k e =
+    let parts = first_line (join_with_byte 32 (line_words l)) (join_with_byte 32 (line_words m)) (lines_text ls) (lines_text ms)
+    (uncut_join (line_words l) (line_plain l h.0)) (uncut_join (line_words m) (line_plain m k.0)) e in
+    let first : l ≡ m = sym (line_back l h.0) ∙ ap line_read (same_words l m h.0 k.0 parts.0) ∙ line_back m k.0 in
+    let rest : ls ≡ ms = same_lines ls ms h.1 k.1 parts.1 in
+    cc
+
+pub different_lines : (x y : A.Answer) → FitLines (answer_lines x) → FitLines (answer_lines y) →
+    answer_text x ≡ answer_text y → answer_lines x ≡ answer_lines y
+different_lines x y h k e = same_lines (answer_lines x) (answer_lines y) h k (sym (text_is x) ∙ e ∙ text_is y)
