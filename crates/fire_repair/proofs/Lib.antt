@@ -1,0 +1,5 @@
+mod Exhausted
+mod Leavings
+mod Moves
+mod Walks
+mod Words
