@@ -1,5 +1,9 @@
+mod BurstBits
+mod Edges
 mod Exhausted
 mod Leavings
 mod Moves
+mod Nearness
+mod Repairing
 mod Walks
 mod Words
