@@ -9,7 +9,7 @@ use Rattle.fire_code.proofs.Lemmas.{get_or-register_bits, number_of, number_of_w
 use Rattle.fire_repair.specs.Bursts.{burst}
 use Rattle.fire_repair.proofs.BurstBits.{bit_before, bit_from, bit_at-shr}
 
-either_side : (a b : ℕ) → (a < b) ⊎ (b ≤ a)
+pub either_side : (a b : ℕ) → (a < b) ⊎ (b ≤ a)
 either_side a zero = inr (omega arith)
 either_side zero (suc b) = inl (omega arith)
 either_side (suc a) (suc b) = elim (either_side a b) [ inl h ↦ inl (omega arith) | inr h ↦ inr (omega arith) ]

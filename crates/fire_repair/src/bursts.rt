@@ -41,6 +41,7 @@ pub(crate) fn find_burst(syndrome: u64) -> Option<Burst>
 /// The word with the bits of a burst turned over.
 pub(crate) fn turned(w: &Bits<224>, found: Burst) -> Bits<224>
     requires count { length w.now ≡ 224 }
+    requires bits { AllBits w.now }
     requires start { found.start ≤ 212 }
     requires shape { found.shape < 2 ^ 12 }
     ensures { result ≡ add_bits w.now (burst found.start found.shape) }
