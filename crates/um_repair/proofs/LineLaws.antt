@@ -1,5 +1,7 @@
 -- Lines of `repair`: each means one thing or has a reason, and what it means is 224 bits.
-use Rattle.std.proofs.Common.{◌≡◌, ℕ, List, ◌++◌, length, length-append, refl, arith}
+use Rattle.std.proofs.Common.{◌≡◌, ℕ, List, [], ◌++◌, length, length-append, drop, refl, ap, ◌∙◌, arith}
+use Rattle.std.proofs.lemmas.List.{append-nil, drop_all, drop_at, take_at}
+use borrow.Rule.Slice.PartMut.{put_mid}
 use Rattle.bit_blocks.specs.Bits.{AllBits}
 use Rattle.bit_blocks.specs.Octets.{bits_of}
 use Rattle.bit_blocks.proofs.Lemmas.{AllBits-append, AllBits-bits_of, length-bits_of}
@@ -34,3 +36,11 @@ are_word_bits line meaning means =
           rw (is, is', none) (bits_of_octets octets check known.0 known'.0),
       tt,
     ) line meaning means
+
+-- bits written over the first places, and then others over the rest
+pub written_word : (x y zeros : List ℕ) → length x ≡ 184 → length zeros ≡ 40 → put_mid 184 40 (x ++ zeros) y ≡ x ++ y
+written_word x y zeros ex ez =
+    let rest : drop 40 (drop 184 (x ++ zeros)) ≡ [] = ap (drop 40) (drop_at x zeros 184 ex) ∙ drop_all 40 zeros (omega arith) in
+    ap (λ front. front ++ (y ++ drop 40 (drop 184 (x ++ zeros)))) (take_at x zeros 184 ex)
+    ∙ ap (λ back. x ++ (y ++ back)) rest
+    ∙ ap (λ back. x ++ back) (append-nil y)

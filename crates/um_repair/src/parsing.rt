@@ -51,27 +51,25 @@ fn parse_words(line: &[u8]) -> Result<RepairLine, LineFault>
 fn parse_word(rest: &[u8]) -> Result<RepairLine, LineFault>
     ensures { result ≡ read_repair (codes "word" ∷ words rest.now) }
 {
-    let (data, check) = two_words(rest)?;
-    if !are_hex_digits(data) || !are_hex_digits(check) {
+    let (octets, check) = two_words(rest)?;
+    if !are_hex_digits(octets) || !are_hex_digits(check) {
         return Err(LineFault::Digits);
     }
-    if data.len() != 46 || check.len() != 10 {
+    if octets.len() != 46 || check.len() != 10 {
         return Err(LineFault::Length);
     }
     Ok(RepairLine::Word(word_of(
-        &octets_of(data),
+        &octets_of(octets),
         &octets_of(check),
     )))
 }
 
 /// The bits of the data and the check, one octet after the other.
-fn word_of(data: &[u8; 23], check: &[u8; 5]) -> Bits<224>
-    ensures { result ≡ word_bits data.now check.now }
+fn word_of(octets: &[u8; 23], check: &[u8; 5]) -> Bits<224>
+    ensures { result ≡ word_bits octets.now check.now }
 {
-    let mut octets = [0; 28];
-    octets[..23].copy_from_slice(data);
-    octets[23..].copy_from_slice(check);
     let mut bits = [0; 224];
-    from_octets(&octets, &mut bits);
+    from_octets(octets, &mut bits[..184]);
+    from_octets(check, &mut bits[184..]);
     Bits::from_array(bits)
 }
