@@ -120,5 +120,6 @@ pub same_burst : (start start' shape shape' : ℕ) → start ≤ 212 → start' 
     left_by start shape ≡ left_by start' shape' → shape * 2 ^ start ≡ shape' * 2 ^ start'
 same_burst start start' shape shape' room room' small small' same =
     elim (either start start') [
-      inl order ↦ ordered start start' shape shape' order room' small small' same
-      | inr order ↦ sym (ordered start' start shape' shape order room small' small (sym same)) ]
+      | inl order ↦ ordered start start' shape shape' order room' small small' same
+      | inr order ↦ sym (ordered start' start shape' shape order room small' small (sym same))
+    ]

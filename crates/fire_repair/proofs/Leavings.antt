@@ -67,7 +67,7 @@ leaves_earlier number register last_within even within left =
     let more : HasQuotient ((front ++ last % 2 ∷ []) ++ next) g40 =
     subst (λ r. HasQuotient ((front ++ last % 2 ∷ []) ++ register_bits 40 r) g40) (next_left last register)
     (subst (λ g. HasQuotient ((front ++ last % 2 ∷ []) ++ register_bits 40
-      (bit_xor (bit_xor last register / 2) (bit_and (bit_xor (bit_xor last register) (last % 2)) 1 * 618479558656))) g) taps_of_g40
+    (bit_xor (bit_xor last register / 2) (bit_and (bit_xor (bit_xor last register) (last % 2)) 1 * 618479558656))) g) taps_of_g40
     (remainder_more 40 front (bit_xor last register) (last % 2) 618479558656 (omega arith)
     (AllBits-register_bits 184 number) (xor_lt 40 last register last_within within) (omega arith)
     (subst (λ g. HasQuotient (front ++ register_bits 40 (bit_xor last register)) g) (sym taps_of_g40) left))) in

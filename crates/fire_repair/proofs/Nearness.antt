@@ -26,11 +26,12 @@ sum_of_same (suc a) (suc (suc b)) _ h same = absurd (omega arith)
 number_is : (number start : ℕ) → ((k : ℕ) → k < start → bit_at number k ≡ 0) → number / 2 ^ start * 2 ^ start ≡ number
 number_is number start before =
     same_from_bits (number / 2 ^ start * 2 ^ start) number (λ k.
-      elim (either_side k start) [
-        inl lt ↦ bit_before start (number / 2 ^ start) k lt ∙ sym (before k lt)
-        | inr ge ↦
+    elim (either_side k start) [
+      | inl lt ↦ bit_before start (number / 2 ^ start) k lt ∙ sym (before k lt)
+      | inr ge ↦
           let back : start + (k - start) ≡ k = omega arith in
-          bit_from start (number / 2 ^ start) k ge ∙ bit_at-shr number start (k - start) ∙ ap (λ j. bit_at number j) back ])
+          bit_from start (number / 2 ^ start) k ge ∙ bit_at-shr number start (k - start) ∙ ap (λ j. bit_at number j) back
+    ])
 
 shape_small : (number start : ℕ) → ((k : ℕ) → start + 12 ≤ k → bit_at number k ≡ 0) → number / 2 ^ start < 2 ^ 12
 shape_small number start after =
@@ -56,11 +57,12 @@ burst_between w v start ew bw ev bv near =
     let places : register_bits 224 number ≡ e = ap (λ n. register_bits n number) (sym long) ∙ register_bits-number_of e (AllBits-add_bits w v) in
     let within : number < 2 ^ 224 = subst (λ n. number < 2 ^ n) long (number_of_within e (AllBits-add_bits w v)) in
     let none : (k : ℕ) → ((start ≤ k) × (k < start + 12) → ⊥) → bit_at number k ≡ 0 = λ k far.
-      elim (either_side k 224) [
-        inl lt ↦ sym (get_or-register_bits 224 number k lt) ∙ ap (λ x. get_or x k 0) places
+    elim (either_side k 224) [
+      | inl lt ↦ sym (get_or-register_bits 224 number k lt) ∙ ap (λ x. get_or x k 0) places
           ∙ get_or-add_bits w v k (ew ∙ sym ev) (omega arith)
           ∙ sum_of_same (get_or w k 0) (get_or v k 0) (bw k 0 (omega arith)) (bv k 0 (omega arith)) (λ differs. far (near k differs))
-        | inr ge ↦ bit_at_above number 224 k within ge ] in
+      | inr ge ↦ bit_at_above number 224 k within ge
+    ] in
     let from = min start 212 in
     let is : number / 2 ^ from * 2 ^ from ≡ number = number_is number from (λ k before. none k (λ at. omega (arith, at.0))) in
     record {
@@ -69,7 +71,8 @@ burst_between w v start ew bw ev bv near =
       room = omega arith;
       small = shape_small number from (λ k after.
           elim (either_side k 224) [
-            inl lt ↦ none k (λ at. omega (arith, at.1))
-            | inr ge ↦ bit_at_above number 224 k within ge ]);
+            | inl lt ↦ none k (λ at. omega (arith, at.1))
+            | inr ge ↦ bit_at_above number 224 k within ge
+          ]);
       sum = sym (ap (λ n. add_bits w (register_bits 224 n)) is ∙ ap (λ x. add_bits w x) places ∙ add_bits_again w v bv (ev ∙ sym ew));
     }

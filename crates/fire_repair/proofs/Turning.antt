@@ -51,7 +51,7 @@ turned_more w word next start shape i bit ew bw room within before read is =
     let value : get_or next place 0 ≡ (get_or w place 0 + get_or (burst start shape) place 0) % 2 =
     ap (λ xs. get_or xs place 0) is ∙ get_or-set_same word place _ 0 here ∙ new ∙ ap (λ b. (get_or w place 0 + b) % 2) of_burst in
     let others : (k : ℕ) → k ≢ place → get_or next k 0 ≡ get_or word k 0 = λ k other.
-      ap (λ xs. get_or xs k 0) is ∙ rw get_or-set_other refl in
+    ap (λ xs. get_or xs k 0) is ∙ rw get_or-set_other refl in
     record {
       long = ap length is ∙ length-set word place _ ∙ long;
       bits = subst AllBits (sym is) (All-set IsBit word place _ is_bit before.bits);
@@ -69,9 +69,10 @@ turned_all w word start shape count ew bw small all after =
     let long = after.long in
     same_number_lists word (add_bits w (burst start shape)) (long ∙ sym (length-add_bits w (burst start shape) same ∙ ew))
     (λ k lt.
-      let within : k < 224 = omega arith in
-      elim (either_side k (start + count)) [
-        inl before ↦ after.turned k within before
-        | inr past ↦ after.rest k past
-          ∙ same_bit (get_or w k 0) _ (bw k 0 (omega arith)) (burst_after start shape k (omega arith) within small) ]
-      ∙ sym (get_or-add_bits w (burst start shape) k same (omega arith)))
+    let within : k < 224 = omega arith in
+    elim (either_side k (start + count)) [
+      | inl before ↦ after.turned k within before
+      | inr past ↦ after.rest k past
+          ∙ same_bit (get_or w k 0) _ (bw k 0 (omega arith)) (burst_after start shape k (omega arith) within small)
+    ]
+    ∙ sym (get_or-add_bits w (burst start shape) k same (omega arith)))

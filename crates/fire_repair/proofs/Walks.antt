@@ -38,10 +38,10 @@ one_step k register false within small is rest =
     ap (λ n. moved n (walked register)) count ∙ ap (λ r. moved (212 - k) r) (moved_once-walked register small) in
     further k (moved (212 - k) register) (find_from k (walked register))
     (λ shape shape_small left.
-      let begins : shape * 2 ^ 28 ≡ register = same_moved (212 - k) (shape * 2 ^ 28) register (omega arith) small left in
-      let low : register % 2 ^ 28 ≡ 0 = omega arith in
-      let never : false ≡ true = is ∙ eq-eqb (register % 2 ^ 28) 0 low in
-      cc)
+    let begins : shape * 2 ^ 28 ≡ register = same_moved (212 - k) (shape * 2 ^ 28) register (omega arith) small left in
+    let low : register % 2 ^ 28 ≡ 0 = omega arith in
+    let never : false ≡ true = is ∙ eq-eqb (register % 2 ^ 28) 0 low in
+    cc)
     (subst (λ m. Says k m (find_from k (walked register))) same rest)
 
 pub said : (k register : ℕ) → k ≤ 213 → register < 2 ^ 40 → Says k (moved (213 - k) register) (find_from k register)

@@ -34,14 +34,14 @@ swapped w x y o ex ey eo =
     same_number_lists (add_bits (add_bits (add_bits w x) o) (add_bits y x)) (add_bits (add_bits w y) o)
     (all ∙ sym (length-add_bits (add_bits w y) o (wy ∙ sym eo) ∙ wy))
     (λ k lt.
-      let here : k < length w = omega arith in
-      get_or-add_bits (add_bits (add_bits w x) o) (add_bits y x) k (wxo ∙ sym yx) (omega arith)
-      ∙ taken_off (get_or w k 0) (get_or x k 0) (get_or y k 0) (get_or o k 0) _ _ _
-        (get_or-add_bits w x k (sym ex) here)
-        (get_or-add_bits (add_bits w x) o k (wx ∙ sym eo) (omega arith))
-        (get_or-add_bits y x k (ey ∙ sym ex) (omega arith))
-      ∙ ap (λ s. (s + get_or o k 0) % 2) (sym (get_or-add_bits w y k (sym ey) here))
-      ∙ sym (get_or-add_bits (add_bits w y) o k (wy ∙ sym eo) (omega arith)))
+    let here : k < length w = omega arith in
+    get_or-add_bits (add_bits (add_bits w x) o) (add_bits y x) k (wxo ∙ sym yx) (omega arith)
+    ∙ taken_off (get_or w k 0) (get_or x k 0) (get_or y k 0) (get_or o k 0) _ _ _
+    (get_or-add_bits w x k (sym ex) here)
+    (get_or-add_bits (add_bits w x) o k (wx ∙ sym eo) (omega arith))
+    (get_or-add_bits y x k (ey ∙ sym ex) (omega arith))
+    ∙ ap (λ s. (s + get_or o k 0) % 2) (sym (get_or-add_bits w y k (sym ey) here))
+    ∙ sym (get_or-add_bits (add_bits w y) o k (wy ∙ sym eo) (omega arith)))
 
 word_by_multiple : (w x y : List ℕ) → length w ≡ 224 → length x ≡ 224 → length y ≡ 224 →
     HasQuotient (add_bits y x) g40 → IsXcchWord (add_bits w x) → IsXcchWord (add_bits w y)

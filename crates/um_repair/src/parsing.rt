@@ -58,10 +58,7 @@ fn parse_word(rest: &[u8]) -> Result<RepairLine, LineFault>
     if octets.len() != 46 || check.len() != 10 {
         return Err(LineFault::Length);
     }
-    Ok(RepairLine::Word(word_of(
-        &octets_of(octets),
-        &octets_of(check),
-    )))
+    Ok(RepairLine::Word(word_of(&octets_of(octets), &octets_of(check))))
 }
 
 /// The bits of the data and the check, one octet after the other.

@@ -67,12 +67,24 @@ word 0f00000000000000000000000000000000000000000000 ffffffff07
 
 /// Lines of no meaning, and why they have none.
 const REFUSED: [(&str, &str); 6] = [
-    ("word 0000000000000000000000000000000000000000000000 ff", "length"),
+    (
+        "word 0000000000000000000000000000000000000000000000 ff",
+        "length",
+    ),
     ("word 00 ffffffffff", "length"),
-    ("word 0000000000000000000000000000000000000000000000 fffffffffg", "digits"),
+    (
+        "word 0000000000000000000000000000000000000000000000 fffffffffg",
+        "digits",
+    ),
     ("word 0g ff", "digits"),
-    ("word 0000000000000000000000000000000000000000000000", "word"),
-    ("block 0000000000000000000000000000000000000000000000 ffffffffff", "word"),
+    (
+        "word 0000000000000000000000000000000000000000000000",
+        "word",
+    ),
+    (
+        "block 0000000000000000000000000000000000000000000000 ffffffffff",
+        "word",
+    ),
 ];
 
 #[test]
@@ -106,7 +118,11 @@ fn is_repaired(word: &Bits<224>, start: usize, shape: u32) -> bool {
     }
     let wanted = start.wrapping_add(u32::trailing_zeros(places) as usize);
     match repair(&wrong) {
-        RepairAnswer::Repaired { word: found, first, span } => {
+        RepairAnswer::Repaired {
+            word: found,
+            first,
+            span,
+        } => {
             found.as_slice() == word.as_slice()
                 && first as usize == wanted
                 && (first as usize + span as usize).wrapping_sub(1) == last
