@@ -28,7 +28,8 @@ edges_at : (shape first m clear : ℕ) → shape < 2 ^ 12 → bit_at shape first
 edges_at shape first m clear small first_bit before count below above =
     let last : 63 - clear ≡ m = omega arith in
     let top : bit_at shape m ≡ 1 = top_bit shape m below above in
-    let order : first < suc m = lt_of_not-le {n = suc m} {m = first} (λ h. let none : bit_at shape m ≡ 0 = before m h in omega (arith, sym top ∙ none)) in
+    let order : first < suc m =
+    lt_of_not-le {n = suc m} {m = first} (λ h. let none : bit_at shape m ≡ 0 = before m h in omega (arith, sym top ∙ none)) in
     subst (λ last. Edges shape first last) (sym last) (record {
       first_bit = first_bit;
       last_bit = top;
@@ -40,8 +41,8 @@ edges_at shape first m clear small first_bit before count below above =
           (omega arith, omega arith);
     })
 
-edges_by_length : (shape first clear m : ℕ) → 0 < shape → shape < 2 ^ 12 → bit_at shape first ≡ 1 → ((i : ℕ) → i < first → bit_at shape i ≡ 0) →
-    clear + m ≡ 64 → shape < 2 ^ m → 2 ^ m ≤ 2 * shape + 1 → Edges shape first (63 - clear)
+edges_by_length : (shape first clear m : ℕ) → 0 < shape → shape < 2 ^ 12 → bit_at shape first ≡ 1 →
+    ((i : ℕ) → i < first → bit_at shape i ≡ 0) → clear + m ≡ 64 → shape < 2 ^ m → 2 ^ m ≤ 2 * shape + 1 → Edges shape first (63 - clear)
 edges_by_length shape first clear zero some small first_bit before count below above = absurd (omega arith)
 edges_by_length shape first clear (suc m) some small first_bit before count below above =
     edges_at shape first m clear small first_bit before count below above

@@ -104,7 +104,8 @@ ordered start start' shape shape' order room small small' same =
     let moved_there : moved (212 - start') (moved d (shape * 2 ^ 28)) ≡ moved (212 - start') (shape' * 2 ^ 28) =
     sym (moved-add d (212 - start') (shape * 2 ^ 28)) ∙ ap (λ n. moved n (shape * 2 ^ 28)) (sym parts) ∙ same in
     let there : moved d (shape * 2 ^ 28) ≡ shape' * 2 ^ 28 =
-    same_moved (212 - start') (moved d (shape * 2 ^ 28)) (shape' * 2 ^ 28) (moved_within d (shape * 2 ^ 28) (omega arith)) (omega arith) moved_there in
+    same_moved (212 - start') (moved d (shape * 2 ^ 28)) (shape' * 2 ^ 28)
+    (moved_within d (shape * 2 ^ 28) (omega arith)) (omega arith) moved_there in
     let places : d + start ≡ start' = omega arith in
     ap (λ x. x * 2 ^ start) (sym (same_shape d shape shape' (omega arith) small there))
     ∙ mul_assoc shape' (2 ^ d) (2 ^ start)

@@ -38,7 +38,8 @@ Leaves number register = HasQuotient (register_bits 184 number ++ register_bits 
 
 -- what is left one place later: the lowest bit of what is read cancels out of the carry
 next_left : (last register : ℕ) →
-    bit_xor (bit_xor last register / 2) (bit_and (bit_xor (bit_xor last register) (last % 2)) 1 * 618479558656) ≡ bit_xor (last / 2) (moved_once register)
+    bit_xor (bit_xor last register / 2) (bit_and (bit_xor (bit_xor last register) (last % 2)) 1 * 618479558656)
+    ≡ bit_xor (last / 2) (moved_once register)
 next_left last register =
     let sum = lowest_of_xor last register in
     let carry : bit_and (bit_xor (bit_xor last register) (last % 2)) 1 ≡ register % 2 =
@@ -78,7 +79,9 @@ leaves_earlier number register last_within even within left =
     ∙ ap (λ bit. bit ∷ rest) even in
     let halved : last / 2 ≡ number / 2 / 2 ^ 184 = shr-shr number 184 1 ∙ sym (shr-shr number 1 184) in
     let long : length (rest ++ next) ≡ 224 =
-    length-append rest next ∙ ap₂ (λ a b. a + b) (length-register_bits 184 (number / 2)) (length-register_bits 40 (bit_xor (last / 2) (moved_once register))) in
+    length-append rest next
+    ∙ ap₂ (λ a b. a + b) (length-register_bits 184 (number / 2))
+    (length-register_bits 40 (bit_xor (last / 2) (moved_once register))) in
     subst (λ x. HasQuotient (rest ++ register_bits 40 (bit_xor x (moved_once register))) g40) halved
     (subst (λ g. HasQuotient (rest ++ next) g) taps_of_g40
     (HasQuotient-uncons (rest ++ next) (register_bits 40 618479558656) (omega (arith, length-register_bits 40 618479558656))

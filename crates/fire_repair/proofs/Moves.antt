@@ -62,7 +62,8 @@ pub moved_once_within : (register : ℕ) → register < 2 ^ 40 → moved_once re
 moved_once_within register within = xor_lt 40 (register / 2) (register % 2 * 618479558656) (omega arith) (omega arith)
 
 -- the highest bits cancel
-within_of_walked : (register carry : ℕ) → register < 2 ^ 40 → carry ≡ register / 2 ^ 39 → bit_xor (2 * register) (carry * 1236959117313) < 2 ^ 40
+within_of_walked : (register carry : ℕ) → register < 2 ^ 40 → carry ≡ register / 2 ^ 39 →
+    bit_xor (2 * register) (carry * 1236959117313) < 2 ^ 40
 within_of_walked register zero within e = xor_lt 40 (2 * register) 0 (omega arith) (omega arith)
 within_of_walked register (suc zero) within e =
     let one : 2 * register / 2 ^ 40 ≡ 1 = omega arith in

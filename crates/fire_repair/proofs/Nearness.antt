@@ -37,7 +37,8 @@ shape_small : (number start : ℕ) → ((k : ℕ) → start + 12 ≤ k → bit_a
 shape_small number start after =
     let none : number / 2 ^ start / 2 ^ 12 ≡ 0 =
     same_from_bits (number / 2 ^ start / 2 ^ 12) 0
-    (λ i. bit_at-shr (number / 2 ^ start) 12 i ∙ bit_at-shr number start (12 + i) ∙ after (start + (12 + i)) (omega arith) ∙ sym (bit_at-zero i)) in
+    (λ i. bit_at-shr (number / 2 ^ start) 12 i ∙ bit_at-shr number start (12 + i)
+    ∙ after (start + (12 + i)) (omega arith) ∙ sym (bit_at-zero i)) in
     omega arith
 
 -- v is w with a shape from a place on added
@@ -54,7 +55,8 @@ burst_between w v start ew bw ev bv near =
     let e = add_bits w v in
     let long : length e ≡ 224 = length-add_bits w v (ew ∙ sym ev) ∙ ew in
     let number = number_of e in
-    let places : register_bits 224 number ≡ e = ap (λ n. register_bits n number) (sym long) ∙ register_bits-number_of e (AllBits-add_bits w v) in
+    let places : register_bits 224 number ≡ e =
+    ap (λ n. register_bits n number) (sym long) ∙ register_bits-number_of e (AllBits-add_bits w v) in
     let within : number < 2 ^ 224 = subst (λ n. number < 2 ^ n) long (number_of_within e (AllBits-add_bits w v)) in
     let none : (k : ℕ) → ((start ≤ k) × (k < start + 12) → ⊥) → bit_at number k ≡ 0 = λ k far.
     elim (either_side k 224) [

@@ -80,7 +80,8 @@ module _ (w : List ℕ) (ew : length w ≡ 224) (bw : AllBits w) (start shape : 
   pub word_of : (syndrome : ℕ) → left_by start shape ≡ syndrome → IsXcchWord (add_bits w (at_parity syndrome)) →
       IsXcchWord (add_bits w (burst start shape))
   word_of syndrome same word =
-      word_with_number w (shape * 2 ^ start) syndrome ew (subst (λ s. Leaves (shape * 2 ^ start) s) same (leaves_left start shape room small)) word
+      word_with_number w (shape * 2 ^ start) syndrome ew
+      (subst (λ s. Leaves (shape * 2 ^ start) s) same (leaves_left start shape room small)) word
 
   pub left_of : IsXcchWord (add_bits w (burst start shape)) → IsXcchWord (add_bits w (at_parity (left_by start shape)))
   left_of word = word_with_register w (shape * 2 ^ start) (left_by start shape) ew (leaves_left start shape room small) word

@@ -26,7 +26,8 @@ further k syndrome None here says = λ start shape before small same.
 
 one_step : (k register : ℕ) (ends : Bool) → k ≤ 212 → register < 2 ^ 40 → ends ≡ eqb (register % 2 ^ 28) 0 →
     Says k (moved (213 - k) (walked register)) (find_from k (walked register)) →
-    Says (suc k) (moved (212 - k) register) (elim ends [ true ↦ Some (record { start = k; shape = register / 2 ^ 28 }) | false ↦ find_from k (walked register) ])
+    Says (suc k) (moved (212 - k) register)
+    (elim ends [ true ↦ Some (record { start = k; shape = register / 2 ^ 28 }) | false ↦ find_from k (walked register) ])
 unfolding moved
 one_step k register true within small is rest =
     let low : register % 2 ^ 28 ≡ 0 = (Decides-eqb (register % 2 ^ 28) 0).0 (sym is) in
@@ -50,7 +51,8 @@ said zero register within small = λ start shape before _ _. absurd (omega arith
 said (suc k) register within small =
     let count : 213 - suc k ≡ 212 - k = omega arith in
     subst (λ n. Says (suc k) (moved n register) (find_from (suc k) register)) (sym count)
-    (one_step k register (eqb (register % 2 ^ 28) 0) (omega arith) small refl (said k (walked register) (omega arith) (walked_within register small)))
+    (one_step k register (eqb (register % 2 ^ 28) 0) (omega arith) small refl
+    (said k (walked register) (omega arith) (walked_within register small)))
 
 -- one step of the walk
 pub found_here : (start register : ℕ) → 0 < start → bit_and register 0xfffffff ≡ 0 →

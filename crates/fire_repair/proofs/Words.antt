@@ -134,7 +134,8 @@ some_syndrome w ew bw =
     let sum = add_bits p parity in
     let forty : length sum ≡ 40 = length-add_bits p parity (ep ∙ sym long) ∙ ep in
     let bits : AllBits sum = AllBits-add_bits p parity in
-    let places : register_bits 40 (number_of sum) ≡ sum = ap (λ n. register_bits n (number_of sum)) (sym forty) ∙ register_bits-number_of sum bits in
+    let places : register_bits 40 (number_of sum) ≡ sum =
+    ap (λ n. register_bits n (number_of sum)) (sym forty) ∙ register_bits-number_of sum bits in
     record {
       register = number_of sum;
       within = subst (λ n. number_of sum < 2 ^ n) forty (number_of_within sum bits);

@@ -1,4 +1,5 @@
--- Bursts of wrong bits as numbers, for the bodies of this crate alone. A shape is twelve bits; bit i stands for the place i after the first.
+-- Bursts of wrong bits as numbers, for the bodies of this crate alone. A shape is twelve bits, of which bit i stands for the i-th
+-- place after the first.
 use Rattle.std.specs.Prelude.{ℕ, ◌-◌, ◌*◌, ◌/◌, ◌%◌, ◌^◌, List, bit_xor}
 use Rattle.std.proofs.Common.{zero, suc}
 use Rattle.fire_code.specs.Registers.{register_bits}

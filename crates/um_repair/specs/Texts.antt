@@ -10,7 +10,8 @@ use Rattle.fire_repair.specs.declared.repairs.RepairAnswer.TheVariants.{Holds, R
 abbrev pub repaired_text : List ℕ → ℕ → ℕ → List ℕ
 repaired_text word first span =
     codes "repaired first " ++ decimal first ++ codes " span " ++ decimal span
-    ++ codes " data " ++ encode_lower (octets_of (take 184 word)) ++ codes " check " ++ encode_lower (octets_of (take 40 (drop 184 word))) ++ codes "\n"
+    ++ codes " data " ++ encode_lower (octets_of (take 184 word))
+    ++ codes " check " ++ encode_lower (octets_of (take 40 (drop 184 word))) ++ codes "\n"
 
 abbrev pub answer_text : RepairAnswer → List ℕ
 answer_text Holds = codes "holds\n"

@@ -22,6 +22,7 @@ returns-then-register-eq0 c =
 
 pub returns : goal.returns
 returns c =
-    let none : find_from c.loop-start.start c.loop-start.register ≡ None = found_nowhere c.loop-start.start c.loop-start.register c.loop-start-test.false in
+    let none : find_from c.loop-start.start c.loop-start.register ≡ None =
+    found_nowhere c.loop-start.start c.loop-start.register c.loop-start-test.false in
     let says = said_of c.args.syndrome None c.requires (sym c.loop-start.invariant.same ∙ none) in
     record { start = tt; shape = tt; leaves = tt; none = λ _ start shape room small. says start shape (omega arith) small }

@@ -19,7 +19,8 @@ edges-first-requires-clause-some c =
     let s = c.xcch_syndrome-syndrome in
     let found = c.in-Some.found in
     some_shape w found.start found.shape s.ensures.count s.ensures.bits (λ holds. c.if-syndrome-eq0.false (s.ensures.zero.1 holds))
-    (word_of w s.ensures.count s.ensures.bits found.start found.shape c.in-Some.ensures.start c.in-Some.ensures.shape s.result c.in-Some.ensures.leaves s.ensures.word)
+    (word_of w s.ensures.count s.ensures.bits found.start found.shape c.in-Some.ensures.start c.in-Some.ensures.shape
+    s.result c.in-Some.ensures.leaves s.ensures.word)
 
 pub returns-in-None : goal.returns-in-None
 returns-in-None c =
@@ -55,4 +56,8 @@ returns-in-Some c =
       subst (λ v. IsSpan w v (found.start + first) (last - first + 1)) (sym c.turned.ensures)
           (span_of w s.ensures.count s.ensures.bits found.start found.shape says.start says.shape first last edges),
     ) in
-    record { answer = due; only = λ other due'. one_answer w other (Repaired c.turned.result (found.start + first) (last - first + 1)) due' due }
+    record {
+      answer = due;
+      only = λ other due'.
+          one_answer w other (Repaired c.turned.result (found.start + first) (last - first + 1)) due' due;
+    }
