@@ -1,15 +1,16 @@
 -- Words of a control channel's block and their parity parts.
 use Rattle.std.proofs.Common.{◌≡◌, ℕ, ◌^◌, ◌<◌, List, ◌++◌, length, replicate, refl, ap, sym, ◌∙◌, arith, lit≤, subst, length-append, bit_xor}
-use Rattle.std.proofs.lemmas.Nat.{xor_lt}
+use Rattle.std.specs.Int.Bits.{xor_assoc, xor_self, xor_zero_l, xor_zero_r}
+use Rattle.std.proofs.lemmas.Nat.{xor_lt, xor_comm}
 use Rattle.std.proofs.lemmas.List.Elements.{All-append}
 use Rattle.bit_blocks.specs.Bits.{IsBit, AllBits, add_bits}
 use Rattle.bit_blocks.specs.Polynomials.{HasQuotient}
-use Rattle.bit_blocks.proofs.Lemmas.{AllBits-front, AllBits-back, AllBits-add_bits, add_bits-comm, add_bits_again, add_bits_twice, length-add_bits}
+use Rattle.bit_blocks.proofs.Lemmas.{AllBits-front, AllBits-back, AllBits-add_bits, add_bits-comm, add_bits-zeros, add_bits_again, add_bits_twice, length-add_bits}
 use Rattle.fire_code.specs.Registers.{register_bits}
 use Rattle.fire_code.specs.Words.{g40, IsXcchWord}
 use Rattle.fire_code.proofs.OctetSteps.{same_remainder_of_g40}
-use Rattle.fire_code.proofs.ParityParts.{multiple_of_word, quotient_of_parts}
-use Rattle.fire_code.proofs.RegisterBits.{length-register_bits, AllBits-register_bits, register_bits-xor, same_register}
+use Rattle.fire_code.proofs.ParityParts.{add_after, multiple_of_word, quotient_of_parts}
+use Rattle.fire_code.proofs.RegisterBits.{length-register_bits, AllBits-register_bits, register_bits-xor, register_bits-zero, same_register}
 
 pub xcch_word : (d p : List ℕ) → length d ≡ 184 → AllBits d → length p ≡ 40 → AllBits p →
     HasQuotient (d ++ add_bits p (replicate 40 1)) g40 → IsXcchWord (d ++ p)
@@ -74,3 +75,46 @@ register_of_xcch_word w d p register check split ed ep held within within' multi
     ∙ ap (λ x. add_bits p x) (sym turned)
     ∙ add_bits_again p (replicate 40 1) ones (sym ep)
     ∙ sym forty_ones)
+
+-- what is left of a word: the register that its information bits leave, its parity, and ones
+unfoldable pub syndrome_of : ℕ → ℕ → ℕ
+syndrome_of register check = bit_xor (bit_xor register check) 0xffffffffff
+
+syndrome_taken_off : (register check : ℕ) → bit_xor (bit_xor check (syndrome_of register check)) 0xffffffffff ≡ register
+unfolding syndrome_of
+syndrome_taken_off register check =
+    let sum = bit_xor register check in
+    xor_assoc check (bit_xor sum 0xffffffffff) 0xffffffffff
+    ∙ ap (λ x. bit_xor check x) (xor_assoc sum 0xffffffffff 0xffffffffff ∙ xor_zero_r sum ∙ xor_comm register check)
+    ∙ sym (xor_assoc check check register)
+    ∙ ap (λ x. bit_xor x register) (xor_self check)
+    ∙ xor_zero_l register
+
+-- what is left, added at the last places, completes the information bits
+pub syndrome_completes : (w d p : List ℕ) (register check : ℕ) → w ≡ d ++ p → length d ≡ 184 → AllBits d →
+    register_bits 40 check ≡ p → HasQuotient (d ++ register_bits 40 register) g40 →
+    IsXcchWord (add_bits w (replicate 184 0 ++ register_bits 40 (syndrome_of register check)))
+syndrome_completes w d p register check split ed bd held multiple =
+    let left = syndrome_of register check in
+    let sum = bit_xor check left in
+    let parity : add_bits p (register_bits 40 left) ≡ register_bits 40 sum =
+    ap (λ x. add_bits x (register_bits 40 left)) (sym held) ∙ sym (register_bits-xor 40 check left) in
+    let turned : add_bits (register_bits 40 sum) (replicate 40 1) ≡ register_bits 40 register =
+    ap (λ x. add_bits (register_bits 40 sum) x) (sym forty_ones)
+    ∙ sym (register_bits-xor 40 sum 0xffffffffff)
+    ∙ ap (λ x. register_bits 40 x) (syndrome_taken_off register check) in
+    let parts : add_bits w (replicate 184 0 ++ register_bits 40 left) ≡ d ++ register_bits 40 sum =
+    ap (λ x. add_bits x (replicate 184 0 ++ register_bits 40 left)) split
+    ∙ add_after 184 d p (register_bits 40 left) ed bd
+    ∙ ap (λ x. d ++ x) parity in
+    subst IsXcchWord (sym parts)
+    (xcch_word d (register_bits 40 sum) ed bd (length-register_bits 40 sum) (AllBits-register_bits 40 sum)
+    (subst (λ x. HasQuotient (d ++ x) g40) (sym turned) multiple))
+
+-- where nothing is left, nothing is added
+pub word_of_no_syndrome : (w : List ℕ) (syndrome : ℕ) → AllBits w → length w ≡ 224 → syndrome ≡ 0 →
+    IsXcchWord (add_bits w (replicate 184 0 ++ register_bits 40 syndrome)) → IsXcchWord w
+word_of_no_syndrome w syndrome bits count none word =
+    let zeros : replicate 184 0 ++ register_bits 40 syndrome ≡ replicate 224 0 =
+    ap (λ s. replicate 184 0 ++ register_bits 40 s) none ∙ ap (λ x. replicate 184 0 ++ x) (register_bits-zero 40) in
+    subst IsXcchWord (ap (λ x. add_bits w x) zeros ∙ add_bits-zeros w 224 bits count) word

@@ -1,4 +1,4 @@
--- Numbers as registers of bits, for the bodies of this crate alone.
+-- Numbers as registers of bits, for what this crate computes with and what it leaves to the crates above as a number.
 use Rattle.std.specs.Prelude.{ℕ, ◌/◌, ◌%◌, List, [], ◌∷◌}
 use Rattle.std.proofs.Common.{zero, suc}
 

@@ -1,5 +1,6 @@
-ghost use Rattle.std.specs.Prelude.{◌≡◌, ◌↔◌, ◌++◌, List, ℕ, length, IsTrue};
-ghost use Rattle.bit_blocks.specs.Bits.{AllBits};
+ghost use Rattle.std.specs.Prelude.{◌≡◌, ◌<◌, ◌^◌, ◌↔◌, ◌++◌, List, ℕ, length, replicate, IsTrue};
+ghost use Rattle.bit_blocks.specs.Bits.{AllBits, add_bits};
+ghost use Rattle.fire_code.specs.Registers.{register_bits};
 ghost use Rattle.fire_code.specs.Words.{IsXcchWord};
 
 use crate::octets::remainder;
@@ -24,6 +25,19 @@ pub fn xcch_holds(w: &Bits<224>) -> bool
 {
     let (info, check) = w.as_slice().split_at(184);
     remainder(info) ^ register_of(check) == ALL_ONES
+}
+
+/// What is left of 224 bits under the generator, as a register: bit `i` stands for place `184 + i`. It is 0 exactly where
+/// `xcch_holds`.
+pub fn xcch_syndrome(w: &Bits<224>) -> u64
+    ensures word { IsXcchWord (add_bits w.now (replicate 184 0 ++ register_bits 40 result)) }
+    ensures zero { (result ≡ 0) ↔ IsXcchWord w.now }
+    ensures within { result < 2 ^ 40 }
+    ensures count { length w.now ≡ 224 }
+    ensures bits { AllBits w.now }
+{
+    let (info, check) = w.as_slice().split_at(184);
+    remainder(info) ^ register_of(check) ^ ALL_ONES
 }
 
 #[cfg(test)]

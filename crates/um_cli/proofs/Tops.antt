@@ -10,10 +10,11 @@ use Rattle.um_cli.specs.Machines.{OneOutput}
 use Rattle.um_cli.specs.Replay.{replay_rules}
 use Rattle.um_cli.specs.Restored.{Restores}
 use Rattle.um_cli.specs.declared.words.Shape.{Shape}
-use Rattle.um_cli.specs.declared.words.Shape.TheVariants.{Code, Replay, Show, Margin, Link, Make}
+use Rattle.um_cli.specs.declared.words.Shape.TheVariants.{Code, Replay, Show, Margin, Repair, Link, Make}
 use Rattle.um_cli.specs.Shapes.{Fits}
 use Rattle.um_margin.specs.Margins.{margin_rules}
 use Rattle.um_margin.proofs.Lemmas.{margin_is_determined, margin_has_one_output}
+use Rattle.um_repair.proofs.Lemmas.{repair_has_one_output}
 use Rattle.um_make.specs.Generated.{generated}
 use Rattle.um_make.proofs.Laws.{one_summary}
 use Rattle.um_session.proofs.Laws.{link_has_one_output}
@@ -28,6 +29,7 @@ one_output Code fits = code_has_one_output
 one_output Replay fits = replay_has_one_output
 one_output Show fits = show_has_one_output
 one_output Margin fits = margin_has_one_output
+one_output Repair fits = repair_has_one_output
 one_output (Link tsc channel) fits = link_has_one_output tsc channel fits
 one_output (Make n tsc) fits = one_summary tsc (generated n) fits.2
 

@@ -8,8 +8,9 @@ use Rattle.um_cli.specs.Code.{code_rules}
 use Rattle.um_cli.specs.Replay.{replay_rules}
 use Rattle.um_cli.specs.Show.{show_rules}
 use Rattle.um_cli.specs.declared.words.Shape.{Shape}
-use Rattle.um_cli.specs.declared.words.Shape.TheVariants.{Code, Replay, Show, Margin, Link, Make}
+use Rattle.um_cli.specs.declared.words.Shape.TheVariants.{Code, Replay, Show, Margin, Repair, Link, Make}
 use Rattle.um_margin.specs.Margins.{margin_rules}
+use Rattle.um_repair.specs.RepairRules.{repair_rules}
 use Rattle.um_make.specs.Generated.{generated}
 use Rattle.um_make.specs.Runs.{HasOneSummary}
 use Rattle.um_session.specs.Sessions.{idle, link_rules}
@@ -24,6 +25,7 @@ OfMachine Code P = P (machine code_rules tt)
 OfMachine Replay P = P (machine replay_rules [])
 OfMachine Show P = P (machine show_rules tt)
 OfMachine Margin P = P (machine margin_rules [])
+OfMachine Repair P = P (machine repair_rules tt)
 OfMachine (Link tsc channel) P = P (machine link_rules (idle tsc channel))
 OfMachine (Make n tsc) P = Unit {0}
 

@@ -5,7 +5,7 @@ use Rattle.std.specs.Str.Parse.{digits_value}
 use Rattle.lapdm_frame.specs.declared.Channel.{Channel}
 use Rattle.lapdm_frame.specs.declared.Channel.TheVariants.{Sdcch, Sacch}
 use Rattle.um_cli.specs.declared.words.Shape.{Shape}
-use Rattle.um_cli.specs.declared.words.Shape.TheVariants.{Code, Replay, Show, Margin, Link, Make}
+use Rattle.um_cli.specs.declared.words.Shape.TheVariants.{Code, Replay, Show, Margin, Repair, Link, Make}
 
 -- what one word asks for
 abbrev pub word_shape : List ℕ → Option Shape
@@ -14,6 +14,7 @@ word_shape word =
     else if bytes_eq word (codes "replay") then Some Replay
     else if bytes_eq word (codes "show") then Some Show
     else if bytes_eq word (codes "margin") then Some Margin
+    else if bytes_eq word (codes "repair") then Some Repair
     else None
 
 -- the training sequence that a word names: one digit 0 to 7

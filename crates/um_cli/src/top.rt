@@ -22,6 +22,7 @@ use um_block::Radio;
 use um_driver::{Status, drive};
 use um_io::{Sink, Source};
 use um_margin::Margin;
+use um_repair::Repair;
 
 /// Runs the command that the words name, from the octets of `input` to the octets of `output`.
 ///
@@ -90,6 +91,7 @@ pub fn run<S: Source, K: Sink, R: Radio>(
         Some(Shape::Replay) => drive(alloc, &mut Replay::new(), input, output),
         Some(Shape::Show) => drive(alloc, &mut Show, input, output),
         Some(Shape::Margin) => drive(alloc, &mut Margin::new(), input, output),
+        Some(Shape::Repair) => drive(alloc, &mut Repair, input, output),
         Some(Shape::Link(tsc, channel)) => run_link(alloc, tsc, channel, input, output, radio),
         Some(Shape::Make(n, tsc)) => run_make(alloc, n, tsc, output, radio),
     }

@@ -14,6 +14,8 @@ pub enum Shape {
     Show,
     /// Bursts to their two most likely words.
     Margin,
+    /// Words with short bursts of wrong bits to words without.
+    Repair,
     /// Both ends over the air, with a training sequence and on a channel.
     Link(u8, Channel),
     /// The generated session of so many messages, with a training sequence.
@@ -169,6 +171,7 @@ fn word_shape(word: &str) -> Option<Shape>
         "replay" => Some(Shape::Replay),
         "show" => Some(Shape::Show),
         "margin" => Some(Shape::Margin),
+        "repair" => Some(Shape::Repair),
         _ => None,
     }
 }

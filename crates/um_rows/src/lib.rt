@@ -18,6 +18,8 @@ mod margin;
 #[cfg(test)]
 mod outside;
 #[cfg(test)]
+mod repair;
+#[cfg(test)]
 mod replay;
 #[cfg(test)]
 mod reports;

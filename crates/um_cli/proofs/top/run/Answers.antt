@@ -1,9 +1,10 @@
 use Rattle.std.proofs.Common.{[]}
 use Rattle.um_cli.specs.Replay.{replay_rules}
 use Rattle.um_margin.specs.Margins.{margin_rules}
+use Rattle.um_repair.proofs.Lemmas.{repair_is_determined}
 use Rattle.um_cli.specs.Machines.{IsTable, IsDueEnd}
 use Rattle.um_cli.specs.Shapes.{shape_of}
-use Rattle.um_cli.specs.declared.words.Shape.TheVariants.{Code, Replay, Show, Margin}
+use Rattle.um_cli.specs.declared.words.Shape.TheVariants.{Code, Replay, Show, Margin, Repair}
 use Rattle.um_cli.proofs.CodeRules.{code_is_determined}
 use Rattle.um_cli.proofs.ShowRules.{show_is_determined}
 use Rattle.um_cli.proofs.Tops.{for_shape, any_run, restores, replay_run, replay_headline, replay_due, margin_run, margin_due}
@@ -57,6 +58,15 @@ returns-in-Some-Show-clause-due g c =
     for_shape
     (λ shape. IsDueEnd shape run.result (g.S.Source.left c.args.input.now) (g.K.Sink.taken c.args.output.now) (g.K.Sink.taken run.new.output))
     (shape_of c.args.words.now) Show (cc (e, f)) (run.ensures.due show_is_determined)
+
+pub returns-in-Some-Repair-clause-due : goal.returns-in-Some-Repair-clause-due
+returns-in-Some-Repair-clause-due g c =
+    let e = c.in-Some-Repair.ensures.shape in
+    let f = c.in-Some-Repair.field-0-is in
+    let run = c.drive-in-Some-Repair in
+    for_shape
+    (λ shape. IsDueEnd shape run.result (g.S.Source.left c.args.input.now) (g.K.Sink.taken c.args.output.now) (g.K.Sink.taken run.new.output))
+    (shape_of c.args.words.now) Repair (cc (e, f)) (run.ensures.due repair_is_determined)
 
 pub returns-in-Some-Margin-clause-table : goal.returns-in-Some-Margin-clause-table
 returns-in-Some-Margin-clause-table g c =

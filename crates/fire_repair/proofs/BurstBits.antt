@@ -1,0 +1,30 @@
+-- The bits of a burst.
+use Rattle.std.proofs.Common.{◌≡◌, ℕ, ◌+◌, ◌-◌, ◌*◌, ◌/◌, ◌%◌, ◌^◌, ◌<◌, ◌≤◌, get_or, refl, ap, sym, ◌∙◌, arith, add-zero}
+use Rattle.std.specs.Int.{bit_at}
+use Rattle.std.proofs.lemmas.Nat.{pow_pos, shr-shr}
+use Rattle.std.proofs.lemmas.Nat.Bits.{bit_at-zero, bit_at_cat_low, bit_at_cat_high, bit_at_above}
+use Rattle.fire_code.proofs.Lemmas.{get_or-register_bits}
+use Rattle.fire_repair.specs.Bursts.{burst}
+
+-- a shape from a place on, at a place before it and from it on
+pub bit_before : (start shape k : ℕ) → k < start → bit_at (shape * 2 ^ start) k ≡ 0
+bit_before start shape k before =
+    ap (λ n. bit_at n k) (sym (add-zero (shape * 2 ^ start))) ∙ bit_at_cat_low shape start 0 k before ∙ bit_at-zero k
+
+pub bit_from : (start shape k : ℕ) → start ≤ k → bit_at (shape * 2 ^ start) k ≡ bit_at shape (k - start)
+bit_from start shape k after =
+    ap (λ n. bit_at n k) (sym (add-zero (shape * 2 ^ start))) ∙ bit_at_cat_high shape start 0 k (pow_pos start) after
+
+-- a burst has no bit before its first place and none after its twelfth
+pub burst_before : (start shape k : ℕ) → k < start → k < 224 → get_or (burst start shape) k 0 ≡ 0
+burst_before start shape k before within = get_or-register_bits 224 (shape * 2 ^ start) k within ∙ bit_before start shape k before
+
+pub burst_from : (start shape k : ℕ) → start ≤ k → k < 224 → get_or (burst start shape) k 0 ≡ bit_at shape (k - start)
+burst_from start shape k after within = get_or-register_bits 224 (shape * 2 ^ start) k within ∙ bit_from start shape k after
+
+pub burst_after : (start shape k : ℕ) → start + 12 ≤ k → k < 224 → shape < 2 ^ 12 → get_or (burst start shape) k 0 ≡ 0
+burst_after start shape k after within small =
+    burst_from start shape k (omega arith) within ∙ bit_at_above shape 12 (k - start) small (omega arith)
+
+pub bit_at-shr : (n k i : ℕ) → bit_at (n / 2 ^ k) i ≡ bit_at n (k + i)
+bit_at-shr n k i = ap (λ x. x % 2) (shr-shr n k i)

@@ -1,0 +1,63 @@
+use Rattle.std.proofs.Common.{◌≡◌, ◌+◌, ◌-◌, refl, subst, sym, arith}
+use Rattle.bit_blocks.specs.Bits.{add_bits}
+use Rattle.fire_repair.specs.declared.repairs.RepairAnswer.TheVariants.{Holds, Repaired, NoRepair}
+use Rattle.fire_repair.specs.Answers.{IsAnswer}
+use Rattle.fire_repair.specs.Repairs.{IsRepair, IsSpan}
+use Rattle.fire_repair.proofs.Edges.{Edges}
+use Rattle.fire_repair.proofs.Repairing.{one_answer, no_repair, some_shape, word_of, repair_of, span_of}
+use Rattle.fire_repair.proofs.repairs.repair.Goals as goal
+
+pub returns-then-syndrome-eq0 : goal.returns-then-syndrome-eq0
+returns-then-syndrome-eq0 c =
+    let s = c.xcch_syndrome-syndrome in
+    let holds = s.ensures.zero.0 c.if-syndrome-eq0.true in
+    record { answer = holds; only = λ other due. one_answer c.args.w.now other Holds due holds }
+
+pub edges-first-requires-clause-some : goal.edges-first-requires-clause-some
+edges-first-requires-clause-some c =
+    let w = c.args.w.now in
+    let s = c.xcch_syndrome-syndrome in
+    let found = c.in-Some.found in
+    some_shape w found.start found.shape s.ensures.count s.ensures.bits (λ holds. c.if-syndrome-eq0.false (s.ensures.zero.1 holds))
+    (word_of w s.ensures.count s.ensures.bits found.start found.shape c.in-Some.ensures.start c.in-Some.ensures.shape
+    s.result c.in-Some.ensures.leaves s.ensures.word)
+
+pub returns-in-None : goal.returns-in-None
+returns-in-None c =
+    let w = c.args.w.now in
+    let s = c.xcch_syndrome-syndrome in
+    let due : IsAnswer w NoRepair = (
+      (λ holds. c.if-syndrome-eq0.false (s.ensures.zero.1 holds)),
+      (λ v r. no_repair w v s.result s.ensures.within s.ensures.word
+          (λ start shape lt small same. c.in-None.ensures.none refl start shape (omega arith) small same) r),
+    ) in
+    record { answer = due; only = λ other due'. one_answer w other NoRepair due' due }
+
+pub returns-in-Some : goal.returns-in-Some
+returns-in-Some c =
+    let w = c.args.w.now in
+    let s = c.xcch_syndrome-syndrome in
+    let found = c.in-Some.found in
+    let says = c.in-Some.ensures in
+    let e = c.edges-first.ensures in
+    let first = c.edges-first.result.0 in
+    let last = c.edges-first.result.1 in
+    let edges : Edges found.shape first last = record {
+      first_bit = e.first;
+      last_bit = e.last;
+      order = e.within.0;
+      within = e.within.1;
+      outside = e.outside;
+    } in
+    let due : IsAnswer w (Repaired c.turned.result (found.start + first) (last - first + 1)) = (
+      subst (λ v. IsRepair w v) (sym c.turned.ensures)
+          (repair_of w s.ensures.count s.ensures.bits found.start found.shape says.start says.shape s.result
+          (λ holds. c.if-syndrome-eq0.false (s.ensures.zero.1 holds)) says.leaves s.ensures.word),
+      subst (λ v. IsSpan w v (found.start + first) (last - first + 1)) (sym c.turned.ensures)
+          (span_of w s.ensures.count s.ensures.bits found.start found.shape says.start says.shape first last edges),
+    ) in
+    record {
+      answer = due;
+      only = λ other due'.
+          one_answer w other (Repaired c.turned.result (found.start + first) (last - first + 1)) due' due;
+    }

@@ -1,0 +1,11 @@
+-- When each answer of a repair comes.
+use Rattle.std.specs.Prelude.{ℕ, List}
+use Rattle.fire_code.specs.Words.{IsXcchWord}
+use Rattle.fire_repair.specs.Repairs.{IsRepair, IsSpan}
+use Rattle.fire_repair.specs.declared.repairs.RepairAnswer.{RepairAnswer}
+use Rattle.fire_repair.specs.declared.repairs.RepairAnswer.TheVariants.{Holds, Repaired, NoRepair}
+
+abbrev pub IsAnswer : List ℕ → RepairAnswer → Type 0
+IsAnswer w Holds = IsXcchWord w
+IsAnswer w (Repaired word first span) = IsRepair w word × IsSpan w word first span
+IsAnswer w NoRepair = (IsXcchWord w → ⊥) × ((v : List ℕ) → IsRepair w v → ⊥)

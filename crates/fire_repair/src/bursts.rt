@@ -1,0 +1,67 @@
+//! Bursts of twelve places: how they are found and taken away.
+
+ghost use Rattle.std.specs.Prelude.{◌≡◌, ◌≢◌, ℕ, ◌+◌, ◌*◌, ◌/◌, ◌%◌, ◌<◌, ◌≤◌, ◌^◌, List, length, IfSome, IsNone};
+ghost use Rattle.std.specs.Int.{bit_at};
+ghost use Rattle.bit_blocks.specs.Bits.{AllBits, add_bits};
+ghost use Rattle.fire_repair.specs.Bursts.{burst, left_by};
+
+use bit_blocks::Bits;
+
+// D^40 + D^26 + D^23 + D^17 + D^3 + 1, the bit of value 1 standing for D^40
+const GENERATOR: u64 = 0x120_0082_4001;
+
+/// Wrong bits within twelve places from a place on: bit `i` of the shape stands for place `start + i`.
+#[derive(Clone, Copy)]
+pub(crate) struct Burst {
+    pub(crate) start: usize,
+    pub(crate) shape: u64,
+}
+
+/// The last burst that leaves the same as a word does, or `None` where there is none.
+pub(crate) fn find_burst(syndrome: u64) -> Option<Burst>
+    requires { syndrome < 2 ^ 40 }
+    ensures start { IfSome result (λ found. found.start ≤ 212) }
+    ensures shape { IfSome result (λ found. found.shape < 2 ^ 12) }
+    ensures leaves { IfSome result (λ found. left_by found.start found.shape ≡ syndrome) }
+    ensures none { IsNone result → (start shape : ℕ) → start ≤ 212 → shape < 2 ^ 12 → left_by start shape ≢ syndrome }
+{
+    let mut register = syndrome;
+    for start in (0..213).rev() {
+        if register & 0xfff_ffff == 0 {
+            return Some(Burst {
+                start,
+                shape: register >> 28,
+            });
+        }
+        register = (2 * register) ^ ((register >> 39) * GENERATOR);
+    }
+    None
+}
+
+/// The word with the bits of a burst turned over.
+pub(crate) fn turned(w: &Bits<224>, found: Burst) -> Bits<224>
+    requires count { length w.now ≡ 224 }
+    requires bits { AllBits w.now }
+    requires start { found.start ≤ 212 }
+    requires shape { found.shape < 2 ^ 12 }
+    ensures { result ≡ add_bits w.now (burst found.start found.shape) }
+{
+    let mut word = *w;
+    for i in 0..12 {
+        let place = found.start + i;
+        word.set(place, w.get(place) ^ ((found.shape >> i) & 1) as u8);
+    }
+    word
+}
+
+/// The first and the last of the twelve places that are wrong.
+pub(crate) fn edges(shape: u64) -> (u32, u32)
+    requires some { 0 < shape }
+    requires twelve { shape < 2 ^ 12 }
+    ensures first { bit_at shape result.0 ≡ 1 }
+    ensures last { bit_at shape result.1 ≡ 1 }
+    ensures within { (result.0 ≤ result.1) × (result.1 < 12) }
+    ensures outside { (i : ℕ) → bit_at shape i ≢ 0 → (result.0 ≤ i) × (i ≤ result.1) }
+{
+    (shape.trailing_zeros(), 63 - shape.leading_zeros())
+}

@@ -1,0 +1,6 @@
+use Rattle.um_repair.proofs.LineLaws.{one_meaning}
+use Rattle.um_repair.proofs.RepairAnswers.{repair_has_one_output}
+use Rattle.um_repair.proofs.laws.law_one_output.Goals as goal
+
+pub returns : goal.returns
+returns c = record { output = repair_has_one_output; lines = one_meaning }

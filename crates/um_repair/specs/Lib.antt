@@ -1,0 +1,6 @@
+-- The definitions that the contracts of this crate cite.
+pub mod RepairLines
+pub mod RepairRules
+pub mod Texts
+-- what the definitions of this crate stand on
+pub use Rattle.um_driver.specs.Rules

@@ -1,0 +1,11 @@
+//! The command `repair`: short bursts of wrong bits in words of the control channels are put right.
+#![tactic(auto)]
+
+mod command;
+mod laws;
+mod lines;
+mod parsing;
+
+pub use command::Repair;
+pub use laws::law_one_output;
+pub use parsing::{RepairLine, parse_repair};

@@ -1,0 +1,72 @@
+//! The lines of the command `repair`.
+ghost use Rattle.std.specs.Prelude.{◌≡◌, ◌∷◌, IfOk, codes};
+ghost use Rattle.std.specs.Result.{result_err};
+ghost use Rattle.bit_blocks.specs.Bits.{AllBits};
+ghost use Rattle.bit_blocks.specs.Octets.{bits_of};
+ghost use Rattle.um_lines.specs.Words.{words};
+ghost use Rattle.um_repair.specs.RepairLines.{repair_fault, RepairMeans, read_repair, word_bits};
+
+use bit_blocks::{Bits, from_octets};
+use um_lines::{
+    LINE_LIMIT, LineFault, are_hex_digits, first_word, is_skipped, octets_of, two_words,
+};
+
+/// What a line of the command `repair` asks for.
+#[derive(Clone, Copy)]
+pub enum RepairLine {
+    /// Nothing: an empty line, or one that begins with `#`.
+    Skip,
+    /// The repair of 184 bits and their parity.
+    Word(Bits<224>),
+}
+
+/// Reads a line of `repair`, given without its line feed: `word HEX46 HEX10`, the data and check of a block as `replay` writes them.
+///
+/// Its reasons are `Long`, `Word`, `Digits` and `Length`. Each is looked for in the whole line before the next.
+pub fn parse_repair(line: &[u8]) -> Result<RepairLine, LineFault>
+    ensures means { IfOk result (RepairMeans line.now) }
+    ensures refused { result_err result ≡ repair_fault line.now }
+{
+    if line.len() > LINE_LIMIT {
+        return Err(LineFault::Long);
+    }
+    if is_skipped(line) {
+        return Ok(RepairLine::Skip);
+    }
+    parse_words(line)
+}
+
+fn parse_words(line: &[u8]) -> Result<RepairLine, LineFault>
+    ensures { result ≡ read_repair (words line.now) }
+{
+    let Some((command, rest)) = first_word(line) else {
+        return Err(LineFault::Word);
+    };
+    match command {
+        b"word" => parse_word(rest),
+        _ => Err(LineFault::Word),
+    }
+}
+
+fn parse_word(rest: &[u8]) -> Result<RepairLine, LineFault>
+    ensures { result ≡ read_repair (codes "word" ∷ words rest.now) }
+{
+    let (octets, check) = two_words(rest)?;
+    if !are_hex_digits(octets) || !are_hex_digits(check) {
+        return Err(LineFault::Digits);
+    }
+    if octets.len() != 46 || check.len() != 10 {
+        return Err(LineFault::Length);
+    }
+    Ok(RepairLine::Word(word_of(&octets_of(octets), &octets_of(check))))
+}
+
+/// The bits of the data and the check, one octet after the other.
+fn word_of(octets: &[u8; 23], check: &[u8; 5]) -> Bits<224>
+    ensures { result ≡ word_bits octets.now check.now }
+{
+    let mut bits = [0; 224];
+    from_octets(octets, &mut bits[..184]);
+    from_octets(check, &mut bits[184..]);
+    Bits::from_array(bits)
+}
