@@ -12,7 +12,9 @@ use Rattle.um_air.proofs.Laws.{one_run, some_run}
 use Rattle.um_make.specs.declared.end_summary.EndSummary.{EndSummary}
 use Rattle.um_make.specs.declared.summary.Summary.{Summary}
 use Rattle.um_make.specs.Summaries.{sends, is_take, is_drop, is_loss, IsEndSummary, IsSummary}
+use Rattle.um_make.specs.Generated.{generated}
 use Rattle.um_make.specs.Runs.{HasOneSummary}
+use Rattle.um_make.proofs.KindEvents.{kind-generated}
 
 end_summary_of : Role → List Line → EndSummary
 end_summary_of r ls = record {
@@ -78,11 +80,11 @@ same_summary events answers s t h k =
     (same_end Mobile ls s.mobile t.mobile h.mobile k.mobile) (same_end Network ls s.network t.network h.network k.network)
 
 -- the messages of a kind script are octets
-pub octets_of_kind : (events : List Event) → IsKind events → All IsOctetEvent events
+octets_of_kind : (events : List Event) → IsKind events → All IsOctetEvent events
 octets_of_kind [] kind = All-nil IsOctetEvent
 octets_of_kind (event ∷ events) kind = All-cons IsOctetEvent event events kind.1 (octets_of_kind events kind.2)
 
-pub one_summary : (tsc : ℕ) (events : List Event) → tsc ≤ 7 → All IsOctetEvent events → HasOneSummary tsc events
+one_summary : (tsc : ℕ) (events : List Event) → tsc ≤ 7 → All IsOctetEvent events → HasOneSummary tsc events
 one_summary tsc events within octets =
     let some = some_run tsc Sdcch events within octets in
     let answers : List Answer = some.0 in
@@ -99,3 +101,7 @@ one_summary tsc events within octets =
       };
       one = λ other sums. same_summary events answers other (summary_of events answers) (sums.only answers some.1 some.2) (is_summary events answers);
     }
+
+-- and so have the generated ones
+pub one_generated_summary : (n tsc : ℕ) → tsc ≤ 7 → HasOneSummary tsc (generated n)
+one_generated_summary n tsc within = one_summary tsc (generated n) within (octets_of_kind (generated n) (kind-generated n))
