@@ -15,7 +15,6 @@ use Rattle.um_cli.specs.Shapes.{Fits}
 use Rattle.um_margin.specs.Margins.{margin_rules}
 use Rattle.um_margin.proofs.Lemmas.{margin_is_determined, margin_has_one_output}
 use Rattle.um_repair.proofs.Lemmas.{repair_has_one_output}
-use Rattle.um_make.specs.Generated.{generated}
 use Rattle.um_make.proofs.Laws.{one_generated_summary}
 use Rattle.um_session.proofs.Laws.{link_has_one_output}
 use Rattle.um_cli.proofs.CodeRules.{code_has_one_output}
