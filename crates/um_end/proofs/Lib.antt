@@ -1,0 +1,3 @@
+mod Deeds
+mod Determined
+mod EndLineLaws

@@ -1,0 +1,9 @@
+//! One end of the air by itself, a mobile or a network, over recorded bursts: its calls, and the groups of four bursts that it receives.
+#![tactic(auto)]
+
+mod asking;
+mod lines;
+mod terminal;
+
+pub use lines::{EndLine, law_end_lines, parse_end};
+pub use terminal::Terminal;
