@@ -21,7 +21,7 @@ use Rattle.um_lines.specs.Reading.{LineIs}
 use Rattle.um_lines.proofs.FormLaws.{line_means, one_meaning, one_made}
 use Rattle.um_text.specs.declared.burst_lines.BurstLine.{BurstLine}
 use Rattle.um_text.specs.BurstLines.{burst_line, burst_fault, BurstMeans}
-use Rattle.um_text.proofs.BurstLaws.{one_meaning as one_burst, AreSoft}
+use Rattle.um_text.proofs.BurstLaws.{one_meaning as one_burst, AreSoft, hard, soft, lost}
 use Rattle.um_lines.proofs.KnownValues.{line_is}
 use Rattle.um_script.specs.ScriptLines.{event_said, ScriptMeans}
 use Rattle.um_link.specs.Naming.{event_of}
@@ -305,9 +305,31 @@ IsWell role (Calls event) = IsCallOf role event
 
 end_well : (role : Role) (held : ℕ) (line : List ℕ) (meaning : Meaning) → EndMeans role held line meaning → IsWell role meaning
 end_well Mobile held line meaning means =
-    line_is (end_forms mobile_forms) (end_elsewhere held) end_line (IsWell Mobile) tt ? line meaning means
+    line_is (end_forms mobile_forms) (end_elsewhere held) end_line (IsWell Mobile) tt (
+      λ count values here (bits, rest, is, known, none). rw (is, none) (hard 148 bits known),
+      (
+        λ count values here (octets, rest, is, known, none). rw (is, none) (soft 148 octets known),
+        (
+          λ count values here none. rw none lost,
+          (λ count values here known. refl, (λ count values here known. refl, (λ count values here known. refl, (λ count values here known. refl, (λ count values here known. refl, (λ count values here known. refl, (λ count values here known. refl, (λ count values here known. refl, (λ count values here known. refl, (λ count values here known. refl, (λ count values here known. refl, tt))))))))))),
+        ),
+      ),
+    ) line meaning means
 end_well Network held line meaning means =
-    line_is (end_forms network_forms) (end_elsewhere held) end_line (IsWell Network) tt ? line meaning means
+    line_is (end_forms network_forms) (end_elsewhere held) end_line (IsWell Network) tt (
+      λ count values here (bits, rest, is, known, none). rw (is, none) (hard 148 bits known),
+      (
+        λ count values here (octets, rest, is, known, none). rw (is, none) (soft 148 octets known),
+        (
+          λ count values here none. rw none lost,
+          (λ count values here known. refl, (λ count values here known. refl, (λ count values here known. refl, (λ count values here known. refl, (λ count values here known. refl, (λ count values here known. refl, (λ count values here known. refl, (λ count values here known. refl, (λ count values here known. refl, (λ count values here known. refl, tt)))))))))),
+        ),
+      ),
+    ) line meaning means
+
+-- a burst is 148 soft values
+pub burst_is_soft : (role : Role) (held : ℕ) (line : List ℕ) (values : List ℤ) → EndMeans role held line (Brings values) → AreSoft 148 values
+burst_is_soft role held line values means = end_well role held line (Brings values) means
 
 pub possible : (role : Role) (held : ℕ) (line : List ℕ) (read : EndLine) → EndMeans role held line (meaning_of read) → IsPossible role read
 possible role held line V.Skip means = tt

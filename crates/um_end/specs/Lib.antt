@@ -4,3 +4,5 @@ pub mod Standing
 pub mod Asking
 pub mod Doing
 pub mod EndLines
+pub mod EndRuns
+pub mod Commands

@@ -2,8 +2,10 @@
 #![tactic(auto)]
 
 mod asking;
+mod command;
 mod lines;
 mod terminal;
 
+pub use command::OneEnd;
 pub use lines::{EndLine, law_end_lines, parse_end};
 pub use terminal::Terminal;

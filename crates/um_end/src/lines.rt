@@ -96,7 +96,7 @@ fn read_call<'a>(
 }
 
 fn of_script(script: ScriptLine<'_>) -> EndLine<'_>
-    ensures { meaning_of result ≡ called (script_meaning script) }
+    ensures { meaning_of result ≡ called (script_meaning script.entry) }
 {
     match script {
         ScriptLine::Skip => EndLine::Skip,

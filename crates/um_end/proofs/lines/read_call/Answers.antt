@@ -14,7 +14,10 @@ none held h = grind (arith, nat_tests)
 
 pub returns-then-held-gt0-clause-refused : goal.returns-then-held-gt0-clause-refused
 returns-then-held-gt0-clause-refused c =
-    ?
+    c.inside_block.ensures
+    ∙ ap inside (c.err.ensures.value ∙ c.parse_script-read.ensures.refused)
+    ∙ sym (inside_fault (role_of c.args.side) c.args.held c.args.line.now c.requires.short c.requires.kept c.requires.own
+    (some c.args.held c.if-held-gt0.true))
 
 pub returns-in-Ok-clause-means : goal.returns-in-Ok-clause-means
 returns-in-Ok-clause-means c =
