@@ -331,6 +331,10 @@ end_well Network held line meaning means =
 pub burst_is_soft : (role : Role) (held : ℕ) (line : List ℕ) (values : List ℤ) → EndMeans role held line (Brings values) → AreSoft 148 values
 burst_is_soft role held line values means = end_well role held line (Brings values) means
 
+-- a call is one of the side
+pub call_is_own : (role : Role) (held : ℕ) (line : List ℕ) (event : Event) → EndMeans role held line (Calls event) → IsCallOf role event
+call_is_own role held line event means = end_well role held line (Calls event) means
+
 pub possible : (role : Role) (held : ℕ) (line : List ℕ) (read : EndLine) → EndMeans role held line (meaning_of read) → IsPossible role read
 possible role held line V.Skip means = tt
 possible role held line (V.Burst soft) means = (end_well role held line (Brings soft) means).1
