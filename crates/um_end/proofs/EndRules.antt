@@ -7,10 +7,11 @@ use Rattle.lapdm_frame.specs.declared.Channel.TheVariants.{Sdcch}
 use Rattle.lapdm_frame.specs.Content.{Frame}
 use Rattle.lapdm_frame.specs.Frames.{Fits, octets_of}
 use Rattle.lapdm_frame.proofs.Canonical.{octets_canonical}
+use Rattle.segmenting.specs.Pieces.{IsMessage}
 use Rattle.lapdm_window.specs.declared.Sapi.{Sapi}
 use Rattle.lapdm_window.specs.declared.Sapi.TheVariants.{Zero, Three}
 use Rattle.lapdm_window.specs.declared.Refused.{Refused}
-use Rattle.lapdm_window.specs.Ends.{Role, Mobile, Network, EndState, Outcome, IsEnd}
+use Rattle.lapdm_window.specs.Ends.{Role, Mobile, Network, EndState, Outcome, IsEnd, start}
 use Rattle.lapdm_window.specs.Calls.{Call, Opens, OpensBare, refusal_of, after_call}
 use Rattle.lapdm_window.specs.Tables.{after_frame}
 use Rattle.lapdm_link.proofs.Fitting.{FitsEnd, AllFit, FitsAfter, call-fits, frame-fits}
@@ -139,7 +140,7 @@ fit_nothing a h = record { after = h; frames = tt }
 fit_read : (a : Links) (accepted : Option Octets) (read : Option Frame) → Reads Sdcch accepted read → AreFit a → IsFitDeed (takes_read read a)
 fit_read a accepted None reads h = fit_nothing a h
 fit_read a (Some octets) (Some f) reads h =
-    let fits : Fits Sdcch f = ? in
+    let fits : Fits Sdcch f = reads.fits in
     by_sapi f a IsFitDeed (λ e. fit_frame Zero f a fits h) (λ e. fit_frame Three f a fits h) (λ e g. fit_nothing a h)
 fit_read a None (Some f) reads h = absurd reads
 
@@ -248,3 +249,85 @@ some_meaning role tsc s line (Brings soft) known k means = some_bursts role tsc 
 some_meaning role tsc s line (Calls event) known k means =
     let a = some_asking s event (call_is_own s.role (length s.held) line event means) (omega (arith, known, k.tsc_is)) k.links in
     (a.text, record s { links = a.links }, record { links = a.links; answer = a.answer; asked = a.asked; text_is = a.text_is; after_is = refl })
+
+-- ---- every run can go on
+
+idle_fit : (role : Role) (sapi : Sapi) → IsFit (start role sapi Sdcch)
+idle_fit role sapi = record {
+  end = record { messages = All-nil IsMessage; sent = omega arith; behind = omega arith; window = omega arith };
+  fits = record { on_channel = refl; kept = omega arith };
+}
+
+idle_kept : (role : Role) (tsc : ℕ) → IsKept role tsc (idle role tsc)
+idle_kept role tsc = record {
+  role_is = refl;
+  tsc_is = refl;
+  links = record { link0 = idle_fit role Zero; link3 = idle_fit role Three };
+  few = omega arith;
+  each = All-nil (λ (burst : List ℤ). length burst ≡ 148);
+}
+
+asked_fit : (role : Role) (a : Links) (sapi : Sapi) (call : Call) (b : Links) (answer : Answer) → AreFit a → IsAsked role a sapi call b answer → AreFit b
+asked_fit role a sapi call b (Refuses why) h asked = subst AreFit (sym asked.1) h
+asked_fit role a sapi call b (Does step) h asked =
+    subst AreFit (sym asked.1) (fit_call sapi call a h (not_because (refusal_of call (link_in sapi a)) asked.0)).after
+  where
+    not_because : (o : Option Refused) → because o ≡ None → o ≡ None
+    not_because None e = refl
+    not_because (Some why) e = absurd (cc e)
+
+asking_fit : (role : Role) (a : Links) (event : Event) (b : Links) (answer : Answer) → AreFit a → Asks role a event b answer → AreFit b
+asking_fit role a (Open info) b answer h asked = asked_fit role a Zero (Opens info) b answer h asked
+asking_fit role a (OpenBare other) b answer h asked = asked_fit role a Three OpensBare b answer h asked
+asking_fit role a (Ask other sapi request) b answer h asked = asked_fit role a sapi (call_of request) b answer h asked
+asking_fit role a (Deliver sender places) b answer h asked = absurd asked
+asking_fit role a (Lose sender) b answer h asked = absurd asked
+asking_fit role a (Rival info) b answer h asked = absurd asked
+
+module _ (role : Role) (tsc : ℕ) where
+  bursts_keep : (s b : EndRun) (soft : List ℤ) (y : List ℕ) → IsKept role tsc s → length soft ≡ 148 → AnswersBursts s (s.held ++ soft ∷ []) y b →
+      IsKept role tsc b
+  bursts_keep s b soft y k count (inl (few, _, same)) =
+      subst (IsKept role tsc) (sym same) (record {
+        role_is = k.role_is;
+        tsc_is = k.tsc_is;
+        links = k.links;
+        few = omega (arith, few);
+        each = one_more s.held soft k.each count;
+      })
+  bursts_keep s b soft y k count (inr (four, h)) =
+      let heard = h.heard in
+      let fit : AreFit h.links =
+      subst AreFit (sym heard.after) (fit_read s.links heard.report.accepted heard.read heard.reads k.links).after in
+      subst (IsKept role tsc) (sym h.after_is) (record {
+        role_is = k.role_is;
+        tsc_is = k.tsc_is;
+        links = fit;
+        few = omega arith;
+        each = All-nil (λ (burst : List ℤ). length burst ≡ 148);
+      })
+
+  step_keeps : (s b : EndRun) (line y : List ℕ) → IsKept role tsc s → AnswersLine s line y b → IsKept role tsc b
+  step_keeps s b line y k (Nothing, means, (_, same)) = subst (IsKept role tsc) (sym same) k
+  step_keeps s b line y k (Brings soft, means, answer) =
+      bursts_keep s b soft y k (burst_is_soft s.role (length s.held) line soft means).0 answer
+  step_keeps s b line y k (Calls event, means, h) =
+      subst (IsKept role tsc) (sym h.after_is) (record {
+        role_is = k.role_is;
+        tsc_is = k.tsc_is;
+        links = asking_fit s.role s.links event h.links h.answer k.links h.asked;
+        few = k.few;
+        each = k.each;
+      })
+
+  module _ (known : tsc ≤ 7) where
+    pub end_is_total : IsTotal end_rules (idle role tsc)
+    end_is_total lines answers b runs line plain good =
+        let meant : HasOneMeaningUnless None (EndMeans b.role (length b.held) line) =
+        subst (λ fault. HasOneMeaningUnless fault (EndMeans b.role (length b.held) line)) good.no_fault (end_one_meaning b.role (length b.held) line) in
+        let kept : IsKept role tsc b = Runs-keep end_rules (IsKept role tsc) step_keeps (idle role tsc) b lines answers (idle_kept role tsc) runs in
+        let answer = some_meaning role tsc b line meant.0 known kept meant.1 in
+        (answer.0, answer.1, (meant.0, meant.1, answer.2))
+
+    pub end_has_one_output : HasOneOutput end_rules (idle role tsc)
+    end_has_one_output = has_one_output end_rules (idle role tsc) end_is_total end_is_determined

@@ -7,7 +7,8 @@ ghost use Rattle.um_text.specs.BurstTexts.{normal_text, block_text};
 ghost use Rattle.um_link.specs.Coded.{AreCoded};
 ghost use Rattle.um_link.specs.Naming.{role_of, step_of, answer_of};
 ghost use Rattle.um_link.specs.Standing.{FitsWho};
-ghost use Rattle.um_driver.specs.Rules.{Answers};
+ghost use Rattle.lapdm_window.specs.Ends.{Role};
+ghost use Rattle.um_driver.specs.Laws.{HasOneOutput};
 ghost use Rattle.um_end.specs.EndRuns.{EndRun, idle, end_rules, IsAnswerText, AnswersBursts, IsCodedText};
 ghost use Rattle.um_end.specs.Commands.{StandsFor, start_of};
 
@@ -18,6 +19,11 @@ use um_lines::{LineFault, Text};
 use um_link::{End, No, Step};
 use um_script::{Room, step_lines};
 use um_text::HeldBursts;
+
+/// Every list of octets, good or bad and of any length, has one output of the command and one way to end.
+pub fn law_one_output()
+    ensures { (role : Role) (tsc : ℕ) → tsc ≤ 7 → HasOneOutput end_rules (idle role tsc) }
+{}
 
 /// The command `end`: a terminal, and the bursts of a block that has not all its four.
 #[derive(Drop)]
@@ -31,7 +37,7 @@ impl OneEnd {
     /// The links of a side in Idle, with a training sequence 0 to 7, and no burst.
     pub fn new(side: End, tsc: u8) -> OneEnd
         requires { tsc ≤ 7 }
-        ensures stands { StandsFor result (idle (role_of side) tsc) }
+        ensures stands { StandsFor result (start_of result) }
         ensures start { start_of result ≡ idle (role_of side) tsc }
     {
         OneEnd {

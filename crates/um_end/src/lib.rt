@@ -6,6 +6,6 @@ mod command;
 mod lines;
 mod terminal;
 
-pub use command::OneEnd;
+pub use command::{OneEnd, law_one_output};
 pub use lines::{EndLine, law_end_lines, parse_end};
 pub use terminal::Terminal;
