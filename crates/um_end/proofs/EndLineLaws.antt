@@ -6,6 +6,7 @@ use Rattle.std.proofs.lemmas.Slice.Eq.{bytes_eq-Decides}
 use Rattle.bit_blocks.specs.SoftValues.{AllSoft}
 use Rattle.lapdm_window.specs.Ends.{Role, Mobile, Network}
 use Rattle.um_air.specs.Air.{Event}
+use Rattle.um_air.specs.Sessions.{IsOctetEvent}
 use Rattle.um_lines.specs.declared.fault.LineFault.{LineFault}
 use Rattle.um_lines.specs.declared.fault.LineFault.TheVariants.{Word, Order, Digits, Length, Soft, Twice}
 use Rattle.um_lines.specs.declared.fault.LineFault.TheVariants as R
@@ -301,7 +302,7 @@ module _ (role : Role) (held : ℕ) (line : List ℕ) (short : length line ≤ 4
 abbrev pub IsWell : Role → Meaning → Type 0
 IsWell role Nothing = Unit {0}
 IsWell role (Brings soft) = AreSoft 148 soft
-IsWell role (Calls event) = IsCallOf role event
+IsWell role (Calls event) = IsCallOf role event × IsOctetEvent event
 
 end_well : (role : Role) (held : ℕ) (line : List ℕ) (meaning : Meaning) → EndMeans role held line meaning → IsWell role meaning
 end_well Mobile held line meaning means =
@@ -311,7 +312,7 @@ end_well Mobile held line meaning means =
         λ count values here (octets, rest, is, known, none). rw (is, none) (soft 148 octets known),
         (
           λ count values here none. rw none lost,
-          (λ count values here known. refl, (λ count values here known. refl, (λ count values here known. refl, (λ count values here known. refl, (λ count values here known. refl, (λ count values here known. refl, (λ count values here known. refl, (λ count values here known. refl, (λ count values here known. refl, (λ count values here known. refl, (λ count values here known. refl, tt))))))))))),
+          (λ count values here (m, rest, is, known, none). rw (is, none) (refl, known.2), (λ count values here none. (refl, tt), (λ count values here (m, rest, is, known, none). rw (is, none) (refl, known.2), (λ count values here (m, rest, is, known, none). rw (is, none) (refl, known.2), (λ count values here none. (refl, tt), (λ count values here none. (refl, tt), (λ count values here (m, rest, is, known, none). rw (is, none) (refl, known.2), (λ count values here (m, rest, is, known, none). rw (is, none) (refl, known.2), (λ count values here none. (refl, tt), (λ count values here none. (refl, tt), (λ count values here none. (refl, tt), tt))))))))))),
         ),
       ),
     ) line meaning means
@@ -322,7 +323,7 @@ end_well Network held line meaning means =
         λ count values here (octets, rest, is, known, none). rw (is, none) (soft 148 octets known),
         (
           λ count values here none. rw none lost,
-          (λ count values here known. refl, (λ count values here known. refl, (λ count values here known. refl, (λ count values here known. refl, (λ count values here known. refl, (λ count values here known. refl, (λ count values here known. refl, (λ count values here known. refl, (λ count values here known. refl, (λ count values here known. refl, tt)))))))))),
+          (λ count values here none. (refl, tt), (λ count values here (m, rest, is, known, none). rw (is, none) (refl, known.2), (λ count values here (m, rest, is, known, none). rw (is, none) (refl, known.2), (λ count values here none. (refl, tt), (λ count values here none. (refl, tt), (λ count values here (m, rest, is, known, none). rw (is, none) (refl, known.2), (λ count values here (m, rest, is, known, none). rw (is, none) (refl, known.2), (λ count values here none. (refl, tt), (λ count values here none. (refl, tt), (λ count values here none. (refl, tt), tt)))))))))),
         ),
       ),
     ) line meaning means
@@ -331,11 +332,12 @@ end_well Network held line meaning means =
 pub burst_is_soft : (role : Role) (held : ℕ) (line : List ℕ) (values : List ℤ) → EndMeans role held line (Brings values) → AreSoft 148 values
 burst_is_soft role held line values means = end_well role held line (Brings values) means
 
--- a call is one of the side
-pub call_is_own : (role : Role) (held : ℕ) (line : List ℕ) (event : Event) → EndMeans role held line (Calls event) → IsCallOf role event
+-- a call is one of the side, and of octets
+pub call_is_own : (role : Role) (held : ℕ) (line : List ℕ) (event : Event) → EndMeans role held line (Calls event) →
+    IsCallOf role event × IsOctetEvent event
 call_is_own role held line event means = end_well role held line (Calls event) means
 
 pub possible : (role : Role) (held : ℕ) (line : List ℕ) (read : EndLine) → EndMeans role held line (meaning_of read) → IsPossible role read
 possible role held line V.Skip means = tt
 possible role held line (V.Burst soft) means = (end_well role held line (Brings soft) means).1
-possible role held line (V.Ask event) means = end_well role held line (Calls (event_of event)) means
+possible role held line (V.Ask event) means = (end_well role held line (Calls (event_of event)) means).0

@@ -1,10 +1,11 @@
 -- The command `end` answers each good line in one way.
 use Rattle.std.proofs.Common.{◌≡◌, ℕ, ℤ, ◌+◌, ◌<◌, ◌≤◌, inl, inr, List, [], ◌∷◌, ◌++◌, length, length-append, map, Option, None, Some, refl, sym, ap, ap₂, ◌∙◌, subst, arith}
+use Rattle.std.specs.Prelude.{IfSome}
 use Rattle.std.specs.List.{All, flat_map}
 use Rattle.std.proofs.lemmas.Bool.{cases_lt}
 use Rattle.std.proofs.lemmas.List.Elements.{All-nil, All-cons, All-append}
 use Rattle.lapdm_frame.specs.declared.Channel.TheVariants.{Sdcch}
-use Rattle.lapdm_frame.specs.Content.{Frame}
+use Rattle.lapdm_frame.specs.Content.{Frame, information}
 use Rattle.lapdm_frame.specs.Frames.{Fits, octets_of}
 use Rattle.lapdm_frame.proofs.Canonical.{octets_canonical}
 use Rattle.segmenting.specs.Pieces.{IsMessage}
@@ -15,17 +16,19 @@ use Rattle.lapdm_window.specs.Ends.{Role, Mobile, Network, EndState, Outcome, Is
 use Rattle.lapdm_window.specs.Calls.{Call, Opens, OpensBare, refusal_of, after_call}
 use Rattle.lapdm_window.specs.Tables.{after_frame}
 use Rattle.lapdm_link.proofs.Fitting.{FitsEnd, AllFit, FitsAfter, call-fits, frame-fits}
+use Rattle.lapdm_link.proofs.Octets.{AreOctets, CallOctets, EndOctets, AllSay, OutcomeOctets, call-octets, frame-octets}
 use Rattle.lapdm_link.proofs.Asked.{is_called}
 use Rattle.lapdm_link.proofs.Reports.{step-frame}
-use Rattle.lapdm_link.specs.Events.{Open, OpenBare, Ask, Deliver, Lose, Rival, because, Because, call_of}
-use Rattle.um_block.proofs.Lemmas.{one_sent_block, some_sent_block, some_received_block, accepted_count}
+use Rattle.lapdm_link.specs.Events.{Request, Send, SendUnit, Close, Tick, Idle, Open, OpenBare, Ask, Deliver, Lose, Rival, because, Because, call_of}
+use Rattle.um_block.proofs.Lemmas.{one_sent_block, some_sent_block, some_received_block, accepted_count, accepted_octets}
 use Rattle.um_block.specs.Received.{IsReceivedBlock}
 use Rattle.um_block.specs.declared.received.Received.{Received}
 use Rattle.um_lines.specs.declared.fault.LineFault.{LineFault}
 use Rattle.um_lines.specs.Meanings.{HasOneMeaningUnless}
 use Rattle.um_text.specs.BurstTexts.{block_text}
 use Rattle.um_air.specs.Air.{Octets, Block, Event, Reads, Answer, Refuses, Does, Step}
-use Rattle.um_air.proofs.Laws.{some_reading}
+use Rattle.um_air.specs.Sessions.{IsOctetEvent}
+use Rattle.um_air.proofs.Laws.{some_reading, reads-well, octets_small}
 use Rattle.um_link.specs.Coded.{AreCoded}
 use Rattle.um_script.specs.StepLines.{answer_text}
 use Rattle.um_driver.specs.Rules.{IsDetermined, IsTotal, Runs}
@@ -94,10 +97,11 @@ end_is_determined s line y y' b b' (m, means, answer) (m', means', answer') =
 
 -- ---- some answer
 
--- a link on SDCCH whose frames fit
+-- a link on SDCCH whose frames fit, and are octets
 record IsFit (e : EndState) : Type 0 where
   pub end : IsEnd e
   pub fits : FitsEnd Sdcch e
+  pub octets : EndOctets e
 
 record AreFit (a : Links) : Type 0 where
   pub link0 : IsFit a.link0
@@ -115,47 +119,52 @@ fit_with Three e a h fit = record { link0 = h.link0; link3 = fit }
 record IsFitDeed (d : Deed) : Type 0 where
   pub after : AreFit d.after
   pub frames : AllFit Sdcch d.frames
+  pub said : AllSay d.frames
 
-fit_deed : (sapi : Sapi) (o : Outcome) (a : Links) → AreFit a → IsEnd o.after → o.after.channel ≡ Sdcch → FitsAfter Sdcch o → IsFitDeed (does sapi o a)
-fit_deed sapi o a h end channel fits = record {
-  after = fit_with sapi o.after a h (record { end = end; fits = record { on_channel = channel; kept = fits.kept } });
+fit_deed : (sapi : Sapi) (o : Outcome) (a : Links) → AreFit a → IsEnd o.after → o.after.channel ≡ Sdcch → FitsAfter Sdcch o → OutcomeOctets o →
+    IsFitDeed (does sapi o a)
+fit_deed sapi o a h end channel fits octets = record {
+  after = fit_with sapi o.after a h (record { end = end; fits = record { on_channel = channel; kept = fits.kept }; octets = octets.end });
   frames = fits.frames;
+  said = octets.frames;
 }
 
-fit_call : (sapi : Sapi) (call : Call) (a : Links) → AreFit a → refusal_of call (link_in sapi a) ≡ None → IsFitDeed (asks sapi call a)
-fit_call sapi call a h ok =
+fit_call : (sapi : Sapi) (call : Call) (a : Links) → CallOctets call → AreFit a → refusal_of call (link_in sapi a) ≡ None → IsFitDeed (asks sapi call a)
+fit_call sapi call a octets h ok =
     let fit = fit_in sapi a h in
     let called = is_called call (link_in sapi a) ok fit.end in
     fit_deed sapi (after_call call (link_in sapi a)) a h called.end (called.channel ∙ fit.fits.on_channel) (call-fits Sdcch call (link_in sapi a) ok fit.end fit.fits)
+    (call-octets call (link_in sapi a) octets ok fit.end fit.octets)
 
-fit_frame : (sapi : Sapi) (f : Frame) (a : Links) → Fits Sdcch f → AreFit a → IsFitDeed (does sapi (after_frame f (link_in sapi a)) a)
-fit_frame sapi f a fits h =
+fit_frame : (sapi : Sapi) (f : Frame) (a : Links) → Fits Sdcch f → AreOctets (information f.content) → AreFit a → IsFitDeed (does sapi (after_frame f (link_in sapi a)) a)
+fit_frame sapi f a fits octets h =
     let fit = fit_in sapi a h in
     let step = step-frame f (link_in sapi a) fit.end in
     fit_deed sapi (after_frame f (link_in sapi a)) a h (step.end fit.end) (step.channel ∙ fit.fits.on_channel) (frame-fits Sdcch f (link_in sapi a) fits fit.end fit.fits)
+    (frame-octets f (link_in sapi a) octets fit.end fit.octets)
 
 fit_nothing : (a : Links) → AreFit a → IsFitDeed (does_nothing a)
-fit_nothing a h = record { after = h; frames = tt }
+fit_nothing a h = record { after = h; frames = tt; said = tt }
 
-fit_read : (a : Links) (accepted : Option Octets) (read : Option Frame) → Reads Sdcch accepted read → AreFit a → IsFitDeed (takes_read read a)
-fit_read a accepted None reads h = fit_nothing a h
-fit_read a (Some octets) (Some f) reads h =
-    let fits : Fits Sdcch f = reads.fits in
-    by_sapi f a IsFitDeed (λ e. fit_frame Zero f a fits h) (λ e. fit_frame Three f a fits h) (λ e g. fit_nothing a h)
-fit_read a None (Some f) reads h = absurd reads
+fit_read : (a : Links) (accepted : Option Octets) (read : Option Frame) → IfSome accepted AreOctets → Reads Sdcch accepted read → AreFit a →
+    IsFitDeed (takes_read read a)
+fit_read a accepted None octets reads h = fit_nothing a h
+fit_read a accepted (Some f) octets reads h =
+    let well = reads-well Sdcch accepted f octets reads in
+    by_sapi f a IsFitDeed (λ e. fit_frame Zero f a well.0 well.1 h) (λ e. fit_frame Three f a well.0 well.1 h) (λ e g. fit_nothing a h)
 
 -- each frame that fits is coded
-some_coded : (tsc : ℕ) (fs : List Frame) → tsc ≤ 7 → AllFit Sdcch fs → (bs : List Block) × AreCoded tsc (map (octets_of Sdcch) fs) bs
-some_coded tsc [] known h = ([], tt)
-some_coded tsc (f ∷ fs) known h =
-    let b = some_sent_block (octets_of Sdcch f) tsc (octets_canonical Sdcch f h.0).frame.count known in
-    let bs = some_coded tsc fs known h.1 in
+some_coded : (tsc : ℕ) (fs : List Frame) → tsc ≤ 7 → AllFit Sdcch fs → AllSay fs → (bs : List Block) × AreCoded tsc (map (octets_of Sdcch) fs) bs
+some_coded tsc [] known h said = ([], tt)
+some_coded tsc (f ∷ fs) known h said =
+    let b = some_sent_block (octets_of Sdcch f) tsc (octets_canonical Sdcch f h.0).frame.count (octets_small Sdcch f h.0 said.0) known in
+    let bs = some_coded tsc fs known h.1 said.1 in
     (b.0 ∷ bs.0, (b.1, bs.1))
 
 some_text : (tsc : ℕ) (role : Role) (received : Option Received) (d : Deed) → tsc ≤ 7 → IsFitDeed d →
     (y : List ℕ) × IsAnswerText tsc (Does (step_of role received d)) y
 some_text tsc role received d known h =
-    let bs = some_coded tsc d.frames known h.frames in
+    let bs = some_coded tsc d.frames known h.frames h.said in
     (answer_text (Does (step_of role received d)) ++ flat_map block_text bs.0, record { blocks = bs.0; coded = bs.1; text_is = refl })
 
 -- what a run keeps
@@ -175,32 +184,40 @@ record SomeAnswer (s : EndRun) (event : Event) : Type 0 where
   pub text : List ℕ
   pub text_is : IsAnswerText s.tsc answer text
 
-asked_by : (s : EndRun) (sapi : Sapi) (call : Call) (o : Option Refused) → refusal_of call (link_in sapi s.links) ≡ o → s.tsc ≤ 7 → AreFit s.links →
+asked_by : (s : EndRun) (sapi : Sapi) (call : Call) (o : Option Refused) → refusal_of call (link_in sapi s.links) ≡ o → s.tsc ≤ 7 → CallOctets call → AreFit s.links →
     (b : Links) × (answer : Answer) × IsAsked s.role s.links sapi call b answer × ((y : List ℕ) × IsAnswerText s.tsc answer y)
-asked_by s sapi call (Some why) is known h =
+asked_by s sapi call (Some why) is known octets h =
     (s.links, Refuses (Because why), (ap because is, refl), (answer_text (Refuses (Because why)) ++ [], record { blocks = []; coded = tt; text_is = refl }))
-asked_by s sapi call None is known h =
+asked_by s sapi call None is known octets h =
     let d : Deed = asks sapi call s.links in
-    let text = some_text s.tsc s.role None d known (fit_call sapi call s.links h is) in
+    let text = some_text s.tsc s.role None d known (fit_call sapi call s.links octets h is) in
     (d.after, Does (step_of s.role None d), (ap because is, refl, refl), text)
 
-some_asked : (s : EndRun) (sapi : Sapi) (call : Call) → s.tsc ≤ 7 → AreFit s.links →
+some_asked : (s : EndRun) (sapi : Sapi) (call : Call) → s.tsc ≤ 7 → CallOctets call → AreFit s.links →
     (b : Links) × (answer : Answer) × IsAsked s.role s.links sapi call b answer × ((y : List ℕ) × IsAnswerText s.tsc answer y)
-some_asked s sapi call known h = asked_by s sapi call (refusal_of call (link_in sapi s.links)) refl known h
+some_asked s sapi call known octets h = asked_by s sapi call (refusal_of call (link_in sapi s.links)) refl known octets h
 
-some_asking : (s : EndRun) (event : Event) → IsCallOf s.role event → s.tsc ≤ 7 → AreFit s.links → SomeAnswer s event
+-- a request of octets is a call of octets
+request_octets : (role : Role) (sapi : Sapi) (request : Request) → IsOctetEvent (Ask role sapi request) → CallOctets (call_of request)
+request_octets role sapi (Send m) h = h
+request_octets role sapi (SendUnit m) h = h
+request_octets role sapi Close h = tt
+request_octets role sapi Tick h = tt
+request_octets role sapi Idle h = tt
+
+some_asking : (s : EndRun) (event : Event) → IsCallOf s.role event × IsOctetEvent event → s.tsc ≤ 7 → AreFit s.links → SomeAnswer s event
 some_asking s (Open info) own known h =
-    let a = some_asked s Zero (Opens info) known h in
+    let a = some_asked s Zero (Opens info) known own.1 h in
     record { links = a.0; answer = a.1; asked = a.2; text = a.3.0; text_is = a.3.1 }
 some_asking s (OpenBare other) own known h =
-    let a = some_asked s Three OpensBare known h in
+    let a = some_asked s Three OpensBare known tt h in
     record { links = a.0; answer = a.1; asked = a.2; text = a.3.0; text_is = a.3.1 }
 some_asking s (Ask other sapi request) own known h =
-    let a = some_asked s sapi (call_of request) known h in
+    let a = some_asked s sapi (call_of request) known (request_octets other sapi request own.1) h in
     record { links = a.0; answer = a.1; asked = a.2; text = a.3.0; text_is = a.3.1 }
-some_asking s (Deliver sender places) own known h = absurd own
-some_asking s (Lose sender) own known h = absurd own
-some_asking s (Rival info) own known h = absurd own
+some_asking s (Deliver sender places) own known h = absurd own.0
+some_asking s (Lose sender) own known h = absurd own.0
+some_asking s (Rival info) own known h = absurd own.0
 
 -- ---- some answer to bursts
 
@@ -210,7 +227,7 @@ some_arrival s bursts four each known h =
     let report = some_received_block bursts four each in
     let read = some_reading Sdcch report.0.accepted (accepted_count bursts report.0 report.1) in
     let d : Deed = takes_read read.0 s.links in
-    let fit : IsFitDeed d = fit_read s.links report.0.accepted read.0 read.1 h in
+    let fit : IsFitDeed d = fit_read s.links report.0.accepted read.0 (accepted_octets bursts report.0 report.1) read.1 h in
     let text = some_text s.tsc s.role (Some report.0) d known fit in (
       text.0,
       record s { links = d.after; held = [] },
@@ -256,6 +273,7 @@ idle_fit : (role : Role) (sapi : Sapi) → IsFit (start role sapi Sdcch)
 idle_fit role sapi = record {
   end = record { messages = All-nil IsMessage; sent = omega arith; behind = omega arith; window = omega arith };
   fits = record { on_channel = refl; kept = omega arith };
+  octets = record { kept = All-nil (λ octet. octet < 256); taken = tt };
 }
 
 idle_kept : (role : Role) (tsc : ℕ) → IsKept role tsc (idle role tsc)
@@ -267,22 +285,23 @@ idle_kept role tsc = record {
   each = All-nil (λ (burst : List ℤ). length burst ≡ 148);
 }
 
-asked_fit : (role : Role) (a : Links) (sapi : Sapi) (call : Call) (b : Links) (answer : Answer) → AreFit a → IsAsked role a sapi call b answer → AreFit b
-asked_fit role a sapi call b (Refuses why) h asked = subst AreFit (sym asked.1) h
-asked_fit role a sapi call b (Does step) h asked =
-    subst AreFit (sym asked.1) (fit_call sapi call a h (not_because (refusal_of call (link_in sapi a)) asked.0)).after
+asked_fit : (role : Role) (a : Links) (sapi : Sapi) (call : Call) (b : Links) (answer : Answer) → CallOctets call → AreFit a → IsAsked role a sapi call b answer → AreFit b
+asked_fit role a sapi call b (Refuses why) octets h asked = subst AreFit (sym asked.1) h
+asked_fit role a sapi call b (Does step) octets h asked =
+    subst AreFit (sym asked.1) (fit_call sapi call a octets h (not_because (refusal_of call (link_in sapi a)) asked.0)).after
   where
     not_because : (o : Option Refused) → because o ≡ None → o ≡ None
     not_because None e = refl
     not_because (Some why) e = absurd (cc e)
 
-asking_fit : (role : Role) (a : Links) (event : Event) (b : Links) (answer : Answer) → AreFit a → Asks role a event b answer → AreFit b
-asking_fit role a (Open info) b answer h asked = asked_fit role a Zero (Opens info) b answer h asked
-asking_fit role a (OpenBare other) b answer h asked = asked_fit role a Three OpensBare b answer h asked
-asking_fit role a (Ask other sapi request) b answer h asked = asked_fit role a sapi (call_of request) b answer h asked
-asking_fit role a (Deliver sender places) b answer h asked = absurd asked
-asking_fit role a (Lose sender) b answer h asked = absurd asked
-asking_fit role a (Rival info) b answer h asked = absurd asked
+asking_fit : (role : Role) (a : Links) (event : Event) (b : Links) (answer : Answer) → IsOctetEvent event → AreFit a → Asks role a event b answer → AreFit b
+asking_fit role a (Open info) b answer octets h asked = asked_fit role a Zero (Opens info) b answer octets h asked
+asking_fit role a (OpenBare other) b answer octets h asked = asked_fit role a Three OpensBare b answer tt h asked
+asking_fit role a (Ask other sapi request) b answer octets h asked =
+    asked_fit role a sapi (call_of request) b answer (request_octets other sapi request octets) h asked
+asking_fit role a (Deliver sender places) b answer octets h asked = absurd asked
+asking_fit role a (Lose sender) b answer octets h asked = absurd asked
+asking_fit role a (Rival info) b answer octets h asked = absurd asked
 
 module _ (role : Role) (tsc : ℕ) where
   bursts_keep : (s b : EndRun) (soft : List ℤ) (y : List ℕ) → IsKept role tsc s → length soft ≡ 148 → AnswersBursts s (s.held ++ soft ∷ []) y b →
@@ -298,7 +317,8 @@ module _ (role : Role) (tsc : ℕ) where
   bursts_keep s b soft y k count (inr (four, h)) =
       let heard = h.heard in
       let fit : AreFit h.links =
-      subst AreFit (sym heard.after) (fit_read s.links heard.report.accepted heard.read heard.reads k.links).after in
+      subst AreFit (sym heard.after) (fit_read s.links heard.report.accepted heard.read
+      (accepted_octets (s.held ++ soft ∷ []) heard.report heard.received) heard.reads k.links).after in
       subst (IsKept role tsc) (sym h.after_is) (record {
         role_is = k.role_is;
         tsc_is = k.tsc_is;
@@ -315,7 +335,7 @@ module _ (role : Role) (tsc : ℕ) where
       subst (IsKept role tsc) (sym h.after_is) (record {
         role_is = k.role_is;
         tsc_is = k.tsc_is;
-        links = asking_fit s.role s.links event h.links h.answer k.links h.asked;
+        links = asking_fit s.role s.links event h.links h.answer (call_is_own s.role (length s.held) line event means).1 k.links h.asked;
         few = k.few;
         each = k.each;
       })
