@@ -312,7 +312,7 @@ end_well Mobile held line meaning means =
         λ count values here (octets, rest, is, known, none). rw (is, none) (soft 148 octets known),
         (
           λ count values here none. rw none lost,
-          (λ count values here (m, rest, is, known, none). rw (is, none) (refl, known.2), (λ count values here none. (refl, tt), (λ count values here (m, rest, is, known, none). rw (is, none) (refl, known.2), (λ count values here (m, rest, is, known, none). rw (is, none) (refl, known.2), (λ count values here none. (refl, tt), (λ count values here none. (refl, tt), (λ count values here (m, rest, is, known, none). rw (is, none) (refl, known.2), (λ count values here (m, rest, is, known, none). rw (is, none) (refl, known.2), (λ count values here none. (refl, tt), (λ count values here none. (refl, tt), (λ count values here none. (refl, tt), tt))))))))))),
+          (λ count values here (m, rest, is, known, none). rw is (refl, known.2), (λ count values here none. (refl, tt), (λ count values here (m, rest, is, known, none). rw is (refl, known.2), (λ count values here (m, rest, is, known, none). rw is (refl, known.2), (λ count values here none. (refl, tt), (λ count values here none. (refl, tt), (λ count values here (m, rest, is, known, none). rw is (refl, known.2), (λ count values here (m, rest, is, known, none). rw is (refl, known.2), (λ count values here none. (refl, tt), (λ count values here none. (refl, tt), (λ count values here none. (refl, tt), tt))))))))))),
         ),
       ),
     ) line meaning means
@@ -323,7 +323,7 @@ end_well Network held line meaning means =
         λ count values here (octets, rest, is, known, none). rw (is, none) (soft 148 octets known),
         (
           λ count values here none. rw none lost,
-          (λ count values here none. (refl, tt), (λ count values here (m, rest, is, known, none). rw (is, none) (refl, known.2), (λ count values here (m, rest, is, known, none). rw (is, none) (refl, known.2), (λ count values here none. (refl, tt), (λ count values here none. (refl, tt), (λ count values here (m, rest, is, known, none). rw (is, none) (refl, known.2), (λ count values here (m, rest, is, known, none). rw (is, none) (refl, known.2), (λ count values here none. (refl, tt), (λ count values here none. (refl, tt), (λ count values here none. (refl, tt), tt)))))))))),
+          (λ count values here none. (refl, tt), (λ count values here (m, rest, is, known, none). rw is (refl, known.2), (λ count values here (m, rest, is, known, none). rw is (refl, known.2), (λ count values here none. (refl, tt), (λ count values here none. (refl, tt), (λ count values here (m, rest, is, known, none). rw is (refl, known.2), (λ count values here (m, rest, is, known, none). rw is (refl, known.2), (λ count values here none. (refl, tt), (λ count values here none. (refl, tt), (λ count values here none. (refl, tt), tt)))))))))),
         ),
       ),
     ) line meaning means

@@ -22,9 +22,11 @@ returns-in-Ok-clause-follows c a st =
       d.after,
       done.stands,
       asks_event role a event d.after answer (is_call role event c.requires.own)
-          (subst (λ (s : Sapi). IsAsked role a s (call_in event) d.after answer) c.link_asked-sapi.ensures
-          (ap because (sym (c.in-Ok.ensures.refusal _ (stands_at sapi c.args.self.now a st))), refl,
-          done_step role _ None d _ _ _ (step_of c.step.result) c.step.ensures.step (ap role_of c.in-Ok.ensures.same.side) done)),
+          (subst (λ (s : Sapi). IsAsked role a s (call_in event) d.after answer) c.link_asked-sapi.ensures (
+            ap because (sym (c.in-Ok.ensures.refusal _ (stands_at sapi c.args.self.now a st))),
+            refl,
+            done_step role _ None d _ _ _ (step_of c.step.result) c.step.ensures.step (ap role_of c.in-Ok.ensures.same.side) done,
+          )),
     )
 
 pub returns-in-Ok-clause-only : goal.returns-in-Ok-clause-only
