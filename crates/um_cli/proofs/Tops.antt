@@ -14,8 +14,7 @@ use Rattle.um_cli.specs.declared.words.Shape.TheVariants.{Code, Replay, Show, Ma
 use Rattle.um_cli.specs.Shapes.{Fits}
 use Rattle.um_margin.specs.Margins.{margin_rules}
 use Rattle.um_margin.proofs.Lemmas.{margin_is_determined, margin_has_one_output}
-use Rattle.um_make.specs.Generated.{generated}
-use Rattle.um_make.proofs.Laws.{one_summary}
+use Rattle.um_make.proofs.Laws.{generated_summary}
 use Rattle.um_session.proofs.Laws.{link_has_one_output}
 use Rattle.um_cli.proofs.CodeRules.{code_has_one_output}
 use Rattle.um_cli.proofs.Headlines.{headline_is_weaker}
@@ -29,7 +28,7 @@ one_output Replay fits = replay_has_one_output
 one_output Show fits = show_has_one_output
 one_output Margin fits = margin_has_one_output
 one_output (Link tsc channel) fits = link_has_one_output tsc channel fits
-one_output (Make n tsc) fits = one_summary tsc (generated n) fits.2
+one_output (Make n tsc) fits = generated_summary n tsc fits.2
 
 -- what holds for the shape of the words holds for whatever shape they have
 pub for_shape : (P : Shape → Type 0) (found : Option Shape) (s : Shape) → found ≡ Some s → P s → (t : Shape) → found ≡ Some t → P t

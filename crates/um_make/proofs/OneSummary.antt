@@ -12,7 +12,9 @@ use Rattle.um_air.proofs.Laws.{one_run, some_run}
 use Rattle.um_make.specs.declared.end_summary.EndSummary.{EndSummary}
 use Rattle.um_make.specs.declared.summary.Summary.{Summary}
 use Rattle.um_make.specs.Summaries.{sends, is_take, is_drop, is_loss, IsEndSummary, IsSummary}
+use Rattle.um_make.specs.Generated.{generated}
 use Rattle.um_make.specs.Runs.{HasOneSummary}
+use Rattle.um_make.proofs.KindEvents.{kind-generated}
 
 end_summary_of : Role → List Line → EndSummary
 end_summary_of r ls = record {
@@ -99,3 +101,6 @@ one_summary tsc events within octets =
       };
       one = λ other sums. same_summary events answers other (summary_of events answers) (sums.only answers some.1 some.2) (is_summary events answers);
     }
+
+pub generated_summary : (n tsc : ℕ) → tsc ≤ 7 → HasOneSummary tsc (generated n)
+generated_summary n tsc within = one_summary tsc (generated n) within (octets_of_kind (generated n) (kind-generated n))
