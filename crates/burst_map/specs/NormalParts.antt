@@ -7,8 +7,8 @@ use Rattle.burst_map.specs.contracts.normal_parts.NormalParts.{the_row}
 use Rattle.burst_map.specs.Parts.{with_part}
 
 -- the burst as it stands
-abbrev pub burst_of : NormalParts → List ℕ
-burst_of parts = parts.burst.now
+abbrev pub burst_now : NormalParts → List ℕ
+burst_now parts = parts.burst.now
 
 -- which burst it is
 abbrev pub burst_name : NormalParts → GName
@@ -22,4 +22,4 @@ with_burst parts burst = record parts { burst = record parts.burst { now = burst
 abbrev pub LendsPlaces : MutBor NormalParts → ℕ → ℕ → MutBor (List ℕ) → Fml
 LendsPlaces parts from to half =
     Lends (the_row (record { mir = named 1; lft = [] })) (Array u8 0) parts half
-    (λ bits. with_burst parts.now (with_part (burst_of parts.now) from to bits))
+    (λ bits. with_burst parts.now (with_part (burst_now parts.now) from to bits))

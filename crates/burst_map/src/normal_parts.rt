@@ -1,7 +1,7 @@
 ghost use Rattle.std.specs.Prelude.{◌≡◌, ◌≤◌, length, replicate, slice_range};
 ghost use Rattle.std.specs.Borrow.{sem};
 ghost use Rattle.burst_map.specs.NormalBurst.{normal_burst};
-ghost use Rattle.burst_map.specs.NormalParts.{burst_of, burst_name, LendsPlaces};
+ghost use Rattle.burst_map.specs.NormalParts.{burst_now, burst_name, LendsPlaces};
 
 use crate::lending::part_mut;
 use crate::normal_burst::normal;
@@ -17,7 +17,7 @@ impl<'a> NormalParts<'a> {
     pub fn new(burst: &'a mut [u8; 148], tsc: u8) -> NormalParts<'a>
         requires { tsc ≤ 7 }
         ensures same_burst { burst.entry.ghost_name ≡ burst_name result }
-        ensures value { burst_of result ≡ normal_burst (replicate 57 0) (replicate 57 0) tsc }
+        ensures value { burst_now result ≡ normal_burst (replicate 57 0) (replicate 57 0) tsc }
     {
         *burst = normal(&[0; 57], &[0; 57], tsc);
         NormalParts { burst }
@@ -26,7 +26,7 @@ impl<'a> NormalParts<'a> {
     /// The 57 coded bits before the training sequence, for writing.
     pub fn first_mut(&mut self) -> &mut [u8]
         ensures* writes_back { sem 𝓛 (LendsPlaces self.entry 3 60 result) }
-        ensures value { result.now ≡ slice_range (burst_of self.old) 3 60 }
+        ensures value { result.now ≡ slice_range (burst_now self.old) 3 60 }
         ensures count { length result.now ≡ 57 }
     {
         part_mut(self.burst, 3, 60)
@@ -35,7 +35,7 @@ impl<'a> NormalParts<'a> {
     /// The 57 coded bits after the training sequence, for writing.
     pub fn second_mut(&mut self) -> &mut [u8]
         ensures* writes_back { sem 𝓛 (LendsPlaces self.entry 88 145 result) }
-        ensures value { result.now ≡ slice_range (burst_of self.old) 88 145 }
+        ensures value { result.now ≡ slice_range (burst_now self.old) 88 145 }
         ensures count { length result.now ≡ 57 }
     {
         part_mut(self.burst, 88, 145)

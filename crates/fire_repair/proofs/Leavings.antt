@@ -4,13 +4,13 @@ use Rattle.std.specs.Int.Bits.{xor_assoc, xor_self}
 use Rattle.std.proofs.Math.Nat.{pow-suc, pow-le-pow_right}
 use Rattle.std.proofs.lemmas.Nat.{shr-shr, xor_shr, xor_lt, shl-shr, mod_low, shl_below, shr_below, pow_pos}
 use Rattle.std.proofs.lemmas.List.Elements.{All-head, All-tail}
-use Rattle.bit_blocks.specs.Bits.{IsBit, AllBits, add_bits}
-use Rattle.bit_blocks.specs.Polynomials.{product_at, IsProduct, HasQuotient}
+use Rattle.bit_blocks.specs.Bits.{IsBit}
+use Rattle.bit_blocks.specs.Polynomials.{product_at, HasQuotient}
 use Rattle.bit_blocks.proofs.Lemmas.{HasQuotient-zeros}
 use Rattle.fire_code.specs.Registers.{register_bits}
 use Rattle.fire_code.specs.Words.{g40}
-use Rattle.fire_code.proofs.Lemmas.{taps_of_g40, add_after, length-register_bits, AllBits-register_bits, register_bits-mod, register_bits-suc, register_bits-xor, register_bits-zero, register_bits_split, lowest_of_xor, carry_is, remainder_more}
-use Rattle.fire_repair.specs.Bursts.{moved_once, moved, left_by, burst}
+use Rattle.fire_code.proofs.Lemmas.{taps_of_g40, length-register_bits, AllBits-register_bits, register_bits-mod, register_bits-suc, register_bits-zero, register_bits_split, lowest_of_xor, carry_is, remainder_more}
+use Rattle.fire_repair.specs.Bursts.{moved_once, moved, left_by}
 use Rattle.fire_repair.proofs.Moves.{moved_once_within}
 
 drop_term : (y k p z : ℕ) → y ≡ 0 → z ≡ (y * k + p) % 2 → z ≡ p % 2

@@ -2,7 +2,7 @@
 use Rattle.std.proofs.Common.{◌≡◌, ◌≢◌, ℕ, zero, suc, ◌+◌, ◌-◌, ◌*◌, ◌/◌, ◌%◌, ◌^◌, ◌<◌, ◌≤◌, List, length, get_or, min, refl, ap, sym, ◌∙◌, subst, arith, ◌⊎◌, inl, inr}
 use Rattle.std.specs.Int.{bit_at}
 use Rattle.std.proofs.lemmas.Nat.Bits.{bit_at-zero, bit_at_above, same_from_bits}
-use Rattle.bit_blocks.specs.Bits.{IsBit, AllBits, add_bits}
+use Rattle.bit_blocks.specs.Bits.{AllBits, add_bits}
 use Rattle.bit_blocks.proofs.Lemmas.{AllBits-add_bits, add_bits_again, get_or-add_bits, length-add_bits}
 use Rattle.fire_code.specs.Registers.{register_bits}
 use Rattle.fire_code.proofs.Lemmas.{get_or-register_bits, number_of, number_of_within, register_bits-number_of}

@@ -1,9 +1,9 @@
 -- What a burst makes of a word, that no other word is so near, and that one answer is due.
-use Rattle.std.proofs.Common.{◌≡◌, ◌≢◌, ℕ, zero, suc, ◌+◌, ◌-◌, ◌*◌, ◌/◌, ◌%◌, ◌^◌, ◌<◌, ◌≤◌, List, ◌++◌, length, replicate, get_or, Option, Some, None, refl, ap, ap₂, sym, ◌∙◌, subst, arith}
+use Rattle.std.proofs.Common.{◌≡◌, ◌≢◌, ℕ, zero, suc, ◌+◌, ◌-◌, ◌*◌, ◌%◌, ◌^◌, ◌<◌, ◌≤◌, List, ◌++◌, length, replicate, get_or, Option, Some, None, refl, ap, sym, ◌∙◌, subst, arith}
 use Rattle.std.specs.Int.{bit_at, trailing_zeros, leading_zeros, w64}
 use Rattle.std.proofs.Math.Nat.{lt_of_not-le}
 use Rattle.std.proofs.lemmas.List.{get_or_past}
-use Rattle.bit_blocks.specs.Bits.{IsBit, AllBits, add_bits}
+use Rattle.bit_blocks.specs.Bits.{AllBits, add_bits}
 use Rattle.bit_blocks.proofs.Lemmas.{add_bits-zeros, get_or-add_bits, length-add_bits}
 use Rattle.fire_code.specs.Registers.{register_bits}
 use Rattle.fire_code.specs.Words.{IsXcchWord}
@@ -21,7 +21,7 @@ use Rattle.fire_repair.proofs.Leavings.{Leaves, leaves_left}
 use Rattle.fire_repair.proofs.Moves.{moved_within}
 use Rattle.fire_repair.proofs.Nearness.{IsBurst, burst_between}
 use Rattle.fire_repair.proofs.Walks.{Says, find_from, said_of}
-use Rattle.fire_repair.proofs.Words.{at_parity, HasSyndrome, some_syndrome, same_syndrome, word_with_number, word_with_register}
+use Rattle.fire_repair.proofs.Words.{at_parity, some_syndrome, same_syndrome, word_with_number, word_with_register}
 
 -- ---- the word with a burst added
 

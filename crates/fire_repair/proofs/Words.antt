@@ -1,8 +1,8 @@
 -- What is added to 224 bits to make a word of the code.
-use Rattle.std.proofs.Common.{◌≡◌, ℕ, ◌+◌, ◌/◌, ◌%◌, ◌^◌, ◌<◌, ◌≤◌, List, [], ◌∷◌, ◌++◌, length, length-append, replicate, take, drop, get_or, refl, ap, sym, ◌∙◌, subst, arith, bit_xor, lit≤}
+use Rattle.std.proofs.Common.{◌≡◌, ℕ, ◌+◌, ◌/◌, ◌%◌, ◌^◌, ◌<◌, List, [], ◌++◌, length, length-append, replicate, take, drop, get_or, refl, ap, sym, ◌∙◌, subst, arith, bit_xor}
 use Rattle.std.proofs.lemmas.Grind.{same_number_lists}
-use Rattle.std.proofs.lemmas.List.{append-nil, length-replicate, take-append-drop, length-take-le, length-drop}
-use Rattle.std.proofs.lemmas.List.Elements.{All-take, All-drop}
+use Rattle.std.proofs.lemmas.List.{append-nil, take-append-drop, length-take-le, length-drop}
+use Rattle.std.proofs.lemmas.List.Elements.{All-take}
 use Rattle.bit_blocks.specs.Bits.{IsBit, AllBits, add_bits}
 use Rattle.bit_blocks.specs.Polynomials.{HasQuotient}
 use Rattle.bit_blocks.proofs.Lemmas.{AllBits-add_bits, AllBits-back, add_bits-comm, add_bits_again, divided_more, get_or-add_bits, length-add_bits}

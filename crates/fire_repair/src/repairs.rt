@@ -1,3 +1,4 @@
+//! What is answered of a word: that it holds, its repair, or that it has none.
 ghost use Rattle.std.specs.Prelude.{◌≡◌};
 ghost use Rattle.fire_repair.specs.Answers.{IsAnswer};
 

@@ -2,7 +2,7 @@
 use Rattle.std.proofs.Common.{◌≡◌, ℕ, zero, suc, ◌+◌, ◌-◌, ◌%◌, ◌<◌, ◌≤◌, ℤ, pos, negsuc, ◌+ℤ◌, ◌-ℤ◌, ◌≤ℤ◌, List, [], ◌∷◌, ◌++◌, map, length, get_or, take, drop, refl, ap, ap₂, sym, ◌∙◌, subst, arith, lit≤, w8, w16, FitsSigned}
 use Rattle.std.specs.Int.{cast_signed, cast_unsigned}
 use Rattle.std.proofs.lemmas.Int.{ints, to_z-of_z, of_z-to_z}
-use Rattle.std.proofs.lemmas.List.{get_or-take, get_or-drop, length-take, length-drop}
+use Rattle.std.proofs.lemmas.List.{get_or-take, get_or-drop, length-append, length-take, length-drop}
 use Rattle.std.proofs.lemmas.List.Elements.{All-nil, All-cons, All-append, All-head, All-tail, All-take, All-drop}
 use lib.Lanes.{Each1}
 use Rattle.trellis_decode.specs.Lanes.{lane, IsOctet, AreOctets}
@@ -228,8 +228,20 @@ module _ (soft : List ℤ) (octets : AreOctets soft) (count : length soft ≡ 8)
 pub HasEdges-passed : (edges pair : List ℤ) → AreEdges edges → HasEdges edges pair → HasEdges (passed edges) pair
 HasEdges-passed edges pair fit has = subst (λ edges. HasEdges edges pair) (sym (passed-lanes edges (AreNarrow-edges edges fit))) has
 
--- four pairs in a row
-pub four_pairs : (soft : List ℤ) → length soft ≡ 8 → take 2 soft ++ (take 2 (drop 2 soft) ++ (take 2 (drop 4 soft) ++ (take 2 (drop 6 soft) ++ []))) ≡ soft
+-- the pair that begins at a place, and the pairs from there to the end
+abbrev pub pair_at : List ℤ → ℕ → List ℤ
+pair_at soft i = take 2 (drop i soft)
+
+abbrev pub last_one : List ℤ → List ℤ
+last_one soft = pair_at soft 6 ++ []
+
+abbrev pub last_two : List ℤ → List ℤ
+last_two soft = pair_at soft 4 ++ last_one soft
+
+abbrev pub last_three : List ℤ → List ℤ
+last_three soft = pair_at soft 2 ++ last_two soft
+
+pub four_pairs : (soft : List ℤ) → length soft ≡ 8 → pair_at soft 0 ++ last_three soft ≡ soft
 four_pairs [] count = absurd (omega arith)
 four_pairs (a ∷ []) count = absurd (omega arith)
 four_pairs (a ∷ b ∷ []) count = absurd (omega arith)
@@ -241,8 +253,24 @@ four_pairs (a ∷ b ∷ c ∷ d ∷ e ∷ f ∷ g ∷ []) count = absurd (omega 
 four_pairs (a ∷ b ∷ c ∷ d ∷ e ∷ f ∷ g ∷ h ∷ []) count = refl
 four_pairs (a ∷ b ∷ c ∷ d ∷ e ∷ f ∷ g ∷ h ∷ i ∷ soft) count = absurd (omega arith)
 
-pub AreOctets-pair : (soft : List ℤ) (i : ℕ) → AreOctets soft → AreOctets (take 2 (drop i soft))
+pub AreOctets-pair : (soft : List ℤ) (i : ℕ) → AreOctets soft → AreOctets (pair_at soft i)
 AreOctets-pair soft i octets = All-take IsOctet 2 (drop i soft) (All-drop IsOctet i soft octets)
+
+-- a few octets: so few that what they count stays small
+unfoldable pub AreFew : ℕ → List ℤ → Type 0
+AreFew n soft = AreOctets soft × (length soft ≤ n)
+
+pub AreFew-none : AreFew 0 []
+unfolding AreFew
+AreFew-none = (All-nil IsOctet, lit≤ tt)
+
+pub AreFew-more : (soft rest : List ℤ) (i n : ℕ) → AreOctets soft → AreFew n rest → AreFew (n + 2) (pair_at soft i ++ rest)
+unfolding AreFew
+AreFew-more soft rest i n octets few =
+    let short = few.1 in (
+      All-append IsOctet (pair_at soft i) rest (AreOctets-pair soft i octets) few.0,
+      omega (arith, length-append (pair_at soft i) rest, length-take 2 (drop i soft)),
+    )
 
 -- ---- one pair, and six zeros after it
 

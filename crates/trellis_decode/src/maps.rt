@@ -60,9 +60,9 @@ impl Walk {
     }
 }
 
-/// A map of the states at a place to those some places on, by the first bit that each state takes and the map of the place after it.
+/// A map with one step more before it, by the bit that each state takes in that step.
 ///
-/// State `s` stands at its place, as in a step's bits: the states 0 to 7 with their bits turned round, and then 8 to 15.
+/// The states 0 to 7 come first, each where its bits turned round stand, and then those from 8 on in the same way.
 fn followed(map: u8x16, low: i8x8, high: i8x8) -> u8x16
     requires map { length map ≡ 16 }
     requires low { AreTaken low }
@@ -79,7 +79,7 @@ fn followed(map: u8x16, low: i8x8, high: i8x8) -> u8x16
     taken.select(ones, zeros)
 }
 
-/// The four newest bits of the state at each place.
+/// The four bits of the state at each place, the oldest first.
 static BITS: [[u8; 4]; 16] = [
     [0, 0, 0, 0],
     [0, 1, 0, 0],

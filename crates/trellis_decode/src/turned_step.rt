@@ -49,7 +49,7 @@ impl Values {
 pub struct Step {
     /// What the best list is worth that begins in each state.
     pub values: Values,
-    /// The first bits of the best lists of the states 0 to 7, with their bits turned round: -1 for a 1.
+    /// What the states 0 to 7 take first, each where its bits turned round stand: -1 for the bit 1, and 0 for 0.
     pub low: i8x8,
     /// The same of the states 8 to 15.
     pub high: i8x8,

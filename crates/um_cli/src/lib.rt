@@ -11,4 +11,5 @@ mod words;
 
 pub use top::{law_one_output, run};
 pub use um_driver::Status;
+pub use um_make::Script;
 pub use words::{Shape, Words};

@@ -1,11 +1,6 @@
-use Rattle.std.proofs.Common.{◌≡◌, ◌<◌, ◌^◌, ◌-◌, arith, sym, ◌∙◌, None}
+use Rattle.std.proofs.Common.{◌≡◌, arith, sym, ◌∙◌, None}
 use Rattle.fire_repair.proofs.Moves.{walked_within}
 use Rattle.fire_repair.proofs.Walks.{find_from, found_here, found_before, found_nowhere, said_of}
-use Rattle.fire_repair.proofs.Words.{word_with_number}
-use Rattle.fire_repair.proofs.Exhausted.{same_burst}
-use Rattle.fire_repair.proofs.BurstBits.{burst_after}
-use Rattle.fire_repair.proofs.Edges.{edges_of}
-use Rattle.fire_repair.proofs.Nearness.{IsBurst}
 use Rattle.fire_repair.proofs.bursts.find_burst.Goals as goal
 
 pub loop-start-preserved : goal.loop-start-preserved

@@ -1,4 +1,3 @@
-use Rattle.std.proofs.Common.{refl}
 use Rattle.fire_repair.proofs.Turning.{turned_none, turned_more, turned_all}
 use Rattle.fire_repair.proofs.bursts.turned.Goals as goal
 

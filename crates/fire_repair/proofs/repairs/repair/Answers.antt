@@ -1,5 +1,4 @@
-use Rattle.std.proofs.Common.{◌≡◌, ◌+◌, ◌-◌, refl, subst, sym, arith}
-use Rattle.bit_blocks.specs.Bits.{add_bits}
+use Rattle.std.proofs.Common.{◌+◌, ◌-◌, refl, subst, sym, arith}
 use Rattle.fire_repair.specs.declared.repairs.RepairAnswer.TheVariants.{Holds, Repaired, NoRepair}
 use Rattle.fire_repair.specs.Answers.{IsAnswer}
 use Rattle.fire_repair.specs.Repairs.{IsRepair, IsSpan}
