@@ -47,7 +47,7 @@ LineOctets (Asked r s call ∷ ls) = CallOctets call × LineOctets ls
 LineOctets (Rivals info ∷ ls) = AreOctets info × LineOctets ls
 LineOctets (Told r s n ∷ ls) = LineOctets ls
 
-abbrev AllMessages : List Message → Type 0
+abbrev pub AllMessages : List Message → Type 0
 AllMessages [] = Unit {0}
 AllMessages (m ∷ ms) = AreOctets m × AllMessages ms
 
@@ -135,7 +135,7 @@ pub record OutcomeOctets (o : Outcome) : Type 0 where
   pub end : EndOctets o.after
   pub frames : AllSay o.frames
 
-frame-octets : (f : Frame) (x : EndState) → AreOctets (information f.content) → KeepsWindow x → EndOctets x →
+pub frame-octets : (f : Frame) (x : EndState) → AreOctets (information f.content) → KeepsWindow x → EndOctets x →
     OutcomeOctets (after_frame f x)
 frame-octets f x octets e h =
     let t : IsTaken f.content x (after_frame f x) = taken-frame f x e in
@@ -170,7 +170,7 @@ ticks-octets : (t : State) (b : Bool) (x : EndState) → awaits_in t (waits x) �
 ticks-octets t true x due e h = record { end = record { kept = h.kept; taken = h.taken }; frames = (repeated-octets t x due e h, tt) }
 ticks-octets t false x due e h = record { end = record { kept = h.kept; taken = h.taken }; frames = tt }
 
-call-octets : (call : Call) (x : EndState) → CallOctets call → refusal_of call x ≡ None → KeepsWindow x → EndOctets x →
+pub call-octets : (call : Call) (x : EndState) → CallOctets call → refusal_of call x ≡ None → KeepsWindow x → EndOctets x →
     OutcomeOctets (after_call call x)
 call-octets (Opens info) x c ok e h = record { end = record { kept = c; taken = h.taken }; frames = (c, tt) }
 call-octets OpensBare x c ok e h = record { end = record { kept = none; taken = h.taken }; frames = (none, tt) }

@@ -25,7 +25,7 @@ never_both channel octets f why h g = elim (one_reading channel octets h.count) 
   | inr (reason, only) ↦ only.no_frame f h
 ]
 
-one_read : (channel : Channel) (o : Option Octets) (f g : Option Frame) → Reads channel o f → Reads channel o g → f ≡ g
+pub one_read : (channel : Channel) (o : Option Octets) (f g : Option Frame) → Reads channel o f → Reads channel o g → f ≡ g
 one_read channel (Some octets) (Some f) (Some g) h k = ap Some (same_frame channel octets f g h k)
 one_read channel (Some octets) (Some f) None h k = absurd (never_both channel octets f k.0 h k.1)
 one_read channel (Some octets) None (Some f) h k = absurd (never_both channel octets f h.0 k h.1)
@@ -83,7 +83,7 @@ same_blocks channel tsc (f ∷ fs) (b ∷ bs) [] h k = absurd k
 same_blocks channel tsc (f ∷ fs) (b ∷ bs) (c ∷ cs) h k =
     ap₂ (λ x xs. x ∷ xs) (one_sent_block (octets_of channel f) tsc b c h.0 k.0) (same_blocks channel tsc fs bs cs h.1 k.1)
 
-same_step : (s t : Step) → s.who ≡ t.who → s.sapi ≡ t.sapi → s.received ≡ t.received → s.frames ≡ t.frames → s.notices ≡ t.notices → s ≡ t
+pub same_step : (s t : Step) → s.who ≡ t.who → s.sapi ≡ t.sapi → s.received ≡ t.received → s.frames ≡ t.frames → s.notices ≡ t.notices → s ≡ t
 same_step s t who sapi received frames notices =
     let make : Who → Sapi → Option Received → List Octets → List Notice → Step =
     λ a b c d e. record { who = a; sapi = b; received = c; frames = d; notices = e } in

@@ -136,7 +136,7 @@ same_lines read (Rival info) = refl
 abbrev pub ReadsWell : Channel → Role → Frame → Type 0
 ReadsWell channel sender f = Fits channel f × AreOctets (information f.content)
 
-reads-well : (channel : Channel) (accepted : Option Octets) (f : Frame) → IfSome accepted AreOctets → Reads channel accepted (Some f) →
+pub reads-well : (channel : Channel) (accepted : Option Octets) (f : Frame) → IfSome accepted AreOctets → Reads channel accepted (Some f) →
     Fits channel f × AreOctets (information f.content)
 reads-well channel (Some octets) f all h =
     let small : ℕ → Type 0 = λ octet. octet < 256 in

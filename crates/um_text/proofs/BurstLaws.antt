@@ -30,13 +30,13 @@ one_meaning held line =
 abbrev pub AreSoft : ℕ → List ℤ → Type 0
 AreSoft count values = (length values ≡ count) × AllSoft values
 
-hard : (count : ℕ) (bits : List ℕ) → (length bits ≡ count) × AllBits bits → AreSoft count (softened bits)
+pub hard : (count : ℕ) (bits : List ℕ) → (length bits ≡ count) × AllBits bits → AreSoft count (softened bits)
 hard count bits known = (length-map bits soft_value ∙ known.0, AllSoft-softened bits)
 
-soft : (count : ℕ) (octets : List ℕ) → AreOctets count octets × All (λ octet. octet ≢ 128) octets → AreSoft count (signed_octets octets)
+pub soft : (count : ℕ) (octets : List ℕ) → AreOctets count octets × All (λ octet. octet ≢ 128) octets → AreSoft count (signed_octets octets)
 soft count octets known = (length-map octets (cast_signed w8) ∙ known.0.0, signed-AllSoft octets known.0.1 known.1)
 
-lost : AreSoft 148 (replicate 148 (pos 0))
+pub lost : AreSoft 148 (replicate 148 (pos 0))
 lost = (length-replicate 148 (pos 0), All-replicate IsSoft 148 (pos 0) (omega (arith, ints), omega (arith, ints)))
 
 none_held : (held : ℕ) → (not (held == 0) && true) ≡ false → held ≡ 0

@@ -1,0 +1,370 @@
+-- The command `end` answers each good line in one way.
+use Rattle.std.proofs.Common.{◌≡◌, ℕ, ℤ, ◌+◌, ◌<◌, ◌≤◌, inl, inr, List, [], ◌∷◌, ◌++◌, length, length-append, map, Option, None, Some, refl, sym, ap, ap₂, ◌∙◌, subst, arith}
+use Rattle.std.specs.Prelude.{IfSome}
+use Rattle.std.specs.List.{All, flat_map}
+use Rattle.std.proofs.lemmas.Bool.{cases_lt}
+use Rattle.std.proofs.lemmas.List.Elements.{All-nil, All-cons, All-append, All-head, All-tail}
+use Rattle.lapdm_frame.specs.declared.Channel.{Channel}
+use Rattle.lapdm_frame.specs.declared.Channel.TheVariants.{Sdcch}
+use Rattle.lapdm_frame.specs.Content.{Frame, information}
+use Rattle.lapdm_frame.specs.Frames.{Fits, octets_of}
+use Rattle.lapdm_frame.proofs.Canonical.{octets_canonical}
+use Rattle.lapdm_window.specs.declared.Sapi.{Sapi}
+use Rattle.lapdm_window.specs.declared.Sapi.TheVariants.{Zero, Three}
+use Rattle.lapdm_window.specs.declared.Refused.{Refused}
+use Rattle.lapdm_window.specs.Ends.{Role, Mobile, Network, EndState, Outcome, IsEnd, start}
+use Rattle.lapdm_window.specs.Calls.{Call, Opens, OpensBare, HasCall, refusal_of, after_call}
+use Rattle.lapdm_window.specs.Tables.{after_frame}
+use Rattle.lapdm_window.proofs.Lemmas.{Keeps, keeps-call, keeps-frame, IsEnd-start}
+use Rattle.lapdm_link.proofs.Lemmas.{AreOctets, CallOctets, EndOctets, AllSay, OutcomeOctets, call-octets, frame-octets}
+use Rattle.lapdm_link.specs.Events.{Request, Send, SendUnit, Close, Tick, Idle, Open, OpenBare, Ask, Deliver, Lose, Rival, because, Because, call_of}
+use Rattle.um_block.proofs.Lemmas.{one_sent_block, some_sent_block, some_received_block, accepted_count, accepted_octets}
+use Rattle.um_block.specs.Received.{IsReceivedBlock}
+use Rattle.um_block.specs.declared.received.Received.{Received}
+use Rattle.um_lines.specs.declared.fault.LineFault.{LineFault}
+use Rattle.um_lines.specs.Meanings.{HasOneMeaningUnless}
+use Rattle.um_text.specs.BurstTexts.{block_text}
+use Rattle.um_air.specs.Air.{Octets, Block, Event, Reads, Answer, Refuses, Does, Step}
+use Rattle.um_air.specs.Sessions.{IsOctetEvent}
+use Rattle.um_air.proofs.Laws.{some_reading, reads-well, octets_small}
+use Rattle.um_link.specs.Coded.{AreCoded}
+use Rattle.um_script.specs.StepLines.{answer_text}
+use Rattle.um_driver.specs.Rules.{IsDetermined, IsTotal, Runs}
+use Rattle.um_driver.specs.Laws.{HasOneOutput}
+use Rattle.um_driver.proofs.OutputExists.{has_one_output}
+use Rattle.um_driver.proofs.RunLemmas.{Runs-keep}
+use Rattle.um_end.specs.Terminals.{Links, idle_links, link_in, with_link_in, Deed, does, does_nothing, asks, takes, takes_read, step_of, IsAsked, IsCallOf, Asks, Hears}
+use Rattle.um_end.specs.EndLines.{Meaning, Nothing, Brings, Calls, end_fault, EndMeans}
+use Rattle.um_end.specs.EndRuns.{EndRun, idle, frames_of, IsAnswerText, Arrived, AnswersBursts, Asked, AnswersMeaning, AnswersLine, end_rules}
+use Rattle.um_end.proofs.Determined.{one_asking, one_hearing}
+use Rattle.um_end.proofs.Deeds.{by_sapi}
+use Rattle.um_end.proofs.EndLineLaws.{end_one_meaning, burst_is_soft, call_is_own}
+
+-- ---- one answer
+
+same_meaning : (role : Role) (held : ℕ) (line : List ℕ) (m m' : Meaning) → EndMeans role held line m → EndMeans role held line m' → m ≡ m'
+same_meaning role held line m m' means means' = go (end_fault role held line) (end_one_meaning role held line)
+  where
+    go : (fault : Option LineFault) → HasOneMeaningUnless fault (EndMeans role held line) → m ≡ m'
+    go None only = only.2 m means ∙ sym (only.2 m' means')
+    go (Some fault) none = absurd (none m means)
+
+same_coded : (tsc : ℕ) (os : List Octets) (bs cs : List Block) → AreCoded tsc os bs → AreCoded tsc os cs → bs ≡ cs
+same_coded tsc [] [] [] h k = refl
+same_coded tsc [] [] (c ∷ cs) h k = absurd k
+same_coded tsc [] (b ∷ bs) cs h k = absurd h
+same_coded tsc (o ∷ os) [] cs h k = absurd h
+same_coded tsc (o ∷ os) (b ∷ bs) [] h k = absurd k
+same_coded tsc (o ∷ os) (b ∷ bs) (c ∷ cs) h k = ap₂ (λ x xs. x ∷ xs) (one_sent_block o tsc b c h.0 k.0) (same_coded tsc os bs cs h.1 k.1)
+
+same_text : (tsc : ℕ) (answer : Answer) (y y' : List ℕ) → IsAnswerText tsc answer y → IsAnswerText tsc answer y' → y ≡ y'
+same_text tsc answer y y' h k =
+    h.text_is ∙ ap (λ bs. answer_text answer ++ flat_map block_text bs) (same_coded tsc (frames_of answer) h.blocks k.blocks h.coded k.coded)
+    ∙ sym k.text_is
+
+same_arrival : (s : EndRun) (bursts : List (List ℤ)) (y y' : List ℕ) (b b' : EndRun) → Arrived s bursts y b → Arrived s bursts y' b' → (y ≡ y') × (b ≡ b')
+same_arrival s bursts y y' b b' h k =
+    let same = one_hearing s.role s.links bursts h.links k.links h.step k.step h.heard k.heard in (
+      same_text s.tsc (Does k.step) y y' (subst (λ (x : Step). IsAnswerText s.tsc (Does x) y) same.1 h.text_is) k.text_is,
+      h.after_is ∙ ap (λ (x : Links). let r : EndRun = record s { links = x; held = [] } in r) same.0 ∙ sym k.after_is,
+    )
+
+same_bursts : (s : EndRun) (bursts : List (List ℤ)) (y y' : List ℕ) (b b' : EndRun) → AnswersBursts s bursts y b → AnswersBursts s bursts y' b' →
+    (y ≡ y') × (b ≡ b')
+same_bursts s bursts y y' b b' (inl (few, e, h)) (inl (few', e', h')) = (e ∙ sym e', h ∙ sym h')
+same_bursts s bursts y y' b b' (inl (few, _, _)) (inr (four, _)) = absurd (omega arith)
+same_bursts s bursts y y' b b' (inr (four, _)) (inl (few, _, _)) = absurd (omega arith)
+same_bursts s bursts y y' b b' (inr (four, h)) (inr (four', h')) = same_arrival s bursts y y' b b' h h'
+
+same_asked : (s : EndRun) (event : Event) (y y' : List ℕ) (b b' : EndRun) → Asked s event y b → Asked s event y' b' → (y ≡ y') × (b ≡ b')
+same_asked s event y y' b b' h k =
+    let same = one_asking s.role s.links event h.links k.links h.answer k.answer h.asked k.asked in (
+      same_text s.tsc k.answer y y' (subst (λ (x : Answer). IsAnswerText s.tsc x y) same.1 h.text_is) k.text_is,
+      h.after_is ∙ ap (λ (x : Links). let r : EndRun = record s { links = x } in r) same.0 ∙ sym k.after_is,
+    )
+
+same_answer : (s : EndRun) (m : Meaning) (y y' : List ℕ) (b b' : EndRun) → AnswersMeaning s m y b → AnswersMeaning s m y' b' → (y ≡ y') × (b ≡ b')
+same_answer s Nothing y y' b b' (e, h) (e', h') = (e ∙ sym e', h ∙ sym h')
+same_answer s (Brings soft) y y' b b' h h' = same_bursts s (s.held ++ soft ∷ []) y y' b b' h h'
+same_answer s (Calls event) y y' b b' h h' = same_asked s event y y' b b' h h'
+
+pub end_is_determined : IsDetermined end_rules
+end_is_determined s line y y' b b' (m, means, answer) (m', means', answer') =
+    let same = same_meaning s.role (length s.held) line m m' means means' in
+    same_answer s m' y y' b b' (subst (λ x. AnswersMeaning s x y b) same answer) answer'
+
+-- ---- some answer
+
+-- a link of this SAPI on SDCCH, whose frames fit and are octets
+record IsFit (sapi : Sapi) (e : EndState) : Type 0 where
+  pub end : IsEnd e
+  pub sapi_is : e.sapi ≡ sapi
+  pub channel : e.channel ≡ Sdcch
+  pub octets : EndOctets e
+
+record AreFit (a : Links) : Type 0 where
+  pub link0 : IsFit Zero a.link0
+  pub link3 : IsFit Three a.link3
+
+fit_in : (sapi : Sapi) (a : Links) → AreFit a → IsFit sapi (link_in sapi a)
+fit_in Zero a h = h.link0
+fit_in Three a h = h.link3
+
+fit_with : (sapi : Sapi) (e : EndState) (a : Links) → AreFit a → IsFit sapi e → AreFit (with_link_in sapi e a)
+fit_with Zero e a h fit = record { link0 = fit; link3 = h.link3 }
+fit_with Three e a h fit = record { link0 = h.link0; link3 = fit }
+
+-- what is done leaves links that fit, and so do its frames
+record IsFitDeed (d : Deed) : Type 0 where
+  pub after : AreFit d.after
+  pub frames : All (Fits Sdcch) d.frames
+  pub said : AllSay d.frames
+
+fit_deed : (sapi : Sapi) (o : Outcome) (a : Links) → AreFit a → Keeps (link_in sapi a) o → OutcomeOctets o → IsFitDeed (does sapi o a)
+fit_deed sapi o a h keeps octets =
+    let fit = fit_in sapi a h in
+    record {
+      after = fit_with sapi o.after a h (record {
+        end = keeps.end;
+        sapi_is = keeps.sapi ∙ fit.sapi_is;
+        channel = keeps.channel ∙ fit.channel;
+        octets = octets.end;
+      });
+      frames = subst (λ (c : Channel). All (Fits c) o.frames) fit.channel keeps.frames;
+      said = octets.frames;
+    }
+
+fit_call : (sapi : Sapi) (call : Call) (a : Links) → CallOctets call → HasCall (link_in sapi a) call → AreFit a →
+    refusal_of call (link_in sapi a) ≡ None → IsFitDeed (asks sapi call a)
+fit_call sapi call a octets has h ok =
+    let fit = fit_in sapi a h in
+    fit_deed sapi (after_call call (link_in sapi a)) a h (keeps-call call (link_in sapi a) fit.end has ok)
+    (call-octets call (link_in sapi a) octets ok fit.end.window fit.octets)
+
+fit_frame : (sapi : Sapi) (f : Frame) (a : Links) → Fits Sdcch f → AreOctets (information f.content) → AreFit a →
+    IsFitDeed (does sapi (after_frame f (link_in sapi a)) a)
+fit_frame sapi f a fits octets h =
+    let fit = fit_in sapi a h in
+    fit_deed sapi (after_frame f (link_in sapi a)) a h
+    (keeps-frame f (link_in sapi a) fit.end (subst (λ (c : Channel). Fits c f) (sym fit.channel) fits))
+    (frame-octets f (link_in sapi a) octets fit.end.window fit.octets)
+
+fit_nothing : (a : Links) → AreFit a → IsFitDeed (does_nothing a)
+fit_nothing a h = record { after = h; frames = All-nil (Fits Sdcch); said = tt }
+
+fit_read : (a : Links) (accepted : Option Octets) (read : Option Frame) → IfSome accepted AreOctets → Reads Sdcch accepted read → AreFit a →
+    IsFitDeed (takes_read read a)
+fit_read a accepted None octets reads h = fit_nothing a h
+fit_read a accepted (Some f) octets reads h =
+    let well = reads-well Sdcch accepted f octets reads in
+    by_sapi f a IsFitDeed (λ e. fit_frame Zero f a well.0 well.1 h) (λ e. fit_frame Three f a well.0 well.1 h) (λ e g. fit_nothing a h)
+
+-- each frame that fits is coded
+some_coded : (tsc : ℕ) (fs : List Frame) → tsc ≤ 7 → All (Fits Sdcch) fs → AllSay fs → (bs : List Block) × AreCoded tsc (map (octets_of Sdcch) fs) bs
+some_coded tsc [] known h said = ([], tt)
+some_coded tsc (f ∷ fs) known h said =
+    let fits : Fits Sdcch f = All-head (Fits Sdcch) f fs h in
+    let b = some_sent_block (octets_of Sdcch f) tsc (octets_canonical Sdcch f fits).frame.count (octets_small Sdcch f fits said.0) known in
+    let bs = some_coded tsc fs known (All-tail (Fits Sdcch) f fs h) said.1 in
+    (b.0 ∷ bs.0, (b.1, bs.1))
+
+some_text : (tsc : ℕ) (role : Role) (received : Option Received) (d : Deed) → tsc ≤ 7 → IsFitDeed d →
+    (y : List ℕ) × IsAnswerText tsc (Does (step_of role received d)) y
+some_text tsc role received d known h =
+    let bs = some_coded tsc d.frames known h.frames h.said in
+    (answer_text (Does (step_of role received d)) ++ flat_map block_text bs.0, record { blocks = bs.0; coded = bs.1; text_is = refl })
+
+-- what a run keeps
+record IsKept (role : Role) (tsc : ℕ) (s : EndRun) : Type 0 where
+  pub role_is : s.role ≡ role
+  pub tsc_is : s.tsc ≡ tsc
+  pub links : AreFit s.links
+  pub few : length s.held ≤ 3
+  pub each : All (λ burst. length burst ≡ 148) s.held
+
+-- ---- some answer to a call
+
+record SomeAnswer (s : EndRun) (event : Event) : Type 0 where
+  pub links : Links
+  pub answer : Answer
+  pub asked : Asks s.role s.links event links answer
+  pub text : List ℕ
+  pub text_is : IsAnswerText s.tsc answer text
+
+asked_by : (s : EndRun) (sapi : Sapi) (call : Call) (o : Option Refused) → refusal_of call (link_in sapi s.links) ≡ o → s.tsc ≤ 7 → CallOctets call → HasCall (link_in sapi s.links) call → AreFit s.links →
+    (b : Links) × (answer : Answer) × IsAsked s.role s.links sapi call b answer × ((y : List ℕ) × IsAnswerText s.tsc answer y)
+asked_by s sapi call (Some why) is known octets has h =
+    (s.links, Refuses (Because why), (ap because is, refl), (answer_text (Refuses (Because why)) ++ [], record { blocks = []; coded = tt; text_is = refl }))
+asked_by s sapi call None is known octets has h =
+    let d : Deed = asks sapi call s.links in
+    let text = some_text s.tsc s.role None d known (fit_call sapi call s.links octets has h is) in
+    (d.after, Does (step_of s.role None d), (ap because is, refl, refl), text)
+
+some_asked : (s : EndRun) (sapi : Sapi) (call : Call) → s.tsc ≤ 7 → CallOctets call → HasCall (link_in sapi s.links) call → AreFit s.links →
+    (b : Links) × (answer : Answer) × IsAsked s.role s.links sapi call b answer × ((y : List ℕ) × IsAnswerText s.tsc answer y)
+some_asked s sapi call known octets has h = asked_by s sapi call (refusal_of call (link_in sapi s.links)) refl known octets has h
+
+-- a request of octets is a call of octets
+request_octets : (role : Role) (sapi : Sapi) (request : Request) → IsOctetEvent (Ask role sapi request) → CallOctets (call_of request)
+request_octets role sapi (Send m) h = h
+request_octets role sapi (SendUnit m) h = h
+request_octets role sapi Close h = tt
+request_octets role sapi Tick h = tt
+request_octets role sapi Idle h = tt
+
+-- and every link has it
+request_has : (e : EndState) (request : Request) → HasCall e (call_of request)
+request_has e (Send m) = tt
+request_has e (SendUnit m) = tt
+request_has e Close = tt
+request_has e Tick = tt
+request_has e Idle = tt
+
+some_asking : (s : EndRun) (event : Event) → IsCallOf s.role event × IsOctetEvent event → s.tsc ≤ 7 → AreFit s.links → SomeAnswer s event
+some_asking s (Open info) own known h =
+    let a = some_asked s Zero (Opens info) known own.1 h.link0.sapi_is h in
+    record { links = a.0; answer = a.1; asked = a.2; text = a.3.0; text_is = a.3.1 }
+some_asking s (OpenBare other) own known h =
+    let a = some_asked s Three OpensBare known tt h.link3.sapi_is h in
+    record { links = a.0; answer = a.1; asked = a.2; text = a.3.0; text_is = a.3.1 }
+some_asking s (Ask other sapi request) own known h =
+    let a = some_asked s sapi (call_of request) known (request_octets other sapi request own.1) (request_has (link_in sapi s.links) request) h in
+    record { links = a.0; answer = a.1; asked = a.2; text = a.3.0; text_is = a.3.1 }
+some_asking s (Deliver sender places) own known h = absurd own.0
+some_asking s (Lose sender) own known h = absurd own.0
+some_asking s (Rival info) own known h = absurd own.0
+
+-- ---- some answer to bursts
+
+some_arrival : (s : EndRun) (bursts : List (List ℤ)) → length bursts ≡ 4 → All (λ burst. length burst ≡ 148) bursts → s.tsc ≤ 7 → AreFit s.links →
+    (y : List ℕ) × (after : EndRun) × Arrived s bursts y after
+some_arrival s bursts four each known h =
+    let report = some_received_block bursts four each in
+    let read = some_reading Sdcch report.0.accepted (accepted_count bursts report.0 report.1) in
+    let d : Deed = takes_read read.0 s.links in
+    let fit : IsFitDeed d = fit_read s.links report.0.accepted read.0 (accepted_octets bursts report.0 report.1) read.1 h in
+    let text = some_text s.tsc s.role (Some report.0) d known fit in (
+      text.0,
+      record s { links = d.after; held = [] },
+      record {
+        links = d.after;
+        step = step_of s.role (Some report.0) d;
+        heard = record { report = report.0; read = read.0; received = report.1; reads = read.1; after = refl; step_is = refl };
+        text_is = text.1;
+        after_is = refl;
+      },
+    )
+
+one_more : (held : List (List ℤ)) (soft : List ℤ) → All (λ burst. length burst ≡ 148) held → length soft ≡ 148 → All (λ burst. length burst ≡ 148) (held ++ soft ∷ [])
+one_more held soft each count =
+    let Whole : List ℤ → Type 0 = λ burst. length burst ≡ 148 in
+    All-append Whole held (soft ∷ []) each (All-cons Whole soft [] count (All-nil Whole))
+
+some_bursts : (role : Role) (tsc : ℕ) (s : EndRun) (soft : List ℤ) → tsc ≤ 7 → IsKept role tsc s → length soft ≡ 148 →
+    (y : List ℕ) × (after : EndRun) × AnswersBursts s (s.held ++ soft ∷ []) y after
+some_bursts role tsc s soft known k count =
+    let bursts = s.held ++ soft ∷ [] in
+    let more : length bursts ≡ length s.held + 1 = length-append s.held (soft ∷ []) in
+    elim (cases_lt (length bursts) 4) [
+      | inl few ↦ ([], record s { held = bursts }, inl (few, refl, refl))
+      | inr many ↦
+          let few = k.few in
+          let four : length bursts ≡ 4 = omega arith in
+          let a = some_arrival s bursts four (one_more s.held soft k.each count) (omega (arith, known, k.tsc_is)) k.links in
+          (a.0, a.1, inr (four, a.2))
+    ]
+
+some_meaning : (role : Role) (tsc : ℕ) (s : EndRun) (line : List ℕ) (m : Meaning) → tsc ≤ 7 → IsKept role tsc s → EndMeans s.role (length s.held) line m →
+    (y : List ℕ) × (after : EndRun) × AnswersMeaning s m y after
+some_meaning role tsc s line Nothing known k means = ([], s, (refl, refl))
+some_meaning role tsc s line (Brings soft) known k means = some_bursts role tsc s soft known k (burst_is_soft s.role (length s.held) line soft means).0
+some_meaning role tsc s line (Calls event) known k means =
+    let a = some_asking s event (call_is_own s.role (length s.held) line event means) (omega (arith, known, k.tsc_is)) k.links in
+    (a.text, record s { links = a.links }, record { links = a.links; answer = a.answer; asked = a.asked; text_is = a.text_is; after_is = refl })
+
+-- ---- every run can go on
+
+idle_fit : (role : Role) (sapi : Sapi) → IsFit sapi (start role sapi Sdcch)
+idle_fit role sapi = record {
+  end = IsEnd-start role sapi Sdcch;
+  sapi_is = refl;
+  channel = refl;
+  octets = record { kept = All-nil (λ octet. octet < 256); taken = tt };
+}
+
+idle_kept : (role : Role) (tsc : ℕ) → IsKept role tsc (idle role tsc)
+idle_kept role tsc = record {
+  role_is = refl;
+  tsc_is = refl;
+  links = record { link0 = idle_fit role Zero; link3 = idle_fit role Three };
+  few = omega arith;
+  each = All-nil (λ (burst : List ℤ). length burst ≡ 148);
+}
+
+asked_fit : (role : Role) (a : Links) (sapi : Sapi) (call : Call) (b : Links) (answer : Answer) → CallOctets call →
+    HasCall (link_in sapi a) call → AreFit a → IsAsked role a sapi call b answer → AreFit b
+asked_fit role a sapi call b (Refuses why) octets has h asked = subst AreFit (sym asked.1) h
+asked_fit role a sapi call b (Does step) octets has h asked =
+    subst AreFit (sym asked.1) (fit_call sapi call a octets has h (not_because (refusal_of call (link_in sapi a)) asked.0)).after
+  where
+    not_because : (o : Option Refused) → because o ≡ None → o ≡ None
+    not_because None e = refl
+    not_because (Some why) e = absurd (cc e)
+
+asking_fit : (role : Role) (a : Links) (event : Event) (b : Links) (answer : Answer) → IsOctetEvent event → AreFit a → Asks role a event b answer → AreFit b
+asking_fit role a (Open info) b answer octets h asked = asked_fit role a Zero (Opens info) b answer octets h.link0.sapi_is h asked
+asking_fit role a (OpenBare other) b answer octets h asked = asked_fit role a Three OpensBare b answer tt h.link3.sapi_is h asked
+asking_fit role a (Ask other sapi request) b answer octets h asked =
+    asked_fit role a sapi (call_of request) b answer (request_octets other sapi request octets) (request_has (link_in sapi a) request) h asked
+asking_fit role a (Deliver sender places) b answer octets h asked = absurd asked
+asking_fit role a (Lose sender) b answer octets h asked = absurd asked
+asking_fit role a (Rival info) b answer octets h asked = absurd asked
+
+module _ (role : Role) (tsc : ℕ) where
+  bursts_keep : (s b : EndRun) (soft : List ℤ) (y : List ℕ) → IsKept role tsc s → length soft ≡ 148 → AnswersBursts s (s.held ++ soft ∷ []) y b →
+      IsKept role tsc b
+  bursts_keep s b soft y k count (inl (few, _, same)) =
+      subst (IsKept role tsc) (sym same) (record {
+        role_is = k.role_is;
+        tsc_is = k.tsc_is;
+        links = k.links;
+        few = omega (arith, few);
+        each = one_more s.held soft k.each count;
+      })
+  bursts_keep s b soft y k count (inr (four, h)) =
+      let heard = h.heard in
+      let fit : AreFit h.links =
+      subst AreFit (sym heard.after) (fit_read s.links heard.report.accepted heard.read
+      (accepted_octets (s.held ++ soft ∷ []) heard.report heard.received) heard.reads k.links).after in
+      subst (IsKept role tsc) (sym h.after_is) (record {
+        role_is = k.role_is;
+        tsc_is = k.tsc_is;
+        links = fit;
+        few = omega arith;
+        each = All-nil (λ (burst : List ℤ). length burst ≡ 148);
+      })
+
+  step_keeps : (s b : EndRun) (line y : List ℕ) → IsKept role tsc s → AnswersLine s line y b → IsKept role tsc b
+  step_keeps s b line y k (Nothing, means, (_, same)) = subst (IsKept role tsc) (sym same) k
+  step_keeps s b line y k (Brings soft, means, answer) =
+      bursts_keep s b soft y k (burst_is_soft s.role (length s.held) line soft means).0 answer
+  step_keeps s b line y k (Calls event, means, h) =
+      subst (IsKept role tsc) (sym h.after_is) (record {
+        role_is = k.role_is;
+        tsc_is = k.tsc_is;
+        links = asking_fit s.role s.links event h.links h.answer (call_is_own s.role (length s.held) line event means).1 k.links h.asked;
+        few = k.few;
+        each = k.each;
+      })
+
+  module _ (known : tsc ≤ 7) where
+    pub end_is_total : IsTotal end_rules (idle role tsc)
+    end_is_total lines answers b runs line plain good =
+        let meant : HasOneMeaningUnless None (EndMeans b.role (length b.held) line) =
+        subst (λ fault. HasOneMeaningUnless fault (EndMeans b.role (length b.held) line)) good.no_fault (end_one_meaning b.role (length b.held) line) in
+        let kept : IsKept role tsc b = Runs-keep end_rules (IsKept role tsc) step_keeps (idle role tsc) b lines answers (idle_kept role tsc) runs in
+        let answer = some_meaning role tsc b line meant.0 known kept meant.1 in
+        (answer.0, answer.1, (meant.0, meant.1, answer.2))
+
+    pub end_has_one_output : HasOneOutput end_rules (idle role tsc)
+    end_has_one_output = has_one_output end_rules (idle role tsc) end_is_total end_is_determined

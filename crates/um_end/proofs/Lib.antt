@@ -1,0 +1,5 @@
+mod Deeds
+mod Determined
+mod EndLineLaws
+mod Answering
+pub mod EndRules

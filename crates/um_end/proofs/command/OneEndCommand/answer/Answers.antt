@@ -1,0 +1,53 @@
+use Rattle.std.proofs.Common.{◌≡◌, ℕ, None, Result, Some, refl, sym, ap, ◌∙◌, subst}
+use Rattle.lapdm_window.specs.Ends.{Role}
+use Rattle.um_air.specs.Air.{Answer}
+use Rattle.um_link.specs.Naming.{role_of, event_of, answer_of}
+use Rattle.um_end.specs.Terminals.{Links, Asks}
+use Rattle.um_end.specs.Standing.{side_of}
+use Rattle.um_end.specs.EndLines.{Meaning, Brings, Calls, meaning_of, end_fault, EndMeans}
+use Rattle.um_end.specs.EndRuns.{IsAnswerText}
+use Rattle.um_end.specs.declared.lines.EndLine.{EndLine}
+use Rattle.um_end.proofs.Answering.{at_run}
+use Rattle.um_end.proofs.command.OneEndCommand.answer.Goals as goal
+
+pub returns-in-Burst-clause-answered : goal.returns-in-Burst-clause-answered
+returns-in-Burst-clause-answered c s st =
+    let line = c.args.line.now in
+    let old = c.args.self.now in
+    let f = c.hold.ensures.answers s (record { role = st.role; tsc = st.tsc; links = st.links; held = st.held }) in (
+      f.0,
+      at_run (λ r n. end_fault r n line ≡ None) old s c.count.result st c.count.ensures.count (sym c.in_ok-parse_end.ensures.refused),
+      (
+        Brings c.in-Burst.burst,
+        at_run (λ r n. EndMeans r n line (Brings c.in-Burst.burst)) old s c.count.result st c.count.ensures.count
+            (subst (λ (read : EndLine). EndMeans (side_of old.terminal) c.count.result line (meaning_of read)) c.in-Burst.is
+            c.in_ok-parse_end.ensures.means),
+        f.1,
+      ),
+      f.2,
+    )
+
+pub returns-in-Ask-clause-answered : goal.returns-in-Ask-clause-answered
+returns-in-Ask-clause-answered c s st =
+    let line = c.args.line.now in
+    let old = c.args.self.now in
+    let event = event_of c.in-Ask.event in
+    let f = c.ask-answer.ensures.follows s.links st.links in
+    let tsc : c.ask-answer.new.self.tsc ≡ s.tsc = c.ask-answer.ensures.same.tsc ∙ sym st.tsc in (
+      record s { links = f.0 },
+      at_run (λ r n. end_fault r n line ≡ None) old s c.count.result st c.count.ensures.count (sym c.in_ok-parse_end.ensures.refused),
+      (
+        Calls event,
+        at_run (λ r n. EndMeans r n line (Calls event)) old s c.count.result st c.count.ensures.count
+            (subst (λ (read : EndLine). EndMeans (side_of old.terminal) c.count.result line (meaning_of read)) c.in-Ask.is
+            c.in_ok-parse_end.ensures.means),
+        record {
+          links = f.0;
+          answer = answer_of c.ask-answer.result;
+          asked = subst (λ (r : Role). Asks r s.links event f.0 (answer_of c.ask-answer.result)) (sym st.role) f.2;
+          text_is = subst (λ (n : ℕ). IsAnswerText n (answer_of c.ask-answer.result) c.write_answer.new.out) tsc c.write_answer.ensures;
+          after_is = refl;
+        },
+      ),
+      record { role = st.role ∙ ap role_of (sym c.ask-answer.ensures.same.side); tsc = sym tsc; links = f.1; held = st.held },
+    )

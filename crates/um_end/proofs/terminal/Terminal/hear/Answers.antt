@@ -1,0 +1,14 @@
+use Rattle.std.proofs.Common.{sym, subst, Some, Option}
+use Rattle.lapdm_frame.specs.declared.Channel.TheVariants.{Sdcch}
+use Rattle.lapdm_frame.specs.Content.{frame_of}
+use Rattle.um_air.specs.Air.{Octets, Reads}
+use Rattle.um_end.proofs.terminal.Terminal.hear.Goals as goal
+
+pub returns-in-Ok-clause-hears : goal.returns-in-Ok-clause-hears
+returns-in-Ok-clause-hears c a st =
+    let f = frame_of c.in-Ok.frame in
+    record {
+      read = Some f;
+      reads = subst (λ (o : Option Octets). Reads Sdcch o (Some f)) (sym c.in-Some.is) c.in-Ok.ensures.frame.frame;
+      done = c.take.ensures.follows a st;
+    }

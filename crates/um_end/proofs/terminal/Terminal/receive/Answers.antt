@@ -1,0 +1,29 @@
+use Rattle.std.proofs.Common.{refl, ap, Some}
+use Rattle.um_link.specs.Naming.{role_of, step_of}
+use Rattle.um_end.specs.Terminals.{takes_read}
+use Rattle.um_end.specs.Standing.{side_of, FollowsBursts}
+use Rattle.um_end.proofs.Deeds.{done_step}
+use Rattle.um_end.proofs.Determined.{one_hearing}
+use Rattle.um_end.proofs.terminal.Terminal.receive.Goals as goal
+
+pub returns-clause-follows : goal.returns-clause-follows
+returns-clause-follows c a st =
+    let h = c.hear-sapi.ensures.hears a st in
+    let d = takes_read h.read a in (
+      d.after,
+      h.done.stands,
+      record {
+        report = c.receive_block-report.result;
+        read = h.read;
+        received = c.receive_block-report.ensures.received;
+        reads = h.reads;
+        after = refl;
+        step_is = done_step (side_of c.args.self.now) _ (Some c.receive_block-report.result) d _ _ _ (step_of c.step.result) c.step.ensures.step
+            (ap role_of c.hear-sapi.ensures.same.side) h.done;
+      },
+    )
+
+pub returns-clause-only : goal.returns-clause-only
+returns-clause-only c a st b step h =
+    let f = returns-clause-follows c a st in
+    (one_hearing (side_of c.args.self.now) a c.args.bursts.now b f.0 step (step_of c.step.result) h f.2).1

@@ -1,0 +1,8 @@
+-- The definitions that the contracts of this crate cite.
+pub mod Terminals
+pub mod Standing
+pub mod Asking
+pub mod Doing
+pub mod EndLines
+pub mod EndRuns
+pub mod Commands

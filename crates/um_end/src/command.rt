@@ -1,0 +1,132 @@
+//! The command `end`: one end over recorded bursts and its own calls.
+ghost use Rattle.std.specs.Prelude.{◌≡◌, ◌+◌, ◌*◌, ◌<◌, ◌≤◌, ℕ, [], ◌∷◌, ◌++◌, length, IfOk, OnOk};
+ghost use Rattle.std.specs.List.{All, flat_map};
+ghost use Rattle.bit_blocks.specs.Bits.{AllBits};
+ghost use Rattle.conv_code.specs.Likelihood.{AllSoft};
+ghost use Rattle.um_text.specs.BurstTexts.{normal_text, block_text};
+ghost use Rattle.um_link.specs.Coded.{AreCoded};
+ghost use Rattle.um_link.specs.Naming.{role_of, step_of, answer_of};
+ghost use Rattle.um_link.specs.Standing.{FitsWho};
+ghost use Rattle.lapdm_window.specs.Ends.{Role};
+ghost use Rattle.um_driver.specs.Laws.{HasOneOutput};
+ghost use Rattle.um_end.specs.EndRuns.{EndRun, idle, end_rules, IsAnswerText, AnswersBursts, IsCodedText};
+ghost use Rattle.um_end.specs.Commands.{StandsFor, start_of};
+
+use crate::lines::{EndLine, parse_end};
+use crate::terminal::Terminal;
+use um_driver::Command;
+use um_lines::{LineFault, Text};
+use um_link::{End, No, Step};
+use um_script::{Room, step_lines};
+use um_text::HeldBursts;
+
+/// Every list of octets, good or bad and of any length, has one output of the command and one way to end.
+pub fn law_one_output()
+    ensures { (role : Role) (tsc : ℕ) → tsc ≤ 7 → HasOneOutput end_rules (idle role tsc) }
+{}
+
+/// The command `end`: a terminal, and the bursts of a block that has not all its four.
+#[derive(Drop)]
+pub struct OneEnd {
+    terminal: Terminal,
+    held: HeldBursts,
+    room: Room,
+}
+
+impl OneEnd {
+    /// The links of a side in Idle, with a training sequence 0 to 7, and no burst.
+    pub fn new(side: End, tsc: u8) -> OneEnd
+        requires { tsc ≤ 7 }
+        ensures stands { StandsFor result (start_of result) }
+        ensures start { start_of result ≡ idle (role_of side) tsc }
+    {
+        OneEnd {
+            terminal: Terminal::new(side, tsc),
+            held: HeldBursts::new(),
+            room: Room::new(),
+        }
+    }
+
+    /// Holds a burst; the fourth is the last of a block, which arrives.
+    fn hold(&mut self, burst: [i8; 148], out: &mut Text)
+        requires soft { AllSoft burst }
+        requires empty { out.old ≡ [] }
+        ensures answers { (s : EndRun) → StandsFor self.old s →
+            (after : EndRun) × AnswersBursts s (s.held ++ burst ∷ []) out.new after × StandsFor self.new after }
+    {
+        if let Some(block) = self.held.add(burst) {
+            let answer = Ok(self.terminal.receive(&block));
+            write_answer(out, &self.terminal, &answer);
+        }
+    }
+}
+
+impl Command for OneEnd {
+    ghost State = { EndRun };
+
+    ghost rules = { end_rules };
+
+    ghost start = { start_of };
+
+    ghost stands = { StandsFor };
+
+    ghost Kept = { Unit {0} };
+
+    ghost kept = { λ _. tt };
+
+    fn answer(&mut self, line: &[u8], out: &mut Text) -> Result<(), LineFault> {
+        match parse_end(line, self.terminal.side, self.held.count(), &mut self.room)? {
+            EndLine::Skip => {}
+            EndLine::Burst(burst) => self.hold(burst, out),
+            EndLine::Ask(event) => {
+                let answer = self.terminal.ask(&event);
+                write_answer(out, &self.terminal, &answer);
+            }
+        }
+        Ok(())
+    }
+
+    fn finish(&self) -> Option<LineFault> {
+        if self.held.count() == 0 {
+            None
+        } else {
+            Some(LineFault::Order)
+        }
+    }
+}
+
+/// Writes an answer, and behind it the bursts of each frame that is sent.
+fn write_answer(out: &mut Text, terminal: &Terminal, answer: &Result<Step, No>)
+    requires empty { out.old ≡ [] }
+    requires fits { IfOk answer.now (λ step. FitsWho (step_of step)) }
+    ensures { IsAnswerText terminal.now.tsc (answer_of answer.now) out.new }
+{
+    step_lines(out, answer);
+    if let Ok(step) = answer {
+        push_blocks(out, terminal, step.effects.frames.as_slice());
+    }
+}
+
+/// Each frame is coded as a block, and its bursts are written.
+fn push_blocks(out: &mut Text, terminal: &Terminal, frames: &[[u8; 23]])
+    requires room { length out.old < 2000 }
+    requires few { length frames.now ≤ 2 }
+    ensures { IsCodedText terminal.now.tsc frames.now out.old out.new }
+{
+    for octets in frames {
+        push_block(out, &terminal.bursts(octets));
+    }
+}
+
+fn push_block(out: &mut Text, bursts: &[[u8; 148]; 4])
+    requires room { length out.old + 604 ≤ 4096 }
+    requires bits { All AllBits bursts.now }
+    ensures lines { out.new ≡ out.old ++ block_text bursts.now }
+    ensures length { length out.new ≡ length out.old + 604 }
+{
+    for burst in bursts {
+        out.push(b"n ");
+        out.push_digits(burst);
+        out.push(b"\n");
+    }
+}

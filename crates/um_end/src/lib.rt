@@ -1,0 +1,11 @@
+//! One end of the air by itself, a mobile or a network, over recorded bursts: its calls, and the groups of four bursts that it receives.
+#![tactic(auto)]
+
+mod asking;
+mod command;
+mod lines;
+mod terminal;
+
+pub use command::{OneEnd, law_one_output};
+pub use lines::{EndLine, law_end_lines, parse_end};
+pub use terminal::Terminal;

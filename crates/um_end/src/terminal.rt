@@ -1,0 +1,161 @@
+//! Both links of one side, over bursts.
+ghost use Rattle.std.specs.Prelude.{◌≡◌, ◌≤◌, ℕ, List, Some, None, [], IfOk, OnErr, IsSome};
+ghost use Rattle.std.specs.List.{All};
+ghost use Rattle.bit_blocks.specs.Bits.{AllBits};
+ghost use Rattle.conv_code.specs.Likelihood.{AllSoft};
+ghost use Rattle.um_block.specs.Sent.{IsSentBlock};
+ghost use Rattle.lapdm_frame.specs.declared.Channel.TheVariants.{Sdcch};
+ghost use Rattle.lapdm_frame.specs.Content.{frame_of};
+ghost use Rattle.lapdm_frame.specs.Frames.{Fits};
+ghost use Rattle.lapdm_end.specs.Following.{IsRefusedAs};
+ghost use Rattle.lapdm_end.specs.Standing.{channel_of, sapi_of};
+ghost use Rattle.lapdm_window.specs.declared.Sapi.TheVariants as S;
+ghost use Rattle.lapdm_link.specs.Events as E;
+ghost use Rattle.um_link.specs.Naming.{role_of, event_of, who_of, step_of};
+ghost use Rattle.um_end.specs.Asking.{IsCall, sapi_in, call_in};
+
+use crate::asking::{ask_event, link_asked, nothing, reason};
+use lapdm_end::{End as LinkEnd, Role};
+use lapdm_frame::{Channel, FrameView, read};
+use lapdm_window::{Effects, Refused, Sapi};
+use um_block::{Received, receive_block, send_block};
+use um_link::{End, Event, No, Step, Who};
+
+/// The links of SAPI 0 and 3 of one side, on SDCCH, and the training sequence of the blocks that it sends. No call takes memory.
+#[derive(Drop)]
+pub struct Terminal {
+    pub(crate) side: End,
+    tsc: u8,
+    link0: LinkEnd,
+    link3: LinkEnd,
+    ghost known: { tsc ≤ 7 },
+    ghost channel0: { channel_of link0 ≡ Sdcch },
+    ghost channel3: { channel_of link3 ≡ Sdcch },
+    ghost sapi0: { sapi_of link0 ≡ S.Zero },
+    ghost sapi3: { sapi_of link3 ≡ S.Three },
+}
+
+impl Terminal {
+    ghost use Rattle.um_end.specs.Terminals.{idle_links, IsCallOf, asks, takes};
+    ghost use Rattle.um_end.specs.Standing.{Stands, FollowsCall, IsOnlyAnswer, FollowsBursts, IsOnlyStep, IsSameSide, side_of};
+    ghost use Rattle.um_end.specs.Doing.{link_of, Follows, Hears};
+
+    /// Both links in Idle, with a training sequence 0 to 7.
+    pub fn new(side: End, tsc: u8) -> Terminal
+        requires { tsc ≤ 7 }
+        ensures stands { Stands result (idle_links (role_of side)) }
+        ensures side { result.side ≡ side }
+        ensures tsc { result.tsc ≡ tsc }
+    {
+        let role = match side {
+            End::Mobile => Role::Mobile,
+            End::Network => Role::Network,
+        };
+        Terminal {
+            side,
+            tsc,
+            link0: LinkEnd::new_on(role, Sapi::Zero, Channel::Sdcch),
+            link3: LinkEnd::new_on(role, Sapi::Three, Channel::Sdcch),
+        }
+    }
+
+    /// Asks a link: the mobile's `Open`, an `OpenBare`, or a call by an `Event::End`, of the terminal's own side. It is refused
+    /// where the link refuses it, and a refused call changes nothing.
+    pub fn ask(&mut self, event: &Event<'_>) -> Result<Step, No>
+        requires own { IsCallOf (side_of self.old) (event_of event.now) }
+        ensures follows { FollowsCall (event_of event.now) self.old result self.new }
+        ensures only { IsOnlyAnswer (event_of event.now) self.old result }
+        ensures refused { OnErr result (self.new ≡ self.old) }
+        ensures who { IfOk result (λ step. who_of step.who ≡ E.End (side_of self.old)) }
+        ensures received { IfOk result (λ step. step.received ≡ None) }
+        ensures same { IsSameSide self.old self.new }
+    {
+        let sapi = link_asked(event);
+        match self.ask_link(sapi, event) {
+            Ok(effects) => Ok(self.step(sapi, None, effects)),
+            Err(refused) => Err(reason(refused)),
+        }
+    }
+
+    /// Receives four bursts as a block, and gives the frame that its accepted octets are, if they are one, to the link of its
+    /// SAPI.
+    pub fn receive(&mut self, bursts: &[[i8; 148]; 4]) -> Step
+        requires soft { All AllSoft bursts.now }
+        ensures follows { FollowsBursts bursts.now self.old result self.new }
+        ensures only { IsOnlyStep bursts.now self.old result }
+        ensures who { who_of result.who ≡ E.End (side_of self.old) }
+        ensures received { IsSome result.received }
+        ensures same { IsSameSide self.old self.new }
+    {
+        let report = receive_block(bursts);
+        let (sapi, effects) = self.hear(&report.accepted);
+        self.step(sapi, Some(report), effects)
+    }
+
+    /// The bursts of a block of these octets, with the terminal's training sequence.
+    pub fn bursts(&self, octets: &[u8; 23]) -> [[u8; 148]; 4]
+        ensures sent { IsSentBlock octets.now self.now.tsc result }
+        ensures only { (other : List (List ℕ)) → IsSentBlock octets.now self.now.tsc other → other ≡ result }
+        ensures bits { All AllBits result }
+    {
+        send_block(octets, self.tsc)
+    }
+
+    fn ask_link(&mut self, sapi: Sapi, event: &Event<'_>) -> Result<Effects, Refused>
+        requires call { IsCall (event_of event.now) }
+        requires sapi { sapi ≡ sapi_in (event_of event.now) }
+        ensures refusal { IsRefusedAs (call_in (event_of event.now)) (link_of sapi self.old) result }
+        ensures follows { IfOk result (λ effects. Follows (asks sapi (call_in (event_of event.now))) self.old sapi effects self.new) }
+        ensures refused { OnErr result (self.new ≡ self.old) }
+        ensures same { IsSameSide self.old self.new }
+    {
+        match sapi {
+            Sapi::Zero => ask_event(&mut self.link0, event),
+            Sapi::Three => ask_event(&mut self.link3, event),
+        }
+    }
+
+    /// The frame that accepted octets are, if they are one, is taken.
+    fn hear(&mut self, accepted: &Option<[u8; 23]>) -> (Sapi, Effects)
+        ensures hears { Hears accepted.now self.old result.0 result.1 self.new }
+        ensures same { IsSameSide self.old self.new }
+    {
+        if let Some(octets) = accepted {
+            if let Ok(frame) = read(octets) {
+                return self.take(&frame);
+            }
+        }
+        (Sapi::Zero, nothing())
+    }
+
+    /// The link of the frame's SAPI takes it.
+    fn take(&mut self, frame: &FrameView<'_>) -> (Sapi, Effects)
+        requires fits { Fits Sdcch (frame_of frame.now) }
+        ensures follows { Follows (takes (frame_of frame.now)) self.old result.0 result.1 self.new }
+        ensures same { IsSameSide self.old self.new }
+    {
+        if frame.sapi == 0 {
+            return (Sapi::Zero, self.link0.take(frame));
+        }
+        if frame.sapi == 3 {
+            return (Sapi::Three, self.link3.take(frame));
+        }
+        (Sapi::Zero, nothing())
+    }
+
+    fn step(&self, sapi: Sapi, received: Option<Received>, effects: Effects) -> Step
+        ensures step { step_of result ≡ record { who = E.End (side_of self.now); sapi = sapi; received = received; frames = effects.frames; notices = effects.notices } }
+        ensures received { result.received ≡ received }
+    {
+        let who = match self.side {
+            End::Mobile => Who::Mobile,
+            End::Network => Who::Network,
+        };
+        Step {
+            who,
+            sapi,
+            received,
+            effects,
+        }
+    }
+}
