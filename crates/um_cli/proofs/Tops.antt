@@ -10,13 +10,16 @@ use Rattle.um_cli.specs.Machines.{OneOutput}
 use Rattle.um_cli.specs.Replay.{replay_rules}
 use Rattle.um_cli.specs.Restored.{Restores}
 use Rattle.um_cli.specs.declared.words.Shape.{Shape}
-use Rattle.um_cli.specs.declared.words.Shape.TheVariants.{Code, Replay, Show, Margin, Repair, Link, Make}
+use Rattle.um_cli.specs.declared.words.Shape.TheVariants.{Code, Replay, Show, Margin, Repair, Link, Make, End}
 use Rattle.um_cli.specs.Shapes.{Fits}
 use Rattle.um_margin.specs.Margins.{margin_rules}
 use Rattle.um_margin.proofs.Lemmas.{margin_is_determined, margin_has_one_output}
 use Rattle.um_repair.proofs.Lemmas.{repair_has_one_output}
 use Rattle.um_make.proofs.Laws.{one_generated_summary}
+use Rattle.um_link.specs.Naming.{role_of}
 use Rattle.um_session.proofs.Laws.{link_has_one_output}
+use Rattle.um_end.specs.EndRuns.{EndRun, end_rules}
+use Rattle.um_end.proofs.EndRules.{end_is_determined, end_has_one_output}
 use Rattle.um_cli.proofs.CodeRules.{code_has_one_output}
 use Rattle.um_cli.proofs.Headlines.{headline_is_weaker}
 use Rattle.um_cli.proofs.ReplayRules.{replay_is_determined, replay_has_one_output}
@@ -31,6 +34,7 @@ one_output Margin fits = margin_has_one_output
 one_output Repair fits = repair_has_one_output
 one_output (Link tsc channel) fits = link_has_one_output tsc channel fits
 one_output (Make n tsc) fits = one_generated_summary n tsc fits.2
+one_output (End side tsc) fits = end_has_one_output (role_of side) tsc fits
 
 -- what holds for the shape of the words holds for whatever shape they have
 pub for_shape : (P : Shape → Type 0) (found : Option Shape) (s : Shape) → found ≡ Some s → P s → (t : Shape) → found ≡ Some t → P t
@@ -74,3 +78,14 @@ pub margin_due : (start : List (List ℤ)) (status : Status) (left taken taken' 
     (IsDetermined margin_rules → EndsAsDue margin_rules start status left taken taken') → EndsAsDue margin_rules [] status left taken taken'
 margin_due start status left taken taken' none due =
     subst (λ held. EndsAsDue margin_rules held status left taken taken') none (due margin_is_determined)
+
+-- a run of `end` that began so
+pub end_run : (start begun : EndRun) (Stands : EndRun → Type 0) (status : Status) (left left' taken taken' : Option (List ℕ)) → start ≡ begun →
+    IsRun end_rules start Stands status left left' taken taken' → IsRun end_rules begun Stands status left left' taken taken'
+end_run start begun Stands status left left' taken taken' same run =
+    subst (λ (s : EndRun). IsRun end_rules s Stands status left left' taken taken') same run
+
+pub end_due : (start begun : EndRun) (status : Status) (left taken taken' : Option (List ℕ)) → start ≡ begun →
+    (IsDetermined end_rules → EndsAsDue end_rules start status left taken taken') → EndsAsDue end_rules begun status left taken taken'
+end_due start begun status left taken taken' same due =
+    subst (λ (s : EndRun). EndsAsDue end_rules s status left taken taken') same (due end_is_determined)

@@ -8,12 +8,15 @@ use Rattle.um_cli.specs.Code.{code_rules}
 use Rattle.um_cli.specs.Replay.{replay_rules}
 use Rattle.um_cli.specs.Show.{show_rules}
 use Rattle.um_cli.specs.declared.words.Shape.{Shape}
-use Rattle.um_cli.specs.declared.words.Shape.TheVariants.{Code, Replay, Show, Margin, Repair, Link, Make}
+use Rattle.um_cli.specs.declared.words.Shape.TheVariants.{Code, Replay, Show, Margin, Repair, Link, Make, End}
 use Rattle.um_margin.specs.Margins.{margin_rules}
 use Rattle.um_repair.specs.RepairRules.{repair_rules}
 use Rattle.um_make.specs.Generated.{generated}
 use Rattle.um_make.specs.Runs.{HasOneSummary}
+use Rattle.um_link.specs.Naming.{role_of}
 use Rattle.um_session.specs.Sessions.{idle, link_rules}
+use Rattle.um_end.specs.EndRuns as E
+use Rattle.um_end.specs.EndRuns.{end_rules}
 
 -- a command's rules, from a state
 abbrev pub machine : {State : Type 0} → Rules State → State → Machine
@@ -28,6 +31,7 @@ OfMachine Margin P = P (machine margin_rules [])
 OfMachine Repair P = P (machine repair_rules tt)
 OfMachine (Link tsc channel) P = P (machine link_rules (idle tsc channel))
 OfMachine (Make n tsc) P = Unit {0}
+OfMachine (End side tsc) P = P (machine end_rules (E.idle (role_of side) tsc))
 
 -- the table of a run over lines: what was read and written, for each way to end
 abbrev pub IsTable : Shape → Status → (left left' taken taken' : Option (List ℕ)) → Type 0

@@ -4,8 +4,10 @@ use Rattle.std.specs.Str.{bytes_eq, all_ascii_digits}
 use Rattle.std.specs.Str.Parse.{digits_value}
 use Rattle.lapdm_frame.specs.declared.Channel.{Channel}
 use Rattle.lapdm_frame.specs.declared.Channel.TheVariants.{Sdcch, Sacch}
+use Rattle.um_link.specs.declared.events.End as L
+use Rattle.um_link.specs.declared.events.End.TheVariants.{Mobile, Network}
 use Rattle.um_cli.specs.declared.words.Shape.{Shape}
-use Rattle.um_cli.specs.declared.words.Shape.TheVariants.{Code, Replay, Show, Margin, Repair, Link, Make}
+use Rattle.um_cli.specs.declared.words.Shape.TheVariants.{Code, Replay, Show, Margin, Repair, Link, Make, End}
 
 -- what one word asks for
 abbrev pub word_shape : List ℕ → Option Shape
@@ -41,10 +43,19 @@ abbrev pub make_of : Option ℕ → Option ℕ → Option Shape
 make_of (Some n) (Some tsc) = Some (Make n tsc)
 make_of n tsc = None
 
--- what three words ask for: `make N T` or `link T sacch`
+-- the side that a word names
+abbrev pub side_of : List ℕ → Option L.End
+side_of word = if bytes_eq word (codes "mob") then Some Mobile else if bytes_eq word (codes "net") then Some Network else None
+
+abbrev pub end_of : Option L.End → Option ℕ → Option Shape
+end_of (Some side) (Some tsc) = Some (End side tsc)
+end_of side tsc = None
+
+-- what three words ask for: `make N T`, `end mob T`, `end net T` or `link T sacch`
 abbrev pub three_words_shape : List ℕ → List ℕ → List ℕ → Option Shape
 three_words_shape word second last =
     if bytes_eq word (codes "make") then make_of (count_of second) (tsc_of last)
+    else if bytes_eq word (codes "end") then end_of (side_of second) (tsc_of last)
     else if bytes_eq last (codes "sacch") then session_shape word second Sacch
     else None
 
@@ -60,6 +71,7 @@ shape_of (word ∷ second ∷ last ∷ other ∷ words) = None
 abbrev pub Fits : Shape → Type 0
 Fits (Link tsc channel) = tsc ≤ 7
 Fits (Make n tsc) = (1 ≤ n) × (n ≤ 1000) × (tsc ≤ 7)
+Fits (End side tsc) = tsc ≤ 7
 Fits shape = Unit {0}
 
 -- words of no session

@@ -20,6 +20,7 @@ use crate::words::{Shape, Words};
 use std::alloc::Global;
 use um_block::Radio;
 use um_driver::{Status, drive};
+use um_end::OneEnd;
 use um_io::{Sink, Source};
 use um_margin::Margin;
 use um_repair::Repair;
@@ -94,6 +95,7 @@ pub fn run<S: Source, K: Sink, R: Radio>(
         Some(Shape::Repair) => drive(alloc, &mut Repair, input, output),
         Some(Shape::Link(tsc, channel)) => run_link(alloc, tsc, channel, input, output, radio),
         Some(Shape::Make(n, tsc)) => run_make(alloc, n, tsc, output, radio),
+        Some(Shape::End(side, tsc)) => drive(alloc, &mut OneEnd::new(side, tsc), input, output),
     }
 }
 

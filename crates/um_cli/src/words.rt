@@ -1,7 +1,7 @@
 //! The words that the program was called with.
 ghost use Rattle.std.specs.Prelude.{◌≡◌, ◌≤◌, ℕ, List, [], map, slice_index, IfSome};
 ghost use Rattle.um_cli.specs.WordLists.{held_word, added_word};
-ghost use Rattle.um_cli.specs.Shapes.{word_shape, shape_of, session_shape, three_words_shape, make_of, count_of, tsc_of, Fits};
+ghost use Rattle.um_cli.specs.Shapes.{word_shape, shape_of, session_shape, three_words_shape, make_of, end_of, side_of, count_of, tsc_of, Fits};
 
 /// What a list of words asks for.
 #[derive(Clone, Copy, Debug, PartialEq, Eq)]
@@ -20,11 +20,14 @@ pub enum Shape {
     Link(u8, Channel),
     /// The generated session of so many messages, with a training sequence.
     Make(u32, u8),
+    /// One end over recorded bursts, by its side and the training sequence of its blocks.
+    End(End, u8),
 }
 
 use arrayvec::{ArrayString, ArrayVec};
 use lapdm_frame::Channel;
 use std::marker::Model;
+use um_link::End;
 
 /// The words after the program's name.
 ///
@@ -99,6 +102,8 @@ fn three_words_shape(word: &str, second: &str, last: &str) -> Option<Shape>
 {
     if word == "make" {
         make_shape(second, last)
+    } else if word == "end" {
+        end_shape(second, last)
     } else if last == "sacch" {
         session_shape(word, second, Channel::Sacch)
     } else {
@@ -113,6 +118,26 @@ fn make_shape(count: &str, tsc: &str) -> Option<Shape>
 {
     let count = count_of(count)?;
     Some(Shape::Make(count, tsc_of(tsc)?))
+}
+
+/// What a side and a training sequence ask for.
+fn end_shape(side: &str, tsc: &str) -> Option<Shape>
+    ensures shape { result ≡ end_of (side_of side.now) (tsc_of tsc.now) }
+    ensures fits { IfSome result (λ shape. Fits shape) }
+{
+    let side = side_of(side)?;
+    Some(Shape::End(side, tsc_of(tsc)?))
+}
+
+/// The side that a word names.
+fn side_of(word: &str) -> Option<End>
+    ensures { result ≡ side_of word.now }
+{
+    match word {
+        "mob" => Some(End::Mobile),
+        "net" => Some(End::Network),
+        _ => None,
+    }
 }
 
 /// How many messages a word names: 1 to 1000 in decimal, without a zero at its front.

@@ -6,6 +6,8 @@ mod bits;
 #[cfg(test)]
 mod code;
 #[cfg(test)]
+mod end;
+#[cfg(test)]
 mod failing;
 #[cfg(test)]
 mod hostile;

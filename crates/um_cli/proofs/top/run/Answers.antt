@@ -4,10 +4,12 @@ use Rattle.um_margin.specs.Margins.{margin_rules}
 use Rattle.um_repair.proofs.Lemmas.{repair_is_determined}
 use Rattle.um_cli.specs.Machines.{IsTable, IsDueEnd}
 use Rattle.um_cli.specs.Shapes.{shape_of}
-use Rattle.um_cli.specs.declared.words.Shape.TheVariants.{Code, Replay, Show, Margin, Repair}
+use Rattle.um_cli.specs.declared.words.Shape.TheVariants.{Code, Replay, Show, Margin, Repair, End}
+use Rattle.um_link.specs.Naming.{role_of}
+use Rattle.um_end.specs.EndRuns.{idle, end_rules}
 use Rattle.um_cli.proofs.CodeRules.{code_is_determined}
 use Rattle.um_cli.proofs.ShowRules.{show_is_determined}
-use Rattle.um_cli.proofs.Tops.{for_shape, any_run, restores, replay_run, replay_headline, replay_due, margin_run, margin_due}
+use Rattle.um_cli.proofs.Tops.{for_shape, any_run, restores, replay_run, replay_headline, replay_due, margin_run, margin_due, end_run, end_due}
 use Rattle.um_cli.proofs.top.run.Goals as goal
 
 pub returns-in-Some-Code-clause-due : goal.returns-in-Some-Code-clause-due
@@ -88,3 +90,29 @@ returns-in-Some-Margin-clause-due g c =
     (λ shape. IsDueEnd shape run.result (g.S.Source.left c.args.input.now) (g.K.Sink.taken c.args.output.now) (g.K.Sink.taken run.new.output))
     (shape_of c.args.words.now) Margin (cc (e, f))
     (margin_due c.new-in-Some-Margin.result run.result _ _ _ c.new-in-Some-Margin.ensures run.ensures.due)
+
+pub returns-in-Some-End-clause-table : goal.returns-in-Some-End-clause-table
+returns-in-Some-End-clause-table g c =
+    let e = c.in-Some-End.ensures.shape in
+    let f = c.in-Some-End.field-0-is in
+    let run = c.drive-in-Some-End in
+    let side = c.in-Some-End.side in
+    let tsc = c.in-Some-End.tsc in
+    let begun = idle (role_of side) tsc in
+    for_shape
+    (λ shape. IsTable shape run.result (g.S.Source.left c.args.input.now) (g.S.Source.left run.new.input) (g.K.Sink.taken c.args.output.now)
+    (g.K.Sink.taken run.new.output))
+    (shape_of c.args.words.now) (End side tsc) (cc (e, f))
+    (any_run end_rules begun _ run.result _ _ _ _ (end_run _ begun _ run.result _ _ _ _ c.new-in-Some-End.ensures.start run.ensures.table))
+
+pub returns-in-Some-End-clause-due : goal.returns-in-Some-End-clause-due
+returns-in-Some-End-clause-due g c =
+    let e = c.in-Some-End.ensures.shape in
+    let f = c.in-Some-End.field-0-is in
+    let run = c.drive-in-Some-End in
+    let side = c.in-Some-End.side in
+    let tsc = c.in-Some-End.tsc in
+    for_shape
+    (λ shape. IsDueEnd shape run.result (g.S.Source.left c.args.input.now) (g.K.Sink.taken c.args.output.now) (g.K.Sink.taken run.new.output))
+    (shape_of c.args.words.now) (End side tsc) (cc (e, f))
+    (end_due _ (idle (role_of side) tsc) run.result _ _ _ c.new-in-Some-End.ensures.start run.ensures.due)

@@ -1,0 +1,121 @@
+//! Whole runs of the command `end`: worked values, and what is refused. The bursts were coded by a script of its own, which codes
+//! the blocks of `vectors/` as they stand there.
+use crate::outside::{Outside, coded, compare, compare_in_pieces};
+use std::test::Fail;
+use um_cli::Status;
+
+/// The bursts of the SABM that asks for the link of SAPI 0 by the information 01, with the training sequence 3.
+pub const SABM_BURSTS: &[u8] =
+    b"n 0001010000100011111110101010010101000000001110111010100000011010001111011010001000111101010000101000111110101010000001000010001011111010101010010000\n\
+n 0001010111011011111010000001010101010101111011101000100001001010001111011010001000111101010111110110111010001010010101010111111011111010101001000000\n\
+n 0000001000101111101000100000010000001000111110101000100001001010001111011010001000111101001000001110101010101000000100001000101010101010000000000000\n\
+n 0000001000010001010111011110101000001001000101011101101010101010001111011010001000111101101000010100010111011110101010001000010101011101101011101000\n";
+
+/// What a network answers to them: its report, the opening, its UA, and the bursts of the UA.
+const OPENING: &[u8] =
+    b"net takes 013f05012b2b2b2b2b2b2b2b2b2b2b2b2b2b2b2b2b2b2b tsc 3 train 0 metric 57912\n\
+net opened 01\n\
+net sends 017305012b2b2b2b2b2b2b2b2b2b2b2b2b2b2b2b2b2b2b\n\
+ok\n\
+n 0001010000101011101110101000000001000010001010111010000000001010001111011010001000111101010000101000101110100000000101000000101010111010100000010000\n\
+n 0001010111111010111010100000010101011101111011101000100001011010001111011010001000111101010111110111111010001010010101010111011111111010000000000000\n\
+n 0000001000111011101000100001000000000000101010100010100001001010001111011010001000111101001000001110101010101000000100000010101010101000100100000000\n\
+n 0000001000010101010101011111101000001001000101111101111010101010001111011010001000111101100000010100010111011110101010101000010101011101101111101000\n";
+
+/// What a mobile answers to `mob idle`.
+const FILL: &[u8] =
+    b"mob sends 0103012b2b2b2b2b2b2b2b2b2b2b2b2b2b2b2b2b2b2b2b\n\
+ok\n\
+n 0001000000100011101010100000010001000010001010111010100000001001001011100001000100101111010000000010101010100010000101000000100011111010100000000000\n\
+n 0001010101111110111010100000010101010101111011101010000001001001001011100001000100101111010101111111111010000000010101010101011011101010100000000000\n\
+n 0000000000111010101000100001000000000010111110101000000101001001001011100001000100101111001000001110101010001001000000000000111010101000100000010000\n\
+n 0000001000000101011101111011101010000000000101111101111010101001001011100001000100101111101010010101010111011010101010101000000001011101101110101000\n";
+
+/// What a network says of a block of which nothing was heard.
+const NOTHING: &[u8] =
+    b"net drops tsc 0 train 104 metric 0 data 0000000000000000000000000000000000000000000000 check 0000000000\nok\n";
+
+#[test]
+fn a_network_opens_at_a_sabm(rt: HostRuntime) {
+    compare_in_pieces(&rt, &["end", "net", "3"], SABM_BURSTS, Status::Done, OPENING);
+}
+
+// What `code` writes arrives, and what is sent is coded as `code` codes it.
+#[test]
+fn bursts_are_those_of_code(rt: HostRuntime) -> Result<(), Fail> {
+    let sabm = coded(&rt, b"block 3 013f05012b2b2b2b2b2b2b2b2b2b2b2b2b2b2b2b2b2b2b")?;
+    assert!(rt; sabm.as_slice() == SABM_BURSTS);
+    let ua = coded(&rt, b"block 3 017305012b2b2b2b2b2b2b2b2b2b2b2b2b2b2b2b2b2b2b")?;
+    assert!(rt; OPENING.ends_with(ua.as_slice()));
+    Ok(())
+}
+
+#[test]
+fn a_fill_frame_goes_out(rt: HostRuntime) {
+    compare_in_pieces(&rt, &["end", "mob", "0"], b"mob idle", Status::Done, FILL);
+}
+
+#[test]
+fn nothing_is_heard_of_four_lost_bursts(rt: HostRuntime) {
+    compare_in_pieces(
+        &rt,
+        &["end", "net", "0"],
+        b"lost\nlost\n# comment\n\nlost\nlost",
+        Status::Done,
+        NOTHING,
+    );
+}
+
+/// A side, an input that is refused, and what is written.
+const REFUSED: [(&str, &[u8], &[u8]); 9] = [
+    ("mob", b"net idle", b"refused 1 word\n"),
+    ("net", b"lost\nnet idle", b"refused 2 order\n"),
+    ("net", b"lost", b"refused 2 order\n"),
+    ("net", b"lost\n\n#\n", b"refused 4 order\n"),
+    ("net", b"lost\nmob idle", b"refused 2 word\n"),
+    ("mob", b"lost\nmob send 0", b"refused 2 order\n"),
+    ("mob", b"lost\na xx yy", b"refused 2 word\n"),
+    ("mob", b"up deliver", b"refused 1 word\n"),
+    ("mob", b"mob3 idle", b"refused 1 word\n"),
+];
+
+#[test]
+fn other_lines_are_refused(rt: HostRuntime) {
+    for (side, input, output) in REFUSED {
+        compare(
+            &rt,
+            &["end", side, "0"],
+            input,
+            Outside::of_most(1000),
+            Status::BadInput,
+            output,
+        );
+    }
+}
+
+// A refused call is one line, and the end is as it was.
+#[test]
+fn a_refused_call_is_one_line(rt: HostRuntime) {
+    compare(
+        &rt,
+        &["end", "mob", "0"],
+        b"mob send aa\nmob3 tick\nmob open -\nmob unit -\n",
+        Outside::of_most(1000),
+        Status::Done,
+        b"no notopen\nno notrunning\nno empty\nno empty\n",
+    );
+}
+
+#[test]
+fn other_words_are_no_end(rt: HostRuntime) {
+    for words in [
+        ["end", "mob", "8"].as_slice(),
+        &["end", "bts", "0"],
+        &["end", "0", "mob"],
+        &["end", "mob"],
+        &["end", "mob", "sacch"],
+        &["mob", "end", "0"],
+    ] {
+        compare(&rt, words, b"mob idle", Outside::of_most(1000), Status::BadWords, b"");
+    }
+}
