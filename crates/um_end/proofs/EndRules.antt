@@ -3,22 +3,20 @@ use Rattle.std.proofs.Common.{◌≡◌, ℕ, ℤ, ◌+◌, ◌<◌, ◌≤◌, 
 use Rattle.std.specs.Prelude.{IfSome}
 use Rattle.std.specs.List.{All, flat_map}
 use Rattle.std.proofs.lemmas.Bool.{cases_lt}
-use Rattle.std.proofs.lemmas.List.Elements.{All-nil, All-cons, All-append}
+use Rattle.std.proofs.lemmas.List.Elements.{All-nil, All-cons, All-append, All-head, All-tail}
+use Rattle.lapdm_frame.specs.declared.Channel.{Channel}
 use Rattle.lapdm_frame.specs.declared.Channel.TheVariants.{Sdcch}
 use Rattle.lapdm_frame.specs.Content.{Frame, information}
 use Rattle.lapdm_frame.specs.Frames.{Fits, octets_of}
 use Rattle.lapdm_frame.proofs.Canonical.{octets_canonical}
-use Rattle.segmenting.specs.Pieces.{IsMessage}
 use Rattle.lapdm_window.specs.declared.Sapi.{Sapi}
 use Rattle.lapdm_window.specs.declared.Sapi.TheVariants.{Zero, Three}
 use Rattle.lapdm_window.specs.declared.Refused.{Refused}
 use Rattle.lapdm_window.specs.Ends.{Role, Mobile, Network, EndState, Outcome, IsEnd, start}
-use Rattle.lapdm_window.specs.Calls.{Call, Opens, OpensBare, refusal_of, after_call}
+use Rattle.lapdm_window.specs.Calls.{Call, Opens, OpensBare, HasCall, refusal_of, after_call}
 use Rattle.lapdm_window.specs.Tables.{after_frame}
-use Rattle.lapdm_link.proofs.Fitting.{FitsEnd, AllFit, FitsAfter, call-fits, frame-fits}
-use Rattle.lapdm_link.proofs.Octets.{AreOctets, CallOctets, EndOctets, AllSay, OutcomeOctets, call-octets, frame-octets}
-use Rattle.lapdm_link.proofs.Asked.{is_called}
-use Rattle.lapdm_link.proofs.Reports.{step-frame}
+use Rattle.lapdm_window.proofs.Lemmas.{Keeps, keeps-call, keeps-frame, IsEnd-start}
+use Rattle.lapdm_link.proofs.Lemmas.{AreOctets, CallOctets, EndOctets, AllSay, OutcomeOctets, call-octets, frame-octets}
 use Rattle.lapdm_link.specs.Events.{Request, Send, SendUnit, Close, Tick, Idle, Open, OpenBare, Ask, Deliver, Lose, Rival, because, Because, call_of}
 use Rattle.um_block.proofs.Lemmas.{one_sent_block, some_sent_block, some_received_block, accepted_count, accepted_octets}
 use Rattle.um_block.specs.Received.{IsReceivedBlock}
@@ -97,54 +95,62 @@ end_is_determined s line y y' b b' (m, means, answer) (m', means', answer') =
 
 -- ---- some answer
 
--- a link on SDCCH whose frames fit, and are octets
-record IsFit (e : EndState) : Type 0 where
+-- a link of this SAPI on SDCCH, whose frames fit and are octets
+record IsFit (sapi : Sapi) (e : EndState) : Type 0 where
   pub end : IsEnd e
-  pub fits : FitsEnd Sdcch e
+  pub sapi_is : e.sapi ≡ sapi
+  pub channel : e.channel ≡ Sdcch
   pub octets : EndOctets e
 
 record AreFit (a : Links) : Type 0 where
-  pub link0 : IsFit a.link0
-  pub link3 : IsFit a.link3
+  pub link0 : IsFit Zero a.link0
+  pub link3 : IsFit Three a.link3
 
-fit_in : (sapi : Sapi) (a : Links) → AreFit a → IsFit (link_in sapi a)
+fit_in : (sapi : Sapi) (a : Links) → AreFit a → IsFit sapi (link_in sapi a)
 fit_in Zero a h = h.link0
 fit_in Three a h = h.link3
 
-fit_with : (sapi : Sapi) (e : EndState) (a : Links) → AreFit a → IsFit e → AreFit (with_link_in sapi e a)
+fit_with : (sapi : Sapi) (e : EndState) (a : Links) → AreFit a → IsFit sapi e → AreFit (with_link_in sapi e a)
 fit_with Zero e a h fit = record { link0 = fit; link3 = h.link3 }
 fit_with Three e a h fit = record { link0 = h.link0; link3 = fit }
 
 -- what is done leaves links that fit, and so do its frames
 record IsFitDeed (d : Deed) : Type 0 where
   pub after : AreFit d.after
-  pub frames : AllFit Sdcch d.frames
+  pub frames : All (Fits Sdcch) d.frames
   pub said : AllSay d.frames
 
-fit_deed : (sapi : Sapi) (o : Outcome) (a : Links) → AreFit a → IsEnd o.after → o.after.channel ≡ Sdcch → FitsAfter Sdcch o → OutcomeOctets o →
-    IsFitDeed (does sapi o a)
-fit_deed sapi o a h end channel fits octets = record {
-  after = fit_with sapi o.after a h (record { end = end; fits = record { on_channel = channel; kept = fits.kept }; octets = octets.end });
-  frames = fits.frames;
-  said = octets.frames;
-}
-
-fit_call : (sapi : Sapi) (call : Call) (a : Links) → CallOctets call → AreFit a → refusal_of call (link_in sapi a) ≡ None → IsFitDeed (asks sapi call a)
-fit_call sapi call a octets h ok =
+fit_deed : (sapi : Sapi) (o : Outcome) (a : Links) → AreFit a → Keeps (link_in sapi a) o → OutcomeOctets o → IsFitDeed (does sapi o a)
+fit_deed sapi o a h keeps octets =
     let fit = fit_in sapi a h in
-    let called = is_called call (link_in sapi a) ok fit.end in
-    fit_deed sapi (after_call call (link_in sapi a)) a h called.end (called.channel ∙ fit.fits.on_channel) (call-fits Sdcch call (link_in sapi a) ok fit.end fit.fits)
+    record {
+      after = fit_with sapi o.after a h (record {
+        end = keeps.end;
+        sapi_is = keeps.sapi ∙ fit.sapi_is;
+        channel = keeps.channel ∙ fit.channel;
+        octets = octets.end;
+      });
+      frames = subst (λ (c : Channel). All (Fits c) o.frames) fit.channel keeps.frames;
+      said = octets.frames;
+    }
+
+fit_call : (sapi : Sapi) (call : Call) (a : Links) → CallOctets call → HasCall (link_in sapi a) call → AreFit a →
+    refusal_of call (link_in sapi a) ≡ None → IsFitDeed (asks sapi call a)
+fit_call sapi call a octets has h ok =
+    let fit = fit_in sapi a h in
+    fit_deed sapi (after_call call (link_in sapi a)) a h (keeps-call call (link_in sapi a) fit.end has ok)
     (call-octets call (link_in sapi a) octets ok fit.end.window fit.octets)
 
-fit_frame : (sapi : Sapi) (f : Frame) (a : Links) → Fits Sdcch f → AreOctets (information f.content) → AreFit a → IsFitDeed (does sapi (after_frame f (link_in sapi a)) a)
+fit_frame : (sapi : Sapi) (f : Frame) (a : Links) → Fits Sdcch f → AreOctets (information f.content) → AreFit a →
+    IsFitDeed (does sapi (after_frame f (link_in sapi a)) a)
 fit_frame sapi f a fits octets h =
     let fit = fit_in sapi a h in
-    let step = step-frame f (link_in sapi a) fit.end in
-    fit_deed sapi (after_frame f (link_in sapi a)) a h (step.end fit.end) (step.channel ∙ fit.fits.on_channel) (frame-fits Sdcch f (link_in sapi a) fits fit.end fit.fits)
+    fit_deed sapi (after_frame f (link_in sapi a)) a h
+    (keeps-frame f (link_in sapi a) fit.end (subst (λ (c : Channel). Fits c f) (sym fit.channel) fits))
     (frame-octets f (link_in sapi a) octets fit.end.window fit.octets)
 
 fit_nothing : (a : Links) → AreFit a → IsFitDeed (does_nothing a)
-fit_nothing a h = record { after = h; frames = tt; said = tt }
+fit_nothing a h = record { after = h; frames = All-nil (Fits Sdcch); said = tt }
 
 fit_read : (a : Links) (accepted : Option Octets) (read : Option Frame) → IfSome accepted AreOctets → Reads Sdcch accepted read → AreFit a →
     IsFitDeed (takes_read read a)
@@ -154,11 +160,12 @@ fit_read a accepted (Some f) octets reads h =
     by_sapi f a IsFitDeed (λ e. fit_frame Zero f a well.0 well.1 h) (λ e. fit_frame Three f a well.0 well.1 h) (λ e g. fit_nothing a h)
 
 -- each frame that fits is coded
-some_coded : (tsc : ℕ) (fs : List Frame) → tsc ≤ 7 → AllFit Sdcch fs → AllSay fs → (bs : List Block) × AreCoded tsc (map (octets_of Sdcch) fs) bs
+some_coded : (tsc : ℕ) (fs : List Frame) → tsc ≤ 7 → All (Fits Sdcch) fs → AllSay fs → (bs : List Block) × AreCoded tsc (map (octets_of Sdcch) fs) bs
 some_coded tsc [] known h said = ([], tt)
 some_coded tsc (f ∷ fs) known h said =
-    let b = some_sent_block (octets_of Sdcch f) tsc (octets_canonical Sdcch f h.0).frame.count (octets_small Sdcch f h.0 said.0) known in
-    let bs = some_coded tsc fs known h.1 said.1 in
+    let fits : Fits Sdcch f = All-head (Fits Sdcch) f fs h in
+    let b = some_sent_block (octets_of Sdcch f) tsc (octets_canonical Sdcch f fits).frame.count (octets_small Sdcch f fits said.0) known in
+    let bs = some_coded tsc fs known (All-tail (Fits Sdcch) f fs h) said.1 in
     (b.0 ∷ bs.0, (b.1, bs.1))
 
 some_text : (tsc : ℕ) (role : Role) (received : Option Received) (d : Deed) → tsc ≤ 7 → IsFitDeed d →
@@ -184,18 +191,18 @@ record SomeAnswer (s : EndRun) (event : Event) : Type 0 where
   pub text : List ℕ
   pub text_is : IsAnswerText s.tsc answer text
 
-asked_by : (s : EndRun) (sapi : Sapi) (call : Call) (o : Option Refused) → refusal_of call (link_in sapi s.links) ≡ o → s.tsc ≤ 7 → CallOctets call → AreFit s.links →
+asked_by : (s : EndRun) (sapi : Sapi) (call : Call) (o : Option Refused) → refusal_of call (link_in sapi s.links) ≡ o → s.tsc ≤ 7 → CallOctets call → HasCall (link_in sapi s.links) call → AreFit s.links →
     (b : Links) × (answer : Answer) × IsAsked s.role s.links sapi call b answer × ((y : List ℕ) × IsAnswerText s.tsc answer y)
-asked_by s sapi call (Some why) is known octets h =
+asked_by s sapi call (Some why) is known octets has h =
     (s.links, Refuses (Because why), (ap because is, refl), (answer_text (Refuses (Because why)) ++ [], record { blocks = []; coded = tt; text_is = refl }))
-asked_by s sapi call None is known octets h =
+asked_by s sapi call None is known octets has h =
     let d : Deed = asks sapi call s.links in
-    let text = some_text s.tsc s.role None d known (fit_call sapi call s.links octets h is) in
+    let text = some_text s.tsc s.role None d known (fit_call sapi call s.links octets has h is) in
     (d.after, Does (step_of s.role None d), (ap because is, refl, refl), text)
 
-some_asked : (s : EndRun) (sapi : Sapi) (call : Call) → s.tsc ≤ 7 → CallOctets call → AreFit s.links →
+some_asked : (s : EndRun) (sapi : Sapi) (call : Call) → s.tsc ≤ 7 → CallOctets call → HasCall (link_in sapi s.links) call → AreFit s.links →
     (b : Links) × (answer : Answer) × IsAsked s.role s.links sapi call b answer × ((y : List ℕ) × IsAnswerText s.tsc answer y)
-some_asked s sapi call known octets h = asked_by s sapi call (refusal_of call (link_in sapi s.links)) refl known octets h
+some_asked s sapi call known octets has h = asked_by s sapi call (refusal_of call (link_in sapi s.links)) refl known octets has h
 
 -- a request of octets is a call of octets
 request_octets : (role : Role) (sapi : Sapi) (request : Request) → IsOctetEvent (Ask role sapi request) → CallOctets (call_of request)
@@ -205,15 +212,23 @@ request_octets role sapi Close h = tt
 request_octets role sapi Tick h = tt
 request_octets role sapi Idle h = tt
 
+-- and every link has it
+request_has : (e : EndState) (request : Request) → HasCall e (call_of request)
+request_has e (Send m) = tt
+request_has e (SendUnit m) = tt
+request_has e Close = tt
+request_has e Tick = tt
+request_has e Idle = tt
+
 some_asking : (s : EndRun) (event : Event) → IsCallOf s.role event × IsOctetEvent event → s.tsc ≤ 7 → AreFit s.links → SomeAnswer s event
 some_asking s (Open info) own known h =
-    let a = some_asked s Zero (Opens info) known own.1 h in
+    let a = some_asked s Zero (Opens info) known own.1 h.link0.sapi_is h in
     record { links = a.0; answer = a.1; asked = a.2; text = a.3.0; text_is = a.3.1 }
 some_asking s (OpenBare other) own known h =
-    let a = some_asked s Three OpensBare known tt h in
+    let a = some_asked s Three OpensBare known tt h.link3.sapi_is h in
     record { links = a.0; answer = a.1; asked = a.2; text = a.3.0; text_is = a.3.1 }
 some_asking s (Ask other sapi request) own known h =
-    let a = some_asked s sapi (call_of request) known (request_octets other sapi request own.1) h in
+    let a = some_asked s sapi (call_of request) known (request_octets other sapi request own.1) (request_has (link_in sapi s.links) request) h in
     record { links = a.0; answer = a.1; asked = a.2; text = a.3.0; text_is = a.3.1 }
 some_asking s (Deliver sender places) own known h = absurd own.0
 some_asking s (Lose sender) own known h = absurd own.0
@@ -269,10 +284,11 @@ some_meaning role tsc s line (Calls event) known k means =
 
 -- ---- every run can go on
 
-idle_fit : (role : Role) (sapi : Sapi) → IsFit (start role sapi Sdcch)
+idle_fit : (role : Role) (sapi : Sapi) → IsFit sapi (start role sapi Sdcch)
 idle_fit role sapi = record {
-  end = record { messages = All-nil IsMessage; sent = omega arith; behind = omega arith; window = omega arith };
-  fits = record { on_channel = refl; kept = omega arith };
+  end = IsEnd-start role sapi Sdcch;
+  sapi_is = refl;
+  channel = refl;
   octets = record { kept = All-nil (λ octet. octet < 256); taken = tt };
 }
 
@@ -285,20 +301,21 @@ idle_kept role tsc = record {
   each = All-nil (λ (burst : List ℤ). length burst ≡ 148);
 }
 
-asked_fit : (role : Role) (a : Links) (sapi : Sapi) (call : Call) (b : Links) (answer : Answer) → CallOctets call → AreFit a → IsAsked role a sapi call b answer → AreFit b
-asked_fit role a sapi call b (Refuses why) octets h asked = subst AreFit (sym asked.1) h
-asked_fit role a sapi call b (Does step) octets h asked =
-    subst AreFit (sym asked.1) (fit_call sapi call a octets h (not_because (refusal_of call (link_in sapi a)) asked.0)).after
+asked_fit : (role : Role) (a : Links) (sapi : Sapi) (call : Call) (b : Links) (answer : Answer) → CallOctets call →
+    HasCall (link_in sapi a) call → AreFit a → IsAsked role a sapi call b answer → AreFit b
+asked_fit role a sapi call b (Refuses why) octets has h asked = subst AreFit (sym asked.1) h
+asked_fit role a sapi call b (Does step) octets has h asked =
+    subst AreFit (sym asked.1) (fit_call sapi call a octets has h (not_because (refusal_of call (link_in sapi a)) asked.0)).after
   where
     not_because : (o : Option Refused) → because o ≡ None → o ≡ None
     not_because None e = refl
     not_because (Some why) e = absurd (cc e)
 
 asking_fit : (role : Role) (a : Links) (event : Event) (b : Links) (answer : Answer) → IsOctetEvent event → AreFit a → Asks role a event b answer → AreFit b
-asking_fit role a (Open info) b answer octets h asked = asked_fit role a Zero (Opens info) b answer octets h asked
-asking_fit role a (OpenBare other) b answer octets h asked = asked_fit role a Three OpensBare b answer tt h asked
+asking_fit role a (Open info) b answer octets h asked = asked_fit role a Zero (Opens info) b answer octets h.link0.sapi_is h asked
+asking_fit role a (OpenBare other) b answer octets h asked = asked_fit role a Three OpensBare b answer tt h.link3.sapi_is h asked
 asking_fit role a (Ask other sapi request) b answer octets h asked =
-    asked_fit role a sapi (call_of request) b answer (request_octets other sapi request octets) h asked
+    asked_fit role a sapi (call_of request) b answer (request_octets other sapi request octets) (request_has (link_in sapi a) request) h asked
 asking_fit role a (Deliver sender places) b answer octets h asked = absurd asked
 asking_fit role a (Lose sender) b answer octets h asked = absurd asked
 asking_fit role a (Rival info) b answer octets h asked = absurd asked

@@ -2,7 +2,7 @@
 ghost use Rattle.std.specs.Prelude.{◌≡◌, [], IfOk, OnErr};
 ghost use Rattle.lapdm_window.specs.Calls.{after_call};
 ghost use Rattle.lapdm_end.specs.Following.{Follows, IsRefusedAs};
-ghost use Rattle.lapdm_end.specs.Standing.{channel_of};
+ghost use Rattle.lapdm_end.specs.Standing.{channel_of, sapi_of};
 ghost use Rattle.lapdm_link.specs.Events as E;
 ghost use Rattle.um_link.specs.Naming.{call_of, event_of, why_of};
 ghost use Rattle.um_end.specs.Asking.{IsCall, sapi_in, call_in};
@@ -25,11 +25,13 @@ pub(crate) fn link_asked(event: &Event<'_>) -> Sapi
 }
 
 pub(crate) fn ask_event(link: &mut End, event: &Event<'_>) -> Result<Effects, Refused>
-    requires { IsCall (event_of event.now) }
+    requires call { IsCall (event_of event.now) }
+    requires sapi { sapi_of link.old ≡ sapi_in (event_of event.now) }
     ensures refusal { IsRefusedAs (call_in (event_of event.now)) link.old result }
     ensures follows { IfOk result (λ effects. Follows (after_call (call_in (event_of event.now))) link.old effects link.new) }
     ensures refused { OnErr result (link.new ≡ link.old) }
     ensures channel { channel_of link.new ≡ channel_of link.old }
+    ensures sapi { sapi_of link.new ≡ sapi_of link.old }
 {
     match event {
         Event::Open(info) => link.open(info),
@@ -45,6 +47,7 @@ fn ask_call(link: &mut End, call: &Call<'_>) -> Result<Effects, Refused>
     ensures follows { IfOk result (λ effects. Follows (after_call (call_of call.now)) link.old effects link.new) }
     ensures refused { OnErr result (link.new ≡ link.old) }
     ensures channel { channel_of link.new ≡ channel_of link.old }
+    ensures sapi { sapi_of link.new ≡ sapi_of link.old }
 {
     match call {
         Call::Send(message) => link.send(message),

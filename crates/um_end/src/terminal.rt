@@ -8,10 +8,11 @@ ghost use Rattle.lapdm_frame.specs.declared.Channel.TheVariants.{Sdcch};
 ghost use Rattle.lapdm_frame.specs.Content.{frame_of};
 ghost use Rattle.lapdm_frame.specs.Frames.{Fits};
 ghost use Rattle.lapdm_end.specs.Following.{IsRefusedAs};
-ghost use Rattle.lapdm_end.specs.Standing.{channel_of};
+ghost use Rattle.lapdm_end.specs.Standing.{channel_of, sapi_of};
+ghost use Rattle.lapdm_window.specs.declared.Sapi.TheVariants as S;
 ghost use Rattle.lapdm_link.specs.Events as E;
 ghost use Rattle.um_link.specs.Naming.{role_of, event_of, who_of, step_of};
-ghost use Rattle.um_end.specs.Asking.{IsCall, call_in};
+ghost use Rattle.um_end.specs.Asking.{IsCall, sapi_in, call_in};
 
 use crate::asking::{ask_event, link_asked, nothing, reason};
 use lapdm_end::{End as LinkEnd, Role};
@@ -30,6 +31,8 @@ pub struct Terminal {
     ghost known: { tsc ≤ 7 },
     ghost channel0: { channel_of link0 ≡ Sdcch },
     ghost channel3: { channel_of link3 ≡ Sdcch },
+    ghost sapi0: { sapi_of link0 ≡ S.Zero },
+    ghost sapi3: { sapi_of link3 ≡ S.Three },
 }
 
 impl Terminal {
@@ -99,7 +102,8 @@ impl Terminal {
     }
 
     fn ask_link(&mut self, sapi: Sapi, event: &Event<'_>) -> Result<Effects, Refused>
-        requires { IsCall (event_of event.now) }
+        requires call { IsCall (event_of event.now) }
+        requires sapi { sapi ≡ sapi_in (event_of event.now) }
         ensures refusal { IsRefusedAs (call_in (event_of event.now)) (link_of sapi self.old) result }
         ensures follows { IfOk result (λ effects. Follows (asks sapi (call_in (event_of event.now))) self.old sapi effects self.new) }
         ensures refused { OnErr result (self.new ≡ self.old) }
