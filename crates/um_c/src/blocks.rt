@@ -1,5 +1,5 @@
 //! Blocks of 23 octets as four normal bursts, and back.
-ghost use Rattle.std.specs.Prelude.{◌≡◌, ◌≤◌, ◌↔◌, All, IsTrue, false, ℕ, List};
+ghost use Rattle.std.specs.Prelude.{◌≡◌, ◌≤◌, ◌↔◌, All, IsTrue, false, ℕ, List, replicate, MatchOption};
 ghost use Rattle.bit_blocks.specs.Bits.{AllBits};
 ghost use Rattle.bit_blocks.specs.SoftValues.{AllSoft};
 ghost use Rattle.um_block.specs.Sent.{IsSentBlock};
@@ -57,14 +57,27 @@ pub extern "C" fn um_receive_block(bursts: &[[i8; 148]; 4], report: &mut BlockRe
     let received = receive_block(bursts);
     let mut word = [0; 228];
     word.copy_from_slice(received.u.as_slice());
+    let (accepted, octets) = told_octets(&received.accepted);
     *report = BlockReport {
         metric: received.metric,
         wrong_training: received.wrong_training,
         wrong_coded: wrong_block_places(bursts, &word),
         tsc: received.tsc,
-        accepted: u8::from(received.accepted.is_some()),
-        octets: received.accepted.unwrap_or([0; 23]),
+        accepted,
+        octets,
         word,
     };
     true
+}
+
+/// 1 and the octets that were accepted, or 0 and zeros where none were.
+fn told_octets(accepted: &Option<[u8; 23]>) -> (u8, [u8; 23])
+    ensures { MatchOption accepted.now
+        ((result.0 ≡ 0) × (result.1 ≡ replicate 23 0))
+        (λ octets. (result.0 ≡ 1) × (result.1 ≡ octets)) }
+{
+    match accepted {
+        Some(octets) => (1, *octets),
+        None => (0, [0; 23]),
+    }
 }

@@ -1,5 +1,5 @@
 //! Access bursts and synchronisation bursts.
-ghost use Rattle.std.specs.Prelude.{◌≡◌, ◌↔◌, ℕ, List, IsTrue, false};
+ghost use Rattle.std.specs.Prelude.{◌≡◌, ◌↔◌, ℕ, List, replicate, IsTrue, false, MatchOption};
 ghost use Rattle.bit_blocks.specs.Bits.{AllBits};
 ghost use Rattle.bit_blocks.specs.SoftValues.{AllSoft};
 ghost use Rattle.um_block.specs.Sent.{IsSentAccess, IsSentSync};
@@ -87,15 +87,12 @@ pub extern "C" fn um_receive_access(
     let received = receive_access(burst, &bsic);
     let mut word = [0; 18];
     word.copy_from_slice(received.u.as_slice());
-    let mut info = [0; 8];
-    if let Some(bits) = &received.accepted {
-        info.copy_from_slice(bits.as_slice());
-    }
+    let (accepted, info) = told_bits(&received.accepted);
     *report = AccessReport {
         metric: received.metric,
         wrong_training: received.wrong_training,
         wrong_coded: wrong_access_places(burst, &word),
-        accepted: u8::from(received.accepted.is_some()),
+        accepted,
         info,
         word,
     };
@@ -130,17 +127,30 @@ pub extern "C" fn um_receive_sync(burst: &[i8; 148], report: &mut SyncReport) ->
     let received = receive_sync(burst);
     let mut word = [0; 39];
     word.copy_from_slice(received.u.as_slice());
-    let mut info = [0; 25];
-    if let Some(bits) = &received.accepted {
-        info.copy_from_slice(bits.as_slice());
-    }
+    let (accepted, info) = told_bits(&received.accepted);
     *report = SyncReport {
         metric: received.metric,
         wrong_training: received.wrong_training,
         wrong_coded: wrong_sync_places(burst, &word),
-        accepted: u8::from(received.accepted.is_some()),
+        accepted,
         info,
         word,
     };
     true
+}
+
+/// 1 and the bits that were accepted, or 0 and zeros where none were.
+fn told_bits<const N: usize>(accepted: &Option<Bits<N>>) -> (u8, [u8; N])
+    ensures { MatchOption accepted.now
+        ((result.0 ≡ 0) × (result.1 ≡ replicate N 0))
+        (λ info. (result.0 ≡ 1) × (result.1 ≡ info)) }
+{
+    let mut octets = [0; N];
+    match accepted {
+        Some(info) => {
+            octets.copy_from_slice(info.as_slice());
+            (1, octets)
+        }
+        None => (0, octets),
+    }
 }
