@@ -37,6 +37,15 @@ bool um_send_block(const uint8_t octets[23], uint8_t tsc, uint8_t bursts[4][148]
  * False: a value is -128. */
 bool um_receive_block(const int8_t bursts[4][148], um_block_report *report);
 
+typedef struct um_margin_report {
+	int32_t margin;    /* how much likelier the word is than the next: 0 exactly where some other word fits as well */
+	uint8_t word[228]; /* the most likely word, as um_receive_block reports it */
+	uint8_t next[228]; /* the most likely of all others, the first of several */
+} um_margin_report;
+
+/* Reports how sure the word of four bursts is: by how much it fits better than every other. False: a value is -128. */
+bool um_margin_block(const int8_t bursts[4][148], um_margin_report *report);
+
 /* Access bursts: RACH (3GPP TS 45.003, 4.6). */
 
 typedef struct um_access_report {

@@ -40,11 +40,15 @@ _Access = _report("_Access", [], (8, 18))
 _Sync = _report("_Sync", [], (25, 39))
 
 
+class _Margin(c.Structure):
+    _fields_ = [("margin", c.c_int32), ("word", c.c_uint8 * 228), ("next", c.c_uint8 * 228)]
+
+
 class _Frame(c.Structure):
     _fields_ = [(name, c.c_uint8) for name in ("kind", "sapi", "cr", "pf", "ns", "nr", "more", "count")] + [("info", c.c_uint8 * 20)]
 
 
-for _name in ("send_block", "receive_block", "send_access", "receive_access", "send_sync", "receive_sync", "write_frame"):
+for _name in ("send_block", "receive_block", "margin_block", "send_access", "receive_access", "send_sync", "receive_sync", "write_frame"):
     getattr(_lib, f"um_{_name}").restype = c.c_bool
 _lib.um_read_frame.restype = c.c_uint8
 
@@ -85,6 +89,14 @@ def receive_block(bursts):
     values = [value for burst in bursts for value in burst]
     _told(_lib.um_receive_block(_soft(values, 592), c.byref(raw)), "a soft value is -127 to 127")
     return _reported(raw, raw.tsc)
+
+
+def margin_block(bursts):
+    """By how much the word of four bursts fits better than every other, that word, and the next one."""
+    raw = _Margin()
+    values = [value for burst in bursts for value in burst]
+    _told(_lib.um_margin_block(_soft(values, 592), c.byref(raw)), "a soft value is -127 to 127")
+    return raw.margin, bytes(raw.word), bytes(raw.next)
 
 
 def send_access(info, bsic):

@@ -65,9 +65,20 @@ static void blocks(void)
 	}
 	check(!report.value.word[224] && !report.value.word[225] && !report.value.word[226] && !report.value.word[227], "the tail");
 	soft[3][147] = -128;
-	MARK(report);
-	check(!um_receive_block((const int8_t (*)[148])soft, &report.value) && UNTOUCHED(report), "a value of -128 is refused");
+	ROOM(um_block_report) refused;
+	MARK(refused);
+	check(!um_receive_block((const int8_t (*)[148])soft, &refused.value) && UNTOUCHED(refused), "a value of -128 is refused");
+	ROOM(um_margin_report) margin;
+	MARK(margin);
+	check(!um_margin_block((const int8_t (*)[148])soft, &margin.value) && UNTOUCHED(margin), "a value of -128 is refused");
+	soft[3][147] = 127;
+	check(um_margin_block((const int8_t (*)[148])soft, &margin.value) && AROUND(margin) && margin.value.margin >= 254
+		&& !memcmp(margin.value.word, report.value.word, 228), "three wrong bits leave a margin of 254 at least");
+	soften(sent.value[0], soft[0], 592);
+	check(um_margin_block((const int8_t (*)[148])soft, &margin.value) && margin.value.margin == 7 * 254, "the next word is seven places away");
 	memset(soft, 0, sizeof soft);
+	check(um_margin_block((const int8_t (*)[148])soft, &margin.value) && margin.value.margin == 0 && margin.value.word[223] == 0
+		&& margin.value.next[223] == 1, "four lost bursts have no margin, and the next word has a 1 in its last free place");
 	check(um_receive_block((const int8_t (*)[148])soft, &report.value) && !report.value.accepted && report.value.metric == 0
 		&& report.value.wrong_training == 104 && report.value.wrong_coded == 456 && report.value.octets[0] == 0, "four lost bursts");
 }

@@ -44,6 +44,18 @@ impl BlockReport {
     }
 }
 
+/// The two words that fit a block's soft values best.
+#[repr(C)]
+#[derive(Clone, Copy, Debug, PartialEq, Eq)]
+pub struct MarginReport {
+    /// How much likelier the word is than the next: 0 exactly where some other word fits as well.
+    pub margin: i32,
+    /// The most likely word, as [`receive_block`] reports it.
+    pub word: [u8; 228],
+    /// The most likely of all others, the first of several.
+    pub next: [u8; 228],
+}
+
 /// What an access burst is received as.
 #[repr(C)]
 #[derive(Clone, Copy, Debug, PartialEq, Eq)]
@@ -169,6 +181,7 @@ impl ReadFrame {
 unsafe extern "C" {
     fn um_send_block(octets: &[u8; 23], tsc: u8, bursts: &mut [[u8; 148]; 4]) -> bool;
     fn um_receive_block(bursts: &[[i8; 148]; 4], report: &mut BlockReport) -> bool;
+    fn um_margin_block(bursts: &[[i8; 148]; 4], report: &mut MarginReport) -> bool;
     fn um_send_access(info: &[u8; 8], bsic: &[u8; 6], burst: &mut [u8; 88]) -> bool;
     fn um_receive_access(burst: &[i8; 88], bsic: &[u8; 6], report: &mut AccessReport) -> bool;
     fn um_send_sync(info: &[u8; 25], burst: &mut [u8; 148]) -> bool;
@@ -191,6 +204,12 @@ pub fn receive_block(bursts: &[[i8; 148]; 4]) -> Option<BlockReport> {
     let mut report =
         BlockReport { metric: 0, wrong_training: 0, wrong_coded: 0, tsc: 0, accepted: 0, octets: [0; 23], word: [0; 228] };
     unsafe { um_receive_block(bursts, &mut report) }.then_some(report)
+}
+
+/// By how much the word of four bursts fits better than every other; `None` where a value is -128.
+pub fn margin_block(bursts: &[[i8; 148]; 4]) -> Option<MarginReport> {
+    let mut report = MarginReport { margin: 0, word: [0; 228], next: [0; 228] };
+    unsafe { um_margin_block(bursts, &mut report) }.then_some(report)
 }
 
 /// The access burst of eight bits under a base station's code; `None` where an octet is no bit.

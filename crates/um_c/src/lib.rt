@@ -7,4 +7,5 @@
 mod blocks;
 mod bursts;
 mod frames;
+mod margins;
 mod soft;
