@@ -2,6 +2,7 @@
 //! bursts, and from the soft values of bursts to what is received.
 #![tactic(auto)]
 
+mod counting;
 mod laws;
 mod radio;
 mod received;
@@ -10,6 +11,7 @@ mod sending;
 #[cfg(test)]
 mod tests;
 
+pub use counting::{wrong_access_places, wrong_block_places, wrong_sync_places};
 pub use laws::{law_block_places, law_few_wrong};
 pub use radio::{PlainRadio, Radio};
 pub use received::{Received, ReceivedAccess, ReceivedSync};

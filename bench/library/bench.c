@@ -1,0 +1,134 @@
+/* um's calls from C beside libosmocoding's on the same blocks: nanoseconds a call, the least of all rounds, in turns.
+ *
+ *   bench [CALLS [ROUNDS]] */
+#include "um.h"
+#include <osmocom/core/bits.h>
+#include <osmocom/coding/gsm0503_coding.h>
+#include <stdio.h>
+#include <stdlib.h>
+#include <string.h>
+#include <time.h>
+
+#define POOL 1024
+static uint8_t octets[POOL][23];
+static int8_t ours[POOL][4][148];
+static sbit_t theirs[POOL][464];
+static volatile unsigned sink;
+
+static uint32_t chance(void)
+{
+	static uint64_t state = 0x9e3779b97f4a7c15ull;
+	state ^= state >> 12, state ^= state << 25, state ^= state >> 27;
+	return (uint32_t)((state * 2685821657736338717ull) >> 32);
+}
+
+static double now(void)
+{
+	struct timespec time;
+	clock_gettime(CLOCK_MONOTONIC, &time);
+	return (double)time.tv_sec * 1e9 + (double)time.tv_nsec;
+}
+
+/* Blocks of random octets, sure or with noise on every bit. */
+static void fill(int is_noisy)
+{
+	for (int p = 0; p < POOL; p++) {
+		uint8_t sent[4][148];
+		for (int i = 0; i < 23; i++)
+			octets[p][i] = (uint8_t)chance();
+		um_send_block(octets[p], p & 7, sent);
+		for (int b = 0; b < 4; b++)
+			for (int i = 0; i < 148; i++) {
+				int noise = 0;
+				for (int k = 0; k < 4; k++)
+					noise += (int)(chance() % 97) - 48;
+				int value = is_noisy ? (sent[b][i] ? -96 : 96) + noise * 3 / 4 : sent[b][i] ? -127 : 127;
+				ours[p][b][i] = (int8_t)(value > 127 ? 127 : value < -127 ? -127 : value);
+			}
+		for (int b = 0; b < 4; b++) {
+			memcpy(theirs[p] + 116 * b, ours[p][b] + 3, 58);
+			memcpy(theirs[p] + 116 * b + 58, ours[p][b] + 87, 58);
+		}
+	}
+}
+
+static void send(long calls)
+{
+	uint8_t bursts[4][148];
+	for (long i = 0; i < calls; i++) {
+		um_send_block(octets[i % POOL], i & 7, bursts);
+		sink += bursts[i & 3][i % 148];
+	}
+}
+
+static void osmo_encode(long calls)
+{
+	ubit_t bursts[464];
+	for (long i = 0; i < calls; i++) {
+		gsm0503_xcch_encode(bursts, octets[i % POOL]);
+		sink += bursts[i % 464];
+	}
+}
+
+static void receive(long calls)
+{
+	um_block_report report;
+	for (long i = 0; i < calls; i++) {
+		um_receive_block((const int8_t (*)[148])ours[i % POOL], &report);
+		sink += report.accepted;
+	}
+}
+
+static void osmo_decode(long calls)
+{
+	uint8_t block[23];
+	int errors, bits;
+	for (long i = 0; i < calls; i++)
+		sink += gsm0503_xcch_decode(block, theirs[i % POOL], &errors, &bits) == 0;
+}
+
+static void read_frame(long calls)
+{
+	static const uint8_t block[23] = { 1, 0x20, 0x53, 1, 2, 3 };
+	um_frame frame;
+	for (long i = 0; i < calls; i++)
+		sink += um_read_frame(block, UM_SDCCH, &frame) + frame.count;
+}
+
+static void write_frame(long calls)
+{
+	um_frame frame = { .kind = UM_I, .nr = 1, .count = 20 };
+	uint8_t block[23];
+	for (long i = 0; i < calls; i++) {
+		frame.ns = i & 7;
+		sink += um_write_frame(&frame, UM_SDCCH, block) + block[1];
+	}
+}
+
+int main(int argc, char **argv)
+{
+	static const struct { const char *name; void (*work)(long); } works[] = {
+		{ "um_send_block", send },       { "gsm0503_xcch_encode", osmo_encode }, { "um_receive_block", receive },
+		{ "gsm0503_xcch_decode", osmo_decode }, { "um_read_frame", read_frame },        { "um_write_frame", write_frame },
+	};
+	enum { WORKS = sizeof works / sizeof *works };
+	long calls = argc > 1 ? atol(argv[1]) : 20000;
+	int rounds = argc > 2 ? atoi(argv[2]) : 15;
+	for (int is_noisy = 0; is_noisy < 2; is_noisy++) {
+		double least[WORKS];
+		fill(is_noisy);
+		for (int i = 0; i < WORKS; i++)
+			least[i] = 1e300;
+		for (int round = 0; round < rounds; round++)
+			for (int i = 0; i < WORKS; i++) {
+				double start = now();
+				works[i].work(calls);
+				double taken = now() - start;
+				least[i] = taken < least[i] ? taken : least[i];
+			}
+		for (int i = 0; i < WORKS; i++)
+			printf("%-6s %-22s %8.0f ns\n", is_noisy ? "noisy" : "sure", works[i].name, least[i] / (double)calls);
+		printf("%-6s send %.2f and receive %.2f of libosmocoding's time\n", is_noisy ? "noisy" : "sure", least[0] / least[1], least[2] / least[3]);
+	}
+	return 0;
+}

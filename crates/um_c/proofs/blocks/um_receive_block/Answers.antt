@@ -1,0 +1,20 @@
+use Rattle.std.proofs.Common.{◌≡◌, refl, ap, ◌∙◌}
+use Rattle.std.proofs.lemmas.Int.{to_z-of_z}
+use Rattle.bit_blocks.specs.SoftValues.{wrong_places}
+use Rattle.conv_code.specs.Code.{coded}
+use Rattle.um_c.proofs.blocks.um_receive_block.Goals as goal
+
+pub returns-clause-received : goal.returns-clause-received
+returns-clause-received c =
+    let received = c.receive_block-received in
+    let same : c.copy_from_slice.new.self ≡ received.result.u = c.copy_from_slice.ensures.after ∙ c.as_slice.ensures.value in
+    λ _. record {
+      received = received.result;
+      is = received.ensures.received;
+      word = same;
+      metric = search (to_z-of_z);
+      tsc = refl;
+      wrong_training = refl;
+      wrong_coded = λ soft gathered. c.wrong_block_places.ensures.value soft gathered ∙ ap (λ word. wrong_places soft (coded word)) same;
+      accepted = c.told_octets-accepted.ensures;
+    }

@@ -1,0 +1,83 @@
+//! Blocks of 23 octets as four normal bursts, and back.
+ghost use Rattle.std.specs.Prelude.{◌≡◌, ◌≤◌, ◌↔◌, All, IsTrue, false, ℕ, List, replicate, MatchOption};
+ghost use Rattle.bit_blocks.specs.Bits.{AllBits};
+ghost use Rattle.bit_blocks.specs.SoftValues.{AllSoft};
+ghost use Rattle.um_block.specs.Sent.{IsSentBlock};
+ghost use Rattle.um_c.specs.Reports.{IsBlockReport};
+
+use crate::soft::are_soft_bursts;
+use um_block::{receive_block, send_block, wrong_block_places};
+
+/// What four bursts are received as.
+#[repr(C)]
+#[derive(Drop)]
+pub struct BlockReport {
+    /// The likelihood of the word: at most 456 times 127.
+    pub metric: i32,
+    /// How many of the 104 training places are wrong. A value of 0 counts as wrong.
+    pub wrong_training: u32,
+    /// How many of the 456 coded places are wrong against the word. A value of 0 counts as wrong.
+    pub wrong_coded: u32,
+    /// The training sequence heard, 0 to 7.
+    pub tsc: u8,
+    /// 1 where the parity holds, else 0.
+    pub accepted: u8,
+    /// The octets where the parity holds, else zeros.
+    pub octets: [u8; 23],
+    /// The most likely word, a bit an octet: 184 of data, 40 of parity, four zeros.
+    pub word: [u8; 228],
+}
+
+/// Writes the four bursts of 23 octets. False, and nothing written, where there is no such training sequence.
+#[unsafe(no_mangle)]
+pub extern "C" fn um_send_block(octets: &[u8; 23], tsc: u8, bursts: &mut [[u8; 148]; 4]) -> bool
+    ensures known { IsTrue result ↔ (tsc ≤ 7) }
+    ensures sent { IsTrue result → IsSentBlock octets.now tsc bursts.new }
+    ensures only { IsTrue result → (other : List (List ℕ)) → IsSentBlock octets.now tsc other → other ≡ bursts.new }
+    ensures bits { IsTrue result → All AllBits bursts.new }
+    ensures unknown { result ≡ false → bursts.new ≡ bursts.old }
+{
+    if tsc > 7 {
+        return false;
+    }
+    *bursts = send_block(octets, tsc);
+    true
+}
+
+/// Reports what four bursts of soft values are received as. False, and nothing written, where a value is -128.
+#[unsafe(no_mangle)]
+pub extern "C" fn um_receive_block(bursts: &[[i8; 148]; 4], report: &mut BlockReport) -> bool
+    ensures soft { IsTrue result ↔ All AllSoft bursts.now }
+    ensures received { IsTrue result → IsBlockReport bursts.now report.new }
+    ensures refused { result ≡ false → report.new ≡ report.old }
+{
+    if !are_soft_bursts(bursts) {
+        return false;
+    }
+    let received = receive_block(bursts);
+    let mut word = [0; 228];
+    word.copy_from_slice(received.u.as_slice());
+    let (accepted, octets) = told_octets(&received.accepted);
+    *report = BlockReport {
+        metric: received.metric,
+        wrong_training: received.wrong_training,
+        wrong_coded: wrong_block_places(bursts, &word),
+        tsc: received.tsc,
+        accepted,
+        octets,
+        word,
+    };
+    true
+}
+
+/// 1 and the octets that were accepted, or 0 and zeros where none were.
+fn told_octets(accepted: &Option<[u8; 23]>) -> (u8, [u8; 23])
+    ensures { MatchOption accepted.now
+        ((result.0 ≡ 0) × (result.1 ≡ replicate 23 0))
+        (λ octets. (result.0 ≡ 1) × (result.1 ≡ octets)) }
+{
+    match accepted {
+        Some(octets) => (1, *octets),
+        None => (0, [0; 23]),
+    }
+}

@@ -1,0 +1,18 @@
+//! What a C program may hand over wrongly: soft values of -128, octets that are no bits.
+ghost use Rattle.std.specs.Prelude.{◌↔◌, All, IsTrue};
+ghost use Rattle.bit_blocks.specs.Bits.{AllBits};
+ghost use Rattle.bit_blocks.specs.SoftValues.{AllSoft};
+
+/// Whether no value is -128.
+pub(crate) fn are_soft(values: &[i8]) -> bool
+    ensures { IsTrue result ↔ AllSoft values.now }
+{
+    values.iter().all(|value| *value != i8::MIN)
+}
+
+/// Whether no value of four bursts is -128.
+pub(crate) fn are_soft_bursts(bursts: &[[i8; 148]; 4]) -> bool
+    ensures { IsTrue result ↔ All AllSoft bursts.now }
+{
+    bursts.iter().all(|burst| are_soft(burst))
+}
