@@ -46,6 +46,23 @@ typedef struct um_margin_report {
 /* Reports how sure the word of four bursts is: by how much it fits better than every other. False: a value is -128. */
 bool um_margin_block(const int8_t bursts[4][148], um_margin_report *report);
 
+enum um_repaired {
+	UM_HOLDS,     /* the word meets its parity */
+	UM_REPAIRED,  /* it was put right, and the report is written */
+	UM_NO_REPAIR, /* no word of the code is so near */
+	UM_NO_BITS    /* an octet is no bit */
+};
+
+typedef struct um_repair_report {
+	uint8_t first;     /* the first place that was wrong */
+	uint8_t span;      /* how many places there are from it to the last that was wrong, at most 12 */
+	uint8_t word[224]; /* the word of the code */
+} um_repair_report;
+
+/* Puts a block's word right, data 184 and parity 40, a bit an octet (the first 224 of um_block_report's word), where its wrong
+ * bits lie within 12 places in a row; at most one word of the code is so near. Answers a um_repaired. */
+uint8_t um_repair(const uint8_t word[224], um_repair_report *report);
+
 /* Access bursts: RACH (3GPP TS 45.003, 4.6). */
 
 typedef struct um_access_report {
@@ -104,15 +121,15 @@ typedef struct um_frame {
 	uint8_t pf;       /* poll or final */
 	uint8_t ns, nr;   /* 0 to 7, where the kind has them, else 0 */
 	uint8_t more;     /* M of an I frame, else 0 */
-	uint8_t count;    /* octets of information: at most 20 on SDCCH, 18 on SACCH */
+	uint8_t count;    /* octets of information: at most 20 on SDCCH, 18 on SACCH; 0 in RR, RNR, REJ, DM, DISC */
 	uint8_t info[20]; /* the information, zeros behind it */
 } um_frame;
 
 /* Reads the frame of a block on a channel; answers a um_reading. On SACCH two octets of layer 1 come first and are not looked at. */
 uint8_t um_read_frame(const uint8_t octets[23], uint8_t channel, um_frame *frame);
 
-/* Writes the one canonical block of a frame: layer 1 octets 00, fill 2b. In bits any number but 0 is a 1.
- * False: the fields say no frame that fits the channel. */
+/* Writes the one canonical block of a frame: layer 1 octets 00, fill 2b. In bits any number but 0 is a 1; numbers and bits that
+ * the kind has not are not looked at. False: the fields say no frame that fits the channel. */
 bool um_write_frame(const um_frame *frame, uint8_t channel, uint8_t octets[23]);
 
 #ifdef __cplusplus

@@ -1,5 +1,6 @@
-/* um_osmo.h - the shapes of libosmocoding's xCCH calls over um, so that a receiver is tried by changing one include.
- * Bursts are 4 x 116: 57 coded bits, the two stealing flags, 57 coded bits, without tails and training. */
+/* um_osmo.h - libosmocoding's xCCH calls over um, by their own names, so that a receiver is tried by changing one include.
+ * Bursts are 4 x 116: 57 coded bits, the two stealing flags, 57 coded bits, without tails and training. Define
+ * UM_OSMO_OWN_NAMES where libosmocoding's header is included too. */
 #ifndef UM_OSMO_H
 #define UM_OSMO_H
 #include "um.h"
@@ -17,7 +18,8 @@ static inline int um_xcch_encode(uint8_t *bursts, const uint8_t *l2_data)
 	return 0;
 }
 
-/* 0 where the parity holds, else -1. The bit errors are those against the most likely word, in both cases. */
+/* 0 where the parity holds, else -1. The bit errors are those against the most likely word, in both cases; where a value is -128
+ * nothing is read, and all count as errors. */
 static inline int um_xcch_decode(uint8_t *l2_data, const int8_t *bursts, int *n_errors, int *n_bits_total)
 {
 	int8_t whole[4][148] = { { 0 } };
@@ -26,15 +28,19 @@ static inline int um_xcch_decode(uint8_t *l2_data, const int8_t *bursts, int *n_
 		memcpy(whole[i] + 3, bursts + 116 * i, 58);
 		memcpy(whole[i] + 87, bursts + 116 * i + 58, 58);
 	}
-	if (!um_receive_block((const int8_t (*)[148])whole, &report))
-		return -1;
+	bool is_read = um_receive_block((const int8_t (*)[148])whole, &report);
 	if (n_errors)
-		*n_errors = (int)report.wrong_coded;
+		*n_errors = is_read ? (int)report.wrong_coded : 456;
 	if (n_bits_total)
 		*n_bits_total = 456;
-	if (!report.accepted)
+	if (!is_read || !report.accepted)
 		return -1;
 	memcpy(l2_data, report.octets, 23);
 	return 0;
 }
+
+#ifndef UM_OSMO_OWN_NAMES
+#define gsm0503_xcch_encode um_xcch_encode
+#define gsm0503_xcch_decode um_xcch_decode
+#endif
 #endif

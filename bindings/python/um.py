@@ -44,6 +44,10 @@ class _Margin(c.Structure):
     _fields_ = [("margin", c.c_int32), ("word", c.c_uint8 * 228), ("next", c.c_uint8 * 228)]
 
 
+class _Repair(c.Structure):
+    _fields_ = [("first", c.c_uint8), ("span", c.c_uint8), ("word", c.c_uint8 * 224)]
+
+
 class _Frame(c.Structure):
     _fields_ = [(name, c.c_uint8) for name in ("kind", "sapi", "cr", "pf", "ns", "nr", "more", "count")] + [("info", c.c_uint8 * 20)]
 
@@ -51,6 +55,7 @@ class _Frame(c.Structure):
 for _name in ("send_block", "receive_block", "margin_block", "send_access", "receive_access", "send_sync", "receive_sync", "write_frame"):
     getattr(_lib, f"um_{_name}").restype = c.c_bool
 _lib.um_read_frame.restype = c.c_uint8
+_lib.um_repair.restype = c.c_uint8
 
 
 def _octets(values, count):
@@ -65,6 +70,12 @@ def _soft(values, count):
     if len(values) != count or not all(-127 <= value <= 127 for value in values):
         raise ValueError(f"a burst has {count} soft values from -127 to 127")
     return (c.c_int8 * count)(*values)
+
+
+def _channel(channel):
+    if channel not in (SDCCH, SACCH):
+        raise ValueError("no such channel")
+    return c.c_uint8(channel)
 
 
 def _told(done, what):
@@ -99,6 +110,14 @@ def margin_block(bursts):
     return raw.margin, bytes(raw.word), bytes(raw.next)
 
 
+def repair(word):
+    """A word of 224 bits put right, with the first wrong place and the span; the word itself, 0 and 0 where it holds; else None."""
+    raw = _Repair()
+    answer = _lib.um_repair(_octets(word, 224), c.byref(raw))
+    _told(answer != 3, "a bit is 0 or 1")
+    return ((bytes(word), 0, 0), (bytes(raw.word), raw.first, raw.span), None)[answer]
+
+
 def send_access(info, bsic):
     """The access burst of eight bits under the six bits of a base station's code."""
     burst = (c.c_uint8 * 88)()
@@ -130,9 +149,9 @@ def receive_sync(burst):
 def read_frame(octets, channel=SDCCH):
     """The frame of a block; ValueError with the reason where there is none."""
     raw = _Frame()
-    answer = _lib.um_read_frame(_octets(octets, 23), c.c_uint8(channel), c.byref(raw))
+    answer = _lib.um_read_frame(_octets(octets, 23), _channel(channel), c.byref(raw))
     if answer:
-        raise ValueError(REFUSALS[answer - 1] if answer <= 7 else "no such channel")
+        raise ValueError(REFUSALS[answer - 1])
     return Frame(KINDS[raw.kind], raw.sapi, raw.cr, raw.pf, raw.ns, raw.nr, raw.more, bytes(raw.info[: raw.count]))
 
 
@@ -143,5 +162,5 @@ def write_frame(frame, channel=SDCCH):
         raise ValueError("the frame does not fit")
     raw = _Frame(KINDS.index(frame.kind), *numbers, len(frame.info), (c.c_uint8 * 20)(*frame.info))
     octets = (c.c_uint8 * 23)()
-    _told(_lib.um_write_frame(c.byref(raw), c.c_uint8(channel), octets), "the frame does not fit")
+    _told(_lib.um_write_frame(c.byref(raw), _channel(channel), octets), "the frame does not fit")
     return bytes(octets)

@@ -83,6 +83,25 @@ static void blocks(void)
 		&& report.value.wrong_training == 104 && report.value.wrong_coded == 456 && report.value.octets[0] == 0, "four lost bursts");
 }
 
+static void repairs(void)
+{
+	/* 23 octets of zeros have a parity of 40 ones */
+	uint8_t word[224] = { 0 };
+	ROOM(um_repair_report) report;
+
+	memset(word + 184, 1, 40);
+	MARK(report);
+	check(um_repair(word, &report.value) == UM_HOLDS && UNTOUCHED(report), "a word that holds");
+	word[184] = 0, word[195] = 0;
+	check(um_repair(word, &report.value) == UM_REPAIRED && AROUND(report) && report.value.first == 184 && report.value.span == 12
+		&& report.value.word[184] == 1 && report.value.word[195] == 1 && report.value.word[0] == 0, "a burst of twelve places");
+	word[192] = 0, word[195] = 1, word[200] = 0;
+	MARK(report);
+	check(um_repair(word, &report.value) == UM_NO_REPAIR && UNTOUCHED(report), "three wrong bits too far apart");
+	word[0] = 2;
+	check(um_repair(word, &report.value) == UM_NO_BITS && UNTOUCHED(report), "an octet that is no bit");
+}
+
 static void bursts(void)
 {
 	static const uint8_t zeros[25], ones[6] = { 1, 1, 1, 1, 1, 1 }, bad[25] = { 0, 0, 2 };
@@ -119,7 +138,7 @@ static void bursts(void)
 	soft[3] = 0;
 	MARK(sync_report);
 	check(um_receive_sync(soft, &sync_report.value) && AROUND(sync_report) && sync_report.value.accepted == 1
-		&& sync_report.value.metric == 9906 - 127 && sync_report.value.wrong_coded == 1 && !memcmp(sync_report.value.info, zeros, 25)
+		&& sync_report.value.metric == 9906 - 127 && sync_report.value.wrong_training == 0 && sync_report.value.wrong_coded == 1 && !memcmp(sync_report.value.info, zeros, 25)
 		&& sync_report.value.word[25] == 1, "the synchronisation burst is received");
 	soft[147] = -128;
 	MARK(sync_report);
@@ -164,9 +183,10 @@ static void frames(void)
 		&& !memcmp(octets.value + 2, written, 5) && octets.value[22] == 0x2b, "an I frame is written on SACCH");
 	check(um_read_frame(octets.value, UM_SACCH, &frame.value) == UM_FRAME && !memcmp(&frame.value, &i_frame, sizeof i_frame), "and read back");
 	MARK(octets);
-	um_frame wrong[] = { i_frame, i_frame, i_frame, i_frame, i_frame, i_frame };
+	um_frame wrong[] = { i_frame, i_frame, i_frame, i_frame, i_frame, i_frame, i_frame };
 	wrong[0].kind = 9, wrong[1].sapi = 8, wrong[2].ns = 8, wrong[3].nr = 8, wrong[4].count = 21, wrong[5].count = 0;
-	for (int i = 0; i < 6; i++)
+	wrong[6].kind = UM_RR; /* which has no information */
+	for (int i = 0; i < 7; i++)
 		check(!um_write_frame(&wrong[i], UM_SDCCH, octets.value) && UNTOUCHED(octets), "fields that say no frame are refused");
 	i_frame.count = 19;
 	check(!um_write_frame(&i_frame, UM_SACCH, octets.value) && UNTOUCHED(octets), "19 octets do not fit on SACCH");
@@ -227,6 +247,7 @@ int main(int argc, char **argv)
 	int count = argc == 3 ? vectors(argv[1], argv[2]) : 0;
 	check(count >= 0, "the vectors are not there");
 	blocks();
+	repairs();
 	bursts();
 	frames();
 	if (!failed)

@@ -56,6 +56,27 @@ pub struct MarginReport {
     pub next: [u8; 228],
 }
 
+/// How a word was put right.
+#[repr(C)]
+#[derive(Clone, Copy, Debug, PartialEq, Eq)]
+pub struct RepairReport {
+    /// The first place that was wrong.
+    pub first: u8,
+    /// How many places there are from it to the last that was wrong, at most twelve.
+    pub span: u8,
+    /// The word of the code: 184 bits of data, 40 of parity.
+    pub word: [u8; 224],
+}
+
+/// What there is to be said of a word's repair.
+#[derive(Clone, Copy, Debug, PartialEq, Eq)]
+pub enum Repair {
+    /// The word meets its parity.
+    Holds,
+    Repaired(RepairReport),
+    NoRepair,
+}
+
 /// What an access burst is received as.
 #[repr(C)]
 #[derive(Clone, Copy, Debug, PartialEq, Eq)]
@@ -182,6 +203,7 @@ unsafe extern "C" {
     fn um_send_block(octets: &[u8; 23], tsc: u8, bursts: &mut [[u8; 148]; 4]) -> bool;
     fn um_receive_block(bursts: &[[i8; 148]; 4], report: &mut BlockReport) -> bool;
     fn um_margin_block(bursts: &[[i8; 148]; 4], report: &mut MarginReport) -> bool;
+    fn um_repair(word: &[u8; 224], report: &mut RepairReport) -> u8;
     fn um_send_access(info: &[u8; 8], bsic: &[u8; 6], burst: &mut [u8; 88]) -> bool;
     fn um_receive_access(burst: &[i8; 88], bsic: &[u8; 6], report: &mut AccessReport) -> bool;
     fn um_send_sync(info: &[u8; 25], burst: &mut [u8; 148]) -> bool;
@@ -210,6 +232,17 @@ pub fn receive_block(bursts: &[[i8; 148]; 4]) -> Option<BlockReport> {
 pub fn margin_block(bursts: &[[i8; 148]; 4]) -> Option<MarginReport> {
     let mut report = MarginReport { margin: 0, word: [0; 228], next: [0; 228] };
     unsafe { um_margin_block(bursts, &mut report) }.then_some(report)
+}
+
+/// Puts a word right whose wrong bits lie within twelve places in a row; `None` where an octet is no bit.
+pub fn repair(word: &[u8; 224]) -> Option<Repair> {
+    let mut report = RepairReport { first: 0, span: 0, word: [0; 224] };
+    match unsafe { um_repair(word, &mut report) } {
+        0 => Some(Repair::Holds),
+        1 => Some(Repair::Repaired(report)),
+        2 => Some(Repair::NoRepair),
+        _ => None,
+    }
 }
 
 /// The access burst of eight bits under a base station's code; `None` where an octet is no bit.

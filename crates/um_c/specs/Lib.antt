@@ -2,3 +2,4 @@
 pub mod Reports
 pub mod Plain
 pub mod MarginReports
+pub mod RepairReports

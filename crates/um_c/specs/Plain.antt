@@ -63,19 +63,26 @@ IsReadAs channel octets answer before after =
 abbrev pub says : ℕ → Bool
 says field = not (field == 0)
 
--- the content that the fields say, by the kind's number; fields that a kind has not are not looked at
+-- what the fields of a kind without information say
+abbrev pub said_bare : PlainFrame → Option Content
+said_bare f =
+    if f.kind == 1 then Some (Rr f.nr (says f.pf))
+    else if f.kind == 2 then Some (Rnr f.nr (says f.pf))
+    else if f.kind == 3 then Some (Rej f.nr (says f.pf))
+    else if f.kind == 5 then Some (Dm (says f.pf))
+    else if f.kind == 7 then Some (Disc (says f.pf))
+    else None
+
+-- the content that the fields say, by the kind's number: of a kind that has no information none where some is counted; numbers
+-- and bits that a kind has not are not looked at
 abbrev pub said_content : PlainFrame → Option Content
 said_content f =
     let info = take f.count f.info in
     if f.kind == 0 then Some (I f.ns f.nr (says f.pf) (says f.more) info)
-    else if f.kind == 1 then Some (Rr f.nr (says f.pf))
-    else if f.kind == 2 then Some (Rnr f.nr (says f.pf))
-    else if f.kind == 3 then Some (Rej f.nr (says f.pf))
     else if f.kind == 4 then Some (Sabm (says f.pf) info)
-    else if f.kind == 5 then Some (Dm (says f.pf))
     else if f.kind == 6 then Some (Ui (says f.pf) info)
-    else if f.kind == 7 then Some (Disc (says f.pf))
     else if f.kind == 8 then Some (Ua (says f.pf) info)
+    else if f.count == 0 then said_bare f
     else None
 
 abbrev pub with_address : ℕ → Bool → Option Content → Option Frame

@@ -3,7 +3,7 @@ ghost use Rattle.std.specs.Prelude.{◌≡◌, ◌≤◌, Some, None, false, len
 ghost use Rattle.lapdm_frame.specs.declared.Channel.{Channel as ChannelOf};
 ghost use Rattle.lapdm_frame.specs.Content.{content_of, frame_of};
 ghost use Rattle.lapdm_frame.specs.Frames.{Fits};
-ghost use Rattle.um_c.specs.Plain.{channel_of, number_of, plain, fields, said, said_content, IsReadAs, IsWrittenAs};
+ghost use Rattle.um_c.specs.Plain.{channel_of, number_of, plain, fields, said, said_bare, said_content, IsReadAs, IsWrittenAs};
 
 use lapdm_frame::{Body, Channel, FrameView, Refusal, fits_on, read_on, write_on};
 
@@ -173,23 +173,34 @@ fn said_body(frame: &PlainFrame) -> Option<Body<'_>>
     ensures { MatchOption result (said_content frame.now ≡ None) (λ body. said_content frame.now ≡ Some (content_of body)) }
 {
     let info = &frame.info[..usize::from(frame.count)];
-    let (nr, pf) = (frame.nr, frame.pf != 0);
+    let pf = frame.pf != 0;
     match frame.kind {
         0 => Some(Body::I {
             ns: frame.ns,
-            nr,
+            nr: frame.nr,
             p: pf,
             more: frame.more != 0,
             info,
         }),
+        4 => Some(Body::Sabm { p: pf, info }),
+        6 => Some(Body::Ui { p: pf, info }),
+        8 => Some(Body::Ua { f: pf, info }),
+        _ if frame.count == 0 => said_bare(frame),
+        _ => None,
+    }
+}
+
+/// What the fields of a kind without information say.
+fn said_bare(frame: &PlainFrame) -> Option<Body<'_>>
+    ensures { MatchOption result (said_bare frame.now ≡ None) (λ body. said_bare frame.now ≡ Some (content_of body)) }
+{
+    let (nr, pf) = (frame.nr, frame.pf != 0);
+    match frame.kind {
         1 => Some(Body::Rr { nr, pf }),
         2 => Some(Body::Rnr { nr, pf }),
         3 => Some(Body::Rej { nr, pf }),
-        4 => Some(Body::Sabm { p: pf, info }),
         5 => Some(Body::Dm { f: pf }),
-        6 => Some(Body::Ui { p: pf, info }),
         7 => Some(Body::Disc { p: pf }),
-        8 => Some(Body::Ua { f: pf, info }),
         _ => None,
     }
 }

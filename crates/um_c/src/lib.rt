@@ -8,4 +8,5 @@ mod blocks;
 mod bursts;
 mod frames;
 mod margins;
+mod repairs;
 mod soft;

@@ -23,8 +23,7 @@ n 000000100011101110100010000100000000000010101010001010000100101000111101101000
 n 0000001000010101010101011111101000001001000101111101111010101010001111011010001000111101100000010100010111011110101010101000010101011101101111101000\n";
 
 /// What a mobile answers to `mob idle`.
-const FILL: &[u8] =
-    b"mob sends 0103012b2b2b2b2b2b2b2b2b2b2b2b2b2b2b2b2b2b2b2b\n\
+const FILL: &[u8] = b"mob sends 0103012b2b2b2b2b2b2b2b2b2b2b2b2b2b2b2b2b2b2b2b\n\
 ok\n\
 n 0001000000100011101010100000010001000010001010111010100000001001001011100001000100101111010000000010101010100010000101000000100011111010100000000000\n\
 n 0001010101111110111010100000010101010101111011101010000001001001001011100001000100101111010101111111111010000000010101010101011011101010100000000000\n\
@@ -37,15 +36,27 @@ const NOTHING: &[u8] =
 
 #[test]
 fn a_network_opens_at_a_sabm(rt: HostRuntime) {
-    compare_in_pieces(&rt, &["end", "net", "3"], SABM_BURSTS, Status::Done, OPENING);
+    compare_in_pieces(
+        &rt,
+        &["end", "net", "3"],
+        SABM_BURSTS,
+        Status::Done,
+        OPENING,
+    );
 }
 
 // What `code` writes arrives, and what is sent is coded as `code` codes it.
 #[test]
 fn bursts_are_those_of_code(rt: HostRuntime) -> Result<(), Fail> {
-    let sabm = coded(&rt, b"block 3 013f05012b2b2b2b2b2b2b2b2b2b2b2b2b2b2b2b2b2b2b")?;
+    let sabm = coded(
+        &rt,
+        b"block 3 013f05012b2b2b2b2b2b2b2b2b2b2b2b2b2b2b2b2b2b2b",
+    )?;
     assert!(rt; sabm.as_slice() == SABM_BURSTS);
-    let ua = coded(&rt, b"block 3 017305012b2b2b2b2b2b2b2b2b2b2b2b2b2b2b2b2b2b2b")?;
+    let ua = coded(
+        &rt,
+        b"block 3 017305012b2b2b2b2b2b2b2b2b2b2b2b2b2b2b2b2b2b2b",
+    )?;
     assert!(rt; OPENING.ends_with(ua.as_slice()));
     Ok(())
 }
@@ -116,6 +127,13 @@ fn other_words_are_no_end(rt: HostRuntime) {
         &["end", "mob", "sacch"],
         &["mob", "end", "0"],
     ] {
-        compare(&rt, words, b"mob idle", Outside::of_most(1000), Status::BadWords, b"");
+        compare(
+            &rt,
+            words,
+            b"mob idle",
+            Outside::of_most(1000),
+            Status::BadWords,
+            b"",
+        );
     }
 }
