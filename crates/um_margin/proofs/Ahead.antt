@@ -47,7 +47,8 @@ far s u v e best is ne hard wrong few =
     let sums = all_places s (coded u) (coded v) 127 127 (count ∙ sym (length-coded u)) (pairs ∙ sym (length-coded v))
     (AllBits-coded u) (AllBits-coded v) between in
     let seven = at_least_seven u v best.information is.information same (λ h. ne (sym h)) in
-    weighed (likelihood s (coded u)) (likelihood s (coded v)) (distance (coded u) (coded v)) (wrong_places s (coded u)) e sums seven wrong few
+    weighed (likelihood s (coded u)) (likelihood s (coded v)) (distance (coded u) (coded v)) (wrong_places s (coded u)) e
+    sums seven wrong few
   where
     weighed : (a b : ℤ) (d w e : ℕ) → (b +ℤ pos (2 * (127 * d))) ≤ℤ (a +ℤ pos (2 * (254 * w))) → 7 ≤ d → w ≡ e → e ≤ 3 →
         pos (254 * (7 - 2 * e)) ≤ℤ (a -ℤ b)
