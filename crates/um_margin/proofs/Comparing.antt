@@ -37,12 +37,14 @@ one_compared_block bursts c d h g =
 
 -- the word of one call is that of the other
 pub is_compared : (soft : List ℤ) (a u v best next : List ℕ) (m n margin metric : ℤ) → IsMostLikely soft a → n ≡ likelihood soft (coded a) →
-    IsMostLikely soft u → IsSecond soft u v → IsMargin soft u m → best ≡ u → next ≡ v → margin ≡ m → metric ≡ n →
+    IsMostLikely soft u → IsSecond soft u v → IsMargin soft u m → m ≡ likelihood soft (coded u) -ℤ likelihood soft (coded v) →
+    best ≡ u → next ≡ v → margin ≡ m → metric ≡ n →
     IsCompared soft (record { best = best; next = next; margin = margin; metric = metric })
-is_compared soft a u v best next m n margin metric likely value best_is next_is margin_is is_u is_v is_m is_n = record {
+is_compared soft a u v best next m n margin metric likely value best_is next_is margin_is ahead is_u is_v is_m is_n = record {
   best = subst (IsMostLikely soft) (sym is_u) best_is;
   next = subst (λ w. IsSecond soft w next) (sym is_u) (subst (IsSecond soft u) (sym is_v) next_is);
   margin = subst (λ w. IsMargin soft w margin) (sym is_u) (subst (IsMargin soft u) (sym is_m) margin_is);
+  ahead = is_m ∙ ahead ∙ ap₂ (λ a b. likelihood soft (coded a) -ℤ likelihood soft (coded b)) (sym is_u) (sym is_v);
   metric = is_n ∙ value ∙ ap (λ w. likelihood soft (coded w)) (IsMostLikely-only soft u a best_is likely ∙ sym is_u);
 }
 
@@ -83,6 +85,7 @@ some_compared soft u best =
         best = best;
         next = next.1;
         margin = IsMargin-second soft u next.0 (likelihood soft (coded u) -ℤ likelihood soft (coded next.0)) next.1 refl;
+        ahead = refl;
         metric = refl;
       },
     )

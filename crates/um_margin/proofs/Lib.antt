@@ -1,3 +1,4 @@
+mod Ahead
 mod Comparing
 pub mod Lemmas
 mod MarginRules

@@ -1,5 +1,5 @@
 -- The most likely list under soft values beside the next one (this project's own rule).
-use Rattle.std.specs.Prelude.{ℕ, ◌≡◌, ℤ, List, map}
+use Rattle.std.specs.Prelude.{ℕ, ◌≡◌, ℤ, ◌-ℤ◌, List, map}
 use Rattle.bit_blocks.specs.SoftValues.{likelihood}
 use Rattle.conv_code.specs.Code.{coded}
 use Rattle.conv_code.specs.Likelihood.{IsMostLikely}
@@ -19,6 +19,7 @@ pub record IsCompared (soft : List ℤ) (c : Compared) : Type 0 where
   pub best : IsMostLikely soft c.best
   pub next : IsSecond soft c.best c.next
   pub margin : IsMargin soft c.best c.margin
+  pub ahead : c.margin ≡ likelihood soft (coded c.best) -ℤ likelihood soft (coded c.next)
   pub metric : c.metric ≡ likelihood soft (coded c.best)
 
 -- four bursts of a block are compared so

@@ -1,5 +1,10 @@
 //! What holds of the command. A law does nothing: it is called for its contract.
-ghost use Rattle.std.specs.Prelude.{◌≡◌, ℕ, ℤ, List, []};
+ghost use Rattle.std.specs.Prelude.{◌≡◌, ℕ, ◌*◌, ◌-◌, ◌≤◌, ℤ, pos, ◌≤ℤ◌, unsigned_abs, List, []};
+ghost use Rattle.std.specs.List.{All};
+ghost use Rattle.std.proofs.Math.Logic.{◌↔◌};
+ghost use Rattle.bit_blocks.specs.SoftValues.{wrong_places};
+ghost use Rattle.conv_code.specs.Code.{coded};
+ghost use Rattle.list_decode.specs.Ranking.{IsTied};
 ghost use Rattle.um_block.specs.Received.{access_places, sync_places, IsReceivedBlock, IsReceivedAccess, IsReceivedSync};
 ghost use Rattle.um_block.specs.declared.received.Received.{Received};
 ghost use Rattle.um_block.specs.declared.received.ReceivedAccess.{ReceivedAccess};
@@ -22,4 +27,12 @@ pub fn law_same_word()
         IsCompared (access_places burst) c → (c.best ≡ r.u) × (c.metric ≡ r.metric) }
     ensures sync { (burst : List ℤ) (r : ReceivedSync) (c : Compared) → IsReceivedSync burst r →
         IsCompared (sync_places burst) c → (c.best ≡ r.u) × (c.metric ≡ r.metric) }
+{}
+
+/// The margin of a comparison is 0 exactly where some other word is as likely as the best, and where all values are
+/// sure it is as much as seven places give, less what `e` wrong places take back; with none wrong that is 1,778.
+pub fn law_margin()
+    ensures tie { (soft : List ℤ) (c : Compared) → IsCompared soft c → (c.margin ≡ pos 0) ↔ IsTied soft c.best }
+    ensures hard { (soft : List ℤ) (c : Compared) (e : ℕ) → IsCompared soft c → All (λ value. unsigned_abs value ≡ 127) soft →
+        wrong_places soft (coded c.best) ≡ e → e ≤ 3 → pos (254 * (7 - 2 * e)) ≤ℤ c.margin }
 {}

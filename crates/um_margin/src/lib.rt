@@ -7,4 +7,4 @@ mod laws;
 mod lines;
 
 pub use command::Margin;
-pub use laws::{law_one_output, law_same_word};
+pub use laws::{law_margin, law_one_output, law_same_word};

@@ -9,5 +9,6 @@ returns g c =
     let both = c.margin-ahead.ensures in
     let margin_fits : FitsSigned w32 c.margin-ahead.result = search rules in
     let metric_fits : FitsSigned w32 c.decode-metric.result = search rules in
-    is_compared c.args.soft.now _ _ _ _ _ _ _ _ _ first.best first.value both.best both.second both.margin c.from_array.ensures.value c.from_array-2.ensures.value
+    is_compared c.args.soft.now _ _ _ _ _ _ _ _ _ first.best first.value both.best both.second both.margin both.value
+    c.from_array.ensures.value c.from_array-2.ensures.value
     (to_z-of_z w32 c.margin-ahead.result margin_fits) (to_z-of_z w32 c.decode-metric.result metric_fits)
