@@ -1,10 +1,10 @@
 -- Answers with different lines have different texts: what a text says is read back, line by line and word by word.
-use Rattle.std.proofs.Common.{rules, ◌≡◌, ◌≢◌, ℕ, zero, suc, ◌+◌, ◌-◌, ◌<◌, ◌≤◌, ◌^◌, ◌==◌, ℤ, pos, negsuc, nat_abs, nat_le, Bool, true, false, ◌&&◌, List, [], ◌∷◌, ◌++◌, length, length-append, map, take, drop, Option, Some, None, codes, if◌then◌else◌, refl, sym, ap, ◌∙◌, inl, inr, append_assoc, append-nil, arith}
+use Rattle.std.proofs.Common.{◌≡◌, ◌≢◌, ℕ, suc, ◌-◌, ◌<◌, ◌≤◌, ◌^◌, ◌==◌, ℤ, pos, negsuc, nat_abs, nat_le, Bool, true, false, List, [], ◌∷◌, ◌++◌, length, length-append, map, take, drop, Option, Some, None, codes, if◌then◌else◌, refl, sym, ap, ◌∙◌, inl, inr, append_assoc, append-nil, arith}
 use Rattle.std.specs.Fmt.{decimal, signed_decimal}
 use Rattle.std.specs.List.{list_all, list_any, join_with_byte, slice_split}
 use Rattle.std.specs.Str.{bytes_eq, all_ascii_digits}
 use Rattle.std.specs.Str.Parse.{digits_value}
-use Rattle.std.proofs.lemmas.Bool.{and_parts, cases_lt, cases_eq, le-leb, leb-true, ne_eqb}
+use Rattle.std.proofs.lemmas.Bool.{and_parts, cases_lt, le-leb, leb-true, ne_eqb}
 use Rattle.std.proofs.lemmas.Fmt.{digits_decimal, digits_value-decimal}
 use Rattle.std.proofs.lemmas.List.Elements.{All-nil, All-cons, All-append}
 use Rattle.std.proofs.lemmas.List.Splits.{slice_split_at, join_with_byte-slice_split}
@@ -26,10 +26,10 @@ use Rattle.um_air.specs.Air as A
 use Rattle.um_air.specs.Sessions.{AreOctets}
 use Rattle.um_lines.specs.Fields.{hex_octets}
 use Rattle.um_lines.specs.Words.{IsNoSpace, words}
-use Rattle.um_lines.proofs.SpelledLaws.{encoded, any_value}
+use Rattle.um_lines.proofs.SpelledLaws.{encoded}
 use Rattle.um_lines.proofs.WordLists.{words-join}
-use Rattle.um_script.specs.StepLines.{who_word, link_word, refusal_word, closing_word, octets_word, heard_text, dropped_text, block_text, arrival_text, notice_text, notices_text, frames_text, answer_text}
-use Rattle.um_script.specs.AnswerLines.{Heard, Said, No, Takes, Drops, Tells, Sends, All, heard, block_line, arrival_lines, answer_lines, FitsHeard, FitsNotice, FitsLine, FitLines}
+use Rattle.um_script.specs.StepLines.{who_word, link_word, refusal_word, closing_word, octets_word, block_text, arrival_text, notice_text, notices_text, frames_text, answer_text}
+use Rattle.um_script.specs.AnswerLines.{Heard, Said, No, Takes, Drops, Tells, Sends, All, block_line, arrival_lines, answer_lines, FitsHeard, FitsNotice, FitsLine, FitLines}
 
 -- ---- the words of a line, and its text
 
