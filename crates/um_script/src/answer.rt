@@ -6,7 +6,7 @@ ghost use Rattle.bit_blocks.specs.Octets.{bits_of, octets_of};
 ghost use Rattle.um_air.specs.Air as A;
 ghost use Rattle.um_air.specs.Sessions.{AreOctets};
 ghost use Rattle.lapdm_link.specs.Events as E;
-ghost use Rattle.um_script.specs.AnswerLines.{Tells, Sends, heard, block_line, arrival_lines, answer_lines, FitsHeard, FitsNotice, FitsLine, FitLines};
+ghost use Rattle.um_script.specs.AnswerLines.{Tells, Sends, heard, block_line, arrival_lines, answer_lines, lines_text, FitsHeard, FitsNotice, FitsLine, FitLines};
 ghost use Rattle.um_link.specs.Naming.{answer_of, step_of, who_of, why_of};
 ghost use Rattle.um_link.specs.Standing.{FitsWho};
 ghost use Rattle.um_script.specs.StepLines.{who_word, link_word, refusal_word, closing_word, octets_word, heard_text, dropped_text, block_text, arrival_text, notice_text, notices_text, frames_text, answer_text};
@@ -291,8 +291,11 @@ fn push_sent(out: &mut Text, frame: &[u8])
     out.push(b"\n");
 }
 
-/// Law: answers with different lines have different texts, where octets and numbers are such as the program has them.
+/// Law: the text of an answer is that of its lines; so the same lines have one text, and different lines have different texts, where
+/// octets and numbers are such as the program has them (`fit` of `step_lines`).
 pub fn law_different_lines()
-    ensures { (x y : A.Answer) → FitLines (answer_lines x) → FitLines (answer_lines y) → answer_text x ≡ answer_text y →
+    ensures text { (x : A.Answer) → answer_text x ≡ lines_text (answer_lines x) }
+    ensures same { (x y : A.Answer) → answer_lines x ≡ answer_lines y → answer_text x ≡ answer_text y }
+    ensures different { (x y : A.Answer) → FitLines (answer_lines x) → FitLines (answer_lines y) → answer_text x ≡ answer_text y →
         answer_lines x ≡ answer_lines y }
 {}
