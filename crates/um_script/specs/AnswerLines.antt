@@ -71,7 +71,7 @@ said_words (Tells who sapi notice) = (who_word who ++ link_word sapi) ∷ notice
 said_words (Sends who octets) = who_word who ∷ codes "sends" ∷ encode_lower octets ∷ []
 said_words All = codes "ok" ∷ []
 
--- its words, with one space between them, and a line feed
+-- the words of a line, with one space between them, and a line feed
 abbrev pub said_text : Said → List ℕ
 said_text line = join_with_byte 32 (said_words line) ++ codes "\n"
 
@@ -82,7 +82,7 @@ lines_text (line ∷ lines) = said_text line ++ lines_text lines
 
 -- ---- octets and numbers as the program has them
 
--- numbers that 64 bits hold
+-- numbers below 2^64, and a metric less than 2^63 from 0
 pub record FitsHeard (h : Heard) : Type 0 where
   pub tsc : h.tsc < 2 ^ 64
   pub train : h.train < 2 ^ 64
@@ -106,7 +106,7 @@ FitsLine (Tells who sapi notice) = FitsNotice notice
 FitsLine (Sends who octets) = AreOctets octets
 FitsLine All = Unit {0}
 
--- those of all lines
+-- the octets and numbers of all lines
 abbrev pub FitLines : List Said → Type 0
 FitLines [] = Unit {0}
 FitLines (line ∷ lines) = FitsLine line × FitLines lines
