@@ -1,10 +1,10 @@
 -- Answers with different lines have different texts: what a text says is read back, line by line and word by word.
-use Rattle.std.proofs.Common.{rules, ◌≡◌, ◌≢◌, ℕ, zero, suc, ◌+◌, ◌-◌, ◌<◌, ◌≤◌, ◌^◌, ◌==◌, ℤ, pos, negsuc, nat_abs, nat_le, Bool, true, false, ◌&&◌, List, [], ◌∷◌, ◌++◌, length, length-append, map, take, drop, Option, Some, None, codes, if◌then◌else◌, refl, sym, ap, ◌∙◌, inl, inr, append_assoc, append-nil, arith}
+use Rattle.std.proofs.Common.{◌≡◌, ◌≢◌, ℕ, suc, ◌-◌, ◌<◌, ◌≤◌, ◌^◌, ◌==◌, ℤ, pos, negsuc, nat_abs, nat_le, Bool, true, false, List, [], ◌∷◌, ◌++◌, length, length-append, map, take, drop, Option, Some, None, codes, if◌then◌else◌, refl, sym, ap, ◌∙◌, inl, inr, append_assoc, append-nil, arith}
 use Rattle.std.specs.Fmt.{decimal, signed_decimal}
 use Rattle.std.specs.List.{list_all, list_any, join_with_byte, slice_split}
 use Rattle.std.specs.Str.{bytes_eq, all_ascii_digits}
 use Rattle.std.specs.Str.Parse.{digits_value}
-use Rattle.std.proofs.lemmas.Bool.{and_parts, cases_lt, cases_eq, le-leb, leb-true, ne_eqb}
+use Rattle.std.proofs.lemmas.Bool.{and_parts, cases_lt, le-leb, leb-true, ne_eqb}
 use Rattle.std.proofs.lemmas.Fmt.{digits_decimal, digits_value-decimal}
 use Rattle.std.proofs.lemmas.List.Elements.{All-nil, All-cons, All-append}
 use Rattle.std.proofs.lemmas.List.Splits.{slice_split_at, join_with_byte-slice_split}
@@ -26,44 +26,17 @@ use Rattle.um_air.specs.Air as A
 use Rattle.um_air.specs.Sessions.{AreOctets}
 use Rattle.um_lines.specs.Fields.{hex_octets}
 use Rattle.um_lines.specs.Words.{IsNoSpace, words}
-use Rattle.um_lines.proofs.SpelledLaws.{encoded, any_value}
+use Rattle.um_lines.proofs.SpelledLaws.{encoded}
 use Rattle.um_lines.proofs.WordLists.{words-join}
-use Rattle.um_script.specs.StepLines.{who_word, link_word, refusal_word, closing_word, octets_word, heard_text, dropped_text, block_text, arrival_text, notice_text, notices_text, frames_text, answer_text}
-use Rattle.um_script.specs.AnswerLines.{Heard, Said, No, Takes, Drops, Tells, Sends, All, heard, block_line, arrival_lines, answer_lines, FitsHeard, FitsNotice, FitsLine, FitLines}
+use Rattle.um_script.specs.StepLines.{who_word, link_word, refusal_word, closing_word, octets_word, block_text, arrival_text, notice_text, notices_text, frames_text, answer_text}
+use Rattle.um_script.specs.AnswerLines.{Heard, Said, No, Takes, Drops, Tells, Sends, All, block_line, arrival_lines, answer_lines, notice_words, heard_words, said_words, said_text, lines_text, FitsHeard, FitsNotice, FitsLine, FitLines}
 
--- ---- the words of a line, and its text
-
-abbrev notice_words : Notice → List (List ℕ)
-notice_words (N.Opened m) = codes "opened" ∷ octets_word m ∷ []
-notice_words (N.Got m) = codes "got" ∷ octets_word m ∷ []
-notice_words (N.Unit m) = codes "unit" ∷ octets_word m ∷ []
-notice_words (N.Acked n) = codes "acked" ∷ decimal n ∷ []
-notice_words N.Oversize = codes "oversize" ∷ []
-notice_words (N.Closed reason) = codes "closed" ∷ closing_word reason ∷ []
-
-abbrev heard_words : Heard → List (List ℕ) → List (List ℕ)
-heard_words h rest = codes "tsc" ∷ decimal h.tsc ∷ codes "train" ∷ decimal h.train ∷ codes "metric" ∷ signed_decimal h.metric ∷ rest
-
-abbrev line_words : Said → List (List ℕ)
-line_words (No why) = codes "no" ∷ refusal_word why ∷ []
-line_words (Takes who octets h) = who_word who ∷ codes "takes" ∷ encode_lower octets ∷ heard_words h []
-line_words (Drops who h octets check) =
-    who_word who ∷ codes "drops" ∷ heard_words h (codes "data" ∷ encode_lower octets ∷ codes "check" ∷ encode_lower check ∷ [])
-line_words (Tells who sapi notice) = (who_word who ++ link_word sapi) ∷ notice_words notice
-line_words (Sends who octets) = who_word who ∷ codes "sends" ∷ encode_lower octets ∷ []
-line_words All = codes "ok" ∷ []
-
-abbrev line_text : Said → List ℕ
-line_text line = join_with_byte 32 (line_words line) ++ 10 ∷ []
-
-abbrev lines_text : List Said → List ℕ
-lines_text [] = []
-lines_text (line ∷ lines) = line_text line ++ lines_text lines
+-- ---- the text of an answer is that of its lines
 
 lines_text-append : (ls ms : List Said) → lines_text (ls ++ ms) ≡ lines_text ls ++ lines_text ms
 lines_text-append [] ms = refl
-lines_text-append (l ∷ ls) ms = ap (λ t. line_text l ++ t) (lines_text-append ls ms)
-    ∙ sym (append_assoc (line_text l) (lines_text ls) (lines_text ms))
+lines_text-append (l ∷ ls) ms = ap (λ t. said_text l ++ t) (lines_text-append ls ms)
+    ∙ sym (append_assoc (said_text l) (lines_text ls) (lines_text ms))
 
 -- words, each with the octet behind it
 ended : List (List ℕ) → List ℕ
@@ -111,17 +84,17 @@ block_is : (who : E.Who) (accepted : Option (List ℕ)) (r : Received) →
     who_word who ++ block_text accepted r ≡ lines_text (block_line who accepted r ∷ [])
 block_is who (Some octets) r =
     takes_text (who_word who) (encode_lower octets) (decimal r.tsc) (decimal r.wrong_training) (signed_decimal r.metric)
-    ∙ sym (append-nil (line_text (block_line who (Some octets) r)))
+    ∙ sym (append-nil (said_text (block_line who (Some octets) r)))
 block_is who None r =
     drops_text (who_word who) (decimal r.tsc) (decimal r.wrong_training) (signed_decimal r.metric) (encode_lower (octets_of (take 184 r.u)))
-    (encode_lower (octets_of (take 40 (drop 184 r.u)))) ∙ sym (append-nil (line_text (block_line who None r)))
+    (encode_lower (octets_of (take 40 (drop 184 r.u)))) ∙ sym (append-nil (said_text (block_line who None r)))
 
 arrival_is : (who : E.Who) (received : Option Received) → arrival_text who received ≡ lines_text (arrival_lines who received)
 arrival_is who None = refl
 arrival_is who (Some r) = block_is who r.accepted r
 
 notice_is : (who : E.Who) (sapi : Sapi) (notice : Notice) (rest : List ℕ) →
-    who_word who ++ link_word sapi ++ notice_text notice ++ codes "\n" ++ rest ≡ line_text (Tells who sapi notice) ++ rest
+    who_word who ++ link_word sapi ++ notice_text notice ++ codes "\n" ++ rest ≡ said_text (Tells who sapi notice) ++ rest
 notice_is who sapi (N.Opened m) rest = simp append_assoc
 notice_is who sapi (N.Got m) rest = simp append_assoc
 notice_is who sapi (N.Unit m) rest = simp append_assoc
@@ -140,7 +113,7 @@ frames_are : (who : E.Who) (frames : List (List ℕ)) → frames_text who frames
 frames_are who [] = refl
 frames_are who (frame ∷ frames) = rw (frames_are who frames) (simp append_assoc)
 
-text_is : (x : A.Answer) → answer_text x ≡ lines_text (answer_lines x)
+pub text_is : (x : A.Answer) → answer_text x ≡ lines_text (answer_lines x)
 text_is (A.Refuses why) = simp (append_assoc, append-nil)
 text_is (A.Does s) =
     let arrivals : List Said = arrival_lines s.who s.received in
@@ -240,12 +213,12 @@ notice_plain (N.Acked n) fits = rw (number_plain n fits) refl
 notice_plain N.Oversize fits = refl
 notice_plain (N.Closed reason) fits = rw (closing_plain reason) refl
 
-heard_plain : (h : Heard) (rest : List (List ℕ)) → FitsHeard h → are_plain rest ≡ true → are_plain (heard_words h rest) ≡ true
+heard_plain : (h : Heard) (rest : List (List ℕ)) → FitsHeard h → are_plain rest ≡ true → are_plain (heard_words h ++ rest) ≡ true
 unfolding are_plain
 heard_plain h rest fits plain =
     rw (number_plain h.tsc fits.tsc, number_plain h.train fits.train, signed_plain h.metric fits.metric, plain) refl
 
-line_plain : (line : Said) → FitsLine line → are_plain (line_words line) ≡ true
+line_plain : (line : Said) → FitsLine line → are_plain (said_words line) ≡ true
 unfolding are_plain
 line_plain (No why) fits = rw (why_plain why) refl
 line_plain (Takes who octets h) fits = rw (who_plain who, octets_plain octets fits.0, heard_plain h [] fits.1 refl) refl
@@ -309,7 +282,7 @@ first_line t u r s h k e =
     let rest : slice_split (λ o. o == 10) r ≡ slice_split (λ o. o == 10) s = cc in
     (first, sym (join_with_byte-slice_split 10 r) ∙ ap (join_with_byte 10) rest ∙ join_with_byte-slice_split 10 s)
 
-some_words : (line : Said) → line_words line ≢ []
+some_words : (line : Said) → said_words line ≢ []
 some_words (No why) e = absurd cc
 some_words (Takes who octets h) e = absurd cc
 some_words (Drops who h octets check) e = absurd cc
@@ -318,10 +291,10 @@ some_words (Sends who octets) e = absurd cc
 some_words All e = absurd cc
 
 same_words : (l m : Said) → FitsLine l → FitsLine m →
-    join_with_byte 32 (line_words l) ≡ join_with_byte 32 (line_words m) → line_words l ≡ line_words m
+    join_with_byte 32 (said_words l) ≡ join_with_byte 32 (said_words m) → said_words l ≡ said_words m
 same_words l m h k e =
-    sym (words-join (line_words l) (some_words l) (spaceless (line_words l) (line_plain l h))) ∙ ap words e
-    ∙ words-join (line_words m) (some_words m) (spaceless (line_words m) (line_plain m k))
+    sym (words-join (said_words l) (some_words l) (spaceless (said_words l) (line_plain l h))) ∙ ap words e
+    ∙ words-join (said_words m) (some_words m) (spaceless (said_words m) (line_plain m k))
 
 -- ---- and a line is read back from its words
 
@@ -462,7 +435,7 @@ heard_back h fits =
     rw (tsc, train, metric) refl
 
 notice_back : (who : E.Who) (sapi : Sapi) (notice : Notice) → FitsNotice notice →
-    line_read (line_words (Tells who sapi notice)) ≡ Tells who sapi notice
+    line_read (said_words (Tells who sapi notice)) ≡ Tells who sapi notice
 unfolding three_read notice_read
 notice_back who sapi (N.Opened m) fits = rw ((name_back who sapi).0, (name_back who sapi).1, message_back m fits) refl
 notice_back who sapi (N.Got m) fits = rw ((name_back who sapi).0, (name_back who sapi).1, message_back m fits) refl
@@ -471,7 +444,7 @@ notice_back who sapi (N.Acked n) fits = rw ((name_back who sapi).0, (name_back w
 notice_back who sapi N.Oversize fits = oversize_back who sapi
 notice_back who sapi (N.Closed reason) fits = rw ((name_back who sapi).0, (name_back who sapi).1, reason_back reason) refl
 
-line_back : (line : Said) → FitsLine line → line_read (line_words line) ≡ line
+line_back : (line : Said) → FitsLine line → line_read (said_words line) ≡ line
 unfolding three_read
 line_back (No why) fits = why_back why
 line_back (Takes who octets h) fits = rw (who_back who, octets_back octets fits.0, heard_back h fits.1) refl
@@ -488,8 +461,8 @@ no_line l ls e =
     omega (
       arith,
       none,
-      length-append (join_with_byte 32 (line_words l) ++ 10 ∷ []) (lines_text ls),
-      length-append (join_with_byte 32 (line_words l)) (10 ∷ []),
+      length-append (join_with_byte 32 (said_words l) ++ 10 ∷ []) (lines_text ls),
+      length-append (join_with_byte 32 (said_words l)) (10 ∷ []),
     )
 
 same_lines : (ls ms : List Said) → FitLines ls → FitLines ms → lines_text ls ≡ lines_text ms → ls ≡ ms
@@ -497,8 +470,8 @@ same_lines [] [] h k e = refl
 same_lines [] (m ∷ ms) h k e = absurd (no_line m ms (sym e))
 same_lines (l ∷ ls) [] h k e = absurd (no_line l ls e)
 same_lines (l ∷ ls) (m ∷ ms) h k e =
-    let parts = first_line (join_with_byte 32 (line_words l)) (join_with_byte 32 (line_words m)) (lines_text ls) (lines_text ms)
-    (uncut_join (line_words l) (line_plain l h.0)) (uncut_join (line_words m) (line_plain m k.0)) e in
+    let parts = first_line (join_with_byte 32 (said_words l)) (join_with_byte 32 (said_words m)) (lines_text ls) (lines_text ms)
+    (uncut_join (said_words l) (line_plain l h.0)) (uncut_join (said_words m) (line_plain m k.0)) e in
     let first : l ≡ m = sym (line_back l h.0) ∙ ap line_read (same_words l m h.0 k.0 parts.0) ∙ line_back m k.0 in
     let rest : ls ≡ ms = same_lines ls ms h.1 k.1 parts.1 in
     cc
@@ -506,3 +479,6 @@ same_lines (l ∷ ls) (m ∷ ms) h k e =
 pub different_lines : (x y : A.Answer) → FitLines (answer_lines x) → FitLines (answer_lines y) →
     answer_text x ≡ answer_text y → answer_lines x ≡ answer_lines y
 different_lines x y h k e = same_lines (answer_lines x) (answer_lines y) h k (sym (text_is x) ∙ e ∙ text_is y)
+
+pub same_text : (x y : A.Answer) → answer_lines x ≡ answer_lines y → answer_text x ≡ answer_text y
+same_text x y e = text_is x ∙ ap lines_text e ∙ sym (text_is y)

@@ -1,4 +1,5 @@
 pub mod AnswerLaws
+pub mod FittingLines
 pub mod LineLaws
 pub mod OctetLaws
 pub mod PackedOctets

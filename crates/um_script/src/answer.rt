@@ -1,10 +1,12 @@
 //! The lines that answer a line of a script.
-ghost use Rattle.std.specs.Prelude.{◌≡◌, ◌+◌, ◌*◌, ◌-◌, ◌<◌, ◌≤◌, [], ◌++◌, length, take, drop, codes, IfOk};
+ghost use Rattle.std.specs.Prelude.{◌≡◌, ◌+◌, ◌*◌, ◌-◌, ◌<◌, ◌≤◌, [], ◌++◌, length, map, take, drop, codes, IfOk};
 ghost use Rattle.std.specs.Fmt.{decimal};
 ghost use Rattle.hex.specs.Hex.{encode_lower};
 ghost use Rattle.bit_blocks.specs.Octets.{bits_of, octets_of};
 ghost use Rattle.um_air.specs.Air as A;
-ghost use Rattle.um_script.specs.AnswerLines.{answer_lines, FitLines};
+ghost use Rattle.um_air.specs.Sessions.{AreOctets};
+ghost use Rattle.lapdm_link.specs.Events as E;
+ghost use Rattle.um_script.specs.AnswerLines.{Tells, Sends, heard, block_line, arrival_lines, answer_lines, lines_text, FitsHeard, FitsNotice, FitsLine, FitLines};
 ghost use Rattle.um_link.specs.Naming.{answer_of, step_of, who_of, why_of};
 ghost use Rattle.um_link.specs.Standing.{FitsWho};
 ghost use Rattle.um_script.specs.StepLines.{who_word, link_word, refusal_word, closing_word, octets_word, heard_text, dropped_text, block_text, arrival_text, notice_text, notices_text, frames_text, answer_text};
@@ -21,6 +23,9 @@ pub fn step_lines(out: &mut Text, answer: &Result<Step, No>)
     requires fits { IfOk answer.now (λ step. FitsWho (step_of step)) }
     ensures text { out.new ≡ answer_text (answer_of answer.now) }
     ensures short { length out.new < 2000 }
+
+    // Octets and numbers are such as `law_different_lines` asks.
+    ensures fit { FitLines (answer_lines (answer_of answer.now)) }
 {
     match answer {
         Ok(step) => push_step(out, step),
@@ -54,10 +59,12 @@ fn refusal(reason: No) -> &'static [u8]
     }
 }
 
+#[tactic(auto, using(crate::proofs::FittingLines::fit_append))]
 fn push_step(out: &mut Text, step: &Step)
     requires { out.old ≡ [] }
     ensures text { out.new ≡ answer_text (answer_of (Ok step.now)) }
     ensures short { length out.new < 2000 }
+    ensures fit { FitLines (answer_lines (answer_of (Ok step.now))) }
 {
     push_arrival(out, step.who, &step.received);
     push_notices(out, step.who, step.sapi, step.effects.notices.as_slice());
@@ -69,6 +76,7 @@ fn push_arrival(out: &mut Text, who: Who, received: &Option<Received>)
     requires { out.old ≡ [] }
     ensures text { out.new ≡ arrival_text (who_of who) received.now }
     ensures short { length out.new ≤ 300 }
+    ensures fit { FitLines (arrival_lines (who_of who) received.now) }
 {
     match received {
         Some(r) => {
@@ -95,12 +103,11 @@ fn push_block(out: &mut Text, r: &Received)
     requires { length out.old ≤ 5 }
     ensures text { out.new ≡ out.old ++ block_text r.now.accepted r.now }
     ensures short { length out.new ≤ 300 }
+    ensures fit { (who : E.Who) → FitsLine (block_line who r.now.accepted r.now) }
 {
     match &r.accepted {
         Some(octets) => {
-            out.push(b" takes ");
-            out.push_hex(octets);
-            out.push(b" ");
+            push_taken(out, octets);
             push_heard(out, r);
         }
         None => {
@@ -112,10 +119,23 @@ fn push_block(out: &mut Text, r: &Received)
     out.push(b"\n");
 }
 
+fn push_taken(out: &mut Text, octets: &[u8])
+    requires room { length out.old ≤ 5 }
+    requires count { length octets.now ≡ 23 }
+    ensures text { out.new ≡ out.old ++ (codes " takes " ++ encode_lower octets.now ++ codes " ") }
+    ensures short { length out.new ≡ length out.old + 54 }
+    ensures fit { AreOctets octets.now }
+{
+    out.push(b" takes ");
+    out.push_hex(octets);
+    out.push(b" ");
+}
+
 fn push_heard(out: &mut Text, r: &Received)
     requires { length out.old ≤ 60 }
     ensures text { out.new ≡ out.old ++ heard_text r.now }
     ensures short { length out.new ≤ length out.old + 120 }
+    ensures fit { FitsHeard (heard r.now) }
 {
     out.push(b"tsc ");
     push_decimal(out, u64::from(r.tsc));
@@ -137,6 +157,8 @@ fn push_dropped(out: &mut Text, r: &Received)
     requires { length out.old ≤ 180 }
     ensures text { out.new ≡ out.old ++ dropped_text r.now.u }
     ensures short { length out.new ≡ length out.old + 69 }
+    ensures data { AreOctets (octets_of (take 184 r.now.u)) }
+    ensures check { AreOctets (octets_of (take 40 (drop 184 r.now.u))) }
 {
     push_parts(out, &packed::<23>(&r.u, 0), &packed::<5>(&r.u, 184));
 }
@@ -147,7 +169,8 @@ fn push_parts(out: &mut Text, octets: &[u8], check: &[u8])
     ensures text { out.new ≡ out.old ++ (codes " data " ++ encode_lower octets.now ++ codes " check " ++ encode_lower check.now) }
     ensures short { length out.new ≡ length out.old + 69 }
 
-    // Both are what their own bits give, as octets are.
+    // Both are octets, and so what their own bits give.
+    ensures fit { AreOctets octets.now × AreOctets check.now }
     ensures octets { octets_of (bits_of octets.now) ≡ octets.now }
     ensures check { octets_of (bits_of check.now) ≡ check.now }
 {
@@ -173,6 +196,7 @@ fn push_notices(out: &mut Text, who: Who, sapi: Sapi, notices: &[Notice])
     requires few { length notices.now ≤ 3 }
     ensures text { out.new ≡ out.old ++ notices_text (who_of who) sapi notices.now }
     ensures short { length out.new ≤ length out.old + 520 * length notices.now }
+    ensures fit { FitLines (map (Tells (who_of who) sapi) notices.now) }
 {
     for notice in notices {
         out.push(name(who));
@@ -196,6 +220,7 @@ fn push_notice(out: &mut Text, notice: &Notice)
     requires { length out.old ≤ 1400 }
     ensures text { out.new ≡ out.old ++ notice_text notice.now }
     ensures short { length out.new ≤ length out.old + 512 }
+    ensures fit { FitsNotice notice.now }
 {
     match notice {
         Notice::Opened(message) => push_octets(out, b" opened ", message.octets()),
@@ -219,6 +244,7 @@ fn push_octets(out: &mut Text, word: &[u8], octets: &[u8])
     requires octets { length octets.now ≤ 251 }
     ensures text { out.new ≡ out.old ++ word.now ++ octets_word octets.now }
     ensures short { length out.new ≤ length out.old + 510 }
+    ensures fit { AreOctets octets.now }
 {
     out.push(word);
     if octets.is_empty() {
@@ -245,17 +271,31 @@ fn push_frames(out: &mut Text, who: Who, frames: &[[u8; 23]])
     requires few { length frames.now ≤ 2 }
     ensures text { out.new ≡ out.old ++ frames_text (who_of who) frames.now }
     ensures short { length out.new ≤ length out.old + 60 * length frames.now }
+    ensures fit { FitLines (map (Sends (who_of who)) frames.now) }
 {
     for frame in frames {
         out.push(name(who));
-        out.push(b" sends ");
-        out.push_hex(frame);
-        out.push(b"\n");
+        push_sent(out, frame);
     }
 }
 
-/// Law: answers with different lines have different texts, where octets and numbers are such as the program has them.
+fn push_sent(out: &mut Text, frame: &[u8])
+    requires room { length out.old ≤ 2000 }
+    requires count { length frame.now ≡ 23 }
+    ensures text { out.new ≡ out.old ++ (codes " sends " ++ encode_lower frame.now ++ codes "\n") }
+    ensures short { length out.new ≡ length out.old + 54 }
+    ensures fit { AreOctets frame.now }
+{
+    out.push(b" sends ");
+    out.push_hex(frame);
+    out.push(b"\n");
+}
+
+/// Law: the text of an answer is that of its lines; so the same lines have one text, and different lines have different texts, where
+/// octets and numbers are such as the program has them (`fit` of `step_lines`).
 pub fn law_different_lines()
-    ensures { (x y : A.Answer) → FitLines (answer_lines x) → FitLines (answer_lines y) → answer_text x ≡ answer_text y →
+    ensures text { (x : A.Answer) → answer_text x ≡ lines_text (answer_lines x) }
+    ensures same { (x y : A.Answer) → answer_lines x ≡ answer_lines y → answer_text x ≡ answer_text y }
+    ensures different { (x y : A.Answer) → FitLines (answer_lines x) → FitLines (answer_lines y) → answer_text x ≡ answer_text y →
         answer_lines x ≡ answer_lines y }
 {}

@@ -1,5 +1,11 @@
-use Rattle.um_script.proofs.AnswerLaws.{different_lines}
+use Rattle.um_script.proofs.AnswerLaws.{text_is, same_text, different_lines}
 use Rattle.um_script.proofs.answer.law_different_lines.Goals as goal
 
-pub returns : goal.returns
-returns c = different_lines
+pub returns-clause-text : goal.returns-clause-text
+returns-clause-text c = text_is
+
+pub returns-clause-same : goal.returns-clause-same
+returns-clause-same c = same_text
+
+pub returns-clause-different : goal.returns-clause-different
+returns-clause-different c = different_lines

@@ -1,5 +1,6 @@
-use Rattle.std.proofs.Common.{◌≡◌, ◌+◌, ◌*◌, ◌≤◌, ◌++◌, length, drop}
+use Rattle.std.proofs.Common.{◌≡◌, ◌+◌, ◌*◌, ◌≤◌, ◌++◌, length, map, drop}
 use Rattle.um_link.specs.Naming.{who_of}
+use Rattle.um_script.specs.AnswerLines.{Sends, FitLines}
 use Rattle.um_script.specs.StepLines.{frames_text}
 use Rattle.um_script.proofs.answer.push_frames.Given as goal
 
@@ -9,4 +10,5 @@ invariant-loop-frame l =
     record {
       text : l.out ++ frames_text (who_of l.who) (drop l.frame-index l.frames) ≡ l.fn.out ++ frames_text (who_of l.who) l.frames;
       short : length l.out ≤ length l.fn.out + 60 * l.frame-index;
+      fit : FitLines (map (Sends (who_of l.who)) (drop l.frame-index l.frames)) → FitLines (map (Sends (who_of l.who)) l.frames);
     }
