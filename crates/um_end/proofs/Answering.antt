@@ -1,10 +1,9 @@
 -- A line is answered by what its call or its block comes to.
-use Rattle.std.proofs.Common.{◌≡◌, ℕ, ℤ, ◌+◌, ◌<◌, List, [], ◌∷◌, ◌++◌, length, take, get_or, append_assoc, append-nil, Option, None, Some, refl, sym, ap, ◌∙◌, subst}
+use Rattle.std.proofs.Common.{◌≡◌, ℕ, ◌+◌, ◌<◌, List, [], ◌∷◌, ◌++◌, length, take, get_or, append_assoc, append-nil, refl, sym, ap, ◌∙◌, subst}
 use Rattle.std.specs.List.{flat_map}
 use Rattle.std.proofs.lemmas.List.{take_more}
 use Rattle.lapdm_window.specs.Ends.{Role}
 use Rattle.um_block.specs.Sent.{IsSentBlock}
-use Rattle.um_lines.specs.declared.fault.LineFault.{LineFault}
 use Rattle.um_text.specs.BurstTexts.{block_text}
 use Rattle.um_air.specs.Air.{Octets, Block}
 use Rattle.um_link.specs.Coded.{Adds}
@@ -21,7 +20,8 @@ blocks-append [] b = sym (append-nil (block_text b))
 blocks-append (c ∷ cs) b =
     append_assoc (block_text c) (flat_map block_text cs) (block_text b) ∙ ap (λ t. block_text c ++ t) (blocks-append cs b)
 
-coded_more : (tsc : ℕ) (os : List Octets) (o : Octets) (old mid new : List ℕ) (b : Block) → IsCodedText tsc os old mid → IsSentBlock o tsc b →
+coded_more : (tsc : ℕ) (os : List Octets) (o : Octets) (old mid new : List ℕ) (b : Block) → IsCodedText tsc os old mid →
+    IsSentBlock o tsc b →
     new ≡ mid ++ block_text b → IsCodedText tsc (os ++ o ∷ []) old new
 coded_more tsc os o old mid new b h sent is =
     let a : Adds tsc (os ++ o ∷ []) [] (h.blocks ++ b ∷ []) =
@@ -33,15 +33,18 @@ coded_more tsc os o old mid new b h sent is =
           ∙ ap (λ t. old ++ t) (blocks-append h.blocks b ∙ ap (flat_map block_text) a.behind);
     }
 
-pub coded_next : (tsc : ℕ) (os : List Octets) (i : ℕ) (old mid new : List ℕ) (b : Block) → i < length os → IsCodedText tsc (take i os) old mid →
+pub coded_next : (tsc : ℕ) (os : List Octets) (i : ℕ) (old mid new : List ℕ) (b : Block) → i < length os →
+    IsCodedText tsc (take i os) old mid →
     IsSentBlock (get_or os i []) tsc b → new ≡ mid ++ block_text b → IsCodedText tsc (take (i + 1) os) old new
 coded_next tsc os i old mid new b within h sent is =
-    subst (λ (x : List Octets). IsCodedText tsc x old new) (sym (take_more os i [] within)) (coded_more tsc (take i os) (get_or os i []) old mid new b h sent is)
+    subst (λ (x : List Octets). IsCodedText tsc x old new) (sym (take_more os i [] within))
+    (coded_more tsc (take i os) (get_or os i []) old mid new b h sent is)
 
 -- ---- what stands for a run
 
 -- what holds for the side and the number of bursts held, holds in the run
-pub at_run : (P : Role → ℕ → Type 0) (c : OneEnd) (s : EndRun) (count : ℕ) → StandsFor c s → count ≡ length c.held → P (side_of c.terminal) count →
+pub at_run : (P : Role → ℕ → Type 0) (c : OneEnd) (s : EndRun) (count : ℕ) → StandsFor c s → count ≡ length c.held →
+    P (side_of c.terminal) count →
     P s.role (length s.held)
 at_run P c s count st e h =
     subst (λ (r : Role). P r (length s.held)) (sym st.role) (subst (P (side_of c.terminal)) (e ∙ ap length (sym st.held)) h)

@@ -1,5 +1,5 @@
 -- What one link of a terminal does, the terminal does.
-use Rattle.std.proofs.Common.{◌≡◌, ◌≢◌, [], refl, sym, ◌∙◌, ap, subst, arith, Bool, true, false, nat_eq, if◌then◌else◌, Option, None, Some, map}
+use Rattle.std.proofs.Common.{◌≡◌, ◌≢◌, [], refl, sym, ◌∙◌, ap, subst, arith, Bool, true, false, nat_eq, if◌then◌else◌, Option, map}
 use Rattle.std.proofs.lemmas.Bool.Decides.{nat_tests}
 use Rattle.lapdm_frame.specs.declared.Channel.TheVariants.{Sdcch}
 use Rattle.lapdm_frame.specs.Content.{Frame}
@@ -7,21 +7,20 @@ use Rattle.lapdm_frame.specs.Frames.{octets_of}
 use Rattle.lapdm_window.specs.declared.Sapi.{Sapi}
 use Rattle.lapdm_window.specs.declared.Sapi.TheVariants.{Zero, Three}
 use Rattle.lapdm_window.specs.declared.effects.Effects.{Effects}
-use Rattle.lapdm_window.specs.declared.Refused.{Refused}
-use Rattle.lapdm_window.specs.Calls.{Call, refusal_of, after_call}
+use Rattle.lapdm_window.specs.Calls.{Call}
 use Rattle.lapdm_window.specs.Ends.{Role, EndState, Outcome}
 use Rattle.lapdm_window.specs.Tables.{after_frame}
 use Rattle.lapdm_end.specs.declared.ends.End.{End as LinkEnd}
 use Rattle.lapdm_end.specs.Standing as L
 use Rattle.lapdm_end.specs.Following as F
 use Rattle.um_block.specs.declared.received.Received.{Received}
-use Rattle.lapdm_link.specs.Events.{Open, OpenBare, Ask, Deliver, Lose, Rival, End, because}
-use Rattle.um_air.specs.Air.{Event, Step, Answer, Refuses, Does}
+use Rattle.lapdm_link.specs.Events.{Open, OpenBare, Ask, Deliver, Lose, Rival, End}
+use Rattle.um_air.specs.Air.{Event, Step, Answer}
 use Rattle.um_air.proofs.Laws.{same_step}
 use Rattle.um_end.specs.Terminals.{Links, link_in, Deed, does, does_nothing, asks, takes, step_of, IsAsked, IsCallOf, Asks}
 use Rattle.um_end.specs.Asking.{IsCall, sapi_in, call_in}
 use Rattle.um_end.specs.declared.terminal.Terminal.{Terminal}
-use Rattle.um_end.specs.Standing.{Stands, side_of}
+use Rattle.um_end.specs.Standing.{Stands}
 use Rattle.um_end.specs.Doing.{link_of, other, IsDone, Follows}
 
 pub stands_at : (sapi : Sapi) (t : Terminal) (a : Links) → Stands t a → L.Stands (link_of sapi t) (link_in sapi a)
@@ -82,7 +81,8 @@ none_takes f old effects z t frames notices a st =
     (λ q r. record { stands = st; sapi_is = refl; frames = frames; notices = notices })
 
 -- the step that reports a deed
-pub done_step : (role role' : Role) (received : Option Received) (d : Deed) (sapi : Sapi) (effects : Effects) (new : Terminal) (step : Step) →
+pub done_step : (role role' : Role) (received : Option Received) (d : Deed) (sapi : Sapi) (effects : Effects) (new : Terminal)
+    (step : Step) →
     step ≡ record { who = End role'; sapi = sapi; received = received; frames = effects.frames; notices = effects.notices } → role' ≡ role →
     IsDone d sapi effects new → step ≡ step_of role received d
 done_step role role' received d sapi effects new step is same h =

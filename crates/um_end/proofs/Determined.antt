@@ -1,9 +1,9 @@
 -- Calls and bursts determine their answers and the links after them.
-use Rattle.std.proofs.Common.{◌≡◌, refl, sym, ◌∙◌, ap, ap₂, subst, ℤ, List, Option, Some, None}
+use Rattle.std.proofs.Common.{◌≡◌, sym, ◌∙◌, ap, ap₂, subst, ℤ, List, Option, Some, None}
 use Rattle.lapdm_frame.specs.declared.Channel.TheVariants.{Sdcch}
 use Rattle.lapdm_frame.specs.Content.{Frame}
 use Rattle.lapdm_window.specs.declared.Sapi.{Sapi}
-use Rattle.lapdm_window.specs.Calls.{Call, refusal_of}
+use Rattle.lapdm_window.specs.Calls.{Call}
 use Rattle.lapdm_window.specs.Ends.{Role}
 use Rattle.um_block.specs.declared.received.Received.{Received}
 use Rattle.um_block.proofs.Lemmas.{one_received_block}

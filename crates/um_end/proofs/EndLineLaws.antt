@@ -1,16 +1,15 @@
 -- The lines of one end, by those of a script and of `replay`.
-use Rattle.std.proofs.Common.{◌≡◌, ℕ, ℤ, ◌≤◌, ◌==◌, Bool, true, false, not, ◌&&◌, ◌||◌, List, [], ◌∷◌, ◌++◌, length, map, find, option_map, Option, Some, None, codes, cond, if◌then◌else◌, refl, ap, sym, ◌∙◌, subst, inl, inr}
+use Rattle.std.proofs.Common.{◌≡◌, ℕ, ℤ, ◌≤◌, ◌==◌, Bool, true, false, not, ◌&&◌, ◌||◌, List, [], ◌∷◌, ◌++◌, length, map, option_map, Option, Some, None, codes, if◌then◌else◌, refl, ap, sym, ◌∙◌, subst, inl, inr}
 use Rattle.std.specs.Str.{bytes_eq}
 use Rattle.std.proofs.lemmas.Bool.{cases_Bool, le-ltb}
 use Rattle.std.proofs.lemmas.Slice.Eq.{bytes_eq-Decides}
-use Rattle.bit_blocks.specs.SoftValues.{AllSoft}
 use Rattle.lapdm_window.specs.Ends.{Role, Mobile, Network}
 use Rattle.um_air.specs.Air.{Event}
 use Rattle.um_air.specs.Sessions.{IsOctetEvent}
 use Rattle.um_lines.specs.declared.fault.LineFault.{LineFault}
 use Rattle.um_lines.specs.declared.fault.LineFault.TheVariants.{Word, Order, Digits, Length, Soft, Twice}
 use Rattle.um_lines.specs.declared.fault.LineFault.TheVariants as R
-use Rattle.um_lines.specs.Words.{is_long, is_skipped, words}
+use Rattle.um_lines.specs.Words.{is_skipped, words}
 use Rattle.um_lines.specs.Fields.{Field, Value}
 use Rattle.um_lines.specs.Forms.{Form, Table, has_form, form_of, form_fault, fields_for, fields_fault, some_word, is_repeated, places, values_of, entry_says, line_fault, line_says, anywhere, LineMeans}
 use Rattle.um_lines.specs.Fields as S
@@ -33,7 +32,8 @@ use Rattle.um_end.specs.EndLines.{Meaning, Nothing, Brings, Calls, meaning_of, I
 
 -- ---- lines without a reason, of any table
 
-by_fault : {A : Type 0} (fault : Option LineFault) (Means : A → Type 0) (a b : A) → HasOneMeaningUnless fault Means → Means a → Means b → a ≡ b
+by_fault : {A : Type 0} (fault : Option LineFault) (Means : A → Type 0) (a b : A) → HasOneMeaningUnless fault Means → Means a → Means b →
+    a ≡ b
 by_fault None Means a b one m n = one.2 a m ∙ sym (one.2 b n)
 by_fault (Some fault) Means a b none m n = absurd (none a m)
 
@@ -89,7 +89,8 @@ inside_if b fault = if b then inside fault else fault
 
 no_word : (digits many soft place twice : Bool) →
     Some Order ≡ inside
-    (if digits then Some Digits else if many then Some Length else if soft then Some Soft else if place then Some R.Place else if twice then Some Twice else None)
+    (if digits then Some Digits else if many then Some Length else if soft then Some Soft else if place then Some R.Place
+    else if twice then Some Twice else None)
 no_word true many soft place twice = refl
 no_word false true soft place twice = refl
 no_word false false true place twice = refl
@@ -155,7 +156,8 @@ record IsSameBurst (held : ℕ) (ws : List (List ℕ)) (own : Option (EndName ×
 
 no_order : (digits many soft place twice : Bool) →
     (let fault =
-    if digits then Some Digits else if many then Some Length else if soft then Some Soft else if place then Some R.Place else if twice then Some Twice else None in
+    if digits then Some Digits else if many then Some Length else if soft then Some Soft else if place then Some R.Place
+    else if twice then Some Twice else None in
     fault ≡ without_singles fault)
 no_order true many soft place twice = refl
 no_order false true soft place twice = refl
@@ -223,7 +225,8 @@ module _ (held : ℕ) (ws : List (List ℕ)) where
 
 -- ---- whole lines
 
-module _ {Name : Type 0} (table : Table Name) (elsewhere : Name → Bool) (line : List ℕ) (short : length line ≤ 4096) (kept : is_skipped line ≡ false) where
+module _ {Name : Type 0} (table : Table Name) (elsewhere : Name → Bool) (line : List ℕ) (short : length line ≤ 4096)
+    (kept : is_skipped line ≡ false) where
   fault_of_words : line_fault table elsewhere line ≡ form_fault elsewhere (form_of table (words line)) (words line)
   fault_of_words = rw (le-ltb 4096 (length line) short, kept) refl
 
@@ -240,7 +243,8 @@ end_one_meaning Network held line =
 
 script_one_meaning : (line : List ℕ) → HasOneMeaningUnless (line_fault link_forms anywhere line) (ScriptMeans line)
 script_one_meaning line =
-    one_made event_said (LineMeans link_forms anywhere line) (line_fault link_forms anywhere line) (one_meaning link_forms anywhere line refl)
+    one_made event_said (LineMeans link_forms anywhere line) (line_fault link_forms anywhere line)
+    (one_meaning link_forms anywhere line refl)
 
 module _ (role : Role) (held : ℕ) (line : List ℕ) (short : length line ≤ 4096) (kept : is_skipped line ≡ false) where
   module _ (own : begins_own role (words line) ≡ true) where
@@ -270,7 +274,8 @@ module _ (role : Role) (held : ℕ) (line : List ℕ) (short : length line ≤ 4
         let good : line_fault link_forms anywhere line ≡ None =
         no_fault (line_fault link_forms anywhere line) (ScriptMeans line) event (script_one_meaning line) means in
         let said : event ≡ event_said (line_says link_forms line) =
-        by_fault (line_fault link_forms anywhere line) (ScriptMeans line) event (event_said (line_says link_forms line)) (script_one_meaning line) means
+        by_fault (line_fault link_forms anywhere line) (ScriptMeans line) event (event_said (line_says link_forms line))
+        (script_one_meaning line) means
         (means_said link_forms anywhere event_said line good) in
         subst (EndMeans role held line) (own_says ∙ ap called (sym said))
         (means_said (end_forms (own_forms role)) (end_elsewhere held) end_line line (call_fault none ∙ good))
@@ -312,7 +317,37 @@ end_well Mobile held line meaning means =
         λ count values here (octets, rest, is, known, none). rw (is, none) (soft 148 octets known),
         (
           λ count values here none. rw none lost,
-          (λ count values here (m, rest, is, known, none). rw is (refl, known.2), (λ count values here none. (refl, tt), (λ count values here (m, rest, is, known, none). rw is (refl, known.2), (λ count values here (m, rest, is, known, none). rw is (refl, known.2), (λ count values here none. (refl, tt), (λ count values here none. (refl, tt), (λ count values here (m, rest, is, known, none). rw is (refl, known.2), (λ count values here (m, rest, is, known, none). rw is (refl, known.2), (λ count values here none. (refl, tt), (λ count values here none. (refl, tt), (λ count values here none. (refl, tt), tt))))))))))),
+          (
+            λ count values here (m, rest, is, known, none). rw is (refl, known.2),
+            (
+              λ count values here none. (refl, tt),
+              (
+                λ count values here (m, rest, is, known, none). rw is (refl, known.2),
+                (
+                  λ count values here (m, rest, is, known, none). rw is (refl, known.2),
+                  (
+                    λ count values here none. (refl, tt),
+                    (
+                      λ count values here none. (refl, tt),
+                      (
+                        λ count values here (m, rest, is, known, none). rw is (refl, known.2),
+                        (
+                          λ count values here (m, rest, is, known, none). rw is (refl, known.2),
+                          (
+                            λ count values here none. (refl, tt),
+                            (
+                              λ count values here none. (refl, tt),
+                              (λ count values here none. (refl, tt), tt),
+                            ),
+                          ),
+                        ),
+                      ),
+                    ),
+                  ),
+                ),
+              ),
+            ),
+          ),
         ),
       ),
     ) line meaning means
@@ -323,13 +358,38 @@ end_well Network held line meaning means =
         λ count values here (octets, rest, is, known, none). rw (is, none) (soft 148 octets known),
         (
           λ count values here none. rw none lost,
-          (λ count values here none. (refl, tt), (λ count values here (m, rest, is, known, none). rw is (refl, known.2), (λ count values here (m, rest, is, known, none). rw is (refl, known.2), (λ count values here none. (refl, tt), (λ count values here none. (refl, tt), (λ count values here (m, rest, is, known, none). rw is (refl, known.2), (λ count values here (m, rest, is, known, none). rw is (refl, known.2), (λ count values here none. (refl, tt), (λ count values here none. (refl, tt), (λ count values here none. (refl, tt), tt)))))))))),
+          (
+            λ count values here none. (refl, tt),
+            (
+              λ count values here (m, rest, is, known, none). rw is (refl, known.2),
+              (
+                λ count values here (m, rest, is, known, none). rw is (refl, known.2),
+                (
+                  λ count values here none. (refl, tt),
+                  (
+                    λ count values here none. (refl, tt),
+                    (
+                      λ count values here (m, rest, is, known, none). rw is (refl, known.2),
+                      (
+                        λ count values here (m, rest, is, known, none). rw is (refl, known.2),
+                        (
+                          λ count values here none. (refl, tt),
+                          (λ count values here none. (refl, tt), (λ count values here none. (refl, tt), tt)),
+                        ),
+                      ),
+                    ),
+                  ),
+                ),
+              ),
+            ),
+          ),
         ),
       ),
     ) line meaning means
 
 -- a burst is 148 soft values
-pub burst_is_soft : (role : Role) (held : ℕ) (line : List ℕ) (values : List ℤ) → EndMeans role held line (Brings values) → AreSoft 148 values
+pub burst_is_soft : (role : Role) (held : ℕ) (line : List ℕ) (values : List ℤ) → EndMeans role held line (Brings values) →
+    AreSoft 148 values
 burst_is_soft role held line values means = end_well role held line (Brings values) means
 
 -- a call is one of the side, and of octets

@@ -12,14 +12,13 @@ use Rattle.lapdm_frame.proofs.Canonical.{octets_canonical}
 use Rattle.lapdm_window.specs.declared.Sapi.{Sapi}
 use Rattle.lapdm_window.specs.declared.Sapi.TheVariants.{Zero, Three}
 use Rattle.lapdm_window.specs.declared.Refused.{Refused}
-use Rattle.lapdm_window.specs.Ends.{Role, Mobile, Network, EndState, Outcome, IsEnd, start}
+use Rattle.lapdm_window.specs.Ends.{Role, EndState, Outcome, IsEnd, start}
 use Rattle.lapdm_window.specs.Calls.{Call, Opens, OpensBare, HasCall, refusal_of, after_call}
 use Rattle.lapdm_window.specs.Tables.{after_frame}
 use Rattle.lapdm_window.proofs.Lemmas.{Keeps, keeps-call, keeps-frame, IsEnd-start}
 use Rattle.lapdm_link.proofs.Lemmas.{AreOctets, CallOctets, EndOctets, AllSay, OutcomeOctets, call-octets, frame-octets}
 use Rattle.lapdm_link.specs.Events.{Request, Send, SendUnit, Close, Tick, Idle, Open, OpenBare, Ask, Deliver, Lose, Rival, because, Because, call_of}
 use Rattle.um_block.proofs.Lemmas.{one_sent_block, some_sent_block, some_received_block, accepted_count, accepted_octets}
-use Rattle.um_block.specs.Received.{IsReceivedBlock}
 use Rattle.um_block.specs.declared.received.Received.{Received}
 use Rattle.um_lines.specs.declared.fault.LineFault.{LineFault}
 use Rattle.um_lines.specs.Meanings.{HasOneMeaningUnless}
@@ -29,11 +28,11 @@ use Rattle.um_air.specs.Sessions.{IsOctetEvent}
 use Rattle.um_air.proofs.Laws.{some_reading, reads-well, octets_small}
 use Rattle.um_link.specs.Coded.{AreCoded}
 use Rattle.um_script.specs.StepLines.{answer_text}
-use Rattle.um_driver.specs.Rules.{IsDetermined, IsTotal, Runs}
+use Rattle.um_driver.specs.Rules.{IsDetermined, IsTotal}
 use Rattle.um_driver.specs.Laws.{HasOneOutput}
 use Rattle.um_driver.proofs.OutputExists.{has_one_output}
 use Rattle.um_driver.proofs.RunLemmas.{Runs-keep}
-use Rattle.um_end.specs.Terminals.{Links, idle_links, link_in, with_link_in, Deed, does, does_nothing, asks, takes, takes_read, step_of, IsAsked, IsCallOf, Asks, Hears}
+use Rattle.um_end.specs.Terminals.{Links, link_in, with_link_in, Deed, does, does_nothing, asks, takes_read, step_of, IsAsked, IsCallOf, Asks}
 use Rattle.um_end.specs.EndLines.{Meaning, Nothing, Brings, Calls, end_fault, EndMeans}
 use Rattle.um_end.specs.EndRuns.{EndRun, idle, frames_of, IsAnswerText, Arrived, AnswersBursts, Asked, AnswersMeaning, AnswersLine, end_rules}
 use Rattle.um_end.proofs.Determined.{one_asking, one_hearing}
@@ -59,17 +58,20 @@ same_coded tsc (o ∷ os) (b ∷ bs) (c ∷ cs) h k = ap₂ (λ x xs. x ∷ xs) 
 
 same_text : (tsc : ℕ) (answer : Answer) (y y' : List ℕ) → IsAnswerText tsc answer y → IsAnswerText tsc answer y' → y ≡ y'
 same_text tsc answer y y' h k =
-    h.text_is ∙ ap (λ bs. answer_text answer ++ flat_map block_text bs) (same_coded tsc (frames_of answer) h.blocks k.blocks h.coded k.coded)
+    h.text_is ∙ ap (λ bs. answer_text answer ++ flat_map block_text bs)
+    (same_coded tsc (frames_of answer) h.blocks k.blocks h.coded k.coded)
     ∙ sym k.text_is
 
-same_arrival : (s : EndRun) (bursts : List (List ℤ)) (y y' : List ℕ) (b b' : EndRun) → Arrived s bursts y b → Arrived s bursts y' b' → (y ≡ y') × (b ≡ b')
+same_arrival : (s : EndRun) (bursts : List (List ℤ)) (y y' : List ℕ) (b b' : EndRun) → Arrived s bursts y b → Arrived s bursts y' b' →
+    (y ≡ y') × (b ≡ b')
 same_arrival s bursts y y' b b' h k =
     let same = one_hearing s.role s.links bursts h.links k.links h.step k.step h.heard k.heard in (
       same_text s.tsc (Does k.step) y y' (subst (λ (x : Step). IsAnswerText s.tsc (Does x) y) same.1 h.text_is) k.text_is,
       h.after_is ∙ ap (λ (x : Links). let r : EndRun = record s { links = x; held = [] } in r) same.0 ∙ sym k.after_is,
     )
 
-same_bursts : (s : EndRun) (bursts : List (List ℤ)) (y y' : List ℕ) (b b' : EndRun) → AnswersBursts s bursts y b → AnswersBursts s bursts y' b' →
+same_bursts : (s : EndRun) (bursts : List (List ℤ)) (y y' : List ℕ) (b b' : EndRun) → AnswersBursts s bursts y b →
+    AnswersBursts s bursts y' b' →
     (y ≡ y') × (b ≡ b')
 same_bursts s bursts y y' b b' (inl (few, e, h)) (inl (few', e', h')) = (e ∙ sym e', h ∙ sym h')
 same_bursts s bursts y y' b b' (inl (few, _, _)) (inr (four, _)) = absurd (omega arith)
@@ -83,7 +85,8 @@ same_asked s event y y' b b' h k =
       h.after_is ∙ ap (λ (x : Links). let r : EndRun = record s { links = x } in r) same.0 ∙ sym k.after_is,
     )
 
-same_answer : (s : EndRun) (m : Meaning) (y y' : List ℕ) (b b' : EndRun) → AnswersMeaning s m y b → AnswersMeaning s m y' b' → (y ≡ y') × (b ≡ b')
+same_answer : (s : EndRun) (m : Meaning) (y y' : List ℕ) (b b' : EndRun) → AnswersMeaning s m y b → AnswersMeaning s m y' b' →
+    (y ≡ y') × (b ≡ b')
 same_answer s Nothing y y' b b' (e, h) (e', h') = (e ∙ sym e', h ∙ sym h')
 same_answer s (Brings soft) y y' b b' h h' = same_bursts s (s.held ++ soft ∷ []) y y' b b' h h'
 same_answer s (Calls event) y y' b b' h h' = same_asked s event y y' b b' h h'
@@ -160,7 +163,8 @@ fit_read a accepted (Some f) octets reads h =
     by_sapi f a IsFitDeed (λ e. fit_frame Zero f a well.0 well.1 h) (λ e. fit_frame Three f a well.0 well.1 h) (λ e g. fit_nothing a h)
 
 -- each frame that fits is coded
-some_coded : (tsc : ℕ) (fs : List Frame) → tsc ≤ 7 → All (Fits Sdcch) fs → AllSay fs → (bs : List Block) × AreCoded tsc (map (octets_of Sdcch) fs) bs
+some_coded : (tsc : ℕ) (fs : List Frame) → tsc ≤ 7 → All (Fits Sdcch) fs → AllSay fs →
+    (bs : List Block) × AreCoded tsc (map (octets_of Sdcch) fs) bs
 some_coded tsc [] known h said = ([], tt)
 some_coded tsc (f ∷ fs) known h said =
     let fits : Fits Sdcch f = All-head (Fits Sdcch) f fs h in
@@ -191,10 +195,15 @@ record SomeAnswer (s : EndRun) (event : Event) : Type 0 where
   pub text : List ℕ
   pub text_is : IsAnswerText s.tsc answer text
 
-asked_by : (s : EndRun) (sapi : Sapi) (call : Call) (o : Option Refused) → refusal_of call (link_in sapi s.links) ≡ o → s.tsc ≤ 7 → CallOctets call → HasCall (link_in sapi s.links) call → AreFit s.links →
+asked_by : (s : EndRun) (sapi : Sapi) (call : Call) (o : Option Refused) → refusal_of call (link_in sapi s.links) ≡ o → s.tsc ≤ 7 →
+    CallOctets call → HasCall (link_in sapi s.links) call → AreFit s.links →
     (b : Links) × (answer : Answer) × IsAsked s.role s.links sapi call b answer × ((y : List ℕ) × IsAnswerText s.tsc answer y)
-asked_by s sapi call (Some why) is known octets has h =
-    (s.links, Refuses (Because why), (ap because is, refl), (answer_text (Refuses (Because why)) ++ [], record { blocks = []; coded = tt; text_is = refl }))
+asked_by s sapi call (Some why) is known octets has h = (
+  s.links,
+  Refuses (Because why),
+  (ap because is, refl),
+  (answer_text (Refuses (Because why)) ++ [], record { blocks = []; coded = tt; text_is = refl }),
+)
 asked_by s sapi call None is known octets has h =
     let d : Deed = asks sapi call s.links in
     let text = some_text s.tsc s.role None d known (fit_call sapi call s.links octets has h is) in
@@ -228,7 +237,8 @@ some_asking s (OpenBare other) own known h =
     let a = some_asked s Three OpensBare known tt h.link3.sapi_is h in
     record { links = a.0; answer = a.1; asked = a.2; text = a.3.0; text_is = a.3.1 }
 some_asking s (Ask other sapi request) own known h =
-    let a = some_asked s sapi (call_of request) known (request_octets other sapi request own.1) (request_has (link_in sapi s.links) request) h in
+    let a = some_asked s sapi (call_of request) known (request_octets other sapi request own.1)
+    (request_has (link_in sapi s.links) request) h in
     record { links = a.0; answer = a.1; asked = a.2; text = a.3.0; text_is = a.3.1 }
 some_asking s (Deliver sender places) own known h = absurd own.0
 some_asking s (Lose sender) own known h = absurd own.0
@@ -236,7 +246,8 @@ some_asking s (Rival info) own known h = absurd own.0
 
 -- ---- some answer to bursts
 
-some_arrival : (s : EndRun) (bursts : List (List ℤ)) → length bursts ≡ 4 → All (λ burst. length burst ≡ 148) bursts → s.tsc ≤ 7 → AreFit s.links →
+some_arrival : (s : EndRun) (bursts : List (List ℤ)) → length bursts ≡ 4 → All (λ burst. length burst ≡ 148) bursts → s.tsc ≤ 7 →
+    AreFit s.links →
     (y : List ℕ) × (after : EndRun) × Arrived s bursts y after
 some_arrival s bursts four each known h =
     let report = some_received_block bursts four each in
@@ -255,7 +266,8 @@ some_arrival s bursts four each known h =
       },
     )
 
-one_more : (held : List (List ℤ)) (soft : List ℤ) → All (λ burst. length burst ≡ 148) held → length soft ≡ 148 → All (λ burst. length burst ≡ 148) (held ++ soft ∷ [])
+one_more : (held : List (List ℤ)) (soft : List ℤ) → All (λ burst. length burst ≡ 148) held → length soft ≡ 148 →
+    All (λ burst. length burst ≡ 148) (held ++ soft ∷ [])
 one_more held soft each count =
     let Whole : List ℤ → Type 0 = λ burst. length burst ≡ 148 in
     All-append Whole held (soft ∷ []) each (All-cons Whole soft [] count (All-nil Whole))
@@ -274,13 +286,24 @@ some_bursts role tsc s soft known k count =
           (a.0, a.1, inr (four, a.2))
     ]
 
-some_meaning : (role : Role) (tsc : ℕ) (s : EndRun) (line : List ℕ) (m : Meaning) → tsc ≤ 7 → IsKept role tsc s → EndMeans s.role (length s.held) line m →
+some_meaning : (role : Role) (tsc : ℕ) (s : EndRun) (line : List ℕ) (m : Meaning) → tsc ≤ 7 → IsKept role tsc s →
+    EndMeans s.role (length s.held) line m →
     (y : List ℕ) × (after : EndRun) × AnswersMeaning s m y after
 some_meaning role tsc s line Nothing known k means = ([], s, (refl, refl))
-some_meaning role tsc s line (Brings soft) known k means = some_bursts role tsc s soft known k (burst_is_soft s.role (length s.held) line soft means).0
+some_meaning role tsc s line (Brings soft) known k means = some_bursts role tsc s soft known k
+    (burst_is_soft s.role (length s.held) line soft means).0
 some_meaning role tsc s line (Calls event) known k means =
-    let a = some_asking s event (call_is_own s.role (length s.held) line event means) (omega (arith, known, k.tsc_is)) k.links in
-    (a.text, record s { links = a.links }, record { links = a.links; answer = a.answer; asked = a.asked; text_is = a.text_is; after_is = refl })
+    let a = some_asking s event (call_is_own s.role (length s.held) line event means) (omega (arith, known, k.tsc_is)) k.links in (
+      a.text,
+      record s { links = a.links },
+      record {
+        links = a.links;
+        answer = a.answer;
+        asked = a.asked;
+        text_is = a.text_is;
+        after_is = refl;
+      },
+    )
 
 -- ---- every run can go on
 
@@ -311,17 +334,20 @@ asked_fit role a sapi call b (Does step) octets has h asked =
     not_because None e = refl
     not_because (Some why) e = absurd (cc e)
 
-asking_fit : (role : Role) (a : Links) (event : Event) (b : Links) (answer : Answer) → IsOctetEvent event → AreFit a → Asks role a event b answer → AreFit b
+asking_fit : (role : Role) (a : Links) (event : Event) (b : Links) (answer : Answer) → IsOctetEvent event → AreFit a →
+    Asks role a event b answer → AreFit b
 asking_fit role a (Open info) b answer octets h asked = asked_fit role a Zero (Opens info) b answer octets h.link0.sapi_is h asked
 asking_fit role a (OpenBare other) b answer octets h asked = asked_fit role a Three OpensBare b answer tt h.link3.sapi_is h asked
 asking_fit role a (Ask other sapi request) b answer octets h asked =
-    asked_fit role a sapi (call_of request) b answer (request_octets other sapi request octets) (request_has (link_in sapi a) request) h asked
+    asked_fit role a sapi (call_of request) b answer (request_octets other sapi request octets)
+    (request_has (link_in sapi a) request) h asked
 asking_fit role a (Deliver sender places) b answer octets h asked = absurd asked
 asking_fit role a (Lose sender) b answer octets h asked = absurd asked
 asking_fit role a (Rival info) b answer octets h asked = absurd asked
 
 module _ (role : Role) (tsc : ℕ) where
-  bursts_keep : (s b : EndRun) (soft : List ℤ) (y : List ℕ) → IsKept role tsc s → length soft ≡ 148 → AnswersBursts s (s.held ++ soft ∷ []) y b →
+  bursts_keep : (s b : EndRun) (soft : List ℤ) (y : List ℕ) → IsKept role tsc s → length soft ≡ 148 →
+      AnswersBursts s (s.held ++ soft ∷ []) y b →
       IsKept role tsc b
   bursts_keep s b soft y k count (inl (few, _, same)) =
       subst (IsKept role tsc) (sym same) (record {
@@ -361,8 +387,10 @@ module _ (role : Role) (tsc : ℕ) where
     pub end_is_total : IsTotal end_rules (idle role tsc)
     end_is_total lines answers b runs line plain good =
         let meant : HasOneMeaningUnless None (EndMeans b.role (length b.held) line) =
-        subst (λ fault. HasOneMeaningUnless fault (EndMeans b.role (length b.held) line)) good.no_fault (end_one_meaning b.role (length b.held) line) in
-        let kept : IsKept role tsc b = Runs-keep end_rules (IsKept role tsc) step_keeps (idle role tsc) b lines answers (idle_kept role tsc) runs in
+        subst (λ fault. HasOneMeaningUnless fault (EndMeans b.role (length b.held) line)) good.no_fault
+        (end_one_meaning b.role (length b.held) line) in
+        let kept : IsKept role tsc b = Runs-keep end_rules (IsKept role tsc) step_keeps (idle role tsc) b lines answers
+        (idle_kept role tsc) runs in
         let answer = some_meaning role tsc b line meant.0 known kept meant.1 in
         (answer.0, answer.1, (meant.0, meant.1, answer.2))
 

@@ -2,4 +2,5 @@ mod Deeds
 mod Determined
 mod EndLineLaws
 mod Answering
+mod AnswerSizes
 pub mod EndRules

@@ -1,5 +1,5 @@
 -- What a value of the command stands for.
-use Rattle.std.specs.Prelude.{◌≡◌, []}
+use Rattle.std.specs.Prelude.{◌≡◌}
 use Rattle.um_end.specs.declared.command.OneEnd.{OneEnd}
 use Rattle.um_end.specs.Standing.{side_of, Stands}
 use Rattle.um_end.specs.EndRuns.{EndRun, idle}

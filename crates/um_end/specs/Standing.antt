@@ -29,7 +29,8 @@ IsOnlyAnswer event old result =
 
 -- so it is with bursts that arrive
 abbrev pub FollowsBursts : List (List ℤ) → Terminal → Step → Terminal → Type 0
-FollowsBursts bursts old result new = (a : Links) → Stands old a → (b : Links) × Stands new b × Hears (side_of old) a bursts b (step_of result)
+FollowsBursts bursts old result new = (a : Links) → Stands old a →
+    (b : Links) × Stands new b × Hears (side_of old) a bursts b (step_of result)
 
 abbrev pub IsOnlyStep : List (List ℤ) → Terminal → Step → Type 0
 IsOnlyStep bursts old result =

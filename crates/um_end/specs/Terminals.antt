@@ -1,7 +1,7 @@
 -- One end of the air by itself: both links of one side, on SDCCH, which are asked and receive groups of four bursts. What a
 -- link does at a call or a frame stands in lapdm_window (GSM 04.06, section 5), what is received of bursts in um_block
 -- (GSM 05.03, section 4.1); what is said here is this project's own rule.
-use Rattle.std.specs.Prelude.{◌≡◌, ℕ, ℤ, nat_eq, if◌then◌else◌, List, [], map, Option, Some, None}
+use Rattle.std.specs.Prelude.{◌≡◌, ℤ, nat_eq, if◌then◌else◌, List, [], map, Option, Some, None}
 use Rattle.lapdm_frame.specs.declared.Channel.TheVariants.{Sdcch}
 use Rattle.lapdm_frame.specs.Content.{Frame}
 use Rattle.lapdm_frame.specs.Frames.{octets_of}

@@ -8,8 +8,12 @@ ghost use Rattle.um_link.specs.Coded.{AreCoded};
 ghost use Rattle.um_link.specs.Naming.{role_of, step_of, answer_of};
 ghost use Rattle.um_link.specs.Standing.{FitsWho};
 ghost use Rattle.lapdm_window.specs.Ends.{Role};
+ghost use Rattle.um_io.specs.Lines.{IsLine};
+ghost use Rattle.um_io.specs.Reading.{line_limit};
 ghost use Rattle.um_driver.specs.Laws.{HasOneOutput};
-ghost use Rattle.um_end.specs.EndRuns.{EndRun, idle, end_rules, IsAnswerText, AnswersBursts, IsCodedText};
+ghost use Rattle.um_driver.specs.Rules.{Answers};
+ghost use Rattle.um_script.specs.StepLines.{answer_text};
+ghost use Rattle.um_end.specs.EndRuns.{EndRun, idle, end_rules, frames_of, IsAnswerText, AnswersBursts, IsCodedText};
 ghost use Rattle.um_end.specs.Commands.{StandsFor, start_of};
 
 use crate::lines::{EndLine, parse_end};
@@ -53,6 +57,7 @@ impl OneEnd {
         requires empty { out.old ≡ [] }
         ensures answers { (s : EndRun) → StandsFor self.old s →
             (after : EndRun) × AnswersBursts s (s.held ++ burst ∷ []) out.new after × StandsFor self.new after }
+        ensures few { (s : EndRun) → StandsFor self.old s → length out.new < 2000 }
     {
         if let Some(block) = self.held.add(burst) {
             let answer = Ok(self.terminal.receive(&block));
@@ -74,7 +79,15 @@ impl Command for OneEnd {
 
     ghost kept = { λ _. tt };
 
-    fn answer(&mut self, line: &[u8], out: &mut Text) -> Result<(), LineFault> {
+    fn answer(&mut self, line: &[u8], out: &mut Text) -> Result<(), LineFault>
+        requires short { length line.now ≤ line_limit }
+        requires plain { IsLine line.now }
+        requires empty { out.old ≡ [] }
+        ensures answered { (s : EndRun) → StandsFor self.old s →
+            Answers end_rules s line.now result out.new (StandsFor self.new) }
+        ensures keeps { tt {0} ≡ tt }
+        ensures few { (s : EndRun) → StandsFor self.old s → length out.new < 2000 }
+    {
         match parse_end(line, self.terminal.side, self.held.count(), &mut self.room)? {
             EndLine::Skip => {}
             EndLine::Burst(burst) => self.hold(burst, out),
@@ -99,7 +112,10 @@ impl Command for OneEnd {
 fn write_answer(out: &mut Text, terminal: &Terminal, answer: &Result<Step, No>)
     requires empty { out.old ≡ [] }
     requires fits { IfOk answer.now (λ step. FitsWho (step_of step)) }
-    ensures { IsAnswerText terminal.now.tsc (answer_of answer.now) out.new }
+    ensures text { IsAnswerText terminal.now.tsc (answer_of answer.now) out.new }
+    ensures lines { length (answer_text (answer_of answer.now)) < 2000 }
+    ensures length { length out.new ≡
+        length (answer_text (answer_of answer.now)) + 604 * length (frames_of (answer_of answer.now)) }
 {
     step_lines(out, answer);
     if let Ok(step) = answer {
@@ -111,7 +127,8 @@ fn write_answer(out: &mut Text, terminal: &Terminal, answer: &Result<Step, No>)
 fn push_blocks(out: &mut Text, terminal: &Terminal, frames: &[[u8; 23]])
     requires room { length out.old < 2000 }
     requires few { length frames.now ≤ 2 }
-    ensures { IsCodedText terminal.now.tsc frames.now out.old out.new }
+    ensures text { IsCodedText terminal.now.tsc frames.now out.old out.new }
+    ensures length { length out.new ≡ length out.old + 604 * length frames.now }
 {
     for octets in frames {
         push_block(out, &terminal.bursts(octets));

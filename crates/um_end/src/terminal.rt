@@ -12,6 +12,8 @@ ghost use Rattle.lapdm_end.specs.Standing.{channel_of, sapi_of};
 ghost use Rattle.lapdm_window.specs.declared.Sapi.TheVariants as S;
 ghost use Rattle.lapdm_link.specs.Events as E;
 ghost use Rattle.um_link.specs.Naming.{role_of, event_of, who_of, step_of};
+ghost use Rattle.um_block.specs.declared.received.Received.{Received};
+ghost use Rattle.um_script.specs.AnswerLines.{heard, FitsHeard};
 ghost use Rattle.um_end.specs.Asking.{IsCall, sapi_in, call_in};
 
 use crate::asking::{ask_event, link_asked, nothing, reason};
@@ -85,6 +87,7 @@ impl Terminal {
         ensures only { IsOnlyStep bursts.now self.old result }
         ensures who { who_of result.who ≡ E.End (side_of self.old) }
         ensures received { IsSome result.received }
+        ensures numbers { (r : Received) → result.received ≡ Some r → FitsHeard (heard r) }
         ensures same { IsSameSide self.old self.new }
     {
         let report = receive_block(bursts);
@@ -144,7 +147,13 @@ impl Terminal {
     }
 
     fn step(&self, sapi: Sapi, received: Option<Received>, effects: Effects) -> Step
-        ensures step { step_of result ≡ record { who = E.End (side_of self.now); sapi = sapi; received = received; frames = effects.frames; notices = effects.notices } }
+        ensures step { step_of result ≡ record {
+          who = E.End (side_of self.now);
+          sapi = sapi;
+          received = received;
+          frames = effects.frames;
+          notices = effects.notices;
+        } }
         ensures received { result.received ≡ received }
     {
         let who = match self.side {

@@ -5,4 +5,5 @@ use Rattle.um_end.proofs.command.push_blocks.Given as goal
 -- the lines of the frames so far
 abbrev pub invariant-loop-octets : goal.invariant-loop-octets
 invariant-loop-octets l =
-    IsCodedText l.terminal.tsc (take l.octets-index l.frames) l.initial.out l.out × (length l.out ≡ length l.initial.out + 604 * l.octets-index)
+    IsCodedText l.terminal.tsc (take l.octets-index l.frames) l.initial.out l.out ×
+    (length l.out ≡ length l.initial.out + 604 * l.octets-index)

@@ -1,13 +1,13 @@
-use Rattle.std.proofs.Common.{◌≡◌, ℕ, None, Result, Some, refl, sym, ap, ◌∙◌, subst}
+use Rattle.std.proofs.Common.{arith, ◌≡◌, ℕ, None, refl, sym, ap, ◌∙◌, subst}
 use Rattle.lapdm_window.specs.Ends.{Role}
-use Rattle.um_air.specs.Air.{Answer}
 use Rattle.um_link.specs.Naming.{role_of, event_of, answer_of}
-use Rattle.um_end.specs.Terminals.{Links, Asks}
+use Rattle.um_end.specs.Terminals.{Asks}
 use Rattle.um_end.specs.Standing.{side_of}
-use Rattle.um_end.specs.EndLines.{Meaning, Brings, Calls, meaning_of, end_fault, EndMeans}
+use Rattle.um_end.specs.EndLines.{Brings, Calls, meaning_of, end_fault, EndMeans}
 use Rattle.um_end.specs.EndRuns.{IsAnswerText}
 use Rattle.um_end.specs.declared.lines.EndLine.{EndLine}
 use Rattle.um_end.proofs.Answering.{at_run}
+use Rattle.um_end.proofs.AnswerSizes.{call_short}
 use Rattle.um_end.proofs.command.OneEndCommand.answer.Goals as goal
 
 pub returns-in-Burst-clause-answered : goal.returns-in-Burst-clause-answered
@@ -45,9 +45,17 @@ returns-in-Ask-clause-answered c s st =
           links = f.0;
           answer = answer_of c.ask-answer.result;
           asked = subst (λ (r : Role). Asks r s.links event f.0 (answer_of c.ask-answer.result)) (sym st.role) f.2;
-          text_is = subst (λ (n : ℕ). IsAnswerText n (answer_of c.ask-answer.result) c.write_answer.new.out) tsc c.write_answer.ensures;
+          text_is = subst (λ (n : ℕ). IsAnswerText n (answer_of c.ask-answer.result) c.write_answer.new.out) tsc
+              c.write_answer.ensures.text;
           after_is = refl;
         },
       ),
       record { role = st.role ∙ ap role_of (sym c.ask-answer.ensures.same.side); tsc = sym tsc; links = f.1; held = st.held },
     )
+
+pub returns-in-Ask-clause-few : goal.returns-in-Ask-clause-few
+returns-in-Ask-clause-few c s st =
+    let f = c.ask-answer.ensures.follows s.links st.links in
+    let short = call_short _ s.links (event_of c.in-Ask.event) f.0 (answer_of c.ask-answer.result) _ _ f.2 c.write_answer.ensures.text
+    c.write_answer.ensures.lines in
+    omega (arith, short, c.write_answer.ensures.length)

@@ -1,7 +1,7 @@
 use Rattle.std.proofs.Common.{refl, sym, ap, ◌∙◌, subst, None, Some}
 use Rattle.lapdm_window.specs.declared.Sapi.{Sapi}
 use Rattle.lapdm_link.specs.Events.{because}
-use Rattle.um_link.specs.Naming.{role_of, step_of, event_of, why_of, answer_of}
+use Rattle.um_link.specs.Naming.{role_of, step_of, event_of, why_of}
 use Rattle.um_air.specs.Air.{Refuses, Does}
 use Rattle.um_end.specs.Terminals.{asks, IsAsked}
 use Rattle.um_end.specs.declared.terminal.Terminal.{Terminal}

@@ -1,7 +1,7 @@
 use Rattle.std.proofs.Common.{refl, ap, Some}
 use Rattle.um_link.specs.Naming.{role_of, step_of}
 use Rattle.um_end.specs.Terminals.{takes_read}
-use Rattle.um_end.specs.Standing.{side_of, FollowsBursts}
+use Rattle.um_end.specs.Standing.{side_of}
 use Rattle.um_end.proofs.Deeds.{done_step}
 use Rattle.um_end.proofs.Determined.{one_hearing}
 use Rattle.um_end.proofs.terminal.Terminal.receive.Goals as goal
@@ -18,7 +18,8 @@ returns-clause-follows c a st =
         received = c.receive_block-report.ensures.received;
         reads = h.reads;
         after = refl;
-        step_is = done_step (side_of c.args.self.now) _ (Some c.receive_block-report.result) d _ _ _ (step_of c.step.result) c.step.ensures.step
+        step_is = done_step (side_of c.args.self.now) _ (Some c.receive_block-report.result) d _ _ _
+            (step_of c.step.result) c.step.ensures.step
             (ap role_of c.hear-sapi.ensures.same.side) h.done;
       },
     )

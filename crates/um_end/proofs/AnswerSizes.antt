@@ -1,0 +1,406 @@
+-- How long an answer is: a step reports at most one message, and beside it at most that another was acknowledged.
+use Rattle.std.proofs.Common.{◌≡◌, ℕ, ◌+◌, ◌*◌, ◌<◌, ◌≤◌, ◌^◌, Bool, true, false, ◌&&◌, if◌then◌else◌, nat_eq, nat_lt, ℤ, pos, negsuc, nat_abs, List, [], ◌∷◌, ◌++◌, length, length-append, append-nil, codes, map, Option, None, Some, refl, sym, ap, ◌∙◌, subst, arith}
+use Rattle.std.specs.Str.{bytes_eq}
+use Rattle.std.specs.Int.Signed.{mag}
+use Rattle.std.specs.Fmt.{decimal, signed_decimal}
+use Rattle.std.proofs.lemmas.Bool.Decides.{nat_tests}
+use Rattle.std.proofs.lemmas.Fmt.{length-decimal-le, length_signed_le}
+use Rattle.std.proofs.lemmas.List.{length-map}
+use Rattle.lapdm_frame.specs.declared.Channel.TheVariants.{Sdcch}
+use Rattle.lapdm_frame.specs.Content.{Content, I, Rr, Rnr, Rej, Sabm, Dm, Ui, Disc, Ua, Frame, information}
+use Rattle.lapdm_frame.specs.Frames.{InformationFits, IsFrame, octets_of}
+use Rattle.segmenting.specs.declared.joiner.Joined.{Joined}
+use Rattle.segmenting.specs.declared.joiner.Joined.TheVariants as J
+use Rattle.segmenting.specs.Pieces.{Message, Piece, longest}
+use Rattle.segmenting.specs.Joining.{open_part, answer_to}
+use Rattle.lapdm_window.specs.declared.Sapi.{Sapi}
+use Rattle.lapdm_window.specs.declared.Sapi.TheVariants.{Zero, Three}
+use Rattle.lapdm_window.specs.declared.State.{State}
+use Rattle.lapdm_window.specs.declared.State.TheVariants as S
+use Rattle.lapdm_window.specs.declared.Notice.{Notice}
+use Rattle.lapdm_window.specs.declared.Notice.TheVariants as N
+use Rattle.lapdm_window.specs.declared.Reason.TheVariants as R
+use Rattle.lapdm_window.specs.Ends.{Role, Mobile, Network, EndState, Outcome, stays, ◌then◌, next_piece, n200, vr}
+use Rattle.lapdm_window.specs.Rules.{has_next, sends_piece, sends_next, acknowledges, reports_acked, counts, notices_of, accepts, says_rr, answers_piece, reject_is_due, rejects, takes_i, answers_poll, takes_rr, sends_again, takes_rej}
+use Rattle.lapdm_window.specs.Calls.{Call, Opens, OpensBare, Sends, SendsUnit, Closes, Ticks, Idles, after_call, with_taken}
+use Rattle.lapdm_window.specs.Tables.{is_command, is_poll, says_dm, says_ua, becomes_open, becomes_closed, sabm_in_idle, dm_to_poll, other_ua, sabm_in_opening, answers_sabm, in_state, after_content, after_frame}
+use Rattle.lapdm_window.proofs.Lemmas.{few-frame, few-call}
+use Rattle.um_lines.proofs.SpelledLaws.{length-encode_lower}
+use Rattle.um_block.specs.declared.received.Received.{Received}
+use Rattle.lapdm_link.specs.Events.{Open, OpenBare, Ask, Deliver, Lose, Rival, End, call_of}
+use Rattle.um_air.specs.Air.{Octets, Block, Reads, Event, Step, Answer, Refuses, Does}
+use Rattle.um_link.specs.Coded.{AreCoded}
+use Rattle.um_script.specs.AnswerLines.{heard, FitsHeard}
+use Rattle.um_script.specs.StepLines.{who_word, link_word, octets_word, heard_text, block_text, arrival_text, notice_text, notices_text, frames_text, answer_text}
+use Rattle.um_end.specs.Terminals.{Links, link_in, does, does_nothing, takes, takes_read, step_of, IsAsked, Asks, Hears}
+use Rattle.um_end.specs.EndRuns.{frames_of, IsAnswerText}
+use Rattle.um_end.proofs.Deeds.{by_sapi}
+
+-- ---- what a step reports
+
+-- octets of at most one message, or a number of at most 20 digits
+abbrev pub IsLight : Notice → Type 0
+IsLight (N.Opened m) = length m ≤ 251
+IsLight (N.Got m) = length m ≤ 251
+IsLight (N.Unit m) = length m ≤ 251
+IsLight (N.Acked n) = n < 2 ^ 64
+IsLight N.Oversize = Unit {0}
+IsLight (N.Closed reason) = Unit {0}
+
+-- nothing, or that a message is acknowledged
+abbrev pub IsAcked : List Notice → Type 0
+IsAcked [] = Unit {0}
+IsAcked (N.Acked n ∷ []) = n < 2 ^ 64
+IsAcked other = ⊥
+
+-- at most one notice
+abbrev pub IsOne : List Notice → Type 0
+IsOne [] = Unit {0}
+IsOne (notice ∷ []) = IsLight notice
+IsOne other = ⊥
+
+-- at most one notice, behind that a message is acknowledged
+abbrev pub IsBrief : List Notice → Type 0
+IsBrief [] = Unit {0}
+IsBrief (notice ∷ []) = IsLight notice
+IsBrief (N.Acked n ∷ notice ∷ []) = (n < 2 ^ 64) × IsLight notice
+IsBrief other = ⊥
+
+one_brief : (ns : List Notice) → IsOne ns → IsBrief ns
+one_brief [] h = tt
+one_brief (n ∷ []) h = h
+one_brief (n ∷ m ∷ ns) h = absurd h
+
+joined : (ns ms : List Notice) → IsAcked ns → IsOne ms → IsBrief (ns ++ ms)
+joined [] ms a o = one_brief ms o
+joined (N.Acked n ∷ []) [] a o = a
+joined (N.Acked n ∷ []) (m ∷ []) a o = (a, o)
+joined (N.Acked n ∷ []) (m ∷ k ∷ ms) a o = absurd o
+joined (N.Acked n ∷ k ∷ ns) ms a o = absurd a
+joined (N.Opened m ∷ ns) ms a o = absurd a
+joined (N.Got m ∷ ns) ms a o = absurd a
+joined (N.Unit m ∷ ns) ms a o = absurd a
+joined (N.Oversize ∷ ns) ms a o = absurd a
+joined (N.Closed reason ∷ ns) ms a o = absurd a
+
+all_three : (ns ms ls : List Notice) → IsAcked ns → IsOne ms → ls ≡ [] → IsBrief ((ns ++ ms) ++ ls)
+all_three ns ms ls a o none =
+    subst (λ (l : List Notice). IsBrief ((ns ++ ms) ++ l)) (sym none) (subst IsBrief (sym (append-nil (ns ++ ms))) (joined ns ms a o))
+
+by_test : (P : List Notice → Type 0) (b : Bool) (o p : Outcome) → P o.notices → P p.notices → P (if b then o else p).notices
+by_test P true o p h g = h
+by_test P false o p h g = g
+
+-- ---- the rules of the window
+
+next : (e : EndState) → (sends_next e).notices ≡ []
+next e = by_test (λ ns. ns ≡ []) (has_next e) (sends_piece e) (stays e) refl refl
+
+acked : (nr : ℕ) (e : EndState) → IsAcked (counts nr e).notices
+acked nr e = by_test IsAcked (acknowledges nr e) (reports_acked (next_piece e).1 e) (stays e) (by_more (next_piece e).1) tt
+  where
+    by_more : (b : Bool) → IsAcked (reports_acked b e).notices
+    by_more true = tt
+    by_more false = omega arith
+
+abbrev IsWhole : Joined → Type 0
+IsWhole J.Whole = Unit {0}
+IsWhole J.More = ⊥
+IsWhole J.Oversize = ⊥
+
+accepted : (piece : Piece) (e : EndState) → IsOne (accepts piece e).notices
+accepted piece e = by_answer (answer_to e.accepted piece) piece.1 refl
+  where
+    m : Message
+    m = open_part e.accepted ++ piece.0
+
+    by_answer : (j : Joined) (b : Bool) → answer_to e.accepted piece ≡ j → IsOne (notices_of j b m)
+    by_answer J.Whole b is = whole (nat_lt longest (length m)) refl
+      where
+        whole : (t : Bool) → nat_lt longest (length m) ≡ t → length m ≤ 251
+        whole true q =
+            absurd (subst IsWhole (sym is ∙ ap (λ (t : Bool). if t then J.Oversize else (if piece.1 then J.More else J.Whole)) q) tt)
+        whole false q = grind (arith, nat_tests)
+    by_answer J.Oversize false is = tt
+    by_answer J.Oversize true is = tt
+    by_answer J.More b is = tt
+
+answered : (p : Bool) (e : EndState) → (answers_piece p e).notices ≡ []
+answered true e = next e
+answered false e = by_test (λ ns. ns ≡ []) (has_next e) (sends_piece e) (says_rr false e) refl refl
+
+rejected : (p : Bool) (e : EndState) → IsOne (rejects p e).notices
+rejected p e = by_test IsOne (reject_is_due p e) _ (stays e) tt tt
+
+polled : (b : Bool) (e : EndState) → IsOne (answers_poll b e).notices
+polled b e = by_test IsOne b (says_rr true e) (stays e) tt tt
+
+again : (e : EndState) → (sends_again e).notices ≡ []
+again e = by_test (λ ns. ns ≡ []) _ _ (sends_next e) refl (next e)
+
+-- an N(R) is counted, and one rule and another follow
+counted : (nr : ℕ) (first second : EndState → Outcome) (e : EndState) → ((x : EndState) → IsOne (first x).notices) →
+    ((x : EndState) → (second x).notices ≡ []) → IsBrief (counts nr e then first then second).notices
+counted nr first second e h g =
+    let o = counts nr e in
+    all_three o.notices (first o.after).notices (second (o then first).after).notices (acked nr e) (h o.after) (g (o then first).after)
+
+brief-i : (ns nr : ℕ) (p : Bool) (piece : Piece) (e : EndState) → IsBrief (takes_i ns nr p piece e).notices
+brief-i ns nr p piece e =
+    by_test IsBrief (nat_eq ns (vr e)) (counts nr e then accepts piece then answers_piece p) (counts nr e then rejects p then sends_next)
+    (counted nr (accepts piece) (answers_piece p) e (accepted piece) (answered p))
+    (counted nr (rejects p) sends_next e (rejected p) next)
+
+brief-rr : (nr : ℕ) (b : Bool) (e : EndState) → IsBrief (takes_rr nr b e).notices
+brief-rr nr b e = counted nr (answers_poll b) sends_next e (polled b) next
+
+brief-rej : (nr : ℕ) (b : Bool) (e : EndState) → IsBrief (takes_rej nr b e).notices
+brief-rej nr b e = counted nr (answers_poll b) sends_again e (polled b) again
+
+-- ---- the tables
+
+brief-sabm_in_idle : (s : Sapi) (r : Role) (info : Message) (e : EndState) → length info ≤ 251 → IsBrief (sabm_in_idle s r info e).notices
+brief-sabm_in_idle Zero Mobile info e h = tt
+brief-sabm_in_idle Zero Network [] e h = tt
+brief-sabm_in_idle Zero Network (x ∷ xs) e h = h
+brief-sabm_in_idle Three r [] e h = h
+brief-sabm_in_idle Three r (x ∷ xs) e h = tt
+
+brief-dm : (b : Bool) (e : EndState) → IsBrief (dm_to_poll b e).notices
+brief-dm b e = by_test IsBrief b (says_dm e) (stays e) tt tt
+
+brief-other_ua : (s : Sapi) (e : EndState) → IsBrief (other_ua s e).notices
+brief-other_ua Zero e = tt
+brief-other_ua Three e = tt
+
+brief-sabm_in_opening : (s : Sapi) (info : Message) (e : EndState) → IsBrief (sabm_in_opening s info e).notices
+brief-sabm_in_opening Zero info e = tt
+brief-sabm_in_opening Three [] e = tt
+brief-sabm_in_opening Three (x ∷ xs) e = tt
+
+brief-state : (t : State) (b : Bool) (c : Content) (e : EndState) → length (information c) ≤ 251 → IsBrief (in_state t b c e).notices
+brief-state S.Idle b (Sabm p info) e h = brief-sabm_in_idle e.sapi e.role info e h
+brief-state S.Idle b (Disc p) e h = tt
+brief-state S.Idle b other e h = brief-dm (is_poll b other) e
+brief-state S.Opening b (Sabm p info) e h = brief-sabm_in_opening e.sapi info e
+brief-state S.Opening b (Ua true info) e h =
+    by_test IsBrief (bytes_eq info e.kept) (becomes_open info e) (other_ua e.sapi e) h (brief-other_ua e.sapi e)
+brief-state S.Opening b (Ua false info) e h = tt
+brief-state S.Opening b (Dm true) e h = tt
+brief-state S.Opening b (Dm false) e h = tt
+brief-state S.Opening b (Disc p) e h = tt
+brief-state S.Opening b other e h = tt
+brief-state S.Open b (I ns nr p more info) e h = brief-i ns nr p (info, more) e
+brief-state S.Open b (Rr nr pf) e h = brief-rr nr (b && pf) e
+brief-state S.Open b (Rej nr pf) e h = brief-rej nr (b && pf) e
+brief-state S.Open b (Sabm p info) e h =
+    by_test IsBrief (answers_sabm e.sapi e.role && bytes_eq info e.kept) (says_ua info e) (stays e) tt tt
+brief-state S.Open b (Disc p) e h = tt
+brief-state S.Open b (Dm f) e h = tt
+brief-state S.Open b other e h = tt
+brief-state S.Closing b (Ua true []) e h = tt
+brief-state S.Closing b (Ua true (x ∷ xs)) e h = tt
+brief-state S.Closing b (Ua false info) e h = tt
+brief-state S.Closing b (Dm true) e h = tt
+brief-state S.Closing b (Dm false) e h = tt
+brief-state S.Closing b (Disc p) e h = tt
+brief-state S.Closing b other e h = tt
+brief-state S.Closed b (Sabm p info) e h = tt
+brief-state S.Closed b (Disc p) e h = tt
+brief-state S.Closed b other e h = brief-dm (is_poll b other) e
+
+brief-content : (b : Bool) (c : Content) (e : EndState) → length (information c) ≤ 251 → IsBrief (after_content b c e).notices
+brief-content b (Ui p []) e h = tt
+brief-content b (Ui p (x ∷ xs)) e h = h
+brief-content b other e h = brief-state e.state b other e h
+
+-- a step at a frame, and one at a call, reports at most one message, behind that another is acknowledged
+pub brief-frame : (f : Frame) (e : EndState) → length (information f.content) ≤ 251 → IsBrief (after_frame f e).notices
+brief-frame f e h = by_test IsBrief _ (after_content (is_command e f) f.content e) (stays e)
+    (brief-content (is_command e f) f.content e h) tt
+
+pub brief-call : (call : Call) (e : EndState) → IsBrief (after_call call e).notices
+brief-call (Opens info) e = tt
+brief-call OpensBare e = tt
+brief-call (Sends m) e = subst IsBrief (sym (next (with_taken m e))) tt
+brief-call (SendsUnit m) e = tt
+brief-call Closes e = tt
+brief-call Ticks e = by_test IsBrief (nat_lt e.retries (n200 e.channel e.state)) _ (becomes_closed _ e) tt tt
+brief-call Idles e = tt
+
+-- ---- texts
+
+append_four : (a b c d : List ℕ) → length (a ++ b ++ c ++ d) ≡ length a + length b + length c + length d
+append_four a b c d = omega (arith, length-append (a ++ b ++ c) d, length-append (a ++ b) c, length-append a b)
+
+append_five : (a b c d e : List ℕ) → length (a ++ b ++ c ++ d ++ e) ≡ length a + length b + length c + length d + length e
+append_five a b c d e = omega (arith, length-append (a ++ b ++ c ++ d) e, append_four a b c d)
+
+who_three : (role : Role) → length (who_word (End role)) ≡ 3
+who_three Mobile = refl
+who_three Network = refl
+
+link_short : (sapi : Sapi) → length (link_word sapi) ≤ 1
+link_short Zero = omega arith
+link_short Three = omega arith
+
+acked_short : (n : ℕ) → n < 2 ^ 64 → length (notice_text (N.Acked n)) ≤ 27
+acked_short n h =
+    omega (arith, length-append (codes " acked ") (decimal n), length-decimal-le 20 n (omega arith) (omega (arith, h)) h)
+
+octets_short : (m : List ℕ) → length m ≤ 251 → length (octets_word m) ≤ 502
+octets_short [] h = omega arith
+octets_short (octet ∷ rest) h = omega (arith, h, length-encode_lower (octet ∷ rest))
+
+notice_short : (notice : Notice) → IsLight notice → length (notice_text notice) ≤ 510
+notice_short (N.Opened m) h = omega (arith, length-append (codes " opened ") (octets_word m), octets_short m h)
+notice_short (N.Got m) h = omega (arith, length-append (codes " got ") (octets_word m), octets_short m h)
+notice_short (N.Unit m) h = omega (arith, length-append (codes " unit ") (octets_word m), octets_short m h)
+notice_short (N.Acked n) h = let d = acked_short n h in omega (arith, d)
+notice_short N.Oversize h = omega arith
+notice_short (N.Closed R.Contention) h = omega arith
+notice_short (N.Closed R.Failed) h = omega arith
+notice_short (N.Closed R.Refused) h = omega arith
+notice_short (N.Closed R.Released) h = omega arith
+
+line_short : (role : Role) (sapi : Sapi) (notice : Notice) (notices : List Notice) →
+    length (notices_text (End role) sapi (notice ∷ notices)) ≤
+    5 + length (notice_text notice) + length (notices_text (End role) sapi notices)
+line_short role sapi notice notices =
+    let all = append_five (who_word (End role)) (link_word sapi) (notice_text notice) (codes "\n") (notices_text (End role) sapi notices) in
+    omega (arith, all, who_three role, link_short sapi)
+
+notices_short : (role : Role) (sapi : Sapi) (ns : List Notice) → IsBrief ns → length (notices_text (End role) sapi ns) ≤ 547
+notices_short role sapi [] h = omega arith
+notices_short role sapi (n ∷ []) h = omega (arith, line_short role sapi n [], notice_short n h)
+notices_short role sapi (N.Acked k ∷ n ∷ []) h =
+    omega (arith, line_short role sapi (N.Acked k) (n ∷ []), acked_short k h.0, line_short role sapi n [], notice_short n h.1)
+notices_short role sapi (N.Acked k ∷ n ∷ m ∷ ns) h = absurd h
+notices_short role sapi (N.Opened m ∷ n ∷ ns) h = absurd h
+notices_short role sapi (N.Got m ∷ n ∷ ns) h = absurd h
+notices_short role sapi (N.Unit m ∷ n ∷ ns) h = absurd h
+notices_short role sapi (N.Oversize ∷ n ∷ ns) h = absurd h
+notices_short role sapi (N.Closed reason ∷ n ∷ ns) h = absurd h
+
+frames_short : (role : Role) (tsc : ℕ) (frames : List Octets) (blocks : List Block) → AreCoded tsc frames blocks →
+    length (frames_text (End role) frames) ≡ 57 * length frames
+frames_short role tsc [] [] h = refl
+frames_short role tsc [] (b ∷ bs) h = absurd h
+frames_short role tsc (f ∷ fs) [] h = absurd h
+frames_short role tsc (f ∷ fs) (b ∷ bs) h =
+    let all : length (frames_text (End role) (f ∷ fs)) ≡ _ =
+    append_five (who_word (End role)) (codes " sends ") _ (codes "\n") (frames_text (End role) fs) in
+    omega (arith, all, who_three role, length-encode_lower f, h.0.code.count, frames_short role tsc fs bs h.1)
+
+mag_is : (z : ℤ) → mag z ≤ nat_abs z
+mag_is (pos n) = omega arith
+mag_is (negsuc n) = omega arith
+
+heard_short : (r : Received) → r.tsc ≤ 7 → FitsHeard (heard r) → length (heard_text r) ≤ 60
+heard_short r tsc h =
+    let t = length-decimal-le 1 r.tsc (omega arith) (omega (arith, tsc)) (omega (arith, tsc)) in
+    let w = length-decimal-le 20 r.wrong_training (omega arith) (omega (arith, h.train)) h.train in
+    let m = length_signed_le 19 r.metric (omega (arith, h.metric, mag_is r.metric)) (omega (arith, h.metric, mag_is r.metric)) in
+    let front = append_five (codes "tsc ") (decimal r.tsc) (codes " train ") (decimal r.wrong_training) (codes " metric ") in
+    let whole = length-append
+    (codes "tsc " ++ decimal r.tsc ++ codes " train " ++ decimal r.wrong_training ++ codes " metric ") (signed_decimal r.metric) in
+    omega (arith, t, w, m, front, whole)
+
+arrival_short : (role : Role) (r : Received) (octets : Octets) → r.accepted ≡ Some octets → length octets ≡ 23 → r.tsc ≤ 7 →
+    FitsHeard (heard r) → length (arrival_text (End role) (Some r)) ≤ 118
+arrival_short role r octets is count tsc fits =
+    let whole = length-append (who_word (End role)) (block_text r.accepted r) in
+    let known = ap (λ accepted. length (block_text accepted r)) is in
+    let all : length (block_text (Some octets) r) ≡ _ = append_five (codes " takes ") _ (codes " ") (heard_text r) (codes "\n") in
+    omega (arith, whole, known, all, who_three role, length-encode_lower octets, count, heard_short r tsc fits)
+
+-- ---- answers
+
+-- an answer's lines, and those of the bursts of each frame that is sent
+abbrev pub IsShort : Answer → Type 0
+IsShort answer = length (answer_text answer) + 604 * length (frames_of answer) < 2000
+
+outcome_short : (role : Role) (received : Option Received) (sapi : Sapi) (o : Outcome) (a : Links) (tsc : ℕ) (blocks : List Block) →
+    length o.frames ≤ 2 → IsBrief o.notices → length (arrival_text (End role) received) ≤ 118 →
+    AreCoded tsc (map (octets_of Sdcch) o.frames) blocks → IsShort (Does (step_of role received (does sapi o a)))
+outcome_short role received sapi o a tsc blocks few brief arrived coded =
+    let frames = map (octets_of Sdcch) o.frames in
+    let all = append_four (arrival_text (End role) received) (notices_text (End role) sapi o.notices) (frames_text (End role) frames)
+    (codes "ok\n") in
+    omega (
+      arith,
+      all,
+      few,
+      arrived,
+      notices_short role sapi o.notices brief,
+      frames_short role tsc frames blocks coded,
+      length-map o.frames (octets_of Sdcch),
+    )
+
+asked_short : (role : Role) (a : Links) (sapi : Sapi) (call : Call) (b : Links) (answer : Answer) (tsc : ℕ) (blocks : List Block) →
+    IsAsked role a sapi call b answer → AreCoded tsc (frames_of answer) blocks → length (answer_text answer) < 2000 → IsShort answer
+asked_short role a sapi call b (Refuses why) tsc blocks h coded lines = omega (arith, lines)
+asked_short role a sapi call b (Does step) tsc blocks h coded lines =
+    let o = after_call call (link_in sapi a) in
+    subst (λ (s : Step). AreCoded tsc s.frames blocks → IsShort (Does s)) (sym h.2)
+    (outcome_short role None sapi o a tsc blocks (few-call call (link_in sapi a)).frames (brief-call call (link_in sapi a))
+    (omega arith)) coded
+
+-- the answer to a call
+pub call_short : (role : Role) (a : Links) (event : Event) (b : Links) (answer : Answer) (tsc : ℕ) (text : List ℕ) →
+    Asks role a event b answer → IsAnswerText tsc answer text → length (answer_text answer) < 2000 → IsShort answer
+call_short role a event b answer tsc text h t lines = by_event event h
+  where
+    by_event : (event : Event) → Asks role a event b answer → IsShort answer
+    by_event (Open info) h = asked_short role a Zero (Opens info) b answer tsc t.blocks h t.coded lines
+    by_event (OpenBare other) h = asked_short role a Three OpensBare b answer tsc t.blocks h t.coded lines
+    by_event (Ask other sapi request) h = asked_short role a sapi (call_of request) b answer tsc t.blocks h t.coded lines
+    by_event (Deliver sender places) h = absurd h
+    by_event (Lose sender) h = absurd h
+    by_event (Rival info) h = absurd h
+
+-- where nothing is sent
+unsent : (step : Step) → step.frames ≡ [] → length (answer_text (Does step)) < 2000 → IsShort (Does step)
+unsent step none lines = let n = ap (λ fs. length fs) none in omega (arith, n, lines)
+
+has_room : (c : Content) → InformationFits Sdcch c → length (information c) ≤ 251
+has_room (I ns nr p more info) h = omega (arith, h.1)
+has_room (Rr nr pf) h = omega arith
+has_room (Rnr nr pf) h = omega arith
+has_room (Rej nr pf) h = omega arith
+has_room (Sabm p info) h = omega (arith, h)
+has_room (Dm f) h = omega arith
+has_room (Ui p info) h = omega (arith, h)
+has_room (Disc p) h = omega arith
+has_room (Ua f info) h = omega (arith, h)
+
+taken_short : (role : Role) (a : Links) (r : Received) (f : Frame) (octets : Octets) (tsc : ℕ) (blocks : List Block) →
+    r.accepted ≡ Some octets →
+    IsFrame Sdcch f octets → r.tsc ≤ 7 → FitsHeard (heard r) → AreCoded tsc (step_of role (Some r) (takes f a)).frames blocks →
+    length (answer_text (Does (step_of role (Some r) (takes f a)))) < 2000 → IsShort (Does (step_of role (Some r) (takes f a)))
+taken_short role a r f octets tsc blocks is frame known fits =
+    let arrived = arrival_short role r octets is frame.count known fits in
+    let room = has_room f.content frame.fits.information in
+    by_sapi f a (λ d. AreCoded tsc (step_of role (Some r) d).frames blocks → length (answer_text (Does (step_of role (Some r) d))) < 2000 →
+    IsShort (Does (step_of role (Some r) d)))
+    (λ q coded lines. outcome_short role (Some r) Zero (after_frame f a.link0) a tsc blocks (few-frame f a.link0).frames
+    (brief-frame f a.link0 room) arrived coded)
+    (λ q coded lines. outcome_short role (Some r) Three (after_frame f a.link3) a tsc blocks (few-frame f a.link3).frames
+    (brief-frame f a.link3 room) arrived coded)
+    (λ p q coded lines. unsent (step_of role (Some r) (does_nothing a)) refl lines)
+
+-- the answer to a block
+pub block_short : (role : Role) (a : Links) (bursts : List (List ℤ)) (b : Links) (step : Step) (tsc : ℕ) (text : List ℕ) →
+    Hears role a bursts b step → ((r : Received) → step.received ≡ Some r → FitsHeard (heard r)) → IsAnswerText tsc (Does step) text →
+    length (answer_text (Does step)) < 2000 → IsShort (Does step)
+block_short role a bursts b step tsc text h fits t lines = by_read h.read h.report.accepted h.reads refl h.step_is
+  where
+    by_read : (read : Option Frame) (accepted : Option Octets) → Reads Sdcch accepted read → h.report.accepted ≡ accepted →
+        step ≡ step_of role (Some h.report) (takes_read read a) → IsShort (Does step)
+    by_read None accepted reads is same = unsent step (ap (λ (s : Step). s.frames) same) lines
+    by_read (Some f) None reads is same = absurd reads
+    by_read (Some f) (Some octets) reads is same =
+        subst (λ (s : Step). AreCoded tsc s.frames t.blocks → length (answer_text (Does s)) < 2000 → IsShort (Does s)) (sym same)
+        (taken_short role a h.report f octets tsc t.blocks is reads h.received.tsc.within
+        (fits h.report (ap (λ (s : Step). s.received) same)))
+        t.coded lines
