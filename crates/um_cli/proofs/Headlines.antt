@@ -1,5 +1,5 @@
 -- What is received is a codeword that no other beats.
-use Rattle.std.proofs.Common.{◌≡◌, ◌≢◌, ℕ, ℤ, true, inl, inr, ◌≤ℤ◌, List, [], ◌∷◌, ◌++◌, refl, sym, ap, ◌∙◌, arith}
+use Rattle.std.proofs.Common.{◌≡◌, ◌≢◌, ℕ, ℤ, true, inl, inr, ◌≤ℤ◌, List, ◌++◌, refl, sym, ap, ◌∙◌, arith}
 use Rattle.std.specs.Str.{bytes_eq}
 use Rattle.std.proofs.lemmas.Bool.{cases_Bool}
 use Rattle.std.proofs.lemmas.Int.{ints}
@@ -11,10 +11,9 @@ use Rattle.burst_map.specs.SyncBurst as S
 use Rattle.conv_code.proofs.Lemmas.{length-coded}
 use Rattle.um_block.specs.Received.{IsReceivedBlock}
 use Rattle.um_block.specs.declared.received.Received.{Received}
-use Rattle.um_text.specs.declared.burst_lines.BurstLine.{BurstLine}
-use Rattle.um_text.specs.declared.burst_lines.BurstLine.TheVariants.{Skip, Normal, Access, Sync}
-use Rattle.um_cli.specs.Replay.{IsBlockAnswer, IsReplayAnswer, replay_rules}
-use Rattle.um_cli.specs.Headline.{IsUnbeaten, IsBestWord, ReportsBestBlock, ReportsBest, headline_rules}
+use Rattle.um_bursts.proofs.BurstRules.{weaker_bursts}
+use Rattle.um_cli.specs.Replay.{replay_answers, replay_rules}
+use Rattle.um_cli.specs.Headline.{IsUnbeaten, IsBestWord, best_answers, headline_rules}
 use Rattle.um_driver.proofs.Weaker.{IsWeaker}
 
 -- a list that is most likely is not beaten
@@ -47,39 +46,19 @@ best_word bursts r received = record {
   accepted = received.accepted;
 }
 
-best_block : (bursts : List (List ℤ)) (y : List ℕ) (after : List (List ℤ)) → IsBlockAnswer bursts y after → ReportsBestBlock bursts y after
-best_block bursts y after (inl waits) = inl waits
-best_block bursts y after (inr (four, s, (r, received, text))) = inr (
-  four,
-  s,
-  record { r = r; word = best_word bursts r received; text = text },
-)
-
-best_answer : (held : List (List ℤ)) (m : BurstLine) (y : List ℕ) (after : List (List ℤ)) → IsReplayAnswer held m y after → ReportsBest held m y after
-best_answer held Skip y after a = a
-best_answer held (Normal soft) y after a = best_block (held ++ soft ∷ []) y after a
-best_answer held (Access bsic soft) y after (s, (r, received, text)) = (
-  s,
-  record {
-    r = r;
-    best = unbeaten (A.body soft) r.u received.best;
-    accepted = received.accepted;
-    text = text;
-  },
-)
-best_answer held (Sync soft) y after (s, (r, received, text)) = (
-  s,
-  record {
-    r = r;
-    best = unbeaten (S.first_half soft ++ S.second_half soft) r.u received.best;
-    accepted = received.accepted;
-    text = text;
-  },
-)
-
 pub headline_is_weaker : IsWeaker replay_rules headline_rules
-headline_is_weaker = record {
-  fault = λ held line. refl;
-  end_fault = λ held. refl;
-  step = λ held after line y (m, means, answer). (m, means, best_answer held m y after answer);
-}
+headline_is_weaker = weaker_bursts replay_answers best_answers (record {
+  block = λ bursts y (r, received, text). record { r = r; word = best_word bursts r received; text = text };
+  access = λ bsic burst y (r, received, text). record {
+    r = r;
+    best = unbeaten (A.body burst) r.u received.best;
+    accepted = received.accepted;
+    text = text;
+  };
+  sync = λ burst y (r, received, text). record {
+    r = r;
+    best = unbeaten (S.first_half burst ++ S.second_half burst) r.u received.best;
+    accepted = received.accepted;
+    text = text;
+  };
+})

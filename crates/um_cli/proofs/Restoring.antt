@@ -1,5 +1,5 @@
 -- What `code` writes, `replay` restores.
-use Rattle.std.proofs.Common.{◌≡◌, ℕ, ℤ, ◌<◌, ◌≤◌, inl, inr, List, [], ◌∷◌, ◌++◌, length, map, Option, None, Some, refl, sym, ap, ◌∙◌, subst, append_assoc, append-nil, arith, lit<}
+use Rattle.std.proofs.Common.{◌≡◌, ℕ, ℤ, ◌≤◌, inl, inr, List, [], ◌∷◌, ◌++◌, length, map, Option, None, Some, refl, sym, ap, ◌∙◌, subst, append_assoc, append-nil, arith, lit<}
 use Rattle.std.specs.List.{All}
 use Rattle.std.proofs.lemmas.List.{length-map}
 use Rattle.std.proofs.lemmas.List.Elements.{All-nil, All-cons, All-head, All-tail, All-append}
@@ -30,7 +30,8 @@ use Rattle.um_driver.specs.declared.status.Status.TheVariants.{Done}
 use Rattle.um_driver.proofs.GoodInputs.{good_from_output, output_from_good}
 use Rattle.um_driver.proofs.RunLemmas.{Runs-append, joined-append}
 use Rattle.um_cli.specs.Code.{IsCodeAnswer, code_rules}
-use Rattle.um_cli.specs.Replay.{IsReplayAnswer, replay_rules}
+use Rattle.um_bursts.specs.BurstRules.{IsBurstAnswer}
+use Rattle.um_cli.specs.Replay.{replay_answers, replay_rules}
 use Rattle.um_cli.specs.Restored.{IsRestored, AreRestored}
 
 -- octets are lines of `replay` that are reported so, with no burst held before or after them
@@ -70,13 +71,13 @@ good_line held line m means = go (burst_fault (length held) line) refl (one_mean
 
 -- one good line and its answer before others
 then : (held mid after : List (List ℤ)) (line answer : List ℕ) (lines others : List (List ℕ)) (m : BurstLine) →
-    BurstMeans (length held) line m → IsReplayAnswer held m answer mid → Runs replay_rules mid lines others after →
+    BurstMeans (length held) line m → IsBurstAnswer replay_answers held m answer mid → Runs replay_rules mid lines others after →
     Runs replay_rules held (line ∷ lines) (answer ∷ others) after
 then held mid after line answer lines others m means answers runs =
     (mid, good_line held line m means, (m, means, answers), runs)
 
 last_line : (held : List (List ℤ)) (line answer : List ℕ) (m : BurstLine) → BurstMeans (length held) line m →
-    IsReplayAnswer held m answer [] → Runs replay_rules held (line ∷ []) (answer ∷ []) []
+    IsBurstAnswer replay_answers held m answer [] → Runs replay_rules held (line ∷ []) (answer ∷ []) []
 last_line held line answer m means answers =
     ([], good_line held line m means, (m, means, answers), refl)
 

@@ -12,17 +12,15 @@ use Rattle.um_cli.specs.Restored.{Restores}
 use Rattle.um_cli.specs.declared.words.Shape.{Shape}
 use Rattle.um_cli.specs.declared.words.Shape.TheVariants.{Code, Replay, Show, Margin, Repair, Link, Make, End}
 use Rattle.um_cli.specs.Shapes.{Fits}
-use Rattle.um_margin.specs.Margins.{margin_rules}
-use Rattle.um_margin.proofs.Lemmas.{margin_is_determined, margin_has_one_output}
+use Rattle.um_margin.proofs.Lemmas.{margin_has_one_output}
 use Rattle.um_repair.proofs.Lemmas.{repair_has_one_output}
 use Rattle.um_make.proofs.Laws.{one_generated_summary}
 use Rattle.um_link.specs.Naming.{role_of}
 use Rattle.um_session.proofs.Laws.{link_has_one_output}
-use Rattle.um_end.specs.EndRuns.{EndRun, end_rules}
-use Rattle.um_end.proofs.EndRules.{end_is_determined, end_has_one_output}
+use Rattle.um_end.proofs.EndRules.{end_has_one_output}
 use Rattle.um_cli.proofs.CodeRules.{code_has_one_output}
 use Rattle.um_cli.proofs.Headlines.{headline_is_weaker}
-use Rattle.um_cli.proofs.ReplayRules.{replay_is_determined, replay_has_one_output}
+use Rattle.um_cli.proofs.ReplayRules.{replay_has_one_output}
 use Rattle.um_cli.proofs.Restoring.{restored_whole}
 use Rattle.um_cli.proofs.ShowRules.{show_has_one_output}
 
@@ -54,38 +52,18 @@ restores status (Some x) taken taken' due = λ z good limit.
     let back = restored_whole z x good limit in
     (back.lines, back.reports, back.divided, back.restored, due Done back.reports back.output)
 
--- a run of `replay` that began with no burst held
-pub replay_run : (start : List (List ℤ)) (Stands : List (List ℤ) → Type 0) (status : Status) (left left' taken taken' : Option (List ℕ)) → start ≡ [] →
-    IsRun replay_rules start Stands status left left' taken taken' → IsRun replay_rules [] Stands status left left' taken taken'
-replay_run start Stands status left left' taken taken' none run = subst (λ held. IsRun replay_rules held Stands status left left' taken taken') none run
+-- a run that began in this state
+pub run_from : {State : Type 0} (r : Rules State) (start begun : State) (Stands : State → Type 0) (status : Status) (left left' taken taken' : Option (List ℕ)) →
+    start ≡ begun → IsRun r start Stands status left left' taken taken' → IsRun r begun Stands status left left' taken taken'
+run_from r start begun Stands status left left' taken taken' same run =
+    subst (λ s. IsRun r s Stands status left left' taken taken') same run
+
+pub due_from : {State : Type 0} (r : Rules State) → IsDetermined r → (start begun : State) (status : Status) (left taken taken' : Option (List ℕ)) →
+    start ≡ begun → (IsDetermined r → EndsAsDue r start status left taken taken') → EndsAsDue r begun status left taken taken'
+due_from r determined start begun status left taken taken' same due =
+    subst (λ s. EndsAsDue r s status left taken taken') same (due determined)
 
 pub replay_headline : (Stands : List (List ℤ) → Type 0) (status : Status) (left left' taken taken' : Option (List ℕ)) →
     IsRun replay_rules [] Stands status left left' taken taken' → IsRun headline_rules [] (λ _. Unit {0}) status left left' taken taken'
 replay_headline Stands status left left' taken taken' run =
     weaker_run replay_rules headline_rules headline_is_weaker [] Stands (λ _. Unit {0}) (λ b stands. tt) status left left' taken taken' run
-
-pub replay_due : (start : List (List ℤ)) (status : Status) (left taken taken' : Option (List ℕ)) → start ≡ [] →
-    (IsDetermined replay_rules → EndsAsDue replay_rules start status left taken taken') → EndsAsDue replay_rules [] status left taken taken'
-replay_due start status left taken taken' none due =
-    subst (λ held. EndsAsDue replay_rules held status left taken taken') none (due replay_is_determined)
-
--- a run of `margin` that began with no burst held
-pub margin_run : (start : List (List ℤ)) (Stands : List (List ℤ) → Type 0) (status : Status) (left left' taken taken' : Option (List ℕ)) → start ≡ [] →
-    IsRun margin_rules start Stands status left left' taken taken' → IsRun margin_rules [] Stands status left left' taken taken'
-margin_run start Stands status left left' taken taken' none run = subst (λ held. IsRun margin_rules held Stands status left left' taken taken') none run
-
-pub margin_due : (start : List (List ℤ)) (status : Status) (left taken taken' : Option (List ℕ)) → start ≡ [] →
-    (IsDetermined margin_rules → EndsAsDue margin_rules start status left taken taken') → EndsAsDue margin_rules [] status left taken taken'
-margin_due start status left taken taken' none due =
-    subst (λ held. EndsAsDue margin_rules held status left taken taken') none (due margin_is_determined)
-
--- a run of `end` that began so
-pub end_run : (start begun : EndRun) (Stands : EndRun → Type 0) (status : Status) (left left' taken taken' : Option (List ℕ)) → start ≡ begun →
-    IsRun end_rules start Stands status left left' taken taken' → IsRun end_rules begun Stands status left left' taken taken'
-end_run start begun Stands status left left' taken taken' same run =
-    subst (λ (s : EndRun). IsRun end_rules s Stands status left left' taken taken') same run
-
-pub end_due : (start begun : EndRun) (status : Status) (left taken taken' : Option (List ℕ)) → start ≡ begun →
-    (IsDetermined end_rules → EndsAsDue end_rules start status left taken taken') → EndsAsDue end_rules begun status left taken taken'
-end_due start begun status left taken taken' same due =
-    subst (λ (s : EndRun). EndsAsDue end_rules s status left taken taken') same (due end_is_determined)

@@ -1,6 +1,6 @@
 -- Each reported block is a codeword that no other beats under the soft values read, its data accepted exactly where its
 -- parity holds (this project's own rule).
-use Rattle.std.specs.Prelude.{ℕ, ℤ, ◌≡◌, ◌<◌, ◌≤ℤ◌, ◌⊎◌, List, [], ◌∷◌, ◌++◌, length, map, take, MatchOption}
+use Rattle.std.specs.Prelude.{ℕ, ℤ, ◌≡◌, ◌≤ℤ◌, List, ◌++◌, length, map, take, MatchOption}
 use Rattle.fire_code.specs.Words.{IsXcchWord, IsRachWord, IsSchWord}
 use Rattle.conv_code.specs.Code.{coded, IsCodeword}
 use Rattle.conv_code.specs.Likelihood.{likelihood}
@@ -12,12 +12,9 @@ use Rattle.um_block.specs.Received.{coded_places}
 use Rattle.um_block.specs.declared.received.Received.{Received}
 use Rattle.um_block.specs.declared.received.ReceivedAccess.{ReceivedAccess}
 use Rattle.um_block.specs.declared.received.ReceivedSync.{ReceivedSync}
-use Rattle.um_text.specs.declared.burst_lines.BurstLine.{BurstLine}
-use Rattle.um_text.specs.declared.burst_lines.BurstLine.TheVariants.{Skip, Normal, Access, Sync}
-use Rattle.um_text.specs.BurstLines.{burst_fault, BurstMeans}
 use Rattle.um_text.specs.Reports.{IsBlockReport, access_report_text, sync_report_text}
 use Rattle.um_driver.specs.Rules.{Rules}
-use Rattle.um_cli.specs.Replay.{unfinished}
+use Rattle.um_bursts.specs.BurstRules.{Answers, burst_rules}
 
 -- the coded list of u is a codeword, and under these soft values no codeword of its length beats it
 pub record IsUnbeaten (soft : List ℤ) (u : List ℕ) : Type 0 where
@@ -58,22 +55,9 @@ pub record IsBestSync (burst : List ℤ) (report : List ℕ) : Type 0 where
       (λ info. IsSchWord (take 35 r.u) × (info ≡ take 25 r.u))
   pub text : report ≡ sync_report_text r
 
--- what these normal bursts, of which the last has just come, are answered with: fewer than four wait, and four are reported
-abbrev pub ReportsBestBlock : List (List ℤ) → List ℕ → List (List ℤ) → Type 0
-ReportsBestBlock bursts answer after =
-    ((length bursts < 4) × (answer ≡ []) × (after ≡ bursts)) ⊎ ((length bursts ≡ 4) × (after ≡ []) × IsBestBlock bursts answer)
+-- what `replay` answers to bursts, of which no more is said than this
+abbrev pub best_answers : Answers
+best_answers = record { block = IsBestBlock; access = λ bsic burst. IsBestAccess burst bsic; sync = IsBestSync }
 
--- what a line that means this is answered with, and which bursts are held before and after it
-abbrev pub ReportsBest : List (List ℤ) → BurstLine → List ℕ → List (List ℤ) → Type 0
-ReportsBest held Skip answer after = (answer ≡ []) × (after ≡ held)
-ReportsBest held (Normal soft) answer after = ReportsBestBlock (held ++ soft ∷ []) answer after
-ReportsBest held (Access bsic soft) answer after = (after ≡ held) × IsBestAccess soft bsic answer
-ReportsBest held (Sync soft) answer after = (after ≡ held) × IsBestSync soft answer
-
--- the lines of `replay`, of whose answers no more is said than this
 abbrev pub headline_rules : Rules (List (List ℤ))
-headline_rules = record {
-  fault = λ held line. burst_fault (length held) line;
-  end_fault = unfinished;
-  Step = λ held line answer after. (meaning : BurstLine) × BurstMeans (length held) line meaning × ReportsBest held meaning answer after;
-}
+headline_rules = burst_rules best_answers

@@ -1,81 +1,28 @@
 //! The command `replay`: recorded bursts, hard or soft, to what is received of them.
-ghost use Rattle.std.specs.Prelude.{◌≡◌, ℤ, List, [], ◌∷◌, ◌++◌};
-ghost use Rattle.conv_code.specs.Likelihood.{AllSoft};
-ghost use Rattle.um_cli.specs.Replay.{replay_rules, IsBlockAnswer};
+ghost use Rattle.um_cli.specs.Replay.{replay_answers};
 
-use std::marker::Model;
+use bit_blocks::Bits;
 use um_block::{receive_access, receive_block, receive_sync};
-use um_driver::Command;
-use um_lines::{LineFault, Text};
-use um_text::{BurstLine, HeldBursts, access_report, block_report, parse_burst, sync_report};
+use um_bursts::Reports;
+use um_lines::Text;
+use um_text::{access_report, block_report, sync_report};
 
-/// The command `replay`, with the normal bursts of a block that has not all its four.
+/// What the command `replay` answers to bursts: the report of what is received.
 #[derive(Drop)]
-pub struct Replay {
-    held: HeldBursts,
-}
+pub struct Replay {}
 
-// Clauses see the list of bursts held.
-impl Model for Replay {
-    ghost use Rattle.std.specs.Prelude.{ℤ, List};
+impl Reports for Replay {
+    ghost answers = { replay_answers };
 
-    ghost Value = { List (List ℤ) };
-
-    ghost view = { λ r. r.held };
-}
-
-impl Replay {
-    /// No burst is held.
-    pub fn new() -> Replay
-        ensures { result ≡ [] }
-    {
-        Replay {
-            held: HeldBursts::new(),
-        }
+    fn block(&self, out: &mut Text, bursts: &[[i8; 148]; 4]) {
+        block_report(out, &receive_block(bursts));
     }
 
-    /// Holds a burst; the fourth is the last of a block, which is reported.
-    fn hold(&mut self, burst: [i8; 148], out: &mut Text)
-        requires soft { AllSoft burst }
-        requires empty { out.old ≡ [] }
-        ensures { IsBlockAnswer (self.old ++ burst ∷ []) out.new self.new }
-    {
-        if let Some(block) = self.held.add(burst) {
-            block_report(out, &receive_block(&block));
-        }
-    }
-}
-
-impl Command for Replay {
-    ghost State = { List (List ℤ) };
-
-    ghost rules = { replay_rules };
-
-    ghost start = { λ replay. replay };
-
-    ghost stands = { λ replay held. replay ≡ held };
-
-    ghost Kept = { Unit {0} };
-
-    ghost kept = { λ _. tt };
-
-    fn answer(&mut self, line: &[u8], out: &mut Text) -> Result<(), LineFault> {
-        match parse_burst(line, self.held.count())? {
-            BurstLine::Skip => {}
-            BurstLine::Normal(burst) => self.hold(burst, out),
-            BurstLine::Access { bsic, soft } => {
-                access_report(out, &bsic, &receive_access(&soft, &bsic));
-            }
-            BurstLine::Sync(burst) => sync_report(out, &receive_sync(&burst)),
-        }
-        Ok(())
+    fn access(&self, out: &mut Text, bsic: &Bits<6>, burst: &[i8; 88]) {
+        access_report(out, bsic, &receive_access(burst, bsic));
     }
 
-    fn finish(&self) -> Option<LineFault> {
-        if self.held.count() == 0 {
-            None
-        } else {
-            Some(LineFault::Order)
-        }
+    fn sync(&self, out: &mut Text, burst: &[i8; 148]) {
+        sync_report(out, &receive_sync(burst));
     }
 }

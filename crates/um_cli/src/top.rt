@@ -19,10 +19,11 @@ use crate::show::Show;
 use crate::words::{Shape, Words};
 use std::alloc::Global;
 use um_block::Radio;
+use um_bursts::BurstCommand;
 use um_driver::{Status, drive};
 use um_end::OneEnd;
 use um_io::{Sink, Source};
-use um_margin::Margin;
+use um_margin::Margins;
 use um_repair::Repair;
 
 /// Runs the command that the words name, from the octets of `input` to the octets of `output`.
@@ -89,9 +90,9 @@ pub fn run<S: Source, K: Sink, R: Radio>(
     match words.shape() {
         None => Status::BadWords,
         Some(Shape::Code) => drive(alloc, &mut Code, input, output),
-        Some(Shape::Replay) => drive(alloc, &mut Replay::new(), input, output),
+        Some(Shape::Replay) => drive(alloc, &mut BurstCommand::new(Replay {}), input, output),
         Some(Shape::Show) => drive(alloc, &mut Show, input, output),
-        Some(Shape::Margin) => drive(alloc, &mut Margin::new(), input, output),
+        Some(Shape::Margin) => drive(alloc, &mut BurstCommand::new(Margins {}), input, output),
         Some(Shape::Repair) => drive(alloc, &mut Repair, input, output),
         Some(Shape::Link(tsc, channel)) => run_link(alloc, tsc, channel, input, output, radio),
         Some(Shape::Make(n, tsc)) => run_make(alloc, n, tsc, output, radio),

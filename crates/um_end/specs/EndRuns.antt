@@ -1,9 +1,8 @@
 -- What the command `end` answers to the lines of its input (this project's own rule).
-use Rattle.std.specs.Prelude.{ℕ, ℤ, ◌≡◌, ◌<◌, ◌⊎◌, List, [], ◌∷◌, ◌++◌, length, Option, Some, None}
+use Rattle.std.specs.Prelude.{ℕ, ℤ, ◌≡◌, ◌<◌, ◌⊎◌, List, [], ◌∷◌, ◌++◌, length}
 use Rattle.std.specs.List.{flat_map}
 use Rattle.lapdm_window.specs.Ends.{Role}
-use Rattle.um_lines.specs.declared.fault.LineFault.{LineFault}
-use Rattle.um_lines.specs.declared.fault.LineFault.TheVariants.{Order}
+use Rattle.um_text.specs.BurstLines.{unfinished}
 use Rattle.um_text.specs.BurstTexts.{block_text}
 use Rattle.um_air.specs.Air.{Octets, Block, Event, Answer, Refuses, Does, Step}
 use Rattle.um_link.specs.Coded.{AreCoded}
@@ -67,11 +66,6 @@ AnswersMeaning s (Calls event) text after = Asked s event text after
 -- a line of the command, its answer, and the run before and after it
 abbrev pub AnswersLine : EndRun → List ℕ → List ℕ → EndRun → Type 0
 AnswersLine s line text after = (meaning : Meaning) × EndMeans s.role (length s.held) line meaning × AnswersMeaning s meaning text after
-
--- an input may not end while bursts of a block are held
-abbrev pub unfinished : List (List ℤ) → Option LineFault
-unfinished [] = None
-unfinished (burst ∷ bursts) = Some Order
 
 abbrev pub end_rules : Rules EndRun
 end_rules = record {

@@ -1,2 +1,2 @@
 -- The lemmas of this crate for the crates above.
-pub use Rattle.um_margin.proofs.MarginRules.{margin_is_determined, margin_is_total, margin_has_one_output}
+pub use Rattle.um_margin.proofs.MarginRules.{margin_is_determined, margin_has_one_output}

@@ -1,93 +1,36 @@
 //! The command `margin`, over the lines of the command `replay`.
-ghost use Rattle.std.specs.Prelude.{◌≡◌, ℤ, List, [], ◌∷◌, ◌++◌, ◌<◌, length, All};
+ghost use Rattle.std.specs.Prelude.{◌≡◌, ◌++◌, ◌<◌, length};
+ghost use Rattle.std.specs.List.{All};
 ghost use Rattle.bit_blocks.specs.SoftValues.{AllSoft};
 ghost use Rattle.um_block.specs.Received.{access_places, sync_places};
-ghost use Rattle.um_driver.specs.Rules.{Answers};
 ghost use Rattle.um_margin.specs.Compared.{IsCompared, IsComparedBlock};
-ghost use Rattle.um_margin.specs.Margins.{margin_rules, IsBlockAnswer};
+ghost use Rattle.um_margin.specs.Margins.{margin_answers};
 
 use crate::comparison::{Comparison, compare};
 use crate::lines::{access_line, block_line, sync_line};
+use bit_blocks::Bits;
 use burst_map::{AccessView, SyncView};
-use std::marker::Model;
 use um_block::{gather_block, join_halves};
-use um_driver::Command;
-use um_lines::{LineFault, Text};
-use um_text::{BurstLine, HeldBursts, parse_burst};
+use um_bursts::Reports;
+use um_lines::Text;
 
-/// The command `margin`, with the normal bursts of a block that has not all its four.
+/// What the command `margin` answers to bursts: their most likely word beside the next.
 #[derive(Drop)]
-pub struct Margin {
-    held: HeldBursts,
-}
+pub struct Margins {}
 
-// Clauses see the list of bursts held.
-impl Model for Margin {
-    ghost use Rattle.std.specs.Prelude.{ℤ, List};
+impl Reports for Margins {
+    ghost answers = { margin_answers };
 
-    ghost Value = { List (List ℤ) };
-
-    ghost view = { λ m. m.held };
-}
-
-impl Margin {
-    /// No burst is held.
-    pub fn new() -> Margin
-        ensures { result ≡ [] }
-    {
-        Margin {
-            held: HeldBursts::new(),
-        }
+    fn block(&self, out: &mut Text, bursts: &[[i8; 148]; 4]) {
+        block_line(out, &compare_block(bursts));
     }
 
-    /// Holds a burst; the fourth is the last of a block, whose words are compared.
-    fn hold(&mut self, burst: [i8; 148], out: &mut Text)
-        requires soft { AllSoft burst }
-        requires empty { out.old ≡ [] }
-        ensures answered { IsBlockAnswer (self.old ++ burst ∷ []) out.new self.new }
-        ensures few { length out.new < 2000 }
-    {
-        if let Some(block) = self.held.add(burst) {
-            block_line(out, &compare_block(&block));
-        }
-    }
-}
-
-impl Command for Margin {
-    ghost State = { List (List ℤ) };
-
-    ghost rules = { margin_rules };
-
-    ghost start = { λ margin. margin };
-
-    ghost stands = { λ margin held. margin ≡ held };
-
-    ghost Kept = { Unit {0} };
-
-    ghost kept = { λ _. tt };
-
-    fn answer(&mut self, line: &[u8], out: &mut Text) -> Result<(), LineFault>
-        requires empty { out.old ≡ [] }
-        ensures answered { (held : List (List ℤ)) → self.old ≡ held →
-            Answers margin_rules held line.now result out.new (λ after. self.new ≡ after) }
-        ensures keeps { tt {0} ≡ tt }
-        ensures few { length out.new < 2000 }
-    {
-        match parse_burst(line, self.held.count())? {
-            BurstLine::Skip => {}
-            BurstLine::Normal(burst) => self.hold(burst, out),
-            BurstLine::Access { bsic, soft } => access_line(out, &bsic, &compare_access(&soft)),
-            BurstLine::Sync(burst) => sync_line(out, &compare_sync(&burst)),
-        }
-        Ok(())
+    fn access(&self, out: &mut Text, bsic: &Bits<6>, burst: &[i8; 88]) {
+        access_line(out, bsic, &compare_access(burst));
     }
 
-    fn finish(&self) -> Option<LineFault> {
-        if self.held.count() == 0 {
-            None
-        } else {
-            Some(LineFault::Order)
-        }
+    fn sync(&self, out: &mut Text, burst: &[i8; 148]) {
+        sync_line(out, &compare_sync(burst));
     }
 }
 

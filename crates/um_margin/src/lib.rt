@@ -6,5 +6,5 @@ mod comparison;
 mod laws;
 mod lines;
 
-pub use command::Margin;
+pub use command::Margins;
 pub use laws::{law_margin, law_one_output, law_same_word};

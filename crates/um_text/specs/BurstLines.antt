@@ -1,7 +1,8 @@
 -- The lines of the command `replay` (this project's own rule).
-use Rattle.std.specs.Prelude.{ℕ, pos, List, [], ◌∷◌, replicate, Option, Some, None, Result}
+use Rattle.std.specs.Prelude.{ℕ, ℤ, pos, List, [], ◌∷◌, replicate, Option, Some, None, Result}
 use Rattle.um_block.specs.Received.{softened}
 use Rattle.um_lines.specs.declared.fault.LineFault.{LineFault}
+use Rattle.um_lines.specs.declared.fault.LineFault.TheVariants.{Order}
 use Rattle.um_lines.specs.Fields.{Value, Several}
 use Rattle.um_lines.specs.Forms.{line_fault}
 use Rattle.um_lines.specs.Reading.{LineIs, read_words}
@@ -28,6 +29,11 @@ burst_line (Some meaning) = burst_of meaning.0 meaning.1
 -- the first reason of a line of `replay` where so many bursts of an unfinished block are held, if it has one
 abbrev pub burst_fault : (held : ℕ) → List ℕ → Option LineFault
 burst_fault held line = line_fault burst_forms (burst_elsewhere held) line
+
+-- the reason of an input that ends while bursts of a block are held
+abbrev pub unfinished : List (List ℤ) → Option LineFault
+unfinished [] = None
+unfinished (burst ∷ bursts) = Some Order
 
 -- what such a line means
 abbrev pub BurstMeans : (held : ℕ) → List ℕ → BurstLine → Type 0

@@ -1,6 +1,9 @@
 use Rattle.std.proofs.Common.{[]}
 use Rattle.um_cli.specs.Replay.{replay_rules}
 use Rattle.um_margin.specs.Margins.{margin_rules}
+use Rattle.um_margin.proofs.Lemmas.{margin_is_determined}
+use Rattle.um_end.proofs.EndRules.{end_is_determined}
+use Rattle.um_cli.proofs.ReplayRules.{replay_is_determined}
 use Rattle.um_repair.proofs.Lemmas.{repair_is_determined}
 use Rattle.um_cli.specs.Machines.{IsTable, IsDueEnd}
 use Rattle.um_cli.specs.Shapes.{shape_of}
@@ -9,7 +12,7 @@ use Rattle.um_link.specs.Naming.{role_of}
 use Rattle.um_end.specs.EndRuns.{idle, end_rules}
 use Rattle.um_cli.proofs.CodeRules.{code_is_determined}
 use Rattle.um_cli.proofs.ShowRules.{show_is_determined}
-use Rattle.um_cli.proofs.Tops.{for_shape, any_run, restores, replay_run, replay_headline, replay_due, margin_run, margin_due, end_run, end_due}
+use Rattle.um_cli.proofs.Tops.{for_shape, any_run, restores, run_from, due_from, replay_headline}
 use Rattle.um_cli.proofs.top.run.Goals as goal
 
 pub returns-in-Some-Code-clause-due : goal.returns-in-Some-Code-clause-due
@@ -30,7 +33,7 @@ returns-in-Some-Replay-clause-table g c =
     (λ shape. IsTable shape run.result (g.S.Source.left c.args.input.now) (g.S.Source.left run.new.input) (g.K.Sink.taken c.args.output.now)
     (g.K.Sink.taken run.new.output))
     (shape_of c.args.words.now) Replay (cc (e, f))
-    (any_run replay_rules [] _ run.result _ _ _ _ (replay_run c.new.result _ run.result _ _ _ _ c.new.ensures run.ensures.table))
+    (any_run replay_rules [] _ run.result _ _ _ _ (run_from replay_rules c.new.result [] _ run.result _ _ _ _ c.new.ensures run.ensures.table))
 
 pub returns-in-Some-Replay-clause-due : goal.returns-in-Some-Replay-clause-due
 returns-in-Some-Replay-clause-due g c =
@@ -40,17 +43,17 @@ returns-in-Some-Replay-clause-due g c =
     for_shape
     (λ shape. IsDueEnd shape run.result (g.S.Source.left c.args.input.now) (g.K.Sink.taken c.args.output.now) (g.K.Sink.taken run.new.output))
     (shape_of c.args.words.now) Replay (cc (e, f))
-    (replay_due c.new.result run.result _ _ _ c.new.ensures run.ensures.due)
+    (due_from replay_rules replay_is_determined c.new.result [] run.result _ _ _ c.new.ensures run.ensures.due)
 
 pub returns-in-Some-Replay-clause-headline : goal.returns-in-Some-Replay-clause-headline
 returns-in-Some-Replay-clause-headline g c = λ is.
     let run = c.drive-in-Some-Replay in
-    replay_headline _ run.result _ _ _ _ (replay_run c.new.result _ run.result _ _ _ _ c.new.ensures run.ensures.table)
+    replay_headline _ run.result _ _ _ _ (run_from replay_rules c.new.result [] _ run.result _ _ _ _ c.new.ensures run.ensures.table)
 
 pub returns-in-Some-Replay-clause-restores : goal.returns-in-Some-Replay-clause-restores
 returns-in-Some-Replay-clause-restores g c = λ is.
     let run = c.drive-in-Some-Replay in
-    restores run.result _ _ _ (replay_due c.new.result run.result _ _ _ c.new.ensures run.ensures.due)
+    restores run.result _ _ _ (due_from replay_rules replay_is_determined c.new.result [] run.result _ _ _ c.new.ensures run.ensures.due)
 
 pub returns-in-Some-Show-clause-due : goal.returns-in-Some-Show-clause-due
 returns-in-Some-Show-clause-due g c =
@@ -79,7 +82,7 @@ returns-in-Some-Margin-clause-table g c =
     (λ shape. IsTable shape run.result (g.S.Source.left c.args.input.now) (g.S.Source.left run.new.input) (g.K.Sink.taken c.args.output.now)
     (g.K.Sink.taken run.new.output))
     (shape_of c.args.words.now) Margin (cc (e, f))
-    (any_run margin_rules [] _ run.result _ _ _ _ (margin_run c.new-in-Some-Margin.result _ run.result _ _ _ _ c.new-in-Some-Margin.ensures run.ensures.table))
+    (any_run margin_rules [] _ run.result _ _ _ _ (run_from margin_rules c.new-in-Some-Margin.result [] _ run.result _ _ _ _ c.new-in-Some-Margin.ensures run.ensures.table))
 
 pub returns-in-Some-Margin-clause-due : goal.returns-in-Some-Margin-clause-due
 returns-in-Some-Margin-clause-due g c =
@@ -89,7 +92,7 @@ returns-in-Some-Margin-clause-due g c =
     for_shape
     (λ shape. IsDueEnd shape run.result (g.S.Source.left c.args.input.now) (g.K.Sink.taken c.args.output.now) (g.K.Sink.taken run.new.output))
     (shape_of c.args.words.now) Margin (cc (e, f))
-    (margin_due c.new-in-Some-Margin.result run.result _ _ _ c.new-in-Some-Margin.ensures run.ensures.due)
+    (due_from margin_rules margin_is_determined c.new-in-Some-Margin.result [] run.result _ _ _ c.new-in-Some-Margin.ensures run.ensures.due)
 
 pub returns-in-Some-End-clause-table : goal.returns-in-Some-End-clause-table
 returns-in-Some-End-clause-table g c =
@@ -103,7 +106,7 @@ returns-in-Some-End-clause-table g c =
     (λ shape. IsTable shape run.result (g.S.Source.left c.args.input.now) (g.S.Source.left run.new.input) (g.K.Sink.taken c.args.output.now)
     (g.K.Sink.taken run.new.output))
     (shape_of c.args.words.now) (End side tsc) (cc (e, f))
-    (any_run end_rules begun _ run.result _ _ _ _ (end_run _ begun _ run.result _ _ _ _ c.new-in-Some-End.ensures.start run.ensures.table))
+    (any_run end_rules begun _ run.result _ _ _ _ (run_from end_rules _ begun _ run.result _ _ _ _ c.new-in-Some-End.ensures.start run.ensures.table))
 
 pub returns-in-Some-End-clause-due : goal.returns-in-Some-End-clause-due
 returns-in-Some-End-clause-due g c =
@@ -115,4 +118,4 @@ returns-in-Some-End-clause-due g c =
     for_shape
     (λ shape. IsDueEnd shape run.result (g.S.Source.left c.args.input.now) (g.K.Sink.taken c.args.output.now) (g.K.Sink.taken run.new.output))
     (shape_of c.args.words.now) (End side tsc) (cc (e, f))
-    (end_due _ (idle (role_of side) tsc) run.result _ _ _ c.new-in-Some-End.ensures.start run.ensures.due)
+    (due_from end_rules end_is_determined _ (idle (role_of side) tsc) run.result _ _ _ c.new-in-Some-End.ensures.start run.ensures.due)
