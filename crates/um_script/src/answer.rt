@@ -138,19 +138,11 @@ fn push_heard(out: &mut Text, r: &Received)
     ensures fit { FitsHeard (heard r.now) }
 {
     out.push(b"tsc ");
-    push_decimal(out, u64::from(r.tsc));
+    out.push_decimal(u64::from(r.tsc));
     out.push(b" train ");
-    push_decimal(out, u64::from(r.wrong_training));
+    out.push_decimal(u64::from(r.wrong_training));
     out.push(b" metric ");
     out.push(itoa::Buffer::new().format(r.metric).as_bytes());
-}
-
-fn push_decimal(out: &mut Text, number: u64)
-    requires { length out.old + 20 ≤ 4096 }
-    ensures text { out.new ≡ out.old ++ decimal number }
-    ensures short { length out.new ≤ length out.old + 20 }
-{
-    out.push(itoa::Buffer::new().format(number).as_bytes());
 }
 
 fn push_dropped(out: &mut Text, r: &Received)
@@ -228,7 +220,7 @@ fn push_notice(out: &mut Text, notice: &Notice)
         Notice::Unit(message) => push_octets(out, b" unit ", message.octets()),
         Notice::Acked(number) => {
             out.push(b" acked ");
-            push_decimal(out, *number);
+            out.push_decimal(*number);
         }
         Notice::Oversize => out.push(b" oversize"),
         Notice::Closed(reason) => {
