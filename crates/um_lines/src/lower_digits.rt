@@ -1,5 +1,5 @@
 //! Octets as hexadecimal digits in lower case, two digits an octet.
-ghost use Rattle.std.specs.Prelude.{◌≡◌, ◌+◌, ◌*◌, ◌<◌, ◌≤◌, length, take, slice_index};
+ghost use Rattle.std.specs.Prelude.{◌≡◌, ◌+◌, ◌*◌, ◌<◌, ◌≤◌, ◌/◌, ◌%◌, ℕ, length, take, slice_index};
 ghost use Rattle.hex.specs.Hex.{encode_lower, lower_digits};
 
 /// Writes the digits of octets, the high one of each first.
@@ -18,9 +18,9 @@ fn write_few(octets: &[u8], digits: &mut [u8])
     requires many { length digits.old ≡ 2 * length octets.now }
     ensures { digits.new ≡ encode_lower octets.now }
 {
-    for i in 0..octets.len() {
-        digits[2 * i] = lower_digit(octets[i] / 16);
-        digits[2 * i + 1] = lower_digit(octets[i] % 16);
+    match hex::encode_to_slice(octets, digits) {
+        Ok(()) => {}
+        Err(_) => unreachable!(),
     }
 }
 
@@ -46,11 +46,27 @@ fn write_sixteen(octets: &[u8], digits: &mut [u8], at: usize)
     ensures more { take (2 * (at + 16)) digits.new ≡ encode_lower (take (at + 16) octets.now) }
     ensures length { length digits.new ≡ length digits.old }
 {
+    let (high, low) = sixteen(octets, at);
     for i in 0..16 {
-        let octet = octets[at + i];
-        digits[2 * (at + i)] = lower_digit(octet / 16);
-        digits[2 * (at + i) + 1] = lower_digit(octet % 16);
+        digits[2 * (at + i)] = high[i];
+        digits[2 * (at + i) + 1] = low[i];
     }
+}
+
+/// The digits of the high halves of sixteen octets, and those of the low ones. They lie apart, so that the compiler sees that
+/// writing one changes no octet.
+fn sixteen(octets: &[u8], at: usize) -> ([u8; 16], [u8; 16])
+    requires { at + 16 ≤ length octets.now }
+    ensures high { (i : ℕ) → i < 16 → slice_index result.0 i ≡ slice_index lower_digits (slice_index octets.now (at + i) / 16) }
+    ensures low { (i : ℕ) → i < 16 → slice_index result.1 i ≡ slice_index lower_digits (slice_index octets.now (at + i) % 16) }
+{
+    let mut high = [0; 16];
+    let mut low = [0; 16];
+    for i in 0..16 {
+        high[i] = lower_digit(octets[at + i] / 16);
+        low[i] = lower_digit(octets[at + i] % 16);
+    }
+    (high, low)
 }
 
 #[tactic(auto, using(crate::proofs::LowerDigits::small_digit, crate::proofs::LowerDigits::large_digit))]
