@@ -19,7 +19,7 @@ use lapdm_window::{Effects, Refused, Sapi, State};
 /// The mobile's end of a link. A refused call changes nothing.
 #[derive(Debug, Drop)]
 pub struct Mobile {
-    end: End,
+    pub(crate) end: End,
 }
 
 impl Mobile {

@@ -19,7 +19,7 @@ use lapdm_window::{Effects, Refused, Sapi, State};
 /// The network's end of a link. A refused call changes nothing.
 #[derive(Debug, Drop)]
 pub struct Network {
-    end: End,
+    pub(crate) end: End,
 }
 
 impl Network {

@@ -3,7 +3,7 @@ use Rattle.std.proofs.Common.{◌≡◌, ℕ, ◌-◌, ◌<◌, ◌==◌, if◌t
 use Rattle.std.specs.Prelude.{slice_range}
 use Rattle.std.proofs.lemmas.Int.{ints}
 use Rattle.std.specs.List.{All}
-use Rattle.std.proofs.lemmas.List.{get_or-map, get_or_default, length-map, take_at, drop_at, drop_all, append-nil}
+use Rattle.std.proofs.lemmas.List.{get_or-map, get_or_default, length-map, length-append, length-take-le, length-drop, map-append, take-map, take-take, take-append-le, take-append-drop, take_at, take_all, drop_at, drop_all, append-nil}
 use borrow.Rule.Slice.PartMut.{put_mid}
 use Rattle.std.proofs.lemmas.List.Elements.{All-append, All-cons, All-nil, All-take, All-drop, All-map}
 use Rattle.bit_blocks.specs.SoftValues.{IsSoft, AllSoft}
@@ -22,6 +22,31 @@ IsSoft-soft_value bit =
 pub AllSoft-softened : (bits : List ℕ) → AllSoft (softened bits)
 AllSoft-softened [] = All-nil IsSoft
 AllSoft-softened (bit ∷ bits) = All-cons IsSoft (soft_value bit) (softened bits) (IsSoft-soft_value bit) (AllSoft-softened bits)
+
+pub AllSoft-all : (block : List (List ℕ)) → All AllSoft (map softened block)
+AllSoft-all [] = All-nil AllSoft
+AllSoft-all (burst ∷ block) = All-cons AllSoft (softened burst) (map softened block) (AllSoft-softened burst) (AllSoft-all block)
+
+-- the last sixteen places are softened once more
+pub softened-again : (bits : List ℕ) (front old back : List ℤ) → length bits ≡ 148 → length old ≡ 148 →
+    front ≡ softened (take 144 bits) → back ≡ softened (take 16 (drop 132 bits)) →
+    put_mid 132 16 (front ++ drop 144 old) back ≡ softened bits
+softened-again bits front old back long whole is-front is-back =
+    let few : length front ≡ 144 = ap length is-front ∙ length-map (take 144 bits) soft_value ∙ length-take-le 144 bits (omega (arith, long)) in
+    let rest : length (drop 144 old) ≡ 4 = length-drop 144 old ∙ ap (λ n. n - 144) whole in
+    let all : length (front ++ drop 144 old) ≡ 148 = length-append front (drop 144 old) ∙ omega (arith, few, rest) in
+    let behind : drop 16 (drop 132 (front ++ drop 144 old)) ≡ [] =
+    drop_all 16 (drop 132 (front ++ drop 144 old)) (omega (arith, all, length-drop 132 (front ++ drop 144 old))) in
+    let sixteen : take 16 (drop 132 bits) ≡ drop 132 bits = take_all 16 (drop 132 bits) (omega (arith, long, length-drop 132 bits)) in
+    ap (λ first. first ++ (back ++ drop 16 (drop 132 (front ++ drop 144 old)))) (take-append-le 132 front (drop 144 old) (omega (arith, few)))
+    ∙ ap (λ last. take 132 front ++ (back ++ last)) behind
+    ∙ ap (λ last. take 132 front ++ last) (append-nil back)
+    ∙ ap (λ first. take 132 first ++ back) is-front
+    ∙ ap (λ first. first ++ back) (take-map soft_value 132 (take 144 bits))
+    ∙ ap (λ first. softened first ++ back) (take-take 132 144 bits (omega arith))
+    ∙ ap (λ last. softened (take 132 bits) ++ last) (is-back ∙ ap softened sixteen)
+    ∙ sym (map-append soft_value (take 132 bits) (drop 132 bits))
+    ∙ ap softened (take-append-drop 132 bits)
 
 pub AllSoft-range : (values : List ℤ) (i j : ℕ) → AllSoft values → AllSoft (slice_range values i j)
 AllSoft-range values i j soft = All-take IsSoft (j - i) (drop i values) (All-drop IsSoft i values soft)

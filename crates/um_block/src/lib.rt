@@ -8,6 +8,7 @@ mod radio;
 mod received;
 mod receiving;
 mod sending;
+mod softening;
 #[cfg(test)]
 mod tests;
 
@@ -15,7 +16,6 @@ pub use counting::{wrong_access_places, wrong_block_places, wrong_sync_places};
 pub use laws::{law_block_places, law_few_wrong};
 pub use radio::{PlainRadio, Radio};
 pub use received::{Received, ReceivedAccess, ReceivedSync};
-pub use receiving::{
-    gather_block, join_halves, receive_access, receive_block, receive_sync, soften,
-};
+pub use receiving::{gather_block, join_halves, receive_access, receive_block, receive_sync};
 pub use sending::{send_access, send_block, send_sync};
+pub use softening::{soften, soften_block};

@@ -20,19 +20,6 @@ use interleave::gather_burst;
 use training_seq::best;
 use trellis_decode::decode;
 
-/// The bits of a burst as sure soft values: 127 for a 0, and -127 for a 1.
-pub fn soften(burst: &[u8; 148]) -> [i8; 148]
-    requires { AllBits burst.now }
-    ensures value { result ≡ softened burst.now }
-    ensures soft { AllSoft result }
-{
-    let mut soft = [0; 148];
-    for (i, bit) in burst.iter().enumerate() {
-        soft[i] = if *bit == 0 { 127 } else { -127 };
-    }
-    soft
-}
-
 /// What the four bursts of a block are received as.
 pub fn receive_block(bursts: &[[i8; 148]; 4]) -> Received
     requires { All AllSoft bursts.now }

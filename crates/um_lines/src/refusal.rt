@@ -11,9 +11,8 @@ pub fn refused_line(out: &mut Text, number: u64, fault: LineFault)
     ensures line { out.new ≡ refused_text number fault }
     ensures few { length out.new < 2000 }
 {
-    let mut decimal = itoa::Buffer::new();
     out.push(b"refused ");
-    out.push(decimal.format(number).as_bytes());
+    out.push_decimal(number);
     out.push(b" ");
     out.push(reason(fault));
     out.push(b"\n");

@@ -1,9 +1,11 @@
 //! What is written before it goes out.
 ghost use Rattle.std.specs.Prelude.{◌≡◌, ◌+◌, ◌*◌, ◌≤◌, [], ◌++◌, length};
+ghost use Rattle.std.specs.Fmt.{decimal};
 ghost use Rattle.hex.specs.Hex.{encode_lower};
 ghost use Rattle.bit_blocks.specs.Bits.{AllBits};
 ghost use Rattle.um_lines.specs.Fields.{bit_digits};
 
+use crate::lower_digits::write_lower;
 use std::marker::Model;
 
 /// Lines of output, in at most 4,096 octets, which lie in the value itself.
@@ -60,6 +62,19 @@ impl Text {
         self.length = end;
     }
 
+    /// Appends a decimal number.
+    pub fn push_decimal(&mut self, number: u64)
+        requires { length self.old + 20 ≤ 4096 }
+        ensures text { self.new ≡ self.old ++ decimal number }
+        ensures short { length self.new ≤ length self.old + 20 }
+    {
+        if number < 10 {
+            self.push(&[b'0' + number as u8]);
+        } else {
+            self.push(itoa::Buffer::new().format(number).as_bytes());
+        }
+    }
+
     /// Appends a digit `0` or `1` for each bit.
     pub fn push_digits(&mut self, bits: &[u8])
         requires room { length self.old + length bits.now ≤ 4096 }
@@ -78,18 +93,8 @@ impl Text {
         ensures length { length self.new ≡ length self.old + 2 * length octets.now }
     {
         let end = self.length + 2 * octets.len();
-        write_hex(&mut self.room[self.length..end], octets);
+        write_lower(octets, &mut self.room[self.length..end]);
         self.length = end;
-    }
-}
-
-fn write_hex(digits: &mut [u8], octets: &[u8])
-    requires { length digits.old ≡ 2 * length octets.now }
-    ensures { digits.new ≡ encode_lower octets.now }
-{
-    match hex::encode_to_slice(octets, digits) {
-        Ok(()) => {}
-        Err(_) => unreachable!(),
     }
 }
 

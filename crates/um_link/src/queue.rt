@@ -1,15 +1,15 @@
 //! Blocks go into a queue and come out of it.
-ghost use Rattle.std.specs.Prelude.{◌≡◌, ◌+◌, ◌<◌, ◌≤◌, All, map, length, ◌∷◌};
+ghost use Rattle.std.specs.Prelude.{◌≡◌, ◌+◌, ◌<◌, ◌≤◌, List, All, map, length, ◌∷◌};
 ghost use Rattle.bit_blocks.specs.Bits.{AllBits};
 ghost use Rattle.conv_code.specs.Likelihood.{AllSoft};
 ghost use Rattle.um_block.specs.Received.{softened};
-ghost use Rattle.um_air.specs.Air.{turned_at, turned};
+ghost use Rattle.um_air.specs.Air.{Block, turned_at, turned};
 ghost use Rattle.um_link.specs.Coded.{Adds};
 ghost use Rattle.um_block.specs.Tallies.{raised, raised_by};
 ghost use Rattle.um_link.specs.Ways.{ArePlaces, IsWay, Receives};
 
 use circular_buffer::HeapCircularBuffer;
-use um_block::{Radio, Received, soften};
+use um_block::{Radio, Received, soften_block};
 
 /// Each frame goes out as a block, behind those that are on their way.
 pub(crate) fn send_all<R: Radio>(
@@ -45,9 +45,28 @@ pub(crate) fn receive_first<R: Radio>(
     ensures heard { R.heard radio.new ≡ raised (R.heard radio.old) }
     ensures sent { R.sent radio.new ≡ R.sent radio.old }
 {
-    let mut block = take_first(way);
-    turn_over(&mut block, places);
-    radio.receive(&soften_all(&block))
+    let mut soft = [[0; 148]; 4];
+    soften_first(way, places, &mut soft);
+    take_first(way);
+    radio.receive(&soft)
+}
+
+/// The first block as sure soft values, with the bits at these places turned over.
+fn soften_first(way: &HeapCircularBuffer<[[u8; 148]; 4]>, places: &[u16], soft: &mut [[i8; 148]; 4])
+    requires way { IsWay way.now }
+    requires some { 0 < length way.now.items }
+    requires places { ArePlaces places.now }
+    ensures value { (block : Block) (others : List Block) → way.now.items ≡ block ∷ others → soft.new ≡ map softened (turned places.now block) }
+    ensures soft { All AllSoft soft.new }
+{
+    let first = way.front().unwrap();
+    if places.is_empty() {
+        soften_block(first, soft);
+    } else {
+        let mut block = *first;
+        turn_over(&mut block, places);
+        soften_block(&block, soft);
+    }
 }
 
 /// Takes the first block.
@@ -82,18 +101,4 @@ fn turn_over_at(block: &mut [[u8; 148]; 4], place: u16)
     let burst = usize::from(place / 148);
     let bit = usize::from(place % 148);
     block[burst][bit] = 1 - block[burst][bit];
-}
-
-/// The bits of a block as sure soft values.
-fn soften_all(block: &[[u8; 148]; 4]) -> [[i8; 148]; 4]
-    requires { All AllBits block.now }
-    ensures value { result ≡ map softened block.now }
-    ensures soft { All AllSoft result }
-{
-    [
-        soften(&block[0]),
-        soften(&block[1]),
-        soften(&block[2]),
-        soften(&block[3]),
-    ]
 }

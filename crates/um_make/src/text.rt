@@ -25,9 +25,9 @@ fn push_words(out: &mut Text, n: u32, tsc: u8)
     ensures length { length out.new ≤ 100 }
 {
     out.push(b"make ");
-    push_decimal(out, u64::from(n));
+    out.push_decimal(u64::from(n));
     out.push(b" ");
-    push_decimal(out, u64::from(tsc));
+    out.push_decimal(u64::from(tsc));
     out.push(b"\n");
 }
 
@@ -65,13 +65,5 @@ fn push_number(out: &mut Text, name: &[u8], number: u64)
     ensures length { length out.new ≤ length out.old + 48 }
 {
     out.push(name);
-    push_decimal(out, number);
-}
-
-fn push_decimal(out: &mut Text, number: u64)
-    requires { length out.old ≤ 2100 }
-    ensures text { out.new ≡ out.old ++ decimal number }
-    ensures length { length out.new ≤ length out.old + 40 }
-{
-    out.push(itoa::Buffer::new().format(number).as_bytes());
+    out.push_decimal(number);
 }

@@ -30,22 +30,14 @@ fn repaired_line(out: &mut Text, word: &Bits<224>, first: u8, span: u8)
     ensures few { length out.new < 2000 }
 {
     out.push(b"repaired first ");
-    push_decimal(out, first);
+    out.push_decimal(u64::from(first));
     out.push(b" span ");
-    push_decimal(out, span);
+    out.push_decimal(u64::from(span));
     out.push(b" data ");
     push_packed::<23>(out, word, 0);
     out.push(b" check ");
     push_packed::<5>(out, word, 184);
     out.push(b"\n");
-}
-
-fn push_decimal(out: &mut Text, number: u8)
-    requires { length out.old + 40 ≤ 4096 }
-    ensures text { out.new ≡ out.old ++ decimal number }
-    ensures length { length out.new ≤ length out.old + 40 }
-{
-    out.push(itoa::Buffer::new().format(number).as_bytes());
 }
 
 // The octets of the bits from this place on.

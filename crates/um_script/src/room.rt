@@ -10,7 +10,7 @@ ghost use Rattle.um_script.specs.Held.{held_octets, held_places};
 
 use crate::octets::{are_octet_digits, are_octets};
 use crate::places::{are_decimals, hold_places, is_some_above, names_twice};
-use um_lines::{LineFault, one_word};
+use um_lines::{LineFault, one_word, write_octets};
 
 /// The octets and places of one line, which lie in the value itself: a line has at most 2,047 octets, and a block 592 places.
 #[derive(Drop)]
@@ -74,7 +74,7 @@ impl Room {
         ensures { result.now ≡ hex_octets digits.now }
     {
         let held = &mut self.octets[..digits.len() / 2];
-        decode(digits, held);
+        write_octets(digits, held);
         held
     }
 
@@ -94,16 +94,5 @@ impl Room {
         }
         let count = hold_places(&mut self.places, text);
         Ok(&self.places[..count])
-    }
-}
-
-fn decode(digits: &[u8], octets: &mut [u8])
-    requires each { IsTrue (list_all is_hex_digit digits.now) }
-    requires many { length digits.now ≡ 2 * length octets.old }
-    ensures { octets.new ≡ hex_octets digits.now }
-{
-    match hex::decode_to_slice(digits, octets) {
-        Ok(()) => {}
-        Err(_) => unreachable!(),
     }
 }

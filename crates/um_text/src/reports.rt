@@ -53,7 +53,7 @@ fn push_block(out: &mut Text, r: &Received)
     ensures length { length out.new ≤ 400 }
 {
     out.push(b"block tsc ");
-    push_decimal(out, u32::from(r.tsc));
+    out.push_decimal(u64::from(r.tsc));
     push_quality(out, r.wrong_training, r.metric, r.accepted.is_some());
     push_octets(out, &packed::<23, _>(&r.u, 0), &packed::<5, _>(&r.u, 184));
 }
@@ -64,19 +64,11 @@ fn push_quality(out: &mut Text, wrong: u32, metric: i32, holds: bool)
     ensures length { length out.new ≤ length out.old + 120 }
 {
     out.push(b" train ");
-    push_decimal(out, wrong);
+    out.push_decimal(u64::from(wrong));
     out.push(b" metric ");
     out.push(itoa::Buffer::new().format(metric).as_bytes());
     out.push(b" parity ");
     out.push(parity(holds));
-}
-
-fn push_decimal(out: &mut Text, number: u32)
-    requires { length out.old + 40 ≤ 4096 }
-    ensures text { out.new ≡ out.old ++ decimal number }
-    ensures length { length out.new ≤ length out.old + 40 }
-{
-    out.push(itoa::Buffer::new().format(number).as_bytes());
 }
 
 fn parity(holds: bool) -> &'static [u8]

@@ -1,0 +1,78 @@
+//! Octets as hexadecimal digits in lower case, two digits an octet.
+ghost use Rattle.std.specs.Prelude.{◌≡◌, ◌+◌, ◌*◌, ◌<◌, ◌≤◌, ◌/◌, ◌%◌, ℕ, length, take, slice_index};
+ghost use Rattle.hex.specs.Hex.{encode_lower, lower_digits};
+
+/// Writes the digits of octets, the high one of each first.
+pub(crate) fn write_lower(octets: &[u8], digits: &mut [u8])
+    requires many { length digits.old ≡ 2 * length octets.now }
+    ensures { digits.new ≡ encode_lower octets.now }
+{
+    if octets.len() < 16 {
+        write_few(octets, digits);
+    } else {
+        write_many(octets, digits);
+    }
+}
+
+fn write_few(octets: &[u8], digits: &mut [u8])
+    requires many { length digits.old ≡ 2 * length octets.now }
+    ensures { digits.new ≡ encode_lower octets.now }
+{
+    match hex::encode_to_slice(octets, digits) {
+        Ok(()) => {}
+        Err(_) => unreachable!(),
+    }
+}
+
+// Sixteen at a time, and the last sixteen once more, of which some may stand there already.
+fn write_many(octets: &[u8], digits: &mut [u8])
+    requires many { length digits.old ≡ 2 * length octets.now }
+    requires some { 16 ≤ length octets.now }
+    ensures { digits.new ≡ encode_lower octets.now }
+{
+    let last = octets.len() - 16;
+    let mut at = 0;
+    while at < last {
+        write_sixteen(octets, digits, at);
+        at += 16;
+    }
+    write_sixteen(octets, digits, last);
+}
+
+fn write_sixteen(octets: &[u8], digits: &mut [u8], at: usize)
+    requires many { length digits.old ≡ 2 * length octets.now }
+    requires room { at + 16 ≤ length octets.now }
+    requires before { take (2 * at) digits.old ≡ encode_lower (take at octets.now) }
+    ensures more { take (2 * (at + 16)) digits.new ≡ encode_lower (take (at + 16) octets.now) }
+    ensures length { length digits.new ≡ length digits.old }
+{
+    let (high, low) = sixteen(octets, at);
+    for i in 0..16 {
+        digits[2 * (at + i)] = high[i];
+        digits[2 * (at + i) + 1] = low[i];
+    }
+}
+
+/// The digits of the high halves of sixteen octets, and those of the low ones. They lie apart, so that the compiler sees that
+/// writing one changes no octet.
+fn sixteen(octets: &[u8], at: usize) -> ([u8; 16], [u8; 16])
+    requires { at + 16 ≤ length octets.now }
+    ensures high { (i : ℕ) → i < 16 → slice_index result.0 i ≡ slice_index lower_digits (slice_index octets.now (at + i) / 16) }
+    ensures low { (i : ℕ) → i < 16 → slice_index result.1 i ≡ slice_index lower_digits (slice_index octets.now (at + i) % 16) }
+{
+    let mut high = [0; 16];
+    let mut low = [0; 16];
+    for i in 0..16 {
+        high[i] = lower_digit(octets[at + i] / 16);
+        low[i] = lower_digit(octets[at + i] % 16);
+    }
+    (high, low)
+}
+
+#[tactic(auto, using(crate::proofs::LowerDigits::small_digit, crate::proofs::LowerDigits::large_digit))]
+fn lower_digit(value: u8) -> u8
+    requires { value < 16 }
+    ensures { result ≡ slice_index lower_digits value }
+{
+    if value < 10 { 48 + value } else { 87 + value }
+}
