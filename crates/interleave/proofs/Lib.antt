@@ -5,4 +5,5 @@ mod Existence
 mod HalfBursts
 pub mod Lemmas
 mod Orders
+mod Rows
 mod WholeBursts
