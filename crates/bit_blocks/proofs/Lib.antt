@@ -3,5 +3,6 @@ mod BitLists
 pub mod Lemmas
 mod Multiples
 mod OctetLists
+mod OctetPlaces
 mod OctetWords
 mod Sums

@@ -2,3 +2,4 @@
 pub use Rattle.conv_code.proofs.Lists.{IsInformation-tail, AllBits-coded, length-coded}
 pub use Rattle.conv_code.proofs.OneBest.{IsMostLikely-only}
 pub use Rattle.conv_code.proofs.States.{coded_from_start}
+pub use Rattle.conv_code.proofs.PackedCode.{ArePacked-front}

@@ -3,4 +3,5 @@ pub mod Coding
 pub mod Lemmas
 mod Lists
 mod OneBest
+mod PackedCode
 mod States

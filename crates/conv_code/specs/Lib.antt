@@ -1,3 +1,4 @@
 pub mod Code
 pub mod Likelihood
 pub mod States
+pub mod Windows

@@ -6,6 +6,10 @@ ghost use Rattle.std.specs.Prelude.{◌≡◌, ◌*◌, ◌<◌, length, take};
 ghost use Rattle.std.specs.List.{flat_map, range_with_len};
 ghost use Rattle.conv_code.specs.Code.{coded, coded_pair, delayed, IsInformation};
 
+mod packed;
+
+pub use packed::encode_octets;
+
 /// Writes the coded list of an information list, two bits for each place.
 ///
 /// The last four bits of `u` are the zeros that bring the coder back to rest.

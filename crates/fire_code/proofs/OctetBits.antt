@@ -5,12 +5,13 @@ use Rattle.std.specs.Str.{bytes_eq}
 use Rattle.std.proofs.Math.Seq.{take-add, take-append_seam}
 use Rattle.std.proofs.lemmas.Bool.Decides.{Decides-eqb}
 use Rattle.std.proofs.lemmas.List.{length-take-le, length-drop, take_all}
-use Rattle.std.proofs.lemmas.Nat.{shl_whole, or_comm, or_shifted, mul-add-lt, pow-add, and_mask}
+use Rattle.std.proofs.lemmas.Nat.{shl_whole, or_comm, or_shifted, mul-add-lt, pow-add, and_mask, shr-shr}
 use Rattle.std.proofs.lemmas.Slice.Eq.{bytes_eq-Decides}
 use Rattle.bit_blocks.specs.Bits.{AllBits}
+use Rattle.bit_blocks.specs.Octets.{octet_bits, bits_of}
 use Rattle.fire_code.specs.Registers.{register_bits}
 use Rattle.fire_code.proofs.Tests.{tested, passed}
-use Rattle.fire_code.proofs.RegisterBits.{length-register_bits, register_bits-mod, register_bits-parts, register_bits_split, register_bits-number_of, number_of, number_of_within}
+use Rattle.fire_code.proofs.RegisterBits.{octet_bits-register_bits, length-register_bits, register_bits-mod, register_bits-parts, register_bits_split, register_bits-number_of, number_of, number_of_within}
 
 -- the number that eight bits are gathered to
 abbrev pub gathering : List ℕ → ℕ
@@ -110,3 +111,29 @@ pub places_end : (register m : ℕ) (bits : List ℕ) → m ≡ 5 → length bit
 places_end register m bits last count before =
     let all : 8 * m ≡ 40 = omega arith in
     sym (take_all (8 * m) bits (omega arith)) ∙ before ∙ ap (λ n. register_bits n register) all
+
+-- ---- the octets of a register
+
+pub octet_of_register : (register k : ℕ) → octet_bits (bit_and (register / 2 ^ k) 255) ≡ register_bits 8 (register / 2 ^ k)
+octet_of_register register k =
+    octet_bits-register_bits (bit_and (register / 2 ^ k) 255)
+    ∙ ap (λ x. register_bits 8 x) (and_mask (register / 2 ^ k) 8)
+    ∙ register_bits-mod 8 (register / 2 ^ k)
+
+octet_before : (register k n m : ℕ) (octet : ℕ) (rest : List ℕ) → m ≡ 8 + n → octet_bits octet ≡ register_bits 8 (register / 2 ^ k) →
+    rest ≡ register_bits n (register / 2 ^ (k + 8)) → octet_bits octet ++ rest ≡ register_bits m (register / 2 ^ k)
+octet_before register k n m octet rest count first is =
+    ap (λ front. front ++ rest) first
+    ∙ ap (λ rest. register_bits 8 (register / 2 ^ k) ++ rest) (is ∙ ap (λ x. register_bits n x) (sym (shr-shr register k 8)))
+    ∙ sym (register_bits_split 8 n m (register / 2 ^ k) count)
+
+pub five_octets : (register a b c d e : ℕ) → octet_bits a ≡ register_bits 8 (register / 2 ^ 0) → octet_bits b ≡ register_bits 8 (register / 2 ^ 8) →
+    octet_bits c ≡ register_bits 8 (register / 2 ^ 16) → octet_bits d ≡ register_bits 8 (register / 2 ^ 24) →
+    octet_bits e ≡ register_bits 8 (register / 2 ^ 32) → bits_of (a ∷ b ∷ c ∷ d ∷ e ∷ []) ≡ register_bits 40 register
+five_octets register a b c d e at_a at_b at_c at_d at_e =
+    let four = octet_before register 32 0 8 e [] refl at_e (sym (no_places (register / 2 ^ 40))) in
+    let three = octet_before register 24 8 16 d _ refl at_d four in
+    let two = octet_before register 16 16 24 c _ refl at_c three in
+    let one = octet_before register 8 24 32 b _ refl at_b two in
+    let whole : register / 2 ^ 0 ≡ register = omega arith in
+    octet_before register 0 32 40 a _ refl at_a one ∙ ap (λ x. register_bits 40 x) whole

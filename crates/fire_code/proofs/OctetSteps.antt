@@ -2,13 +2,14 @@
 use Rattle.std.proofs.Common.{◌≡◌, ℕ, ◌+◌, ◌*◌, ◌/◌, ◌^◌, ◌≤◌, ◌<◌, List, [], ◌∷◌, ◌++◌, length, replicate, get_or, take, drop, refl, ap, sym, subst, ◌∙◌, arith, bit_xor, bit_and, Bool, true, eqb, append_assoc}
 use Rattle.std.proofs.lemmas.Bool.Decides.{Decides-eqb}
 use Rattle.std.proofs.Math.Seq.{take-add}
-use Rattle.std.proofs.lemmas.List.{append-nil, length-append}
+use Rattle.std.proofs.lemmas.Grind.{flat_map-append}
+use Rattle.std.proofs.lemmas.List.{append-nil, length-append, take_more}
 use Rattle.std.proofs.lemmas.List.Elements.{All-nil, All-head, All-tail, All-push, All-take, All-drop}
 use Rattle.std.proofs.lemmas.Nat.{and_mask, shr_below, xor_lt}
 use Rattle.bit_blocks.specs.Bits.{IsBit, AllBits, add_bits}
-use Rattle.bit_blocks.specs.Octets.{octet_bits}
+use Rattle.bit_blocks.specs.Octets.{octet_bits, bits_of}
 use Rattle.bit_blocks.specs.Polynomials.{HasQuotient, IsMultiple}
-use Rattle.bit_blocks.proofs.Lemmas.{HasQuotient-zeros, add_bits_again, divided_more, same_remainder}
+use Rattle.bit_blocks.proofs.Lemmas.{AllBits-bits_of, HasQuotient-zeros, add_bits_again, divided_more, same_remainder}
 use Rattle.fire_code.specs.declared.octets.TheConstants.{REMAINDERS}
 use Rattle.fire_code.specs.Registers.{register_bits}
 use Rattle.fire_code.specs.Words.{g40}
@@ -109,6 +110,20 @@ octet_along bits m n register octet entry all eight within is before multiple =
     subst (λ w. HasQuotient (w ++ register_bits 40 (bit_xor (register / 2 ^ 8) entry)) g40) taken
     (octet_more (take (8 * m) bits) next register octet entry (All-take IsBit (8 * m) bits all)
     (All-take IsBit n (drop (8 * m) bits) (All-drop IsBit (8 * m) bits all)) within is before multiple)
+
+-- the same along a list of octets
+pub octets_along : (octets : List ℕ) (m register entry : ℕ) → m < length octets → register < 2 ^ 40 →
+    HasQuotient (bits_of (take m octets) ++ register_bits 40 register) g40 →
+    HasQuotient (register_bits 8 (bit_and (bit_xor register (get_or octets m 0)) 255) ++ register_bits 40 entry) g40 →
+    HasQuotient (bits_of (take (m + 1) octets) ++ register_bits 40 (bit_xor (register / 2 ^ 8) entry)) g40
+octets_along octets m register entry lt within before multiple =
+    let octet = get_or octets m 0 in
+    let joined : bits_of (take (m + 1) octets) ≡ bits_of (take m octets) ++ octet_bits octet =
+    ap bits_of (take_more octets m 0 lt) ∙ flat_map-append octet_bits (take m octets) (octet ∷ []) in
+    subst (λ w. HasQuotient (w ++ register_bits 40 (bit_xor (register / 2 ^ 8) entry)) g40) (sym joined)
+    (octet_more (bits_of (take m octets)) (octet_bits octet) register octet entry (AllBits-bits_of (take m octets))
+    (subst AllBits (sym (octet_bits-register_bits octet)) (AllBits-register_bits 8 octet)) within
+    (sym (octet_bits-register_bits octet)) before multiple)
 
 pub remainder_of_octet : (octet register : ℕ) (r : List ℕ) → r ≡ register_bits 40 register →
     HasQuotient (register_bits 8 octet ++ register_bits 40 register) g40 → IsMultiple (octet_bits octet ++ r) g40

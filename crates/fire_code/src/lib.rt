@@ -13,4 +13,4 @@ mod xcch;
 pub use octets::octet_remainder;
 pub use rach::{rach_holds, rach_parity};
 pub use sch::{sch_holds, sch_parity};
-pub use xcch::{xcch_holds, xcch_parity, xcch_syndrome};
+pub use xcch::{xcch_holds, xcch_parity, xcch_parity_of_octets, xcch_syndrome};

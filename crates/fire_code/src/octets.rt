@@ -2,7 +2,7 @@
 //! an octet is that of value 1.
 ghost use Rattle.std.specs.Prelude.{◌≡◌, ℕ, ◌*◌, ◌/◌, ◌<◌, ◌^◌, ◌++◌, List, length};
 ghost use Rattle.bit_blocks.specs.Bits.{AllBits};
-ghost use Rattle.bit_blocks.specs.Octets.{octet_bits};
+ghost use Rattle.bit_blocks.specs.Octets.{octet_bits, bits_of as octets_to_bits};
 ghost use Rattle.bit_blocks.specs.Polynomials.{HasQuotient, IsMultiple};
 ghost use Rattle.fire_code.specs.Registers.{register_bits};
 ghost use Rattle.fire_code.specs.Words.{g40};
@@ -293,6 +293,18 @@ pub(crate) fn remainder(bits: &[u8]) -> u64
     for m in 0..bits.len() / 8 {
         let octet = gathered(&bits[8 * m..8 * m + 8]);
         register = (register >> 8) ^ entry(((register ^ octet) & 0xff) as u8);
+    }
+    register
+}
+
+/// What completes the bits of octets to a multiple of the Fire code's generator, the bit of value 1 first in each.
+pub(crate) fn remainder_of_octets(octets: &[u8]) -> u64
+    ensures multiple { HasQuotient (octets_to_bits octets.now ++ register_bits 40 result) g40 }
+    ensures within { result < 2 ^ 40 }
+{
+    let mut register = 0;
+    for octet in octets {
+        register = (register >> 8) ^ entry(((register ^ u64::from(*octet)) & 0xff) as u8);
     }
     register
 }

@@ -1,5 +1,6 @@
-ghost use Rattle.std.specs.Prelude.{◌≡◌, ◌+◌, ◌<◌, ◌≤◌, ◌^◌, ◌++◌, length, take, drop};
+ghost use Rattle.std.specs.Prelude.{◌≡◌, ◌+◌, ◌*◌, ◌/◌, ◌<◌, ◌≤◌, ◌^◌, ◌++◌, length, take, drop};
 ghost use Rattle.bit_blocks.specs.Bits.{AllBits};
+ghost use Rattle.bit_blocks.specs.Octets.{octet_bits, bits_of as octets_to_bits};
 ghost use Rattle.fire_code.specs.Registers.{register_bits};
 
 use bit_blocks::Bits;
@@ -29,6 +30,27 @@ pub(crate) fn bits_of(register: u64) -> Bits<40>
         write(&mut bits, 8 * m, &spread((register >> (8 * m)) & 0xff));
     }
     bits
+}
+
+/// The first forty places of a register as octets.
+pub(crate) fn octets_of(register: u64) -> [u8; 5]
+    ensures { octets_to_bits result ≡ register_bits 40 register }
+{
+    [
+        octet_of(register, 0),
+        octet_of(register, 1),
+        octet_of(register, 2),
+        octet_of(register, 3),
+        octet_of(register, 4),
+    ]
+}
+
+/// Eight places of a register from place `8 * m` on, the first being the bit of value 1.
+fn octet_of(register: u64, m: usize) -> u8
+    requires { m < 5 }
+    ensures { octet_bits result ≡ register_bits 8 (register / 2 ^ (8 * m)) }
+{
+    ((register >> (8 * m)) & 0xff) as u8
 }
 
 /// Forty bits as a register.

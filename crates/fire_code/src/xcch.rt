@@ -1,10 +1,11 @@
 ghost use Rattle.std.specs.Prelude.{◌≡◌, ◌<◌, ◌^◌, ◌↔◌, ◌++◌, List, ℕ, length, replicate, IsTrue};
 ghost use Rattle.bit_blocks.specs.Bits.{AllBits, add_bits};
+ghost use Rattle.bit_blocks.specs.Octets.{bits_of as octets_to_bits};
 ghost use Rattle.fire_code.specs.Registers.{register_bits};
 ghost use Rattle.fire_code.specs.Words.{IsXcchWord};
 
-use crate::octets::remainder;
-use crate::registers::{bits_of, register_of};
+use crate::octets::{remainder, remainder_of_octets};
+use crate::registers::{bits_of, octets_of, register_of};
 use bit_blocks::Bits;
 
 const ALL_ONES: u64 = 0xff_ffff_ffff;
@@ -17,6 +18,14 @@ pub fn xcch_parity(d: &Bits<184>) -> Bits<40>
     ensures bits { AllBits result }
 {
     bits_of(!remainder(d.as_slice()))
+}
+
+/// The parity of the 184 bits of 23 octets as five octets, the bit of value 1 first in each.
+pub fn xcch_parity_of_octets(octets: &[u8; 23]) -> [u8; 5]
+    ensures word { IsXcchWord (octets_to_bits octets.now ++ octets_to_bits result) }
+    ensures only { (p : List ℕ) → IsXcchWord (octets_to_bits octets.now ++ p) → p ≡ octets_to_bits result }
+{
+    octets_of(!remainder_of_octets(octets))
 }
 
 /// Whether 224 bits are 184 and their parity.

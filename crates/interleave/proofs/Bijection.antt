@@ -1,18 +1,16 @@
 -- Coded bits and places of bursts belong to each other one by one, so that each list is known by the other.
-use Rattle.std.proofs.Common.{◌≡◌, ℕ, ◌+◌, ◌*◌, ◌/◌, ◌%◌, ◌<◌, List, [], All, length, get_or, ap, sym, ◌∙◌, arith}
+use Rattle.std.proofs.Common.{◌≡◌, ℕ, ◌<◌, List, [], All, length, get_or, ap, sym, ◌∙◌}
 use Rattle.std.proofs.lemmas.List.{same_lists, get_or_default}
 use Rattle.bit_blocks.specs.Bits.{AllBits}
 use Rattle.interleave.specs.Bursts.{IsInterleaved}
 use Rattle.interleave.specs.Places.{burst_of, place_of}
-use Rattle.interleave.proofs.CodedBits.{entry, entry-stands}
+use Rattle.interleave.proofs.Rows.{bit_at, bit_at-stands}
 
 -- the coded bit that stands at a place of a burst
 pub coded_bit_at : (b j : ℕ) → b < 4 → j < 114 → (k : ℕ) × (k < 456) × (burst_of k ≡ b) × (place_of k ≡ j)
 coded_bit_at b j hb hj =
-    let stands = entry-stands (2 * b + j / 57) (j % 57) (omega arith) (omega arith) in
-    let burst : (2 * b + j / 57) / 2 ≡ b = omega arith in
-    let place : 57 * ((2 * b + j / 57) % 2) + j % 57 ≡ j = omega arith in
-    (entry (2 * b + j / 57) (j % 57), stands.within, stands.burst ∙ burst, stands.place ∙ place)
+    let stands = bit_at-stands b j hb hj in
+    (bit_at b j, stands.within, stands.burst, stands.place)
 
 module _ {X : Type 0} where
   -- the value at a place of the bursts is that of some coded bit

@@ -3,7 +3,7 @@ use Rattle.std.proofs.Common.{◌≡◌, ℕ, ◌+◌, ◌*◌, ◌<◌, ◌≤�
 use Rattle.std.proofs.lemmas.Bool.{cases_lt}
 use Rattle.std.proofs.lemmas.Bool.Decides.{nat_tests}
 use Rattle.interleave.specs.Places.{burst_of, place_of, burst_place}
-use Rattle.interleave.proofs.CodedBits.{same_coded_bit}
+use Rattle.interleave.proofs.Rows.{same_coded_bit}
 use Rattle.interleave.proofs.WholeBursts.{burst_of-below, place_of-below}
 
 -- in the first half three tail bits stand before it

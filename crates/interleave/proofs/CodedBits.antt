@@ -37,19 +37,3 @@ entry-stands r i hr hi =
       burst = search (rules, tests);
       place = search (rules, tests);
     }
-
-abbrev is_found : ℕ → Bool
-is_found k = eqb (entry (2 * burst_of k + place_of k / 57) (place_of k % 57)) k
-
-every_coded_bit_is_found : passes_below is_found 456 ≡ true
-unfolding entry burst_of place_of passes_below
-every_coded_bit_is_found = refl
-
--- a coded bit is known by its burst and its place
-pub same_coded_bit : (k l : ℕ) → k < 456 → l < 456 → burst_of k ≡ burst_of l → place_of k ≡ place_of l → k ≡ l
-same_coded_bit k l hk hl burst place =
-    let found_k = at_passes_below is_found 456 every_coded_bit_is_found k hk in
-    let found_l = at_passes_below is_found 456 every_coded_bit_is_found l hl in
-    let at_k : entry (2 * burst_of k + place_of k / 57) (place_of k % 57) ≡ k = search (rules, tests) in
-    let at_l : entry (2 * burst_of l + place_of l / 57) (place_of l % 57) ≡ l = search (rules, tests) in
-    cc

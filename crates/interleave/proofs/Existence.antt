@@ -1,30 +1,14 @@
 -- Every coded list can be spread over bursts, and of every four bursts one can be gathered.
-use Rattle.std.proofs.Common.{◌≡◌, ℕ, ◌+◌, ◌*◌, ◌/◌, ◌%◌, ◌<◌, List, [], map, length, get_or, refl, ap, sym, ◌∙◌, arith, subst}
+use Rattle.std.proofs.Common.{◌≡◌, ℕ, ◌<◌, List, [], map, length, get_or, ap, sym, ◌∙◌, arith, subst}
 use Rattle.std.specs.List.{All, range_with_len}
 use Rattle.std.proofs.lemmas.List.{get_or_default, get_or-map, length-map}
 use Rattle.std.proofs.lemmas.List.FromFn.{get_or-map-range_with_len, length-map-range_with_len}
 use Rattle.interleave.specs.Places.{burst_of, place_of}
 use Rattle.interleave.specs.Bursts.{IsInterleaved}
-use Rattle.interleave.proofs.CodedBits.{entry, entry-stands, same_coded_bit}
+use Rattle.interleave.proofs.Rows.{bit_at, bit_at-of}
 use Rattle.interleave.proofs.WholeBursts.{burst_of-below, place_of-below}
 
 -- ---- spread
-
--- the coded bit that stands at a place of a burst
-bit_at : ℕ → ℕ → ℕ
-bit_at b j = entry (2 * b + j / 57) (j % 57)
-
-standing_at : (k b j : ℕ) → k < 456 → b < 4 → j < 114 → burst_of k ≡ b → place_of k ≡ j → bit_at b j ≡ k
-unfolding bit_at
-standing_at k b j within hb hj in_burst at_place =
-    let stands = entry-stands (2 * b + j / 57) (j % 57) (omega arith) (omega arith) in
-    let burst : (2 * b + j / 57) / 2 ≡ b = omega arith in
-    let place : 57 * ((2 * b + j / 57) % 2) + j % 57 ≡ j = omega arith in
-    same_coded_bit (entry (2 * b + j / 57) (j % 57)) k stands.within within
-    (stands.burst ∙ burst ∙ sym in_burst) (stands.place ∙ place ∙ sym at_place)
-
-bit_at-of : (k : ℕ) → k < 456 → bit_at (burst_of k) (place_of k) ≡ k
-bit_at-of k within = standing_at k (burst_of k) (place_of k) within (burst_of-below k) (place_of-below k) refl refl
 
 -- the coded bits of a burst in the order of their places
 part_of : List ℕ → ℕ → List ℕ

@@ -1,5 +1,5 @@
 -- Half bursts are read and written, one place more at a time.
-use Rattle.std.proofs.Common.{◌≡◌, ℕ, ◌+◌, ◌*◌, ◌<◌, ◌≤◌, List, [], length, get_or, sym, ◌∙◌, arith, ◌≢◌, ℤ, pos, refl, below_more, get_or-set_other, get_or-set_same, ap}
+use Rattle.std.proofs.Common.{◌≡◌, ℕ, ◌+◌, ◌*◌, ◌<◌, ◌≤◌, List, [], length, get_or, sym, ◌∙◌, arith, ◌≢◌, ℤ, pos, below_more, get_or-set_other, get_or-set_same, ap}
 use Rattle.std.specs.Prelude.{slice_range}
 use Rattle.std.proofs.Math.ListN.{set}
 use Rattle.std.proofs.lemmas.List.{ext_get_or}
@@ -7,7 +7,7 @@ use Rattle.std.proofs.lemmas.List.Edits.{length-between, get_or-between}
 use Rattle.interleave.specs.Bursts.{IsInterleaved}
 use Rattle.interleave.specs.Halves.{IsHalfBurst}
 use Rattle.interleave.specs.Places.{burst_of, place_of}
-use Rattle.interleave.proofs.CodedBits.{same_coded_bit}
+use Rattle.interleave.proofs.Rows.{same_coded_bit}
 
 module _ (row : List ℕ) (b half : ℕ) (h : IsHalfBurst row b half) where
   -- the coded bit that has this place

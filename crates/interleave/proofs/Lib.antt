@@ -1,8 +1,10 @@
 mod Bijection
 mod BurstPlaces
 mod CodedBits
+mod ColumnBits
 mod Existence
 mod HalfBursts
-pub mod Lemmas
 mod Orders
+mod Rows
 mod WholeBursts
+pub mod Lemmas

@@ -2,11 +2,13 @@
 //! 45.003): coded bit k goes to burst k mod 4, and there to place 2(49k mod 57) + (k mod 8) / 4.
 #![tactic(auto)]
 
+mod columns;
 mod gathering;
 mod laws;
 mod spreading;
 mod table;
 
+pub use columns::Columns;
 pub use gathering::{gather, gather_burst};
 pub use laws::{law_any_order, law_places};
 pub use spreading::{spread, spread_burst};

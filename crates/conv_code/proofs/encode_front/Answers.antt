@@ -1,4 +1,4 @@
-use Rattle.std.proofs.Common.{◌+◌, ◌*◌, ◌<◌, ◌≡◌, length, ◌∙◌, arith}
+use Rattle.std.proofs.Common.{◌+◌, ◌*◌, ◌<◌, length, ◌∙◌, arith}
 use Rattle.std.proofs.lemmas.List.{length-set}
 use Rattle.conv_code.proofs.Coding.{delayed-at_most_1, bit_at-most_1, first_by_xor, second_by_xor, coded_more}
 use Rattle.conv_code.proofs.encode_front.Goals as goal

@@ -1,4 +1,4 @@
-use Rattle.std.proofs.Common.{◌+◌, ◌-◌, ◌*◌, ◌%◌, ◌<◌, ◌≤◌, ◌≡◌, length, get_or, ap, ap₂, sym, ◌∙◌, arith}
+use Rattle.std.proofs.Common.{◌+◌, ◌-◌, ◌*◌, ◌%◌, ◌<◌, length, get_or, ap, ap₂, sym, ◌∙◌, arith}
 use Rattle.std.proofs.lemmas.List.{length-set}
 use Rattle.conv_code.specs.Code.{delayed}
 use Rattle.conv_code.proofs.Coding.{delayed-late, bit_at-most_1, first_by_xor, second_by_xor, coded_more}

@@ -1,6 +1,6 @@
 use Rattle.interleave.proofs.Bijection.{coded_bit_at}
 use Rattle.interleave.proofs.BurstPlaces.{burst_place-below, burst_place-differs}
-use Rattle.interleave.proofs.CodedBits.{same_coded_bit}
+use Rattle.interleave.proofs.Rows.{same_coded_bit}
 use Rattle.interleave.proofs.laws.law_places.Goals as goal
 
 pub returns : goal.returns

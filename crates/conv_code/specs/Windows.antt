@@ -1,0 +1,10 @@
+-- Eight bits of an information list at a time.
+use Rattle.std.specs.Prelude.{ℕ, ◌≡◌, ◌<◌, ◌+◌, ◌*◌, ◌%◌, List, slice_index}
+use Rattle.bit_blocks.specs.Packed.{bit_of}
+
+-- the octet holds the coded bits of four places from 4 t on, in a list before which stand eight bits more
+pub record IsQuad (bits : List ℕ) (octet t : ℕ) : Type 0 where
+  pub first : (i : ℕ) → i < 4 → bit_of octet i ≡
+      (slice_index bits (4 * t + 8 + i) + slice_index bits (4 * t + 5 + i) + slice_index bits (4 * t + 4 + i)) % 2
+  pub second : (i : ℕ) → i < 4 → bit_of octet (i + 4) ≡
+      (slice_index bits (4 * t + 8 + i) + slice_index bits (4 * t + 7 + i) + slice_index bits (4 * t + 5 + i) + slice_index bits (4 * t + 4 + i)) % 2

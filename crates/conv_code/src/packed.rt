@@ -1,0 +1,49 @@
+//! The coder four places at a time, over octets of bits: what it writes are the coded bits eight to an octet.
+ghost use Rattle.std.specs.Prelude.{◌≡◌, ℕ, ◌+◌, ◌*◌, ◌%◌, ◌<◌, slice_index};
+ghost use Rattle.bit_blocks.specs.Octets.{bits_of};
+ghost use Rattle.bit_blocks.specs.Packed.{ArePacked, bit_of};
+ghost use Rattle.conv_code.specs.Code.{coded};
+ghost use Rattle.conv_code.specs.Windows.{IsQuad};
+
+/// The coded bits, eight to an octet, of the bits of octets, the bit of value 1 first in each.
+pub fn encode_octets(octets: &[u8; 32]) -> [u8; 64]
+    ensures { ArePacked 64 (coded (bits_of octets.now)) result }
+{
+    let mut shifted = [0; 33];
+    shifted[1..].copy_from_slice(octets);
+    quads(&shifted)
+}
+
+/// The coded bits of four places each. The first octet are the bits before the first place.
+fn quads(shifted: &[u8; 33]) -> [u8; 64]
+    ensures { (t : ℕ) → t < 64 → IsQuad (bits_of shifted.now) (slice_index result t) t }
+{
+    let mut packed = [0; 64];
+    for m in 0..32 {
+        packed[2 * m] = quad(window(shifted[m], shifted[m + 1]));
+        packed[2 * m + 1] = quad(shifted[m + 1]);
+    }
+    packed
+}
+
+/// The last four bits of an octet and the first four of the next.
+#[inline]
+fn window(before: u8, here: u8) -> u8
+    ensures low { (i : ℕ) → i < 4 → bit_of result i ≡ bit_of before (i + 4) }
+    ensures high { (i : ℕ) → i < 4 → bit_of result (i + 4) ≡ bit_of here i }
+{
+    (before >> 4) | ((here & 15) << 4)
+}
+
+/// The coded bits of the last four of eight places: the four first bits, then the four second bits.
+#[inline]
+fn quad(window: u8) -> u8
+    ensures first { (i : ℕ) → i < 4 →
+        bit_of result i ≡ (bit_of window (i + 4) + bit_of window (i + 1) + bit_of window i) % 2 }
+    ensures second { (i : ℕ) → i < 4 →
+        bit_of result (i + 4) ≡ (bit_of window (i + 4) + bit_of window (i + 3) + bit_of window (i + 1) + bit_of window i) % 2 }
+{
+    let first = (window >> 4) ^ (window >> 1) ^ window;
+    let second = first ^ (window >> 3);
+    (first & 15) | ((second & 15) << 4)
+}
