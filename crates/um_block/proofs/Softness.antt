@@ -1,10 +1,11 @@
 -- Soft values: which of them a burst has, and where they stand in its block.
-use Rattle.std.proofs.Common.{◌≡◌, ℕ, ◌-◌, ◌<◌, ◌==◌, if◌then◌else◌, true, false, ℤ, pos, negsuc, List, [], ◌∷◌, ◌++◌, map, take, drop, length, get_or, ap, sym, subst, ◌∙◌, arith}
+use Rattle.std.proofs.Common.{◌≡◌, ℕ, ◌+◌, ◌-◌, ◌<◌, ◌≤◌, ◌==◌, if◌then◌else◌, true, false, ℤ, pos, negsuc, List, [], ◌∷◌, ◌++◌, map, take, drop, length, get_or, ap, sym, subst, ◌∙◌, append_assoc, arith}
 use Rattle.std.specs.Prelude.{slice_range}
 use Rattle.std.proofs.lemmas.Int.{ints}
 use Rattle.std.specs.List.{All}
-use Rattle.std.proofs.lemmas.List.{get_or-map, get_or_default, length-map, length-append, length-take-le, length-drop, map-append, take-map, take-take, take-append-le, take-append-drop, take_at, take_all, drop_at, drop_all, append-nil}
+use Rattle.std.proofs.lemmas.List.{get_or-map, get_or_default, length-map, length-append, length-take-le, length-drop, map-append, take-map, take-take, take_at, drop_at, drop_all, append-nil}
 use borrow.Rule.Slice.PartMut.{put_mid}
+use Rattle.std.proofs.Math.Seq.{take-add}
 use Rattle.std.proofs.lemmas.List.Elements.{All-append, All-cons, All-nil, All-take, All-drop, All-map}
 use Rattle.bit_blocks.specs.SoftValues.{IsSoft, AllSoft}
 use Rattle.interleave.specs.Bursts.{IsInterleaved}
@@ -27,26 +28,34 @@ pub AllSoft-all : (block : List (List ℕ)) → All AllSoft (map softened block)
 AllSoft-all [] = All-nil AllSoft
 AllSoft-all (burst ∷ block) = All-cons AllSoft (softened burst) (map softened block) (AllSoft-softened burst) (AllSoft-all block)
 
--- the last sixteen places are softened once more
-pub softened-again : (bits : List ℕ) (front old back : List ℤ) → length bits ≡ 148 → length old ≡ 148 →
-    front ≡ softened (take 144 bits) → back ≡ softened (take 16 (drop 132 bits)) →
-    put_mid 132 16 (front ++ drop 144 old) back ≡ softened bits
-softened-again bits front old back long whole is-front is-back =
-    let few : length front ≡ 144 = ap length is-front ∙ length-map (take 144 bits) soft_value ∙ length-take-le 144 bits (omega (arith, long)) in
-    let rest : length (drop 144 old) ≡ 4 = length-drop 144 old ∙ ap (λ n. n - 144) whole in
-    let all : length (front ++ drop 144 old) ≡ 148 = length-append front (drop 144 old) ∙ omega (arith, few, rest) in
-    let behind : drop 16 (drop 132 (front ++ drop 144 old)) ≡ [] =
-    drop_all 16 (drop 132 (front ++ drop 144 old)) (omega (arith, all, length-drop 132 (front ++ drop 144 old))) in
-    let sixteen : take 16 (drop 132 bits) ≡ drop 132 bits = take_all 16 (drop 132 bits) (omega (arith, long, length-drop 132 bits)) in
-    ap (λ first. first ++ (back ++ drop 16 (drop 132 (front ++ drop 144 old)))) (take-append-le 132 front (drop 144 old) (omega (arith, few)))
-    ∙ ap (λ last. take 132 front ++ (back ++ last)) behind
-    ∙ ap (λ last. take 132 front ++ last) (append-nil back)
-    ∙ ap (λ first. take 132 first ++ back) is-front
-    ∙ ap (λ first. first ++ back) (take-map soft_value 132 (take 144 bits))
-    ∙ ap (λ first. softened first ++ back) (take-take 132 144 bits (omega arith))
-    ∙ ap (λ last. softened (take 132 bits) ++ last) (is-back ∙ ap softened sixteen)
-    ∙ sym (map-append soft_value (take 132 bits) (drop 132 bits))
-    ∙ ap softened (take-append-drop 132 bits)
+-- sixteen places more are softened
+pub softened-more : (bits : List ℕ) (at : ℕ) (old new : List ℤ) → at + 16 ≤ length bits → at + 16 ≤ length old →
+    take at old ≡ softened (take at bits) → new ≡ softened (take 16 (drop at bits)) →
+    take (at + 16) (put_mid at 16 old new) ≡ softened (take (at + 16) bits)
+softened-more bits at old new within room before more =
+    let few : length new ≡ 16 = ap length more ∙ length-map (take 16 (drop at bits)) soft_value
+    ∙ length-take-le 16 (drop at bits) (omega (arith, length-drop at bits)) in
+    let front : length (take at old) ≡ at = length-take-le at old (omega arith) in
+    let whole : length (take at old ++ new) ≡ at + 16 = length-append (take at old) new ∙ omega (arith, few, front) in
+    ap (take (at + 16)) (sym (append_assoc (take at old) new (drop 16 (drop at old))))
+    ∙ take_at (take at old ++ new) (drop 16 (drop at old)) (at + 16) whole
+    ∙ ap (λ xs. xs ++ new) before
+    ∙ ap (λ xs. softened (take at bits) ++ xs) more
+    ∙ sym (map-append soft_value (take at bits) (take 16 (drop at bits)))
+    ∙ ap softened (sym (take-add at 16 bits))
+
+-- and all places are still there
+pub length-put : (at : ℕ) (old new : List ℤ) → at + 16 ≤ length old → length new ≡ 16 → length (put_mid at 16 old new) ≡ length old
+length-put at old new room few =
+    let rest : length (drop 16 (drop at old)) ≡ length old - at - 16 = length-drop 16 (drop at old) ∙ ap (λ n. n - 16) (length-drop at old) in
+    length-append (take at old) (new ++ drop 16 (drop at old))
+    ∙ omega (arith, length-take-le at old (omega arith), length-append new (drop 16 (drop at old)), few, rest)
+
+-- places softened further than up to here are so up to here
+pub softened-before : (bits : List ℕ) (soft : List ℤ) (m n : ℕ) → m ≤ n → take n soft ≡ softened (take n bits) →
+    take m soft ≡ softened (take m bits)
+softened-before bits soft m n less is =
+    sym (take-take m n soft less) ∙ ap (take m) is ∙ take-map soft_value m (take n bits) ∙ ap softened (take-take m n bits less)
 
 pub AllSoft-range : (values : List ℤ) (i j : ℕ) → AllSoft values → AllSoft (slice_range values i j)
 AllSoft-range values i j soft = All-take IsSoft (j - i) (drop i values) (All-drop IsSoft i values soft)

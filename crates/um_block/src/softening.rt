@@ -1,5 +1,5 @@
 //! Bits as sure soft values.
-ghost use Rattle.std.specs.Prelude.{◌≡◌, map, length, All};
+ghost use Rattle.std.specs.Prelude.{◌≡◌, ◌≤◌, map, take, drop, All};
 ghost use Rattle.bit_blocks.specs.Bits.{AllBits};
 ghost use Rattle.bit_blocks.specs.SoftValues.{AllSoft};
 ghost use Rattle.um_block.specs.Received.{softened};
@@ -26,22 +26,27 @@ pub fn soften_block(block: &[[u8; 148]; 4], soft: &mut [[i8; 148]; 4])
     }
 }
 
-// Sixteen at a time: the last sixteen begin among the others, so that no four are left over.
+// Sixteen at a time, and the last sixteen once more, of which twelve stand there already.
 fn soften_into(burst: &[u8; 148], soft: &mut [i8; 148])
     requires { AllBits burst.now }
     ensures value { soft.new ≡ softened burst.now }
     ensures soft { AllSoft soft.new }
 {
-    soften_each(&burst[..144], &mut soft[..144]);
-    soften_each(&burst[132..], &mut soft[132..]);
+    let mut at = 0;
+    while at < 132 {
+        soft[at..at + 16].copy_from_slice(&soften_sixteen(burst, at));
+        at += 16;
+    }
+    soft[132..].copy_from_slice(&soften_sixteen(burst, 132));
 }
 
-fn soften_each(bits: &[u8], soft: &mut [i8])
-    requires many { length soft.old ≡ length bits.now }
-    requires bits { AllBits bits.now }
-    ensures { soft.new ≡ softened bits.now }
+fn soften_sixteen(burst: &[u8; 148], at: usize) -> [i8; 16]
+    requires { at ≤ 132 }
+    ensures { result ≡ softened (take 16 (drop at burst.now)) }
 {
-    for (i, bit) in bits.iter().enumerate() {
-        soft[i] = if *bit == 0 { 127 } else { -127 };
+    let mut soft = [0; 16];
+    for i in 0..16 {
+        soft[i] = if burst[at + i] == 0 { 127 } else { -127 };
     }
+    soft
 }

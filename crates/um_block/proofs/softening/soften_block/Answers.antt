@@ -1,4 +1,4 @@
-use Rattle.std.proofs.Common.{◌<◌, length, [], sym, subst, ◌∙◌, ap, map, arith}
+use Rattle.std.proofs.Common.{◌<◌, length, [], sym, subst, ◌∙◌, arith}
 use Rattle.std.specs.List.{All}
 use Rattle.std.proofs.lemmas.List.{ext_get_or, get_or-map, length-map}
 use Rattle.bit_blocks.specs.SoftValues.{AllSoft}

@@ -1,12 +1,43 @@
-use Rattle.std.proofs.Common.{sym, subst}
+use Rattle.std.proofs.Common.{◌≡◌, ◌+◌, ◌-◌, ◌≤◌, length, take, drop, ap, sym, subst, ◌∙◌, arith}
+use Rattle.std.proofs.lemmas.List.{length-map, length-take-le, length-drop, take_all}
+use borrow.Rule.Slice.PartMut.{put_mid}
 use Rattle.bit_blocks.specs.SoftValues.{AllSoft}
-use Rattle.um_block.proofs.Softness.{AllSoft-softened, softened-again}
+use Rattle.um_block.specs.Received.{soft_value, softened}
+use Rattle.um_block.proofs.Softness.{AllSoft-softened, softened-more, softened-before, length-put}
 use Rattle.um_block.proofs.softening.soften_into.Goals as goal
+
+pub loop-at-preserved : goal.loop-at-preserved
+loop-at-preserved c =
+    let at = c.loop-at.at in
+    let soft = c.loop-at.soft in
+    let sixteen = c.copy_from_slice.new.self in
+    let more : sixteen ≡ softened (take 16 (drop at c.args.burst.now)) = c.copy_from_slice.ensures.after ∙ c.soften_sixteen.ensures in
+    let few : length sixteen ≡ 16 = ap length more ∙ length-map (take 16 (drop at c.args.burst.now)) soft_value
+    ∙ length-take-le 16 (drop at c.args.burst.now) (omega (arith, length-drop at c.args.burst.now, c.told-burst)) in
+    let width : at + 16 - at ≡ 16 = omega arith in
+    let room : at + 16 ≤ length soft = omega (arith, c.loop-at.invariant.0) in
+    let within : at + 16 ≤ length c.args.burst.now = omega (arith, c.told-burst) in (
+      ap (λ n. length (put_mid at n soft sixteen)) width ∙ length-put at soft sixteen room few ∙ c.loop-at.invariant.0,
+      ap (λ n. take (at + 16) (put_mid at n soft sixteen)) width
+          ∙ softened-more c.args.burst.now at soft sixteen within room c.loop-at.invariant.1 more,
+      omega (arith, c.loop-at.invariant.3),
+      grind (arith, c.loop-at.invariant.3),
+    )
 
 pub returns-clause-value : goal.returns-clause-value
 returns-clause-value c =
-    softened-again c.args.burst.now c.soften_each.new.soft c.args.soft.now c.soften_each-2.new.soft c.told-burst c.told-soft
-    c.soften_each.ensures c.soften_each-2.ensures
+    let burst = c.args.burst.now in
+    let soft = c.loop-at.soft in
+    let sixteen = c.copy_from_slice-2.new.self in
+    let more : sixteen ≡ softened (take 16 (drop 132 burst)) = c.copy_from_slice-2.ensures.after ∙ c.soften_sixteen-2.ensures in
+    let few : length sixteen ≡ 16 = ap length more ∙ length-map (take 16 (drop 132 burst)) soft_value
+    ∙ length-take-le 16 (drop 132 burst) (omega (arith, length-drop 132 burst, c.told-burst)) in
+    let room : 148 ≤ length soft = omega (arith, c.loop-at.invariant.0) in
+    let long : length (put_mid 132 16 soft sixteen) ≤ 148 = omega (arith, length-put 132 soft sixteen room few, c.loop-at.invariant.0) in
+    let front = softened-before burst soft 132 c.loop-at.at (omega arith) c.loop-at.invariant.1 in
+    sym (take_all 148 (put_mid 132 16 soft sixteen) long)
+    ∙ softened-more burst 132 soft sixteen (omega (arith, c.told-burst)) room front more
+    ∙ ap softened (take_all 148 burst (omega (arith, c.told-burst)))
 
 pub returns-clause-soft : goal.returns-clause-soft
 returns-clause-soft c = subst AllSoft (sym (returns-clause-value c)) (AllSoft-softened c.args.burst.now)
