@@ -1,4 +1,5 @@
 mod AcceptedOctets
+mod BlockOctets
 mod BlockPlaces
 mod CleanBursts
 mod CleanCodewords

@@ -1,15 +1,18 @@
 //! Sending: parity, the tail, the convolutional code, interleaving and the burst (GSM 05.03, today 3GPP TS 45.003).
-ghost use Rattle.std.specs.Prelude.{◌≡◌, ℕ, ◌+◌, ◌<◌, ◌≤◌, ◌++◌, List, [], length, take, drop, slice_index_or, All};
+ghost use Rattle.std.specs.Prelude.{◌≡◌, ℕ, ◌+◌, ◌<◌, ◌≤◌, ◌++◌, List, [], length, replicate, take, drop, slice_index_or, All};
 ghost use Rattle.bit_blocks.specs.Bits.{AllBits};
+ghost use Rattle.bit_blocks.specs.Octets.{bits_of};
 ghost use Rattle.burst_map.specs.NormalBurst.{normal_burst};
+ghost use Rattle.fire_code.specs.Words.{IsXcchWord};
 ghost use Rattle.interleave.specs.Bursts.{IsInterleaved};
+ghost use Rattle.interleave.specs.Columns.{AreColumns};
 ghost use Rattle.um_block.specs.Sent.{with_tail, IsCodedBlock, IsSentBlock, IsSentAccess, IsSentSync};
 
-use bit_blocks::{Bits, from_octets};
-use burst_map::{NormalParts, access, sync};
-use conv_code::encode;
-use fire_code::{rach_parity, sch_parity, xcch_parity};
-use interleave::spread_burst;
+use bit_blocks::Bits;
+use burst_map::{access, normal, sync};
+use conv_code::{encode, encode_octets};
+use fire_code::{rach_parity, sch_parity, xcch_parity_of_octets};
+use interleave::Columns;
 
 /// The four normal bursts of a block of 23 octets, with a training sequence 0 to 7.
 pub fn send_block(octets: &[u8; 23], tsc: u8) -> [[u8; 148]; 4]
@@ -18,39 +21,42 @@ pub fn send_block(octets: &[u8; 23], tsc: u8) -> [[u8; 148]; 4]
     ensures only { (other : List (List ℕ)) → IsSentBlock octets.now tsc other → other ≡ result }
     ensures bits { All AllBits result }
 {
-    let coded = code_block(octets);
-    let mut bursts = [[0; 148]; 4];
-    for b in 0..4 {
-        write_burst(&coded, b, tsc, &mut bursts[b]);
-    }
-    bursts
+    let columns = code_block(octets);
+    [
+        send_burst(&columns, 0, tsc),
+        send_burst(&columns, 1, tsc),
+        send_burst(&columns, 2, tsc),
+        send_burst(&columns, 3, tsc),
+    ]
 }
 
-/// The 456 coded bits of 23 octets.
-fn code_block(octets: &[u8; 23]) -> [u8; 456]
-    ensures coded { IsCodedBlock octets.now result }
-    ensures bits { AllBits result }
+/// The 456 coded bits of 23 octets, in columns.
+fn code_block(octets: &[u8; 23]) -> Columns
+    ensures { (coded : List ℕ) × IsCodedBlock octets.now coded × AreColumns coded result.octets }
 {
-    let mut bits = [0; 184];
-    from_octets(octets, &mut bits);
-    let info = Bits::from_array(bits);
-    let mut word = [0; 228];
-    add_tail(info.as_slice(), xcch_parity(&info).as_slice(), &mut word);
-    let mut coded = [0; 456];
-    encode(&word, &mut coded);
-    coded
+    Columns::new(&encode_octets(&with_parity(octets)))
 }
 
-/// Writes burst `b` of a block's coded bits, each half in its place.
-fn write_burst(coded: &[u8; 456], b: usize, tsc: u8, burst: &mut [u8; 148])
+/// The octets of a block, their parity, and zeros.
+fn with_parity(octets: &[u8; 23]) -> [u8; 32]
+    ensures { (parity : List ℕ) × IsXcchWord (bits_of octets.now ++ bits_of parity) × (result ≡ octets.now ++ parity ++ replicate 4 0) }
+{
+    let mut word = [0; 32];
+    word[..23].copy_from_slice(octets);
+    word[23..28].copy_from_slice(&xcch_parity_of_octets(octets));
+    word
+}
+
+/// Burst `b` of a block's coded bits.
+fn send_burst(columns: &Columns, b: usize, tsc: u8) -> [u8; 148]
     requires which { b < 4 }
     requires known { tsc ≤ 7 }
-    ensures { (parts : List (List ℕ)) → IsInterleaved coded.now parts →
-        burst.new ≡ normal_burst (take 57 (slice_index_or parts b [])) (drop 57 (slice_index_or parts b [])) tsc }
+    ensures { (coded : List ℕ) (parts : List (List ℕ)) → AreColumns coded columns.now.octets → IsInterleaved coded parts →
+        result ≡ normal_burst (take 57 (slice_index_or parts b [])) (drop 57 (slice_index_or parts b [])) tsc }
 {
-    let mut parts = NormalParts::new(burst, tsc);
-    spread_burst(coded, b, 0, parts.first_mut());
-    spread_burst(coded, b, 1, parts.second_mut());
+    let part = columns.burst(b);
+    let (first, second) = part[..114].split_at(57);
+    normal(first, second, tsc)
 }
 
 /// The access burst of eight bits of information under the six bits of a base station's colour

@@ -1,45 +1,29 @@
-use Rattle.std.proofs.Common.{◌≡◌, ◌≢◌, ◌<◌, ℕ, List, [], length, map, take, drop, refl, sym, subst, ◌∙◌, arith, below_more, get_or-set_other, get_or-set_same}
-use Rattle.std.proofs.lemmas.List.{get_or-map, get_or_default, length-map, length-set, same_lists}
+use Rattle.std.proofs.Common.{[], List, ℕ, map, take, drop, sym, ap, ◌∙◌}
 use Rattle.interleave.proofs.Lemmas.{some_spread}
 use Rattle.burst_map.specs.NormalBurst.{normal_burst}
 use Rattle.um_block.proofs.SentOnce.{one_sent_block}
 use Rattle.um_block.proofs.SentShapes.{sent_block_bits}
+use Rattle.um_block.proofs.SpreadParts.{four, same_four}
 use Rattle.um_block.proofs.Words.{coded_block_bits}
 use Rattle.um_block.proofs.sending.send_block.Goals as goal
 
-pub loop-b-init : goal.loop-b-init
-loop-b-init c = (refl, λ parts whole i h. absurd (omega arith))
-
-pub loop-b-preserved : goal.loop-b-preserved
-loop-b-preserved c = (
-  simp length-set c.loop-b.invariant.0,
-  λ parts whole.
-      let here : c.loop-b.b < length c.loop-b.bursts = omega arith in
-      below_more _ _
-      (λ i h. let ne : i ≢ c.loop-b.b = omega arith in rw get_or-set_other (c.loop-b.invariant.1 parts whole i h))
-      (rw get_or-set_same (c.write_burst.ensures parts whole)),
-)
-
 pub returns-clause-sent : goal.returns-clause-sent
 returns-clause-sent c =
-    let bursts = c.loop-b.bursts in
+    let block = c.code_block-columns.ensures in
+    let coded = block.0 in
     let burst : List ℕ → List ℕ = λ part. normal_burst (take 57 part) (drop 57 part) c.args.tsc in
-    let spread = some_spread c.code_block-coded.result (coded_block_bits _ _ c.code_block-coded.ensures.coded).many in
-    let four : length bursts ≡ length (map burst spread.0) =
-    c.loop-b.invariant.0 ∙ sym (length-map spread.0 burst ∙ spread.1.burst_count) in
+    let spread = some_spread coded (coded_block_bits _ _ block.1).many in
+    let parts = spread.0 in
     record {
-      coded_bits = c.code_block-coded.result;
-      parts = spread.0;
+      coded_bits = coded;
+      parts = parts;
       known = c.requires;
-      code = c.code_block-coded.ensures.coded;
+      code = block.1;
       spread = spread.1;
-      layout = same_lists bursts (map burst spread.0) four
-          (λ i d h.
-          let written : i < c.loop-b.b = omega arith in
-          let within : i < length spread.0 = subst (λ n. i < n) (four ∙ length-map spread.0 burst) h in
-          get_or_default bursts i d [] h
-          ∙ c.loop-b.invariant.1 spread.0 spread.1 i written
-          ∙ sym (get_or-map burst spread.0 i [] d within));
+      layout = same_four _ _ _ _ _ _ _ _
+          (c.send_burst.ensures coded parts block.2 spread.1) (c.send_burst-2.ensures coded parts block.2 spread.1)
+          (c.send_burst-3.ensures coded parts block.2 spread.1) (c.send_burst-4.ensures coded parts block.2 spread.1)
+          ∙ sym (ap (map burst) (four parts [] spread.1.burst_count));
     }
 
 pub returns-clause-only : goal.returns-clause-only
