@@ -3,6 +3,8 @@ mod BurstPlaces
 mod CodedBits
 mod Existence
 mod HalfBursts
+mod InColumns
+mod JoinedLanes
 pub mod Lemmas
 mod Orders
 mod Rows

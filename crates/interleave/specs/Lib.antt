@@ -1,3 +1,4 @@
 pub mod Bursts
+pub mod Columns
 pub mod Halves
 pub mod Places

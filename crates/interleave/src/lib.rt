@@ -2,6 +2,7 @@
 //! 45.003): coded bit k goes to burst k mod 4, and there to place 2(49k mod 57) + (k mod 8) / 4.
 #![tactic(auto)]
 
+mod columns;
 mod gathering;
 mod laws;
 mod spreading;
