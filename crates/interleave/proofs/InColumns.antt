@@ -1,6 +1,6 @@
 -- Each coded bit stands in one column.
 use Rattle.std.proofs.Common.{◌≡◌, ℕ, ◌*◌, ◌/◌, ◌%◌, ◌<◌, arith}
-use Rattle.interleave.specs.Columns.{column_bit, column_place}
+use Rattle.interleave.specs.ColumnPlaces.{column_bit, column_place}
 use Rattle.interleave.specs.Places.{burst_of, place_of}
 
 -- coded bit k is bit r of column q

@@ -1,4 +1,4 @@
 pub mod Bursts
-pub mod Columns
+pub mod ColumnPlaces
 pub mod Halves
 pub mod Places

@@ -2,10 +2,10 @@
 ghost use Rattle.std.specs.Prelude.{◌≡◌, ◌≢◌, ℕ, ℤ, pos, ◌+◌, ◌*◌, ◌/◌, ◌%◌, ◌^◌, ◌<◌, ◌≤◌, ◌++◌, List, [], map, length, slice_index, slice_index_or};
 ghost use Rattle.std.specs.Int.{cast_signed, w8};
 ghost use Rattle.interleave.specs.Bursts.{IsInterleaved, IsGathered};
-ghost use Rattle.interleave.specs.Columns.{column_bit, column_place};
+ghost use Rattle.interleave.specs.ColumnPlaces.{column_bit, column_place};
 ghost use Rattle.interleave.specs.Places.{burst_of, place_of};
 
-use crate::columns::eight_columns;
+use crate::joining::eight_columns;
 use crate::table::coded_bits;
 
 /// The soft values of a block's coded bits, from those of its four bursts.

@@ -2,8 +2,8 @@
 //! 45.003): coded bit k goes to burst k mod 4, and there to place 2(49k mod 57) + (k mod 8) / 4.
 #![tactic(auto)]
 
-mod columns;
 mod gathering;
+mod joining;
 mod laws;
 mod spreading;
 mod table;

@@ -3,7 +3,7 @@ use Rattle.std.specs.Int.{cast_signed}
 use Rattle.std.proofs.Math.ListN.{get_or-map}
 use Rattle.std.proofs.lemmas.Bool.{cases_lt}
 use Rattle.std.proofs.lemmas.List.{get_or_default}
-use Rattle.interleave.specs.Columns.{column_bit, column_place}
+use Rattle.interleave.specs.ColumnPlaces.{column_bit, column_place}
 use Rattle.interleave.specs.Places.{burst_of, place_of}
 use Rattle.interleave.proofs.Bijection.{same_coded}
 use Rattle.interleave.proofs.InColumns.{in_column}

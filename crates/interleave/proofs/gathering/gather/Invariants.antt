@@ -1,6 +1,6 @@
 use Rattle.std.proofs.Common.{◌≡◌, ℕ, ◌*◌, ◌%◌, ◌<◌, [], length, get_or, pos, w8}
 use Rattle.std.specs.Int.{cast_signed}
-use Rattle.interleave.specs.Columns.{column_bit, column_place}
+use Rattle.interleave.specs.ColumnPlaces.{column_bit, column_place}
 use Rattle.interleave.proofs.gathering.gather.Given as goal
 
 -- the columns so far have their values

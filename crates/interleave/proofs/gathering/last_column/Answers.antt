@@ -1,5 +1,5 @@
 use Rattle.std.proofs.Common.{zero, suc, refl, arith}
-use Rattle.interleave.specs.Columns.{column_place}
+use Rattle.interleave.specs.ColumnPlaces.{column_place}
 use Rattle.interleave.proofs.gathering.last_column.Goals as goal
 
 pub returns : goal.returns

@@ -1,6 +1,6 @@
 use Rattle.std.proofs.Common.{inl, inr, ◌+◌, ◌*◌, ◌%◌, arith}
 use Rattle.std.proofs.lemmas.Bool.{cases_lt}
-use Rattle.interleave.specs.Columns.{column_bit}
+use Rattle.interleave.specs.ColumnPlaces.{column_bit}
 use Rattle.interleave.proofs.gathering.write_column.Goals as goal
 
 pub returns-clause-own : goal.returns-clause-own

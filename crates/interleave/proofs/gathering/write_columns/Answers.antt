@@ -1,6 +1,6 @@
 use Rattle.std.proofs.Common.{◌≡◌, ℕ, zero, suc, ◌+◌, ◌*◌, ◌/◌, ◌%◌, ◌^◌, ◌<◌, get_or, pos, refl, ap, ◌∙◌, arith, below_more, w8, w64}
 use Rattle.std.specs.Int.{cast_signed, to_le_bytes}
-use Rattle.interleave.specs.Columns.{column_bit}
+use Rattle.interleave.specs.ColumnPlaces.{column_bit}
 use Rattle.interleave.proofs.gathering.write_columns.Goals as goal
 
 octet_at : (n r : ℕ) → r < 8 → get_or (to_le_bytes w64 n) r 0 ≡ n / 256 ^ r % 256

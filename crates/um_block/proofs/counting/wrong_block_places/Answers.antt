@@ -1,7 +1,6 @@
 use Rattle.std.proofs.Common.{map, ap, subst, sym, ◌∙◌}
 use Rattle.bit_blocks.specs.Bits.{AllBits}
 use Rattle.bit_blocks.specs.SoftValues.{wrong_places}
-use Rattle.conv_code.specs.Code.{coded}
 use Rattle.conv_code.proofs.Lemmas.{AllBits-coded}
 use Rattle.interleave.proofs.Lemmas.{same_coded}
 use Rattle.um_block.specs.Received.{coded_places}

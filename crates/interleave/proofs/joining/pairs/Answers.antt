@@ -1,6 +1,6 @@
 use Rattle.std.proofs.Common.{◌≡◌, suc, ◌+◌, ◌*◌, ◌<◌, get_or, ap, ◌∙◌, arith}
 use Rattle.interleave.proofs.JoinedLanes.{pair_lane}
-use Rattle.interleave.proofs.columns.pairs.Goals as goal
+use Rattle.interleave.proofs.joining.pairs.Goals as goal
 
 pub returns-clause-even : goal.returns-clause-even
 returns-clause-even c s h =

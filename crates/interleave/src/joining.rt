@@ -2,7 +2,7 @@
 //! from eight places on are turned round, as octets are joined to pairs, pairs to fours, and fours to the eight octets of a
 //! column.
 ghost use Rattle.std.specs.Prelude.{◌≡◌, ℕ, ◌+◌, ◌*◌, ◌/◌, ◌%◌, ◌^◌, ◌<◌, ◌≤◌, [], length, slice_index, slice_index_or};
-ghost use Rattle.interleave.specs.Columns.{column_place};
+ghost use Rattle.interleave.specs.ColumnPlaces.{column_place};
 
 use std::simd::prelude::*;
 

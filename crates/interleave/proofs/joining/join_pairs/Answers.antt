@@ -1,6 +1,6 @@
 use Rattle.std.proofs.Common.{zero, suc, ◌^◌, [], ◌∷◌, refl, arith, w16}
 use Rattle.interleave.proofs.JoinedLanes.{turned_lane}
-use Rattle.interleave.proofs.columns.join_pairs.Goals as goal
+use Rattle.interleave.proofs.joining.join_pairs.Goals as goal
 
 pub returns-clause-first : goal.returns-clause-first
 returns-clause-first c zero h = turned_lane w16 (2 ^ 32) 4 8 c.args.x c.args.y (0 ∷ 8 ∷ 1 ∷ 9 ∷ 2 ∷ 10 ∷ 3 ∷ 11 ∷ []) 0 0 refl refl c.requires.x c.fits-x.1 c.fits-y.1 (omega arith) (omega arith) (omega arith) refl refl

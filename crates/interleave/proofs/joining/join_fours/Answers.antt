@@ -1,6 +1,6 @@
 use Rattle.std.proofs.Common.{zero, suc, ◌^◌, [], ◌∷◌, refl, arith, w32}
 use Rattle.interleave.proofs.JoinedLanes.{turned_lane}
-use Rattle.interleave.proofs.columns.join_fours.Goals as goal
+use Rattle.interleave.proofs.joining.join_fours.Goals as goal
 
 pub returns : goal.returns
 returns c zero h = turned_lane w32 (2 ^ 64) 2 4 c.args.x c.args.y (0 ∷ 4 ∷ 1 ∷ 5 ∷ []) 0 0 refl refl c.requires.x c.fits-x.1 c.fits-y.1 (omega arith) (omega arith) (omega arith) refl refl

@@ -1,8 +1,8 @@
 use Rattle.std.proofs.Common.{◌≡◌, ℕ, zero, suc, ◌+◌, ◌*◌, ◌/◌, ◌%◌, ◌^◌, ◌<◌, List, [], ◌∷◌, get_or, ap, ap₂, ◌∙◌, arith}
-use Rattle.interleave.specs.Columns.{column_place}
+use Rattle.interleave.specs.ColumnPlaces.{column_place}
 use Rattle.interleave.proofs.JoinedLanes.{below_at, joined_octet}
-use Rattle.interleave.proofs.columns.eight_columns.Goals as goal
-use Rattle.interleave.proofs.columns.eight_columns.Goals.{After-join_fours-2}
+use Rattle.interleave.proofs.joining.eight_columns.Goals as goal
+use Rattle.interleave.proofs.joining.eight_columns.Goals.{After-join_fours-2}
 
 -- the octets of column s, bit 0 first
 octets : After-join_fours-2 → ℕ → List ℕ
