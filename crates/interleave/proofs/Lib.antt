@@ -4,6 +4,8 @@ mod CodedBits
 mod ColumnBits
 mod Existence
 mod HalfBursts
+mod InColumns
+mod JoinedLanes
 mod Orders
 mod Rows
 mod WholeBursts
