@@ -33,6 +33,13 @@ chosen_from rows state zero within = refl
 chosen_from [] state (suc place) within = absurd (omega arith)
 chosen_from (row ∷ rows) state (suc place) within = chosen_from rows (next state (row / 2 ^ state % 2)) place (omega arith)
 
+-- a bit of what the rows choose
+pub chosen_bit : (rows : List ℕ) (state k : ℕ) → k < length rows →
+    get_or (read_out rows state) k 0 ≡ get_or rows k 0 / 2 ^ reached state (take k (read_out rows state)) % 2
+chosen_bit [] state k within = absurd (omega arith)
+chosen_bit (row ∷ rows) state zero within = refl
+chosen_bit (row ∷ rows) state (suc k) within = chosen_bit rows (next state (row / 2 ^ state % 2)) k (omega arith)
+
 pub chosen_behind : (rows u : List ℕ) (place state : ℕ) → u ≡ read_out rows 0 → place < length rows → length rows ≡ length u →
     state ≡ reached 0 (take place u) → drop (place + 1) u ≡ read_out (drop (place + 1) rows) (next state (get_or u place 0))
 chosen_behind rows u place state is within count at =

@@ -6,6 +6,8 @@ ghost use Rattle.bit_blocks.specs.Bits.{AllBits};
 ghost use Rattle.list_decode.specs.Detours.{IsLeastLoss, reached};
 ghost use Rattle.trellis_decode.specs.Trellis.{next, read_out};
 
+use trellis_decode::read_list;
+
 /// A place at which a list is left, the state that finds it, and what is lost by that.
 #[derive(Clone, Copy)]
 pub(crate) struct Leave {
@@ -13,22 +15,23 @@ pub(crate) struct Leave {
     pub(crate) state: usize,
     pub(crate) loss: i32,
     /// A later place is better where it loses less than this: as much counts as less where the list has a 0 here.
-    pub(crate) limit: i64,
+    pub(crate) limit: i32,
 }
 
 impl Leave {
-    fn new(place: usize, state: usize, loss: i32, bit: u8) -> Leave
+    fn new(place: usize, state: usize, loss: i16, bit: u8) -> Leave
         requires { bit ≤ 1 }
         ensures place { result.place ≡ place }
         ensures state { result.state ≡ state }
         ensures loss { result.loss ≡ loss }
         ensures limit { result.limit ≡ loss +ℤ pos 1 -ℤ pos bit }
     {
+        let loss = i32::from(loss);
         Leave {
             place,
             state,
             loss,
-            limit: i64::from(loss) + 1 - i64::from(bit),
+            limit: loss + 1 - i32::from(bit),
         }
     }
 
@@ -37,29 +40,35 @@ impl Leave {
         ensures after { result ≡ true → loss <ℤ self.now.limit }
         ensures not_after { result ≡ false → self.now.limit ≤ℤ loss }
     {
-        i64::from(loss) < self.limit
+        loss < self.limit
     }
 }
 
-/// Where the least is lost by the other bit; of equal places that whose list comes first in the order of words.
-pub(crate) fn least_loss(u: &[u8], losses: &[[i32; 16]]) -> Leave
-    requires bits { AllBits u.now }
-    requires at_least { 5 ≤ length u.now }
-    requires at_most { length u.now ≤ 228 }
-    requires same { length losses.now ≡ length u.now }
-    ensures least { IsLeastLoss u.now losses.now (length u.now - 4) result.place result.loss }
-    ensures state { result.state ≡ reached 0 (take result.place u.now) }
-    ensures within { result.place + 4 < length u.now }
+/// Reads out what the rows choose from the first state on, and finds where the least is lost by the other bit; of equal
+/// places that whose list comes first in the order of words.
+pub(crate) fn read_least(rows: &[u16], losses: &[[i16; 16]], u: &mut [u8]) -> Leave
+    requires rows { length rows.now ≡ length u.old }
+    requires same { length losses.now ≡ length u.old }
+    requires at_least { 5 ≤ length u.old }
+    requires at_most { length u.old ≤ 228 }
+    ensures list { u.new ≡ read_out rows.now 0 }
+    ensures least { IsLeastLoss u.new losses.now (length u.new - 4) result.place result.loss }
+    ensures state { result.state ≡ reached 0 (take result.place u.new) }
+    ensures within { result.place + 4 < length u.new }
 {
-    let mut best = Leave::new(0, 0, losses[0][0], u[0]);
+    let free = u.len() - 4;
+    let mut best = Leave::new(0, 0, losses[0][0], (rows[0] & 1) as u8);
     let mut state = 0;
-    for k in 0..u.len() - 4 {
+    for k in 0..free {
+        let bit = ((rows[k] >> state) & 1) as u8;
         let loss = losses[k][state];
-        if best.comes_after(loss) {
-            best = Leave::new(k, state, loss, u[k]);
+        if best.comes_after(i32::from(loss)) {
+            best = Leave::new(k, state, loss, bit);
         }
-        state = (2 * state + usize::from(u[k])) % 16;
+        u[k] = bit;
+        state = (2 * state + usize::from(bit)) % 16;
     }
+    read_list(&rows[free..], state as u16, &mut u[free..]);
     best
 }
 

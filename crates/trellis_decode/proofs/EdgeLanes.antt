@@ -1,10 +1,9 @@
 -- What the bits count in the sixteen states, as four numbers of a place.
-use Rattle.std.proofs.Common.{◌≡◌, ℕ, zero, suc, ◌+◌, ◌<◌, ℤ, pos, negsuc, ◌+ℤ◌, ◌-ℤ◌, ◌*ℤ◌, ◌≤ℤ◌, List, [], ◌∷◌, length, refl, ap, sym, ◌∙◌, subst, arith, below_more}
+use Rattle.std.proofs.Common.{◌≡◌, ℕ, zero, suc, ◌+◌, ◌<◌, ℤ, pos, negsuc, ◌+ℤ◌, ◌-ℤ◌, ◌*ℤ◌, List, [], ◌∷◌, length, refl, ap, sym, ◌∙◌, arith, below_more}
 use Rattle.std.proofs.Math.IntN.{one, neg_ℤ, *ℤ-one, *ℤ-negsuc}
 use Rattle.std.proofs.lemmas.Int.{ints}
-use Rattle.std.proofs.lemmas.List.Elements.{All-nil, All-cons}
 use Rattle.conv_code.specs.Likelihood.{agreement}
-use Rattle.trellis_decode.specs.Lanes.{lane, AreModest, IsOctet, AreOctets}
+use Rattle.trellis_decode.specs.Lanes.{lane}
 use Rattle.trellis_decode.specs.Trellis.{edge}
 
 -- P holds below n, one by one
@@ -63,49 +62,3 @@ module _ (pair : List ℤ) (count : length pair ≡ 2) (a b c d : ℤ)
   one_edges s lt = each (λ s. lane one_lanes s ≡ edge s 1 (lane pair 0 ∷ lane pair 1 ∷ [])) 16
       ((((((((((((((((tt, oo), oz), oo), oz), zz), zo), zz), zo), zz), zo), zz), zo), oo), oz), oo), oz) s lt
       ∙ ap (edge s 1) (sym (pair_is pair count))
-
-  module _ (lp : negsuc 127 ≤ℤ lane pair 0) (hp : lane pair 0 ≤ℤ pos 127) (lq : negsuc 127 ≤ℤ lane pair 1) (hq : lane pair 1 ≤ℤ pos 127) where
-    pub pair_octets : AreOctets pair
-    pair_octets = subst AreOctets (sym (pair_is pair count)) (All-cons IsOctet (lane pair 0) (lane pair 1 ∷ []) (lp, hp) (All-cons IsOctet (lane pair 1) [] (lq, hq) (All-nil IsOctet)))
-
-    low_a : negsuc 65535 ≤ℤ a
-    low_a = omega (arith, ints)
-
-    low_b : negsuc 65535 ≤ℤ b
-    low_b = omega (arith, ints)
-
-    low_c : negsuc 65535 ≤ℤ c
-    low_c = omega (arith, ints)
-
-    low_d : negsuc 65535 ≤ℤ d
-    low_d = omega (arith, ints)
-
-    high_a : a ≤ℤ pos 65536
-    high_a = omega (arith, ints)
-
-    high_b : b ≤ℤ pos 65536
-    high_b = omega (arith, ints)
-
-    high_c : c ≤ℤ pos 65536
-    high_c = omega (arith, ints)
-
-    high_d : d ≤ℤ pos 65536
-    high_d = omega (arith, ints)
-
-    pub zero_modest : AreModest zero_lanes
-    zero_modest = record {
-      count = refl;
-      low = each (λ s. negsuc 65535 ≤ℤ lane zero_lanes s) 16
-          ((((((((((((((((tt, low_a), low_b), low_a), low_b), low_c), low_d), low_c), low_d), low_c), low_d), low_c), low_d), low_a), low_b), low_a), low_b);
-      high = each (λ s. lane zero_lanes s ≤ℤ pos 65536) 16
-          ((((((((((((((((tt, high_a), high_b), high_a), high_b), high_c), high_d), high_c), high_d), high_c), high_d), high_c), high_d), high_a), high_b), high_a), high_b);
-    }
-
-    pub one_modest : AreModest one_lanes
-    one_modest = record {
-      count = refl;
-      low = each (λ s. negsuc 65535 ≤ℤ lane one_lanes s) 16
-          ((((((((((((((((tt, low_c), low_d), low_c), low_d), low_a), low_b), low_a), low_b), low_a), low_b), low_a), low_b), low_c), low_d), low_c), low_d);
-      high = each (λ s. lane one_lanes s ≤ℤ pos 65536) 16
-          ((((((((((((((((tt, high_c), high_d), high_c), high_d), high_a), high_b), high_a), high_b), high_a), high_b), high_a), high_b), high_c), high_d), high_c), high_d);
-    }

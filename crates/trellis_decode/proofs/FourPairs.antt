@@ -253,6 +253,19 @@ four_pairs (a ∷ b ∷ c ∷ d ∷ e ∷ f ∷ g ∷ []) count = absurd (omega 
 four_pairs (a ∷ b ∷ c ∷ d ∷ e ∷ f ∷ g ∷ h ∷ []) count = refl
 four_pairs (a ∷ b ∷ c ∷ d ∷ e ∷ f ∷ g ∷ h ∷ i ∷ soft) count = absurd (omega arith)
 
+pub four_and_rest : (soft rest : List ℤ) → length soft ≡ 8 →
+    pair_at soft 0 ++ (pair_at soft 2 ++ (pair_at soft 4 ++ (pair_at soft 6 ++ rest))) ≡ soft ++ rest
+four_and_rest [] rest count = absurd (omega arith)
+four_and_rest (a ∷ []) rest count = absurd (omega arith)
+four_and_rest (a ∷ b ∷ []) rest count = absurd (omega arith)
+four_and_rest (a ∷ b ∷ c ∷ []) rest count = absurd (omega arith)
+four_and_rest (a ∷ b ∷ c ∷ d ∷ []) rest count = absurd (omega arith)
+four_and_rest (a ∷ b ∷ c ∷ d ∷ e ∷ []) rest count = absurd (omega arith)
+four_and_rest (a ∷ b ∷ c ∷ d ∷ e ∷ f ∷ []) rest count = absurd (omega arith)
+four_and_rest (a ∷ b ∷ c ∷ d ∷ e ∷ f ∷ g ∷ []) rest count = absurd (omega arith)
+four_and_rest (a ∷ b ∷ c ∷ d ∷ e ∷ f ∷ g ∷ h ∷ []) rest count = refl
+four_and_rest (a ∷ b ∷ c ∷ d ∷ e ∷ f ∷ g ∷ h ∷ i ∷ soft) rest count = absurd (omega arith)
+
 pub AreOctets-pair : (soft : List ℤ) (i : ℕ) → AreOctets soft → AreOctets (pair_at soft i)
 AreOctets-pair soft i octets = All-take IsOctet 2 (drop i soft) (All-drop IsOctet i soft octets)
 

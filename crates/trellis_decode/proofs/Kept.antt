@@ -1,12 +1,19 @@
--- What a pass backward keeps, one place more at a time, and the lists that leave the best list of a state.
-use Rattle.std.proofs.Common.{◌≡◌, ℕ, zero, suc, ◌+◌, ◌-◌, ◌*◌, ◌/◌, ◌%◌, ◌^◌, ◌<◌, ◌≤◌, ℤ, ◌-ℤ◌, List, [], ◌∷◌, ◌++◌, length, take, drop, replicate, refl, ap, ap₂, sym, ◌∙◌, subst, arith}
+-- What a pass backward keeps, one place more at a time, and how far apart the states are.
+use Rattle.std.proofs.Common.{◌≡◌, ℕ, zero, suc, ◌+◌, ◌-◌, ◌*◌, ◌/◌, ◌%◌, ◌^◌, ◌<◌, ◌≤◌, ℤ, pos, negsuc, ◌+ℤ◌, ◌-ℤ◌, ◌≤ℤ◌, List, [], ◌∷◌, ◌++◌, length, take, drop, replicate, refl, ap, ap₂, sym, ◌∙◌, subst, arith, lit≤}
 use Rattle.std.proofs.Math.ListN.{set}
-use Rattle.std.proofs.lemmas.List.{drop-drop, drop-set, length-drop}
-use Rattle.std.proofs.lemmas.List.Elements.{All-tail}
+use Rattle.std.proofs.lemmas.Int.{ints}
+use Rattle.std.proofs.lemmas.List.{append-nil, drop_all, drop_at, drop-set, length-set, length-append, take-append-drop, length-take, length-drop}
+use Rattle.std.proofs.lemmas.List.Elements.{All-tail, All-take, All-drop, All-append}
 use Rattle.std.specs.List.{All}
-use Rattle.trellis_decode.specs.Lanes.{lane}
-use Rattle.trellis_decode.specs.Trellis.{next, gain, Ends, Loses, Later, read_out, IsBest, IsKept, way, Chooses}
-use Rattle.trellis_decode.proofs.Paths.{IsBest-more, IsNotAfter-refl, read_out-zeros, length-read_out, length-pair, pair_and_rest, way_reached}
+use borrow.Rule.Slice.PartMut.{put_mid}
+use Rattle.trellis_decode.specs.Kept.{Keeps}
+use Rattle.trellis_decode.specs.Lanes.{lane, IsOctet, AreOctets}
+use Rattle.trellis_decode.specs.Trellis.{next, gain, edge, Ends, Loses, Less, Later, read_out, IsBest, IsKept, way, Chooses}
+use Rattle.trellis_decode.specs.Turned.{AreClose, HaveRoom, turned, worths}
+use Rattle.trellis_decode.specs.Walks.{AreWithin}
+use Rattle.trellis_decode.proofs.Paths.{gain-cons, IsBest-more, IsBest-same, IsNotAfter-refl, read_out-zeros, closing_rows, length-read_out, way_reached}
+use Rattle.trellis_decode.proofs.TurnedSteps.{even_worth, odd_worth, floor_kept}
+use Rattle.trellis_decode.proofs.Walks.{edge_bound, AreWithin-best, AreWithin-most, HaveRoom-even, HaveRoom-odd}
 
 -- the last four bits are 0, so that lists of four bits or fewer are one list
 same_tail : (u w : List ℕ) → Ends u → Ends w → length w ≡ length u → length u ≤ 4 → w ≡ u
@@ -43,54 +50,183 @@ IsKept-closing (row ∷ rows) (lost ∷ losses) soft short same pairs blank = (
   IsKept-closing rows losses (drop 2 soft) (omega arith) (omega arith) (omega (arith, length-drop 2 soft)) (All-tail (λ row. row ≡ 0) row rows blank),
 )
 
--- one place more
-pub IsKept-row : (after values lost soft : List ℤ) (rows : List ℕ) (losses : List (List ℤ)) (k j n row : ℕ) → k ≡ j + 1 → k + 4 ≤ length rows →
-    length losses ≡ length rows → 2 * j + 2 ≤ length soft → n ≡ 2 →
-    ((s : ℕ) → s < 16 → IsBest s (read_out (drop k rows) s) (drop (2 * k) soft) (lane after s)) →
-    ((s : ℕ) → s < 16 → Chooses after (take n (drop (2 * j) soft)) s (lane values s) (row / 2 ^ s % 2)) →
-    ((s : ℕ) → s < 16 → lane lost s ≡
-    way after (take n (drop (2 * j) soft)) s (row / 2 ^ s % 2) -ℤ way after (take n (drop (2 * j) soft)) s (1 - row / 2 ^ s % 2)) →
-    IsKept (drop k rows) (drop k losses) (drop (2 * k) soft) →
-    IsKept (drop j (set rows j row)) (drop j (set losses j lost)) (drop (2 * j) soft)
-IsKept-row after values lost soft rows losses k j n row at free same within two best chooses loses kept =
-    subst (λ rows. IsKept rows (drop j (set losses j lost)) (drop (2 * j) soft)) grown
-    (subst (λ losses. IsKept (row ∷ drop k rows) losses (drop (2 * j) soft)) grown_losses (
-      omega (arith, length-drop (2 * j) soft),
-      record { best = best_here; lost = lost_here },
-      subst (IsKept (drop k rows) (drop k losses)) (sym rest) kept,
-    ))
-  where
-    grown : row ∷ drop k rows ≡ drop j (set rows j row)
-    grown = ap (λ k. row ∷ drop k rows) at ∙ sym (drop-set rows j row (omega arith))
+-- ---- one place more
 
-    grown_losses : lost ∷ drop k losses ≡ drop j (set losses j lost)
-    grown_losses = ap (λ k. lost ∷ drop k losses) at ∙ sym (drop-set losses j lost (omega arith))
+rest_of : (pair soft : List ℤ) → length pair ≡ 2 → drop 2 (pair ++ soft) ≡ soft
+rest_of [] soft two = absurd (omega arith)
+rest_of (p ∷ []) soft two = absurd (omega arith)
+rest_of (p ∷ q ∷ []) soft two = refl
+rest_of (p ∷ q ∷ r ∷ pair) soft two = absurd (omega arith)
 
-    rest : drop 2 (drop (2 * j) soft) ≡ drop (2 * k) soft
-    rest = drop-drop 2 (2 * j) soft ∙ (let e : 2 * j + 2 ≡ 2 * k = omega arith in ap (λ m. drop m soft) e)
+module _ (after values lost pair soft : List ℤ) (rows : List ℕ) (losses : List (List ℤ)) (row : ℕ) (two : length pair ≡ 2) (octets : AreOctets pair)
+    (chosen : (s : ℕ) → s < 16 → Chooses after pair s (lane values s) (row / 2 ^ s % 2))
+    (loses : (s : ℕ) → s < 16 → lane lost s ≡ way after pair s (row / 2 ^ s % 2) -ℤ way after pair s (1 - row / 2 ^ s % 2))
+    (old : Keeps rows losses soft after) where
+  inside : (s bit : ℕ) → next s bit < 16
+  inside s bit = omega arith
 
-    whole : take n (drop (2 * j) soft) ++ drop (2 * k) soft ≡ drop (2 * j) soft
-    whole = ap (λ k. take n (drop (2 * j) soft) ++ drop (2 * k) soft) at ∙ pair_and_rest soft j n two within
+  best_more : (s : ℕ) → s < 16 → IsBest s (read_out (row ∷ rows) s) (pair ++ soft) (lane values s)
+  best_more s lt = IsBest-more after pair soft s row rows (lane values s) two old.at_least
+      (old.best (next s 0) (inside s 0)) (old.best (next s 1) (inside s 1)) (chosen s lt)
 
-    two_values : length (take n (drop (2 * j) soft)) ≡ 2
-    two_values = length-pair soft j n two within
+  way_is : (s bit : ℕ) → way after pair s bit ≡ gain s (bit ∷ read_out rows (next s bit)) (pair ++ soft)
+  way_is s bit = way_reached after pair soft s bit (read_out rows (next s bit)) two (old.best (next s bit) (inside s bit))
 
-    reached : (s bit : ℕ) → next s bit < 16
-    reached s bit = omega arith
+  pub Keeps-more : Keeps (row ∷ rows) (lost ∷ losses) (pair ++ soft) values
+  Keeps-more = record {
+    kept = (
+      omega (arith, length-append pair soft),
+      record {
+        best = λ s lt. subst (IsBest s (read_out (row ∷ rows) s) (pair ++ soft)) (best_more s lt).gained (best_more s lt);
+        lost = λ s lt long. loses s lt ∙ ap₂ (λ a b. a -ℤ b) (way_is s (row / 2 ^ s % 2)) (way_is s (1 - row / 2 ^ s % 2));
+      },
+      subst (IsKept rows losses) (sym (rest_of pair soft two)) old.kept,
+    );
+    count = (let e = old.count in omega (arith, length-append pair soft));
+    same = ap suc old.same;
+    at_least = (let e = old.at_least in omega arith);
+    octets = All-append IsOctet pair soft octets old.octets;
+    low = λ s lt. floor_kept after pair s (row / 2 ^ s % 2) (lane values s) (negsuc 1023) two lt
+        (old.low (next s 0) (inside s 0)) (old.low (next s 1) (inside s 1)) (chosen s lt);
+    best = best_more;
+  }
 
-    way_is : (s bit : ℕ) → way after (take n (drop (2 * j) soft)) s bit ≡ gain s (bit ∷ read_out (drop k rows) (next s bit)) (drop (2 * j) soft)
-    way_is s bit = way_reached after (take n (drop (2 * j) soft)) (drop (2 * k) soft) s bit (read_out (drop k rows) (next s bit)) two_values (best (next s bit) (reached s bit))
-        ∙ ap (gain s (bit ∷ read_out (drop k rows) (next s bit))) whole
+-- ---- how far apart two states are
 
-    best_here : (s : ℕ) → s < 16 → IsBest s (read_out (row ∷ drop k rows) s) (drop (2 * j) soft) (gain s (read_out (row ∷ drop k rows) s) (drop (2 * j) soft))
-    best_here s lt =
-        let more : 4 ≤ length (drop k rows) = omega (arith, length-drop k rows) in
-        let found = IsBest-more after (take n (drop (2 * j) soft)) (drop (2 * k) soft) s row (drop k rows) (lane values s) two_values more
-        (best (next s 0) (reached s 0)) (best (next s 1) (reached s 1)) (chooses s lt) in
-        subst (λ soft. IsBest s (read_out (row ∷ drop k rows) s) soft (gain s (read_out (row ∷ drop k rows) s) soft)) whole
-        (subst (IsBest s (read_out (row ∷ drop k rows) s) (take n (drop (2 * j) soft) ++ drop (2 * k) soft)) found.gained found)
+gain-more : (state x : ℕ) (u : List ℕ) (soft : List ℤ) → 2 ≤ length soft →
+    gain state (x ∷ u) soft ≡ edge state x (take 2 soft) +ℤ gain (next state x) u (drop 2 soft)
+gain-more state x u soft long =
+    ap (gain state (x ∷ u)) (sym (take-append-drop 2 soft)) ∙ gain-cons state x u (take 2 soft) (drop 2 soft) (omega (arith, length-take 2 soft))
 
-    lost_here : (s : ℕ) → s < 16 → 4 ≤ length (drop k rows) → lane lost s ≡
-        gain s (read_out (row ∷ drop k rows) s) (drop (2 * j) soft)
-        -ℤ gain s ((1 - row / 2 ^ s % 2) ∷ read_out (drop k rows) (next s (1 - row / 2 ^ s % 2))) (drop (2 * j) soft)
-    lost_here s lt long = loses s lt ∙ ap₂ (λ a b. a -ℤ b) (way_is s (row / 2 ^ s % 2)) (way_is s (1 - row / 2 ^ s % 2))
+-- a list is worth in one state at most n more than in another
+abbrev IsNear : ℕ → ℕ → ℕ → List ℕ → List ℤ → Type 0
+IsNear n s t u soft = gain s u soft ≤ℤ (gain t u soft +ℤ pos n)
+
+near_none : (n s t : ℕ) (soft : List ℤ) → IsNear n s t [] soft
+unfolding gain
+near_none n s t soft = omega (arith, ints)
+
+near_more : (n s t x : ℕ) (u : List ℕ) (soft : List ℤ) → 2 ≤ length soft → AreOctets soft →
+    IsNear n (next s x) (next t x) u (drop 2 soft) → IsNear (n + 512) s t (x ∷ u) soft
+near_more n s t x u soft long octets near =
+    let two : length (take 2 soft) ≡ 2 = omega (arith, length-take 2 soft) in
+    let pair : AreOctets (take 2 soft) = All-take IsOctet 2 soft octets in
+    let from_s = gain-more s x u soft long in
+    let from_t = gain-more t x u soft long in
+    let high = (edge_bound (take 2 soft) s x two pair).1 in
+    let low = (edge_bound (take 2 soft) t x two pair).0 in
+    omega (arith, ints)
+
+near_16 : (s t : ℕ) (u : List ℕ) (soft : List ℤ) → s ≡ t → IsNear 0 s t u soft
+near_16 s t u soft e = let same : gain s u soft ≡ gain t u soft = ap (λ s. gain s u soft) e in omega (arith, ints)
+
+near_8 : (s t : ℕ) (u : List ℕ) (soft : List ℤ) → length soft ≡ 2 * length u → AreOctets soft → s % 8 ≡ t % 8 → IsNear 512 s t u soft
+near_8 s t [] soft count octets e = near_none 512 s t soft
+near_8 s t (x ∷ u) soft count octets e =
+    near_more 0 s t x u soft (omega arith) octets (near_16 (next s x) (next t x) u (drop 2 soft) (omega arith))
+
+near_4 : (s t : ℕ) (u : List ℕ) (soft : List ℤ) → length soft ≡ 2 * length u → AreOctets soft → s % 4 ≡ t % 4 → IsNear 1024 s t u soft
+near_4 s t [] soft count octets e = near_none 1024 s t soft
+near_4 s t (x ∷ u) soft count octets e =
+    near_more 512 s t x u soft (omega arith) octets
+    (near_8 (next s x) (next t x) u (drop 2 soft) (omega (arith, length-drop 2 soft)) (All-drop IsOctet 2 soft octets) (omega arith))
+
+near_2 : (s t : ℕ) (u : List ℕ) (soft : List ℤ) → length soft ≡ 2 * length u → AreOctets soft → s % 2 ≡ t % 2 → IsNear 1536 s t u soft
+near_2 s t [] soft count octets e = near_none 1536 s t soft
+near_2 s t (x ∷ u) soft count octets e =
+    near_more 1024 s t x u soft (omega arith) octets
+    (near_4 (next s x) (next t x) u (drop 2 soft) (omega (arith, length-drop 2 soft)) (All-drop IsOctet 2 soft octets) (omega arith))
+
+-- after four equal bits two states are one
+near : (s t : ℕ) (u : List ℕ) (soft : List ℤ) → length soft ≡ 2 * length u → AreOctets soft → IsNear 2048 s t u soft
+near s t [] soft count octets = near_none 2048 s t soft
+near s t (x ∷ u) soft count octets =
+    near_more 1536 s t x u soft (omega arith) octets
+    (near_2 (next s x) (next t x) u (drop 2 soft) (omega (arith, length-drop 2 soft)) (All-drop IsOctet 2 soft octets) (omega arith))
+
+-- ---- what a step asks of the values
+
+module _ (rows : List ℕ) (losses : List (List ℤ)) (soft even odd : List ℤ) (keeps : Keeps rows losses soft (worths even odd)) where
+  value_near : (s t : ℕ) → s < 16 → t < 16 → lane (worths even odd) s ≤ℤ (lane (worths even odd) t +ℤ pos 2048)
+  value_near s t hs ht =
+      let count : length soft ≡ 2 * length (read_out rows s) = let e = keeps.count in omega (arith, length-read_out rows s) in
+      let apart = near s t (read_out rows s) soft count keeps.octets in
+      let here = (keeps.best s hs).gained in
+      let there = (keeps.best t ht).gained in
+      elim ((keeps.best t ht).wins (read_out rows s) (keeps.best s hs).ends (length-read_out rows s ∙ sym (length-read_out rows t))) [
+        | Less h ↦ omega (arith, ints)
+        | Later h later ↦ omega (arith, ints)
+      ]
+
+  pub Keeps-close : AreClose even odd
+  Keeps-close = record {
+    low = λ k lt.
+        let e = even_worth even odd k lt in
+        let o = odd_worth even odd k lt in
+        let bound = value_near (next (turned k) 1) (next (turned k) 0) (omega arith) (omega arith) in
+        omega (arith, ints);
+    high = λ k lt.
+        let e = even_worth even odd k lt in
+        let o = odd_worth even odd k lt in
+        let bound = value_near (next (turned k) 0) (next (turned k) 1) (omega arith) (omega arith) in
+        omega (arith, ints);
+  }
+
+  module _ (few : length rows ≤ 228) where
+    within : AreWithin 58368 (worths even odd)
+    within = AreWithin-most (worths even odd) soft (read_out rows) keeps.octets (let e = keeps.count in omega arith) keeps.low keeps.best
+
+    pub Keeps-even : length even ≡ 8 → HaveRoom even
+    Keeps-even = HaveRoom-even even odd 58368 (lit≤ tt) within
+
+    pub Keeps-odd : length odd ≡ 8 → HaveRoom odd
+    Keeps-odd = HaveRoom-odd even odd 58368 (lit≤ tt) within
+
+-- ---- the last four places
+
+pub Keeps-closing : (rows : List ℕ) (losses : List (List ℤ)) (soft values : List ℤ) → length rows ≡ 4 → length losses ≡ 4 → length soft ≡ 8 →
+    AreOctets soft → All (λ row. row ≡ 0) rows → ((s : ℕ) → s < 16 → IsBest s (replicate 4 0) soft (lane values s)) → Keeps rows losses soft values
+Keeps-closing rows losses soft values four same eight octets blank best = record {
+  kept = IsKept-closing rows losses soft (omega arith) (same ∙ sym four) (omega arith) blank;
+  count = omega arith;
+  same = same ∙ sym four;
+  at_least = omega arith;
+  octets = octets;
+  low = (AreWithin-best values soft (λ s. replicate 4 0) octets (omega arith) best).low;
+  best = λ s lt. IsBest-same s (closing_rows rows s four blank) refl refl (best s lt);
+}
+
+pub Keeps-same : {rows rows' : List ℕ} {losses losses' : List (List ℤ)} {soft soft' values : List ℤ} → rows ≡ rows' → losses ≡ losses' → soft ≡ soft' →
+    Keeps rows losses soft values → Keeps rows' losses' soft' values
+Keeps-same {rows} {rows'} {losses} {losses'} {soft} {soft'} {values} er el es keeps =
+    subst (λ rows. Keeps rows losses' soft' values) er (subst (λ losses. Keeps rows losses soft' values) el (subst (λ soft. Keeps rows losses soft values) es keeps))
+
+-- what was written to the end of a list
+pub drop-put_mid_here : {A : Type 0} (a k : ℕ) (xs ys : List A) → a + k ≡ length xs → length ys ≡ k → drop a (put_mid a k xs ys) ≡ ys
+drop-put_mid_here a k xs ys e count =
+    drop_at (take a xs) (ys ++ drop k (drop a xs)) a (omega (arith, length-take a xs))
+    ∙ ap (λ rest. ys ++ rest) (drop_all k (drop a xs) (omega (arith, length-drop a xs))) ∙ append-nil ys
+
+-- ---- four places at once
+
+-- four of a list, written from the last to the first
+pub set_four : {A : Type 0} (xs : List A) (j : ℕ) (a b c d : A) → j + 4 ≤ length xs →
+    drop j (set (set (set (set xs (j + 3) d) (j + 2) c) (j + 1) b) j a) ≡ a ∷ b ∷ c ∷ d ∷ drop (j + 4) xs
+set_four xs j a b c d inside =
+    let three = set xs (j + 3) d in
+    let two = set three (j + 2) c in
+    let one = set two (j + 1) b in
+    let long-3 = length-set xs (j + 3) d in
+    let long-2 = length-set three (j + 2) c in
+    let long-1 = length-set two (j + 1) b in
+    let at-2 : j + 1 + 1 ≡ j + 2 = omega arith in
+    let at-3 : j + 2 + 1 ≡ j + 3 = omega arith in
+    let at-4 : j + 3 + 1 ≡ j + 4 = omega arith in
+    let rest-1 : drop (j + 1) one ≡ b ∷ drop (j + 1 + 1) two = drop-set two (j + 1) b (omega arith) in
+    let rest-2 : drop (j + 2) two ≡ c ∷ drop (j + 2 + 1) three = drop-set three (j + 2) c (omega arith) in
+    let rest-3 : drop (j + 3) three ≡ d ∷ drop (j + 3 + 1) xs = drop-set xs (j + 3) d (omega arith) in
+    drop-set one j a (omega arith)
+    ∙ ap (λ rest. a ∷ rest) (rest-1
+    ∙ ap (λ rest. b ∷ rest) (ap (λ i. drop i two) at-2 ∙ rest-2
+    ∙ ap (λ rest. c ∷ rest) (ap (λ i. drop i three) at-3 ∙ rest-3
+    ∙ ap (λ rest. d ∷ rest) (ap (λ i. drop i xs) at-4))))

@@ -8,11 +8,10 @@ mod MapLists
 pub mod MostLikely
 pub mod Paths
 pub mod Searching
-pub mod Steps
 mod Followed
+mod Leads
 mod FourPairs
 mod TurnedSteps
 mod TurnedVectors
 mod Walks
-pub mod Vectors
 pub mod WordLists

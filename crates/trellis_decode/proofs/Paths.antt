@@ -1,16 +1,15 @@
 -- The best list from a state on, one place more at a time.
-use Rattle.std.proofs.Common.{◌≡◌, ℕ, zero, suc, ◌+◌, ◌-◌, ◌*◌, ◌/◌, ◌%◌, ◌^◌, ◌<◌, ◌≤◌, inl, inr, ℤ, pos, negsuc, ◌+ℤ◌, ◌-ℤ◌, List, [], ◌∷◌, ◌++◌, length, get_or, take, drop, replicate, refl, ap, sym, ◌∙◌, subst, arith}
+use Rattle.std.proofs.Common.{◌≡◌, ℕ, zero, suc, ◌+◌, ◌*◌, ◌/◌, ◌%◌, ◌^◌, ◌<◌, ◌≤◌, inl, inr, ℤ, pos, ◌+ℤ◌, ◌-ℤ◌, List, [], ◌∷◌, ◌++◌, length, get_or, take, drop, replicate, refl, ap, sym, ◌∙◌, subst, arith}
 use Rattle.std.specs.Prelude.{◌<ℤ◌, ◌≤ℤ◌}
 use Rattle.std.proofs.Math.Nat.{zero-div}
 use Rattle.std.proofs.lemmas.Int.{ints, by_lt_z}
-use Rattle.std.proofs.lemmas.List.{drop-drop, drop-set, take-append-drop, length-take, length-drop, length-replicate}
-use Rattle.std.proofs.Math.ListN.{set}
-use Rattle.std.proofs.lemmas.List.Elements.{All-nil, All-cons, All-head, All-tail, All-append}
+use Rattle.std.proofs.lemmas.List.{drop-drop, take-append-drop, length-take, length-drop}
+use Rattle.std.proofs.lemmas.List.Elements.{All-nil, All-cons, All-head, All-tail}
 use Rattle.std.specs.List.{All}
 use Rattle.bit_blocks.specs.Bits.{AllBits, IsBit}
 use Rattle.conv_code.specs.Likelihood.{likelihood}
 use Rattle.trellis_decode.proofs.EdgeLanes.{agreement-zero, agreement-one}
-use Rattle.trellis_decode.specs.Lanes.{lane, AreModest, IsOctet, AreOctets}
+use Rattle.trellis_decode.specs.Lanes.{IsOctet, AreOctets}
 use Rattle.trellis_decode.specs.Trellis.{next, first_bit, second_bit, coded_from, gain, edge, Ends, IsNotAfter, Loses, Less, Later, read_out, IsBest, way, Chooses}
 
 -- one bit, and then the rest of the list
@@ -180,23 +179,6 @@ AllBits-coded_from state (x ∷ u) =
     All-cons IsBit (first_bit state x) (second_bit state x ∷ coded_from (next state x) u) first
     (All-cons IsBit (second_bit state x) (coded_from (next state x) u) second rest)
 
--- the values of sixteen states before at most 456 octets
-pub AreModest-best : (lanes : List ℤ) (lists : ℕ → List ℕ) (soft : List ℤ) → length lanes ≡ 16 → AreOctets soft → length soft ≤ 456 →
-    ((s : ℕ) → s < 16 → IsBest s (lists s) soft (lane lanes s)) → AreModest lanes
-unfolding gain
-AreModest-best lanes lists soft count octets few best = record { count = count; low = low; high = high } where
-  low : (s : ℕ) → s < 16 → negsuc 65535 ≤ℤ lane lanes s
-  low s lt =
-      let bound = (likelihood_bound soft (coded_from s (lists s)) octets (AllBits-coded_from s (lists s))).0 in
-      let is = (best s lt).gained in
-      omega (arith, ints)
-
-  high : (s : ℕ) → s < 16 → lane lanes s ≤ℤ pos 65536
-  high s lt =
-      let bound = (likelihood_bound soft (coded_from s (lists s)) octets (AllBits-coded_from s (lists s))).1 in
-      let is = (best s lt).gained in
-      omega (arith, ints)
-
 -- ---- the soft values of a place, and those after it
 
 pub pair_and_rest : (soft : List ℤ) (k n : ℕ) → n ≡ 2 → 2 * k + 2 ≤ length soft →
@@ -209,48 +191,10 @@ pair_and_rest soft k n two within =
 pub length-pair : (soft : List ℤ) (k n : ℕ) → n ≡ 2 → 2 * k + 2 ≤ length soft → length (take n (drop (2 * k) soft)) ≡ 2
 length-pair soft k n two within = omega (arith, length-take n (drop (2 * k) soft), length-drop (2 * k) soft)
 
--- one place more
-pub AreOctets-more : (soft : List ℤ) (k n : ℕ) → n ≡ 2 → 2 * k + 2 ≤ length soft → AreOctets (take n (drop (2 * k) soft)) →
-    AreOctets (drop (2 * (k + 1)) soft) → AreOctets (drop (2 * k) soft)
-AreOctets-more soft k n two within pair rest =
-    subst AreOctets (pair_and_rest soft k n two within) (All-append IsOctet (take n (drop (2 * k) soft)) (drop (2 * (k + 1)) soft) pair rest)
-
 pub IsBest-same : (s : ℕ) {u u' : List ℕ} {soft soft' : List ℤ} {value value' : ℤ} → u ≡ u' → soft ≡ soft' → value ≡ value' →
     IsBest s u soft value → IsBest s u' soft' value'
 IsBest-same s {u} {u'} {soft} {soft'} {value} {value'} eu es ev best =
     subst (λ u. IsBest s u soft' value') eu (subst (λ soft. IsBest s u soft value') es (subst (λ value. IsBest s u soft value) ev best))
-
--- one place more whose bit is 0 in any case, from the values of sixteen states
-pub IsBest-closing_more : (after : List ℤ) (soft : List ℤ) (k j n s : ℕ) (value : ℤ) → k ≡ j + 1 → k ≤ 4 → 2 * j + 2 ≤ length soft → n ≡ 2 →
-    ((s : ℕ) → s < 16 → IsBest s (replicate (4 - k) 0) (drop (2 * k) soft) (lane after s)) →
-    value ≡ way after (take n (drop (2 * j) soft)) s 0 →
-    IsBest s (replicate (4 - j) 0) (drop (2 * j) soft) value
-IsBest-closing_more after soft k j n s value at closing within two best is =
-    let pair = take n (drop (2 * j) soft) in
-    let longer : 4 - j ≡ suc (4 - k) = omega arith in
-    let short : length (replicate {A = ℕ} (4 - k) 0) < 4 = rw length-replicate (omega arith) in
-    let reached : next s 0 < 16 = omega arith in
-    let doubled : drop (2 * k) soft ≡ drop (2 * (j + 1)) soft = ap (λ k. drop (2 * k) soft) at in
-    IsBest-same s (ap (λ m. replicate m 0) (sym longer)) (ap (λ rest. pair ++ rest) doubled ∙ pair_and_rest soft j n two within) (sym is)
-    (IsBest-closing after pair (drop (2 * k) soft) s (replicate (4 - k) 0) (length-pair soft j n two within) short (best (next s 0) reached))
-
--- one place more with its row of choices
-pub IsBest-row : (after : List ℤ) (soft : List ℤ) (rows : List ℕ) (k j n s row : ℕ) (value : ℤ) → k ≡ j + 1 → k + 4 ≤ length rows →
-    2 * j + 2 ≤ length soft → n ≡ 2 →
-    ((s : ℕ) → s < 16 → IsBest s (read_out (drop k rows) s) (drop (2 * k) soft) (lane after s)) →
-    Chooses after (take n (drop (2 * j) soft)) s value (row / 2 ^ s % 2) →
-    IsBest s (read_out (drop j (set rows j row)) s) (drop (2 * j) soft) value
-IsBest-row after soft rows k j n s row value at free within two best choice =
-    let pair = take n (drop (2 * j) soft) in
-    let inside : j < length rows = omega arith in
-    let more : 4 ≤ length (drop k rows) = rw length-drop (omega arith) in
-    let reached0 : next s 0 < 16 = omega arith in
-    let reached1 : next s 1 < 16 = omega arith in
-    let doubled : drop (2 * k) soft ≡ drop (2 * (j + 1)) soft = ap (λ k. drop (2 * k) soft) at in
-    let grown : row ∷ drop k rows ≡ drop j (set rows j row) = ap (λ k. row ∷ drop k rows) at ∙ sym (drop-set rows j row inside) in
-    IsBest-same s (ap (λ rows. read_out rows s) grown) (ap (λ rest. pair ++ rest) doubled ∙ pair_and_rest soft j n two within) refl
-    (IsBest-more after pair (drop (2 * k) soft) s row (drop k rows) value (length-pair soft j n two within) more
-    (best (next s 0) reached0) (best (next s 1) reached1) choice)
 
 -- rows of zeros choose zeros
 pub read_out-zeros : (rows : List ℕ) (state : ℕ) → All (λ row. row ≡ 0) rows → read_out rows state ≡ replicate (length rows) 0

@@ -1,11 +1,12 @@
 -- The operations on vectors of eight 16-bit numbers, lane by lane. A lane stands in them as its bits.
-use Rattle.std.proofs.Common.{◌≡◌, ℕ, zero, suc, ◌+◌, ◌-◌, ◌%◌, ◌^◌, ◌<◌, Bool, true, false, if◌then◌else◌, ℤ, pos, negsuc, ◌+ℤ◌, ◌-ℤ◌, ◌≤ℤ◌, List, [], ◌∷◌, ◌++◌, map, length, get_or, replicate, refl, ap, ap₂, sym, ◌∙◌, subst, arith, int_lt, w8, w16, FitsSigned, ◌⊎◌, inl, inr}
+use Rattle.std.proofs.Common.{◌≡◌, ℕ, zero, suc, ◌+◌, ◌-◌, ◌/◌, ◌%◌, ◌^◌, ◌<◌, ◌≤◌, Bool, true, false, if◌then◌else◌, ℤ, pos, negsuc, ◌+ℤ◌, ◌-ℤ◌, ◌≤ℤ◌, List, [], ◌∷◌, ◌++◌, map, length, get_or, replicate, refl, ap, ap₂, sym, ◌∙◌, subst, arith, int_lt, w8, w16, FitsSigned, ◌⊎◌, inl, inr}
 use Rattle.std.specs.Int.{cast_signed, cast_unsigned}
 use Rattle.std.proofs.lemmas.Int.{ints, to_z-of_z, wrapping_add_is, wrapping_sub_is, int_wrap_fits}
 use Rattle.std.proofs.lemmas.List.{length-map}
-use lib.Lanes.{zip2, sel_l, top}
+use Rattle.std.proofs.lemmas.Simd.{mask_l-lt, mask_l-mod, bit_mask_l}
+use lib.Lanes.{zip2, sel_l, mask_l, top}
 use Rattle.trellis_decode.specs.Lanes.{lane}
-use Rattle.trellis_decode.specs.Turned.{AreTaken, AreEdges, AreNarrow, HaveRoom, in_turns}
+use Rattle.trellis_decode.specs.Turned.{AreClose, AreTaken, AreEdges, AreGaps, AreNarrow, HaveRoom, in_order, in_turns}
 
 lane-zip2 : (f : ℕ → ℕ → ℕ) (a b : List ℤ) (s : ℕ) → s < length a → s < length b →
     lane (map (cast_signed w16) (zip2 f (map (cast_unsigned w16) a) (map (cast_unsigned w16) b))) s
@@ -226,6 +227,14 @@ module _ (a b : List ℤ) (ha : AreNarrow a) (hb : AreNarrow b) where
       cons_is (at_first i hi) (cons_is (at_second i i' hi ei) (cons_is (at_first j hj) (cons_is (at_second j j' hj ej)
       (cons_is (at_first k hk) (cons_is (at_second k k' hk ek) (cons_is (at_first l hl) (cons_is (at_second l l' hl el) refl)))))))
 
+  pub ordered : (at a b 0 ∷ at a b 4 ∷ at a b 2 ∷ at a b 6 ∷ at a b 1 ∷ at a b 5 ∷ at a b 3 ∷ at a b 7 ∷
+      at a b 8 ∷ at a b 12 ∷ at a b 10 ∷ at a b 14 ∷ at a b 9 ∷ at a b 13 ∷ at a b 11 ∷ at a b 15 ∷ []) ≡ in_order a b
+  ordered =
+      cons_is (at_first 0 (omega arith)) (cons_is (at_first 4 (omega arith)) (cons_is (at_first 2 (omega arith)) (cons_is (at_first 6 (omega arith))
+      (cons_is (at_first 1 (omega arith)) (cons_is (at_first 5 (omega arith)) (cons_is (at_first 3 (omega arith)) (cons_is (at_first 7 (omega arith))
+      (cons_is (at_second 0 8 (omega arith) refl) (cons_is (at_second 4 12 (omega arith) refl) (cons_is (at_second 2 10 (omega arith) refl) (cons_is (at_second 6 14 (omega arith) refl)
+      (cons_is (at_second 1 9 (omega arith) refl) (cons_is (at_second 5 13 (omega arith) refl) (cons_is (at_second 3 11 (omega arith) refl) (cons_is (at_second 7 15 (omega arith) refl) refl)))))))))))))))
+
 -- an all-ones or all-zeros lane of 16 bits as one of 8
 abbrev narrowed : ℕ → ℕ
 narrowed x = cast_unsigned w8 (cast_signed w16 x)
@@ -324,3 +333,115 @@ passed_octets-each (x ∷ lanes) is =
 
 pub passed_octets-taken : (lanes : List ℤ) → AreTaken lanes → passed_octets lanes ≡ lanes
 passed_octets-taken lanes h = passed_octets-each lanes (λ k lt. h.each k (omega (arith, h.count)))
+
+-- ---- what the lanes of one vector are more than those of another, without sign and by their signs
+
+gaps_fit : (a b : List ℤ) → AreClose a b → (k : ℕ) → k < 8 → FitsSigned w16 (lane a k -ℤ lane b k)
+gaps_fit a b close k lt =
+    let low = close.low k lt in
+    let high = close.high k lt in
+    fits_between (lane a k -ℤ lane b k) (omega (arith, ints)) (omega (arith, ints))
+
+pub lane-gaps : (a b : List ℤ) → AreNarrow a → AreNarrow b → AreClose a b → (k : ℕ) → k < 8 →
+    lane (map (cast_signed w16) (zip2 (λ x y. (x + (2 ^ 16 - y)) % 2 ^ 16) (map (cast_unsigned w16) a) (map (cast_unsigned w16) b))) k ≡ lane a k -ℤ lane b k
+lane-gaps a b ha hb close k lt =
+    let sa : k < length a = omega (arith, ha.count) in
+    let sb : k < length b = omega (arith, hb.count) in
+    lane-zip2 (λ x y. (x + (2 ^ 16 - y)) % 2 ^ 16) a b k sa sb
+    ∙ difference-lane (lane a k) (lane b k) (ha.fits k lt) (hb.fits k lt) (gaps_fit a b close k lt)
+
+pub AreNarrow-gaps : (a b : List ℤ) → AreNarrow a → AreNarrow b → AreClose a b →
+    AreNarrow (map (cast_signed w16) (zip2 (λ x y. (x + (2 ^ 16 - y)) % 2 ^ 16) (map (cast_unsigned w16) a) (map (cast_unsigned w16) b)))
+AreNarrow-gaps a b ha hb close = record {
+  count = length-lanes-zip2 (λ x y. (x + (2 ^ 16 - y)) % 2 ^ 16) a b (ha.count ∙ sym hb.count) ∙ ha.count;
+  fits = λ k lt. subst (FitsSigned w16) (sym (lane-gaps a b ha hb close k lt)) (gaps_fit a b close k lt);
+}
+
+AreGaps-fits : (a : List ℤ) → AreGaps a → (s : ℕ) → s < 16 → FitsSigned w16 (lane a s)
+AreGaps-fits a h s lt = let low = h.low s lt in let high = h.high s lt in fits_between (lane a s) (omega (arith, ints)) (omega (arith, ints))
+
+pub passed-gaps : (a : List ℤ) → AreGaps a → passed a ≡ a
+passed-gaps a h = passed-each a (λ s lt. AreGaps-fits a h s (omega (arith, h.count)))
+
+abbrev turned_bits : ℕ → ℕ
+turned_bits x = (0 + (65536 - x)) % 65536
+
+-- the lanes without their sign, as the larger of each and its negative
+abbrev pub sizes_of : ℕ → List ℤ → List ℤ
+sizes_of n a = map (cast_signed w16) (sel_l (map (top 15) (zip2 compared (map (cast_unsigned w16) a) (zip2 (λ x y. (x + (65536 - y)) % 65536) (replicate n 0) (map (cast_unsigned w16) a))))
+    (zip2 (λ x y. (x + (65536 - y)) % 65536) (replicate n 0) (map (cast_unsigned w16) a)) (map (cast_unsigned w16) a))
+
+abbrev size_one : ℕ → ℤ
+size_one x = cast_signed w16 (if top 15 (compared x (turned_bits x)) then turned_bits x else x)
+
+sizes-at : (a : List ℤ) (n s : ℕ) → length a ≡ n → s < n → lane (sizes_of n a) s ≡ size_one (cast_unsigned w16 (lane a s))
+sizes-at [] zero s e lt = absurd (omega arith)
+sizes-at [] (suc n) s e lt = absurd (omega arith)
+sizes-at (x ∷ a) zero s e lt = absurd (omega arith)
+sizes-at (x ∷ a) (suc n) zero e lt = refl
+sizes-at (x ∷ a) (suc n) (suc s) e lt = sizes-at a n s (omega arith) (omega arith)
+
+length-sizes : (a : List ℤ) (n : ℕ) → length a ≡ n → length (sizes_of n a) ≡ n
+length-sizes [] zero e = refl
+length-sizes [] (suc n) e = absurd (omega arith)
+length-sizes (x ∷ a) zero e = absurd (omega arith)
+length-sizes (x ∷ a) (suc n) e = let e' : length a ≡ n = omega arith in ap suc (length-sizes a n e')
+
+size_one_is : (x : ℤ) → negsuc 32766 ≤ℤ x → x ≤ℤ pos 32767 →
+    size_one (cast_unsigned w16 x) ≡ (if int_lt x (pos 0 -ℤ x) then pos 0 -ℤ x else x)
+size_one_is x low high =
+    let fits : FitsSigned w16 x = fits_between x (omega (arith, ints)) (omega (arith, ints)) in
+    let fits' : FitsSigned w16 (pos 0 -ℤ x) = fits_between (pos 0 -ℤ x) (omega (arith, ints)) (omega (arith, ints)) in
+    let none : FitsSigned w16 (pos 0) = fits_between (pos 0) (omega (arith, ints)) (omega (arith, ints)) in
+    let back = to_z-of_z w16 x fits in
+    let negative : cast_signed w16 (turned_bits (cast_unsigned w16 x)) ≡ pos 0 -ℤ x = difference-lane (pos 0) x none fits fits' in
+    ap (λ t. cast_signed w16 (if t then turned_bits (cast_unsigned w16 x) else cast_unsigned w16 x))
+    (top-compared (cast_unsigned w16 x) (turned_bits (cast_unsigned w16 x)) ∙ ap₂ int_lt back negative)
+    ∙ elim (int_lt x (pos 0 -ℤ x)) as (λ t. cast_signed w16 (if t then turned_bits (cast_unsigned w16 x) else cast_unsigned w16 x) ≡ (if t then pos 0 -ℤ x else x)) [
+      | true ↦ negative
+      | false ↦ back
+    ]
+
+pub lane-sizes : (a : List ℤ) → AreGaps a → (s : ℕ) → s < 16 →
+    lane (sizes_of 16 a) s ≡ (if int_lt (lane a s) (pos 0 -ℤ lane a s) then pos 0 -ℤ lane a s else lane a s)
+lane-sizes a h s lt = sizes-at a 16 s h.count lt ∙ size_one_is (lane a s) (h.low s lt) (h.high s lt)
+
+pub AreGaps-sizes : (a : List ℤ) → AreGaps a → AreGaps (sizes_of 16 a)
+AreGaps-sizes a h = record {
+  count = length-sizes a 16 h.count;
+  low = λ s lt. subst (λ x. negsuc 32766 ≤ℤ x) (sym (lane-sizes a h s lt)) (let low = h.low s lt in let high = h.high s lt in
+      elim (int_lt (lane a s) (pos 0 -ℤ lane a s)) as (λ t. negsuc 32766 ≤ℤ (if t then pos 0 -ℤ lane a s else lane a s)) [ true ↦ omega (arith, ints) | false ↦ low ]);
+  high = λ s lt. subst (λ x. x ≤ℤ pos 32767) (sym (lane-sizes a h s lt)) (let low = h.low s lt in let high = h.high s lt in
+      elim (int_lt (lane a s) (pos 0 -ℤ lane a s)) as (λ t. (if t then pos 0 -ℤ lane a s else lane a s) ≤ℤ pos 32767) [ true ↦ omega (arith, ints) | false ↦ high ]);
+}
+
+-- where a lane is below 0
+abbrev pub signs_of : ℕ → List ℤ → List Bool
+signs_of n a = map (top 15) (zip2 compared (map (cast_unsigned w16) a) (replicate n 0))
+
+signs-at : (a : List ℤ) (n s : ℕ) → length a ≡ n → s < n → get_or (signs_of n a) s false ≡ top 15 (compared (cast_unsigned w16 (lane a s)) 0)
+signs-at [] zero s e lt = absurd (omega arith)
+signs-at [] (suc n) s e lt = absurd (omega arith)
+signs-at (x ∷ a) zero s e lt = absurd (omega arith)
+signs-at (x ∷ a) (suc n) zero e lt = refl
+signs-at (x ∷ a) (suc n) (suc s) e lt = signs-at a n s (omega arith) (omega arith)
+
+length-signs : (a : List ℤ) (n : ℕ) → length a ≡ n → length (signs_of n a) ≡ n
+length-signs [] zero e = refl
+length-signs [] (suc n) e = absurd (omega arith)
+length-signs (x ∷ a) zero e = absurd (omega arith)
+length-signs (x ∷ a) (suc n) e = let e' : length a ≡ n = omega arith in ap suc (length-signs a n e')
+
+pub bit-signs : (a : List ℤ) → AreGaps a → (s : ℕ) → s < 16 →
+    mask_l (signs_of 16 a) % 18446744073709551616 / 2 ^ s % 2 ≡ (if int_lt (lane a s) (pos 0) then 1 else 0)
+bit-signs a h s lt =
+    let few : length (signs_of 16 a) ≤ 64 = omega (arith, length-signs a 16 h.count) in
+    ap (λ row. row / 2 ^ s % 2) (mask_l-mod (signs_of 16 a) 64 few)
+    ∙ bit_mask_l (signs_of 16 a) s
+    ∙ ap (λ t. if t then 1 else 0)
+    (signs-at a 16 s h.count lt ∙ top-compared (cast_unsigned w16 (lane a s)) 0 ∙ ap (λ x. int_lt x (pos 0)) (to_z-of_z w16 (lane a s) (AreGaps-fits a h s lt)))
+
+pub signs-fit : (a : List ℤ) → AreGaps a → mask_l (signs_of 16 a) % 18446744073709551616 < 65536
+signs-fit a h =
+    let bound : mask_l (signs_of 16 a) < 2 ^ 16 = rw (length-signs a 16 h.count) at (mask_l-lt (signs_of 16 a)) in
+    omega arith

@@ -68,7 +68,7 @@ module _ (after middle values pair soft : List ℤ) (map map' : List ℕ) (bit :
 -- ---- what the states are worth stays small
 
 -- what one place counts
-edge_bound : (pair : List ℤ) (s bit : ℕ) → length pair ≡ 2 → AreOctets pair → (negsuc 255 ≤ℤ edge s bit pair) × (edge s bit pair ≤ℤ pos 256)
+pub edge_bound : (pair : List ℤ) (s bit : ℕ) → length pair ≡ 2 → AreOctets pair → (negsuc 255 ≤ℤ edge s bit pair) × (edge s bit pair ≤ℤ pos 256)
 unfolding edge
 edge_bound pair s bit two octets =
     let first : first_bit s bit ≤ 1 = omega arith in

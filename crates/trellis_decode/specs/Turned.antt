@@ -1,5 +1,5 @@
--- The lanes of a vector of eight 16-bit numbers, and what two of them hold of sixteen states.
-use Rattle.std.specs.Prelude.{ℕ, ◌≡◌, ◌+◌, ◌*◌, ◌/◌, ◌%◌, ◌<◌, ◌⊎◌, ◌≤ℤ◌, ℤ, pos, negsuc, ◌+ℤ◌, List, [], ◌∷◌, length, FitsSigned}
+-- The lanes of vectors of 16-bit numbers, and what two of eight hold of sixteen states.
+use Rattle.std.specs.Prelude.{ℕ, ◌≡◌, ◌+◌, ◌*◌, ◌/◌, ◌%◌, ◌<◌, ◌⊎◌, ◌≤ℤ◌, ℤ, pos, negsuc, ◌+ℤ◌, ◌-ℤ◌, List, [], ◌∷◌, length, FitsSigned}
 use Rattle.std.specs.Int.{w16}
 use Rattle.trellis_decode.specs.Lanes.{lane}
 use Rattle.trellis_decode.specs.Trellis.{edge}
@@ -26,6 +26,23 @@ pub record HaveRoom (lanes : List ℤ) : Type 0 where
   pub count : length lanes ≡ 8
   pub low : (k : ℕ) → k < 8 → negsuc 32499 ≤ℤ lane lanes k
   pub high : (k : ℕ) → k < 8 → lane lanes k ≤ℤ pos 32500
+
+-- lanes that are not far from those of another vector
+pub record AreClose (a b : List ℤ) : Type 0 where
+  pub low : (k : ℕ) → k < 8 → negsuc 4095 ≤ℤ (lane a k -ℤ lane b k)
+  pub high : (k : ℕ) → k < 8 → (lane a k -ℤ lane b k) ≤ℤ pos 4096
+
+-- sixteen numbers that have a size of 16 bits
+pub record AreGaps (lanes : List ℤ) : Type 0 where
+  pub count : length lanes ≡ 16
+  pub low : (s : ℕ) → s < 16 → negsuc 32766 ≤ℤ lane lanes s
+  pub high : (s : ℕ) → s < 16 → lane lanes s ≤ℤ pos 32767
+
+-- the lanes of two vectors in the order of the states
+abbrev pub in_order : List ℤ → List ℤ → List ℤ
+in_order low high =
+    lane low 0 ∷ lane low 4 ∷ lane low 2 ∷ lane low 6 ∷ lane low 1 ∷ lane low 5 ∷ lane low 3 ∷ lane low 7 ∷
+    lane high 0 ∷ lane high 4 ∷ lane high 2 ∷ lane high 6 ∷ lane high 1 ∷ lane high 5 ∷ lane high 3 ∷ lane high 7 ∷ []
 
 -- what one place can count
 pub record AreEdges (lanes : List ℤ) : Type 0 where

@@ -39,7 +39,7 @@ pub fn fill_maps(soft: &[i8], maps: &mut [[u8; 16]]) -> Values
 }
 
 /// What each state is worth before the last four places.
-fn closing_values(soft: &[i8]) -> Values
+pub fn closing_values(soft: &[i8]) -> Values
     requires count { length soft.now ≡ 8 }
     requires octets { AreOctets soft.now }
     ensures best { (s : ℕ) → s < 16 → IsBest s (replicate 4 0) soft.now (lane (worths result.even result.odd) s) }
@@ -94,7 +94,7 @@ pub fn walk_few(after: Values, soft: &[i8], places: usize) -> Walk
 }
 
 /// The edges of one place.
-fn pair_edges(pair: &[i8]) -> i16x8
+pub fn pair_edges(pair: &[i8]) -> i16x8
     requires count { length pair.now ≡ 2 }
     requires octets { AreOctets pair.now }
     ensures has { HasEdges result pair.now }

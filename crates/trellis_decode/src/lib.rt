@@ -8,9 +8,8 @@
 mod backward;
 mod edges;
 mod exhaustive;
-mod lanes;
+mod kept_step;
 mod maps;
-mod step;
 #[cfg(test)]
 mod tests;
 mod trellis;

@@ -1,31 +1,21 @@
 //! The Viterbi algorithm from the last place to the first, for a list decoder: it keeps every choice, and what is lost by
-//! the other one. `decode` does the same pass in narrower lanes, and keeps less.
+//! the other one, where `decode` keeps only which state a few choices lead to.
 
-ghost use Rattle.std.specs.Prelude.{◌≡◌, ℕ, ◌*◌, ◌<◌, ◌≤◌, length, replicate};
+ghost use Rattle.std.specs.Prelude.{◌≡◌, ℕ, ◌*◌, ◌%◌, ◌<◌, ◌≤◌, length};
 ghost use Rattle.std.specs.List.{All};
-ghost use Rattle.trellis_decode.specs.Lanes.{AreLanes, AreOctets, lane};
-ghost use Rattle.trellis_decode.specs.Trellis.{IsBest, IsKept, read_out};
+ghost use Rattle.trellis_decode.specs.Kept.{Keeps};
+ghost use Rattle.trellis_decode.specs.Lanes.{AreOctets};
+ghost use Rattle.trellis_decode.specs.Trellis.{IsKept, read_out};
+ghost use Rattle.trellis_decode.specs.Turned.{AreNarrow, worths};
 
-use crate::step::{Step, closing_step};
-use std::simd::prelude::*;
-
-/// What each state is worth before the last four places, whose bits are 0.
-pub fn closing_values(soft: &[i8]) -> i32x16
-    requires { length soft.now ≡ 8 }
-    ensures each { (s : ℕ) → s < 16 → IsBest s (replicate 4 0) soft.now (lane result s) }
-    ensures lanes { AreLanes result }
-    ensures octets { AreOctets soft.now }
-{
-    let mut values = i32x16::splat(0);
-    for k in (0..4).rev() {
-        values = closing_step(values, &soft[2 * k..2 * k + 2]);
-    }
-    values
-}
+use crate::backward::{closing_values, pair_edges};
+use crate::edges::FourEdges;
+use crate::kept_step::KeptStep;
+use crate::turned_step::Values;
 
 /// Fills the rows of choices from the last place to the first, and for each place and each state what is lost where the
 /// other bit comes there.
-pub fn keep(soft: &[i8], rows: &mut [u16], losses: &mut [[i32; 16]])
+pub fn keep(soft: &[i8], rows: &mut [u16], losses: &mut [[i16; 16]])
     requires count { length soft.now ≡ 2 * length rows.old }
     requires same { length losses.old ≡ length rows.old }
     requires at_least { 4 ≤ length rows.old }
@@ -35,14 +25,59 @@ pub fn keep(soft: &[i8], rows: &mut [u16], losses: &mut [[i32; 16]])
     ensures count { length soft.now ≡ 2 * length rows.new }
     ensures octets { AreOctets soft.now }
 {
-    let free = rows.len() - 4;
-    let mut values = closing_values(&soft[2 * free..]);
-    for k in (0..free).rev() {
-        let step = Step::new(values, &soft[2 * k..2 * k + 2]);
+    see_octets(soft);
+    let few = rows.len() % 4;
+    let mut values = keep_groups(&soft[2 * few..], &mut rows[few..], &mut losses[few..]);
+    for k in (0..few).rev() {
+        let step = KeptStep::new(values, pair_edges(&soft[2 * k..2 * k + 2]));
         values = step.values;
         rows[k] = step.row;
         losses[k] = step.losses.to_array();
     }
+}
+
+/// Soft values lie between -128 and 127, as each shows that is read. The compiler leaves nothing of the loop.
+fn see_octets(soft: &[i8])
+    ensures { AreOctets soft.now }
+{
+    for (k, value) in soft.iter().enumerate() {
+        let _octet = *value;
+    }
+}
+
+/// The same for whole groups of four places; answers what each state is worth before them.
+fn keep_groups(soft: &[i8], rows: &mut [u16], losses: &mut [[i16; 16]]) -> Values
+    requires count { length soft.now ≡ 2 * length rows.old }
+    requires same { length losses.old ≡ length rows.old }
+    requires whole { length rows.old % 4 ≡ 0 }
+    requires at_least { 4 ≤ length rows.old }
+    requires at_most { length rows.old ≤ 228 }
+    requires blank { All (λ row. row ≡ 0) rows.old }
+    requires octets { AreOctets soft.now }
+    ensures keeps { Keeps rows.new losses.new soft.now (worths result.even result.odd) }
+    ensures even { AreNarrow result.even }
+    ensures odd { AreNarrow result.odd }
+{
+    let last = rows.len() / 4 - 1;
+    let mut values = closing_values(&soft[8 * last..]);
+    for group in (0..last).rev() {
+        let edges = FourEdges::new(&soft[8 * group..8 * group + 8]);
+        let fourth = KeptStep::new(values, edges.fourth);
+        let third = KeptStep::new(fourth.values, edges.third);
+        let second = KeptStep::new(third.values, edges.second);
+        let first = KeptStep::new(second.values, edges.first);
+        values = first.values;
+        let k = 4 * group;
+        rows[k + 3] = fourth.row;
+        rows[k + 2] = third.row;
+        rows[k + 1] = second.row;
+        rows[k] = first.row;
+        losses[k + 3] = fourth.losses.to_array();
+        losses[k + 2] = third.losses.to_array();
+        losses[k + 1] = second.losses.to_array();
+        losses[k] = first.losses.to_array();
+    }
+    values
 }
 
 /// Follows the choices from a state on.

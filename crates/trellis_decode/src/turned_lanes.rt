@@ -1,8 +1,8 @@
-//! The operations of a step on vectors of eight 16-bit numbers, and what each of them does lane by lane.
+//! The operations of a step on vectors of 16-bit numbers, and what each of them does lane by lane.
 
-ghost use Rattle.std.specs.Prelude.{◌≡◌, ℕ, ◌<◌, pos, negsuc, ◌+ℤ◌, ◌-ℤ◌, if◌then◌else◌, int_lt, length};
+ghost use Rattle.std.specs.Prelude.{◌≡◌, ℕ, ◌*◌, ◌+◌, ◌/◌, ◌%◌, ◌^◌, ◌<◌, pos, negsuc, ◌+ℤ◌, ◌-ℤ◌, if◌then◌else◌, int_lt, length};
 ghost use Rattle.trellis_decode.specs.Lanes.{lane};
-ghost use Rattle.trellis_decode.specs.Turned.{AreEdges, AreNarrow, HaveRoom, in_turns};
+ghost use Rattle.trellis_decode.specs.Turned.{AreClose, AreEdges, AreGaps, AreNarrow, HaveRoom, in_order, in_turns};
 
 use std::simd::prelude::*;
 
@@ -61,4 +61,42 @@ pub fn greater(a: i16x8, b: i16x8) -> i8x8
     ensures each { (k : ℕ) → k < 8 → lane result k ≡ (if int_lt (lane a k) (lane b k) then negsuc 0 else pos 0) }
 {
     b.simd_gt(a).cast::<i8>().to_simd()
+}
+
+/// What the lanes of `a` are more than those of `b`.
+pub fn gaps(a: i16x8, b: i16x8) -> i16x8
+    requires a_lanes { AreNarrow a }
+    requires b_lanes { AreNarrow b }
+    requires close { AreClose a b }
+    ensures each { (k : ℕ) → k < 8 → lane result k ≡ lane a k -ℤ lane b k }
+    ensures lanes { AreNarrow result }
+{
+    a - b
+}
+
+/// The lanes of the states in their order: those below 8 stand in `low`, each where its bits turned round say.
+pub fn by_state(low: i16x8, high: i16x8) -> i16x16
+    requires low_lanes { AreNarrow low }
+    requires high_lanes { AreNarrow high }
+    ensures { result ≡ in_order low high }
+{
+    low.shuffle::<16>(high, [0, 4, 2, 6, 1, 5, 3, 7, 8, 12, 10, 14, 9, 13, 11, 15])
+}
+
+/// The lanes without their sign.
+pub fn sizes(a: i16x16) -> i16x16
+    requires { AreGaps a }
+    ensures each { (s : ℕ) → s < 16 → lane result s ≡
+        (if int_lt (lane a s) (pos 0 -ℤ lane a s) then pos 0 -ℤ lane a s else lane a s) }
+    ensures lanes { AreGaps result }
+{
+    a.abs()
+}
+
+/// Bit `s` is 1 where lane `s` is below 0.
+pub fn signs(a: i16x16) -> u16
+    requires { AreGaps a }
+    ensures { (s : ℕ) → s < 16 → result / 2 ^ s % 2 ≡ (if int_lt (lane a s) (pos 0) then 1 else 0) }
+{
+    a.simd_lt(i16x16::splat(0)).to_bitmask() as u16
 }

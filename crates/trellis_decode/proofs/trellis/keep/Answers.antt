@@ -1,66 +1,89 @@
-use Rattle.std.proofs.Common.{arith, ◌≡◌, ◌*◌, ◌+◌, ◌-◌, ◌≤◌, length, drop, take, refl, ap, sym, ◌∙◌, subst}
-use Rattle.std.proofs.lemmas.List.{length-drop, take_all}
-use Rattle.std.proofs.lemmas.List.Elements.{All-drop}
-use Rattle.trellis_decode.specs.Lanes.{lane, AreOctets}
-use Rattle.trellis_decode.specs.Trellis.{IsKept, read_out}
-use Rattle.trellis_decode.proofs.Kept.{IsKept-closing, IsKept-row}
-use Rattle.trellis_decode.proofs.Paths.{AreModest-best, IsBest-same, IsBest-row, closing_rows, AreOctets-more}
-use Rattle.trellis_decode.proofs.Vectors.{numbers, AreLanes-passed, passed-lanes}
+use Rattle.std.proofs.Common.{◌≡◌, ℕ, ◌*◌, ◌+◌, ◌-◌, ◌%◌, ◌≤◌, ◌∷◌, ◌++◌, drop, take, length, ap, sym, ◌∙◌, subst, arith}
+use Rattle.std.proofs.lemmas.List.{drop-set, take_all, length-take, length-drop}
+use Rattle.std.proofs.lemmas.List.Elements.{All-take, All-drop}
+use Rattle.trellis_decode.specs.Kept.{Keeps}
+use Rattle.trellis_decode.specs.Lanes.{IsOctet, lane}
+use Rattle.trellis_decode.specs.Turned.{worths}
+use Rattle.trellis_decode.proofs.FourPairs.{HasEdges-passed}
+use Rattle.trellis_decode.proofs.Kept.{Keeps-more, Keeps-same, Keeps-close, Keeps-even, Keeps-odd, drop-put_mid_here}
+use Rattle.trellis_decode.proofs.Paths.{pair_and_rest, length-pair}
+use Rattle.trellis_decode.proofs.TurnedVectors.{AreEdges-passed, passed, passed-gaps}
 use Rattle.trellis_decode.proofs.trellis.keep.Goals as goal
+use Rattle.trellis_decode.proofs.trellis.keep.Goals.{After-keep_groups-values}
+
+pub keep_groups-values-requires-clause-octets : goal.keep_groups-values-requires-clause-octets
+keep_groups-values-requires-clause-octets c = All-take IsOctet _ (drop (2 * (length c.args.rows.now % 4)) c.args.soft.now)
+    (All-drop IsOctet (2 * (length c.args.rows.now % 4)) c.args.soft.now c.see_octets.ensures)
 
 pub loop-k-init : goal.loop-k-init
 loop-k-init c =
     let soft = c.args.soft.now in
     let rows = c.args.rows.now in
-    let free = length rows - 4 in
-    let last_four : length (drop free rows) ≡ 4 = rw length-drop (omega arith) in
-    let whole : take (length soft - 2 * free) (drop (2 * free) soft) ≡ drop (2 * free) soft = take_all _ _ (omega (arith, length-drop (2 * free) soft)) in
-    let zeros = All-drop (λ row. row ≡ 0) free rows c.requires.blank in
+    let losses = c.args.losses.now in
+    let few = length rows % 4 in
+    let whole : take (length soft - 2 * few) (drop (2 * few) soft) ≡ drop (2 * few) soft = take_all _ _ (omega (arith, length-drop (2 * few) soft)) in
+    let keeps = c.keep_groups-values.ensures.keeps in
     record {
-      lanes = AreLanes-passed c.closing_values-values.result c.closing_values-values.ensures.lanes;
-      octets = subst AreOctets whole c.closing_values-values.ensures.octets;
-      best = λ s lt. IsBest-same s (closing_rows (drop free rows) s last_four zeros) whole
-          (ap (λ lanes. lane lanes s) (sym (passed-lanes c.closing_values-values.result c.closing_values-values.ensures.lanes)))
-          (c.closing_values-values.ensures.each s lt);
-      kept = IsKept-closing (drop free rows) (drop free c.args.losses.now) (drop (2 * free) soft) (omega arith)
-          (omega (arith, length-drop free rows, length-drop free c.args.losses.now))
-          (omega (arith, length-drop (2 * free) soft, length-drop free rows)) zeros;
+      keeps = Keeps-same
+          (sym (drop-put_mid_here few (length rows - few) rows c.keep_groups-values.new.rows (omega arith) (let same = c.keep_groups-values.auto.rows in omega (arith, length-take (length rows - few) (drop few rows), length-drop few rows))))
+          (sym (drop-put_mid_here few (length losses - few) losses c.keep_groups-values.new.losses (omega (arith, c.requires.same)) (let same = c.keep_groups-values.auto.losses in omega (arith, length-take (length losses - few) (drop few losses), length-drop few losses))))
+          whole keeps;
+      even = c.keep_groups-values.ensures.even;
+      odd = c.keep_groups-values.ensures.odd;
     }
 
-pub new-step-requires-clause-modest : goal.new-step-requires-clause-modest
-new-step-requires-clause-modest c =
-    let few : length (drop (2 * c.loop-k.k) c.args.soft.now) ≤ 456 = omega (arith, length-drop (2 * c.loop-k.k) c.args.soft.now) in
-    AreModest-best (numbers c.loop-k.values) (λ s. read_out (drop c.loop-k.k c.loop-k.rows) s) (drop (2 * c.loop-k.k) c.args.soft.now)
-    c.loop-k.invariant.lanes.count c.loop-k.invariant.octets few c.loop-k.invariant.best
+pub pair_edges-requires-clause-octets : goal.pair_edges-requires-clause-octets
+pair_edges-requires-clause-octets c = All-take IsOctet _ (drop (2 * (c.loop-k.k - 1)) c.args.soft.now) (All-drop IsOctet (2 * (c.loop-k.k - 1)) c.args.soft.now c.see_octets.ensures)
+
+pub new-step-requires-clause-even : goal.new-step-requires-clause-even
+new-step-requires-clause-even c =
+    Keeps-even (drop c.loop-k.k c.loop-k.rows) (drop c.loop-k.k c.loop-k.losses) (drop (2 * c.loop-k.k) c.args.soft.now) c.loop-k.values.even c.loop-k.values.odd
+    c.loop-k.invariant.keeps (let same = c.loop-k.auto.rows in omega (arith, length-drop c.loop-k.k c.loop-k.rows)) c.loop-k.invariant.even.count
+
+pub new-step-requires-clause-odd : goal.new-step-requires-clause-odd
+new-step-requires-clause-odd c =
+    Keeps-odd (drop c.loop-k.k c.loop-k.rows) (drop c.loop-k.k c.loop-k.losses) (drop (2 * c.loop-k.k) c.args.soft.now) c.loop-k.values.even c.loop-k.values.odd
+    c.loop-k.invariant.keeps (let same = c.loop-k.auto.rows in omega (arith, length-drop c.loop-k.k c.loop-k.rows)) c.loop-k.invariant.odd.count
+
+pub new-step-requires-clause-close : goal.new-step-requires-clause-close
+new-step-requires-clause-close c =
+    Keeps-close (drop c.loop-k.k c.loop-k.rows) (drop c.loop-k.k c.loop-k.losses) (drop (2 * c.loop-k.k) c.args.soft.now) c.loop-k.values.even c.loop-k.values.odd
+    c.loop-k.invariant.keeps
+
+pub new-step-requires-clause-edges : goal.new-step-requires-clause-edges
+new-step-requires-clause-edges c = AreEdges-passed c.pair_edges.result c.pair_edges.ensures.edges
 
 pub loop-k-preserved : goal.loop-k-preserved
 loop-k-preserved c =
     let soft = c.args.soft.now in
+    let rows = c.loop-k.rows in
+    let losses = c.loop-k.losses in
     let k = c.loop-k.k in
-    let at : k ≡ k - 1 + 1 = omega arith in
-    let n = 2 * (k - 1) + 2 - 2 * (k - 1) in
+    let j = k - 1 in
+    let n = 2 * j + 2 - 2 * j in
+    let pair = take n (drop (2 * j) soft) in
+    let at : k ≡ j + 1 = omega arith in
     let two : n ≡ 2 = omega arith in
-    let within : 2 * (k - 1) + 2 ≤ length soft = omega arith in
-    let free : k + 4 ≤ length c.loop-k.rows = let count = c.loop-k.auto.rows in omega arith in
+    let within : 2 * j + 2 ≤ length soft = omega (arith, c.requires.count) in
+    let octets = All-take IsOctet n (drop (2 * j) soft) (All-drop IsOctet (2 * j) soft c.see_octets.ensures) in
+    let has = HasEdges-passed c.pair_edges.result pair c.pair_edges.ensures.edges c.pair_edges.ensures.has in
+    let lost = passed c.new-step.result.losses in
     record {
-      lanes = AreLanes-passed c.new-step.result.values c.new-step.ensures.lanes;
-      octets = AreOctets-more soft (k - 1) n two within c.new-step.ensures.octets
-          (subst (λ k. AreOctets (drop (2 * k) soft)) at c.loop-k.invariant.octets);
-      best = λ s lt. IsBest-same s refl refl (ap (λ lanes. lane lanes s) (sym (passed-lanes c.new-step.result.values c.new-step.ensures.lanes)))
-          (IsBest-row (numbers c.loop-k.values) soft c.loop-k.rows k (k - 1) n s c.new-step.result.row _ at free within two c.loop-k.invariant.best
-          (c.new-step.ensures.each s lt));
-      kept = IsKept-row (numbers c.loop-k.values) c.new-step.result.values _ soft c.loop-k.rows c.loop-k.losses k (k - 1) n c.new-step.result.row
-          at free (c.loop-k.auto.losses ∙ c.requires.same ∙ sym c.loop-k.auto.rows) within two c.loop-k.invariant.best c.new-step.ensures.each
-          (λ s lt. ap (λ lanes. lane lanes s) (passed-lanes c.new-step.result.losses c.new-step.ensures.losses_lanes) ∙ c.new-step.ensures.losses s lt)
-          c.loop-k.invariant.kept;
+      keeps = Keeps-same
+          (ap (λ k. c.new-step.result.row ∷ drop k rows) at ∙ sym (drop-set rows j c.new-step.result.row (let same = c.loop-k.auto.rows in omega arith)))
+          (ap (λ k. lost ∷ drop k losses) at ∙ sym (drop-set losses j lost (let same = c.loop-k.auto.losses in omega (arith, c.requires.same))))
+          (ap (λ k'. pair ++ drop (2 * k') soft) at ∙ pair_and_rest soft j n two within)
+          (Keeps-more (worths c.loop-k.values.even c.loop-k.values.odd) (worths c.new-step.result.values.even c.new-step.result.values.odd) lost pair (drop (2 * k) soft)
+          (drop k rows) (drop k losses) c.new-step.result.row (length-pair soft j n two within) octets
+          (c.new-step.ensures.each pair has)
+          (λ s lt. ap (λ l. lane l s) (passed-gaps c.new-step.result.losses c.new-step.ensures.lanes) ∙ c.new-step.ensures.losses pair has s lt)
+          c.loop-k.invariant.keeps);
+      even = c.new-step.ensures.even;
+      odd = c.new-step.ensures.odd;
     }
 
 pub returns-clause-kept : goal.returns-clause-kept
 returns-clause-kept c =
     let none : c.loop-k.k ≡ 0 = omega arith in
-    subst (λ k. IsKept (drop k c.loop-k.rows) (drop k c.loop-k.losses) (drop (2 * k) c.args.soft.now)) none c.loop-k.invariant.kept
-
-pub returns-clause-octets : goal.returns-clause-octets
-returns-clause-octets c =
-    let none : c.loop-k.k ≡ 0 = omega arith in
-    subst (λ k. AreOctets (drop (2 * k) c.args.soft.now)) none c.loop-k.invariant.octets
+    let Holds : ℕ → Type 0 = λ k. Keeps (drop k c.loop-k.rows) (drop k c.loop-k.losses) (drop (2 * k) c.args.soft.now) (worths c.loop-k.values.even c.loop-k.values.odd) in
+    (subst Holds none c.loop-k.invariant.keeps).kept

@@ -1,0 +1,12 @@
+use Rattle.std.proofs.Common.{◌*◌, drop}
+use Rattle.trellis_decode.specs.Kept.{Keeps}
+use Rattle.trellis_decode.specs.Turned.{AreNarrow, worths}
+use Rattle.trellis_decode.proofs.trellis.keep_groups.Given as goal
+
+-- the rows and losses from a group on are those of the best lists from there
+abbrev pub invariant-loop-group : goal.invariant-loop-group
+invariant-loop-group l = record {
+  keeps : Keeps (drop (4 * l.group) l.rows) (drop (4 * l.group) l.losses) (drop (8 * l.group) l.soft) (worths l.values.even l.values.odd);
+  even : AreNarrow l.values.even;
+  odd : AreNarrow l.values.odd;
+}

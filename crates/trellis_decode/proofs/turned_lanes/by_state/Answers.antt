@@ -1,0 +1,5 @@
+use Rattle.trellis_decode.proofs.TurnedVectors.{ordered}
+use Rattle.trellis_decode.proofs.turned_lanes.by_state.Goals as goal
+
+pub returns : goal.returns
+returns c = ordered c.args.low c.args.high c.requires.low_lanes c.requires.high_lanes

@@ -1,0 +1,66 @@
+//! A step of the Viterbi algorithm whose choices are kept, and what is lost by the other ones.
+//!
+//! What the bit 0 is worth more than 1 in a state says both: its sign is the choice, and without sign it is the loss. It
+//! fits 16 bits, since no two states differ by much: after four equal bits they are one.
+
+ghost use Rattle.std.specs.Prelude.{◌≡◌, ℕ, ◌/◌, ◌%◌, ◌^◌, ◌-◌, ◌<◌, List, ℤ, ◌-ℤ◌};
+ghost use Rattle.trellis_decode.specs.Trellis.{Chooses, way};
+ghost use Rattle.trellis_decode.specs.Lanes.{lane};
+ghost use Rattle.trellis_decode.specs.Turned.{AreClose, AreEdges, AreGaps, AreNarrow, HasEdges, HaveRoom, worths};
+
+use crate::turned_lanes::{by_state, differences, gaps, signs, sizes, sums};
+use crate::turned_step::{Step, Values};
+use std::simd::prelude::*;
+
+/// A step of the trellis, from a place to the one before it.
+#[derive(Clone, Copy)]
+pub struct KeptStep {
+    /// What the best list is worth that begins in each state.
+    pub values: Values,
+    /// Bit `s` is the first bit of the best list that begins in state `s`.
+    pub row: u16,
+    /// What the best list that begins in each state is worth more than the best with the other first bit.
+    pub losses: i16x16,
+}
+
+impl KeptStep {
+    /// The step at a place whose bits count `edges`; `after` is what each state is worth at the next place.
+    pub fn new(after: Values, edges: i16x8) -> KeptStep
+        requires even { HaveRoom after.even }
+        requires odd { HaveRoom after.odd }
+        requires close { AreClose after.even after.odd }
+        requires edges { AreEdges edges }
+        ensures each { (pair : List ℤ) → HasEdges edges pair → (s : ℕ) → s < 16 →
+            Chooses (worths after.even after.odd) pair s
+            (lane (worths result.values.even result.values.odd) s) (result.row / 2 ^ s % 2) }
+        ensures losses { (pair : List ℤ) → HasEdges edges pair → (s : ℕ) → s < 16 → lane result.losses s ≡
+            way (worths after.even after.odd) pair s (result.row / 2 ^ s % 2)
+            -ℤ way (worths after.even after.odd) pair s (1 - result.row / 2 ^ s % 2) }
+        ensures lanes { AreGaps result.losses }
+        ensures even { AreNarrow result.values.even }
+        ensures odd { AreNarrow result.values.odd }
+    {
+        let leads = leads(after, edges);
+        KeptStep {
+            values: Step::new(after, edges).values,
+            row: signs(leads),
+            losses: sizes(leads),
+        }
+    }
+}
+
+/// What the bit 0 is worth more than the bit 1 in each state.
+fn leads(after: Values, edges: i16x8) -> i16x16
+    requires even { HaveRoom after.even }
+    requires odd { HaveRoom after.odd }
+    requires close { AreClose after.even after.odd }
+    requires edges { AreEdges edges }
+    ensures each { (pair : List ℤ) → HasEdges edges pair → (s : ℕ) → s < 16 → lane result s ≡
+        way (worths after.even after.odd) pair s 0 -ℤ way (worths after.even after.odd) pair s 1 }
+    ensures lanes { AreGaps result }
+{
+    let gaps = gaps(after.even, after.odd);
+    let low = sums(sums(gaps, edges), edges);
+    let high = differences(differences(gaps, edges), edges);
+    by_state(low, high)
+}
