@@ -27,7 +27,7 @@ reached_small state [] small = small
 reached_small state (x ∷ u) small = reached_small (next state x) u (omega arith)
 
 -- from a place on a list that the rows choose is what they choose from the state there on
-chosen_from : (rows : List ℕ) (state place : ℕ) → place ≤ length rows →
+pub chosen_from : (rows : List ℕ) (state place : ℕ) → place ≤ length rows →
     drop place (read_out rows state) ≡ read_out (drop place rows) (reached state (take place (read_out rows state)))
 chosen_from rows state zero within = refl
 chosen_from [] state (suc place) within = absurd (omega arith)
@@ -39,6 +39,11 @@ pub chosen_bit : (rows : List ℕ) (state k : ℕ) → k < length rows →
 chosen_bit [] state k within = absurd (omega arith)
 chosen_bit (row ∷ rows) state zero within = refl
 chosen_bit (row ∷ rows) state (suc k) within = chosen_bit rows (next state (row / 2 ^ state % 2)) k (omega arith)
+
+pub bit_small : (rows : List ℕ) (state k : ℕ) → get_or (read_out rows state) k 0 ≤ 1
+bit_small [] state k = omega arith
+bit_small (row ∷ rows) state zero = omega arith
+bit_small (row ∷ rows) state (suc k) = bit_small rows (next state (row / 2 ^ state % 2)) k
 
 pub chosen_behind : (rows u : List ℕ) (place state : ℕ) → u ≡ read_out rows 0 → place < length rows → length rows ≡ length u →
     state ≡ reached 0 (take place u) → drop (place + 1) u ≡ read_out (drop (place + 1) rows) (next state (get_or u place 0))

@@ -1,4 +1,4 @@
-use Rattle.std.proofs.Common.{◌≡◌, ◌<◌, take, length}
+use Rattle.std.proofs.Common.{◌≡◌, ◌<◌, take}
 use Rattle.trellis_decode.specs.Trellis.{read_out}
 use Rattle.list_decode.specs.Detours.{reached}
 use Rattle.list_decode.proofs.Losses.{IsBestLeave}

@@ -7,52 +7,47 @@ use Rattle.list_decode.proofs.Losses.{reached_small}
 use Rattle.list_decode.proofs.Margins.{IsMargin-second, tie_by_margin, hard_margin, both_only}
 use Rattle.list_decode.proofs.second.margin.Goals as goal
 
-pub least_loss-leave-requires-clause-bits : goal.least_loss-leave-requires-clause-bits
-least_loss-leave-requires-clause-bits c =
-    let pairs = c.keep.ensures.count in
-    subst AllBits (sym c.read_list.ensures) (AllBits-kept c.keep.new.rows c.keep.new.losses c.args.soft.now c.keep.ensures.kept (omega arith))
-
 pub write_detour-requires-clause-bits : goal.write_detour-requires-clause-bits
 write_detour-requires-clause-bits c =
     let pairs = c.keep.ensures.count in
-    subst AllBits (sym c.read_list.ensures) (AllBits-kept c.keep.new.rows c.keep.new.losses c.args.soft.now c.keep.ensures.kept (omega arith))
+    subst AllBits (sym c.read_least-leave.ensures.list) (AllBits-kept c.keep.new.rows c.keep.new.losses c.args.soft.now c.keep.ensures.kept (omega arith))
 
 pub write_detour-requires-clause-state : goal.write_detour-requires-clause-state
 write_detour-requires-clause-state c =
-    let small = reached_small 0 (take c.least_loss-leave.result.place c.read_list.new.u) (omega arith) in
-    let is = c.least_loss-leave.ensures.state in
+    let small = reached_small 0 (take c.read_least-leave.result.place c.read_least-leave.new.u) (omega arith) in
+    let is = c.read_least-leave.ensures.state in
     omega arith
 
 pub returns-clause-best : goal.returns-clause-best
 returns-clause-best c =
-    (first_two c.args.soft.now c.keep.new.rows c.keep.new.losses c.read_list.new.u c.write_detour.new.v _ _ _ c.keep.ensures.kept c.keep.ensures.count (omega arith)
-    c.read_list.ensures c.least_loss-leave.ensures.least c.least_loss-leave.ensures.within c.least_loss-leave.ensures.state c.write_detour.ensures).best
+    (first_two c.args.soft.now c.keep.new.rows c.keep.new.losses c.read_least-leave.new.u c.write_detour.new.v _ _ _ c.keep.ensures.kept c.keep.ensures.count (omega arith)
+    c.read_least-leave.ensures.list c.read_least-leave.ensures.least c.read_least-leave.ensures.within c.read_least-leave.ensures.state c.write_detour.ensures).best
 
 pub returns-clause-second : goal.returns-clause-second
 returns-clause-second c =
-    (first_two c.args.soft.now c.keep.new.rows c.keep.new.losses c.read_list.new.u c.write_detour.new.v _ _ _ c.keep.ensures.kept c.keep.ensures.count (omega arith)
-    c.read_list.ensures c.least_loss-leave.ensures.least c.least_loss-leave.ensures.within c.least_loss-leave.ensures.state c.write_detour.ensures).second
+    (first_two c.args.soft.now c.keep.new.rows c.keep.new.losses c.read_least-leave.new.u c.write_detour.new.v _ _ _ c.keep.ensures.kept c.keep.ensures.count (omega arith)
+    c.read_least-leave.ensures.list c.read_least-leave.ensures.least c.read_least-leave.ensures.within c.read_least-leave.ensures.state c.write_detour.ensures).second
 
 pub returns-clause-value : goal.returns-clause-value
 returns-clause-value c =
-    let fits : FitsSigned w32 c.least_loss-leave.result.loss = search rules in
-    to_z-of_z w32 c.least_loss-leave.result.loss fits
-    ∙ (first_two c.args.soft.now c.keep.new.rows c.keep.new.losses c.read_list.new.u c.write_detour.new.v _ _ _ c.keep.ensures.kept c.keep.ensures.count (omega arith)
-    c.read_list.ensures c.least_loss-leave.ensures.least c.least_loss-leave.ensures.within c.least_loss-leave.ensures.state c.write_detour.ensures).value
+    let fits : FitsSigned w32 c.read_least-leave.result.loss = search rules in
+    to_z-of_z w32 c.read_least-leave.result.loss fits
+    ∙ (first_two c.args.soft.now c.keep.new.rows c.keep.new.losses c.read_least-leave.new.u c.write_detour.new.v _ _ _ c.keep.ensures.kept c.keep.ensures.count (omega arith)
+    c.read_least-leave.ensures.list c.read_least-leave.ensures.least c.read_least-leave.ensures.within c.read_least-leave.ensures.state c.write_detour.ensures).value
 
 pub returns-clause-only : goal.returns-clause-only
 returns-clause-only c a b best next_best =
-    both_only c.args.soft.now c.read_list.new.u c.write_detour.new.v a b (returns-clause-best c) (returns-clause-second c) best next_best
+    both_only c.args.soft.now c.read_least-leave.new.u c.write_detour.new.v a b (returns-clause-best c) (returns-clause-second c) best next_best
 
 pub returns-clause-margin : goal.returns-clause-margin
 returns-clause-margin c =
-    IsMargin-second c.args.soft.now c.read_list.new.u c.write_detour.new.v _ (returns-clause-second c) (returns-clause-value c)
+    IsMargin-second c.args.soft.now c.read_least-leave.new.u c.write_detour.new.v _ (returns-clause-second c) (returns-clause-value c)
 
 pub returns-clause-tie : goal.returns-clause-tie
-returns-clause-tie c = tie_by_margin c.args.soft.now c.read_list.new.u _ (returns-clause-best c) (returns-clause-margin c)
+returns-clause-tie c = tie_by_margin c.args.soft.now c.read_least-leave.new.u _ (returns-clause-best c) (returns-clause-margin c)
 
 pub returns-clause-hard : goal.returns-clause-hard
 returns-clause-hard c e hard wrong few =
-    let bound = hard_margin c.args.soft.now c.read_list.new.u c.write_detour.new.v e (returns-clause-best c).information (returns-clause-second c).candidate
+    let bound = hard_margin c.args.soft.now c.read_least-leave.new.u c.write_detour.new.v e (returns-clause-best c).information (returns-clause-second c).candidate
     (returns-clause-best c).count (returns-clause-second c).differs hard wrong few in
     subst (λ m. pos (254 * (7 - 2 * e)) ≤ℤ m) (sym (returns-clause-value c)) bound
