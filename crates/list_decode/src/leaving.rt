@@ -17,7 +17,7 @@ pub(crate) struct Leave {
 }
 
 impl Leave {
-    fn new(place: usize, state: usize, loss: i32, bit: u8) -> Leave
+    pub(crate) fn new(place: usize, state: usize, loss: i32, bit: u8) -> Leave
         requires { bit ≤ 1 }
         ensures place { result.place ≡ place }
         ensures state { result.state ≡ state }
@@ -33,7 +33,7 @@ impl Leave {
     }
 
     /// Whether a later place that loses so much is better.
-    fn comes_after(&self, loss: i32) -> bool
+    pub(crate) fn comes_after(&self, loss: i32) -> bool
         ensures after { result ≡ true → loss <ℤ self.now.limit }
         ensures not_after { result ≡ false → self.now.limit ≤ℤ loss }
     {
