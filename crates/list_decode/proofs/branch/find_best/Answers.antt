@@ -5,8 +5,8 @@ use Rattle.list_decode.specs.FreePlaces.{IsBestFree}
 use Rattle.trellis_decode.specs.Trellis.{next}
 use Rattle.list_decode.proofs.Losses.{reached_more}
 use Rattle.list_decode.proofs.FreePlaces.{is_leave, best_shut}
-use Rattle.list_decode.proofs.ranked.find_best.Goals as goal
-use Rattle.list_decode.proofs.ranked.find_best.Goals.{then-free-k, else-free-k}
+use Rattle.list_decode.proofs.branch.find_best.Goals as goal
+use Rattle.list_decode.proofs.branch.find_best.Goals.{then-free-k, else-free-k}
 
 pub loop-k-preserved : goal.loop-k-preserved
 loop-k-preserved c =

@@ -1,7 +1,7 @@
 use Rattle.std.proofs.Common.{◌≡◌, ◌<◌, false, get_or, take}
 use Rattle.list_decode.specs.Detours.{reached}
 use Rattle.list_decode.specs.FreePlaces.{IsBestFree}
-use Rattle.list_decode.proofs.ranked.find_best.Given as goal
+use Rattle.list_decode.proofs.branch.find_best.Given as goal
 
 abbrev pub invariant-loop-k : goal.invariant-loop-k
 invariant-loop-k l = record {
