@@ -29,6 +29,7 @@ pub record IsSpan (pass : Pass) (u : List ℕ) (span : Span) : Type 0 where
   pub value : span.likelihood ≡ likelihood (soft_of pass) (coded u)
   pub order : span.from ≤ span.to
   pub end : span.to + 4 ≤ length u
+  pub small : span.state < 16
   pub state : span.state ≡ reached 0 (take span.from u)
 
 -- a list that leaves u at a place from which on u follows the choices of the pass
@@ -36,6 +37,7 @@ pub record IsStray (pass : Pass) (u : List ℕ) (x : Stray) : Type 0 where
   pub within : x.leave.place + 4 < length u
   pub follows : Follows x.leave.place u (rows_of pass) 0
   pub value : x.likelihood ≡ likelihood (soft_of pass) (coded (stray_of pass u x))
+  pub small : x.leave.state < 16
   pub state : x.leave.state ≡ reached 0 (take x.leave.place u)
 
 -- the best candidate that leaves u in a span, or none does
@@ -52,4 +54,4 @@ pub record IsBranch (pass : Pass) (u : List ℕ) (branch : Branch) : Type 0 wher
 -- a branch of one of the lists that were given
 pub record IsBranchOf (pass : Pass) (us : List (List ℕ)) (branch : Branch) : Type 0 where
   pub within : branch.span.list < length us
-  pub branch : IsBranch pass (slice_index_or us branch.span.list []) branch
+  pub is : IsBranch pass (slice_index_or us branch.span.list []) branch
