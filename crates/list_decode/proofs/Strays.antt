@@ -67,7 +67,7 @@ pub record IsStray (u rows : List ℕ) (losses : List (List ℤ)) (soft : List �
   pub count : length (stray u rows state place) ≡ length rows
   pub leaves : LeavesAt u (stray u rows state place) place
 
-is_stray : (from : ℕ) (u rows : List ℕ) (losses : List (List ℤ)) (soft : List ℤ) (state place : ℕ) → IsKept rows losses soft → state < 16 → Ends u →
+pub is_stray : (from : ℕ) (u rows : List ℕ) (losses : List (List ℤ)) (soft : List ℤ) (state place : ℕ) → IsKept rows losses soft → state < 16 → Ends u →
     Follows from u rows state → from ≤ place → place + 4 < length rows → IsStray u rows losses soft state place
 is_stray zero u rows losses soft state place kept lt ends follows le within =
     let d = is_detour rows losses soft state place kept lt within in
