@@ -16,11 +16,16 @@ use Rattle.list_decode.specs.declared.branch.Stray.{Stray}
 use Rattle.list_decode.specs.declared.choice.Choice.{Choice}
 use Rattle.list_decode.specs.declared.pass.Pass.{Pass}
 use Rattle.list_decode.proofs.Strays.{FallsBehind-trans, is_stray}
-use Rattle.list_decode.proofs.WordOrder.{before_tested, behind_tested, tested}
+use Rattle.list_decode.proofs.WordOrder.{before_tested, behind_tested, test}
 
 -- a list that was given
 pub given_at : (bits : ℕ) (lists : List (List ℕ)) (i : ℕ) → i < length lists → get_or (map (take bits) lists) i [] ≡ take bits (get_or lists i [])
 given_at bits lists i within = get_or-map (take bits) lists i [] [] within
+
+pub given_within : (bits : ℕ) (lists : List (List ℕ)) (i : ℕ) → i < length (map (take bits) lists) → i < length lists
+given_within bits [] i within = within
+given_within bits (u ∷ lists) zero within = omega arith
+given_within bits (u ∷ lists) (suc i) within = let w = given_within bits lists i (omega arith) in omega arith
 
 -- a list that leaves a candidate and then follows the choices is a candidate
 pub stray_is : (pass : Pass) (u : List ℕ) (x : Stray) → IsPass pass → IsCandidate (soft_of pass) u → IsStray pass u x → IsCandidate (soft_of pass) (stray_of pass u x)
@@ -42,12 +47,6 @@ stray_list_is pass us x is all stray = stray_is pass (get_or us x.list []) x is 
 
 module _ (pass : Pass) (us : List (List ℕ)) (is : IsPass pass) (all : All (IsCandidate (soft_of pass)) us) (x y : Stray)
     (is_x : IsStrayOf pass us x) (is_y : IsStrayOf pass us y) (equal : x.likelihood ≡ y.likelihood) where
-  a : List ℕ
-  a = stray_list pass us x
-
-  b : List ℕ
-  b = stray_list pass us y
-
   tie : likelihood (soft_of pass) (coded (stray_list pass us x)) ≡ likelihood (soft_of pass) (coded (stray_list pass us y))
   tie = sym is_x.stray.value ∙ equal ∙ is_y.stray.value
 
@@ -58,12 +57,19 @@ module _ (pass : Pass) (us : List (List ℕ)) (is : IsPass pass) (all : All (IsC
       omega arith
 
   -- of equally likely ones the first in the order of words comes before the other
-  pub tie_before : IsBefore (stray_list pass us x) (stray_list pass us y) → FallsBehind (soft_of pass) (stray_list pass us y) (stray_list pass us x)
-  tie_before before = inr (sym tie, before)
+  pub tie_before : (v w : List ℕ) (r : Bool) → v ≡ stray_list pass us x → w ≡ stray_list pass us y → r ≡ test v w → r ≡ true →
+      FallsBehind (soft_of pass) (stray_list pass us y) (stray_list pass us x)
+  tie_before v w r is_v is_w tells holds = inr (
+    sym tie,
+    before_tested (stray_list pass us x) (stray_list pass us y) (stray_list_is pass us y is all is_y).information.bits as_long
+        (sym (ap₂ test is_v is_w) ∙ sym tells ∙ holds),
+  )
 
-  pub tie_behind : (stray_list pass us x ≡ stray_list pass us y) ⊎ IsBefore (stray_list pass us y) (stray_list pass us x) →
+  pub tie_behind : (v w : List ℕ) (r : Bool) → v ≡ stray_list pass us x → w ≡ stray_list pass us y → r ≡ test v w → r ≡ false →
       (stray_list pass us x ≡ stray_list pass us y) ⊎ FallsBehind (soft_of pass) (stray_list pass us x) (stray_list pass us y)
-  tie_behind h = elim h [ inl same ↦ inl same | inr before ↦ inr (inr (tie, before)) ]
+  tie_behind v w r is_v is_w tells fails =
+      elim (behind_tested (stray_list pass us x) (stray_list pass us y) (stray_list_is pass us x is all is_x).information.bits as_long
+      (sym (ap₂ test is_v is_w) ∙ sym tells ∙ fails)) [ inl same ↦ inl same | inr before ↦ inr (inr (tie, before)) ]
 
 -- ---- one branch more
 

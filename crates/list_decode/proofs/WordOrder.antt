@@ -11,7 +11,7 @@ use Rattle.trellis_decode.specs.Trellis.{IsNotAfter}
 use Rattle.trellis_decode.proofs.Lists.{IsBefore-not_after}
 use Rattle.trellis_decode.proofs.MostLikely.{same_list, same_number}
 
-abbrev test : List ℕ → List ℕ → Bool
+abbrev pub test : List ℕ → List ℕ → Bool
 test [] [] = false
 test [] (y ∷ v) = true
 test (x ∷ u) [] = false

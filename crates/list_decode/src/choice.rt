@@ -73,9 +73,11 @@ fn comes_before(pass: &Pass, lists: &[[u8; 228]], first: &Stray, second: &Stray)
     if first.likelihood != second.likelihood {
         return first.likelihood > second.likelihood;
     }
-    let mut u = [0; 228];
-    let mut v = [0; 228];
-    first.write(pass, &lists[first.list][..pass.bits], &mut u[..pass.bits]);
-    second.write(pass, &lists[second.list][..pass.bits], &mut v[..pass.bits]);
-    u[..pass.bits] < v[..pass.bits]
+    let mut first_room = [0; 228];
+    let mut second_room = [0; 228];
+    let u = &mut first_room[..pass.bits];
+    let v = &mut second_room[..pass.bits];
+    first.write(pass, &lists[first.list][..pass.bits], u);
+    second.write(pass, &lists[second.list][..pass.bits], v);
+    *u < *v
 }
