@@ -1,13 +1,14 @@
 -- Which of the best lists of all branches comes first.
-use Rattle.std.proofs.Common.{◌≡◌, ◌≢◌, ◌⊎◌, ℕ, zero, suc, ◌+◌, ◌*◌, ◌<◌, ◌≤◌, Bool, true, false, inl, inr, ℤ, List, [], ◌∷◌, ◌++◌, length, map, get_or, take, Option, Some, None, refl, ap, ap₂, sym, ◌∙◌, subst, arith}
+use Rattle.std.proofs.Common.{◌≡◌, ◌≢◌, ◌⊎◌, ℕ, zero, suc, ◌+◌, ◌*◌, ◌<◌, ◌≤◌, Bool, true, false, inl, inr, ℤ, pos, List, [], ◌∷◌, ◌++◌, length, map, get_or, take, Option, Some, None, refl, ap, ap₂, sym, ◌∙◌, subst, arith}
 use Rattle.std.specs.List.{All, slice_get}
+use Rattle.std.specs.Prelude.{IfSome}
 use Rattle.std.proofs.lemmas.List.{get_or-map}
-use Rattle.std.proofs.lemmas.List.Elements.{All-nil, All-cons, All-append, All-weaker}
+use Rattle.std.proofs.lemmas.List.Elements.{All-nil, All-cons, All-head, All-tail, All-append, All-weaker}
 use Rattle.bit_blocks.specs.Bits.{AllBits}
 use Rattle.conv_code.specs.Code.{coded}
 use Rattle.conv_code.specs.Likelihood.{FallsBehind, IsBefore, likelihood}
 use Rattle.trellis_decode.proofs.Lists.{Ends-from_tail, IsInformation-ends}
-use Rattle.list_decode.specs.Branches.{IsStray, stray_of}
+use Rattle.list_decode.specs.Branches.{IsBestStray, IsBranchOf, IsStray, stray_of}
 use Rattle.list_decode.specs.Choices.{IsAtMost, IsFirst, IsStrayOf, stray_list}
 use Rattle.list_decode.specs.Passes.{IsPass, losses_of, rows_of, soft_of}
 use Rattle.list_decode.specs.Ranking.{IsCandidate}
@@ -135,3 +136,40 @@ module _ (pass : Pass) (us : List (List ℕ)) (branches : List Branch) (branch :
     All-append (AtMost old.stray) branches (branch ∷ []) first.1
         (All-cons (AtMost old.stray) branch [] (subst (IsAtMost pass us old.stray) (sym best) behind) (All-nil (AtMost old.stray))),
   )
+
+-- ---- the best list of a branch
+
+abbrev the_some : {X : Type 0} → X → Option X → X
+the_some x None = x
+the_some x (Some y) = y
+
+same_some : {X : Type 0} {x y : X} → Some x ≡ Some y → x ≡ y
+same_some {x = x} e = ap (the_some x) e
+
+-- what stands at an index has what all members have
+pub all_at : {X : Type 0} (P : X → Type 0) (xs : List X) (x : X) (k : ℕ) → All P xs → slice_get xs k ≡ Some x → P x
+all_at P [] x k all at = absurd (None-is_not at)
+all_at P (y ∷ xs) x zero all at = subst P (same_some at) (All-head P y xs all)
+all_at P (y ∷ xs) x (suc k) all at = all_at P xs x k (All-tail P y xs all) at
+
+pub branch_stray : (pass : Pass) (us : List (List ℕ)) (branch : Branch) (x : Stray) → IsBranchOf pass us branch → branch.best ≡ Some x → IsStrayOf pass us x
+branch_stray pass us branch x is at =
+    let best = subst (IsBestStray pass (get_or us branch.span.list []) branch.span) at is.is.best in
+    record {
+      within = subst (λ i. i < length us) (sym best.1) is.within;
+      stray = subst (λ i. IsStray pass (get_or us i []) x) (sym best.1) best.0;
+    }
+
+pub first_stray : (pass : Pass) (us : List (List ℕ)) (branches : List Branch) (first : Option Choice) → All (IsBranchOf pass us) branches →
+    IsFirst pass us branches first → IfSome first (λ choice. IsStrayOf pass us choice.stray)
+first_stray pass us branches None all first = tt
+first_stray pass us branches (Some choice) all first =
+    branch_stray pass us first.0.0 choice.stray (all_at (IsBranchOf pass us) branches first.0.0 choice.branch all first.0.1) first.0.2
+
+-- what the machine reads where there is no branch
+abbrev pub blank : Branch
+blank = record { span = record { list = 0; likelihood = pos 0; from = 0; to = 0; state = 0 }; best = None }
+
+pub not_some : (best : Option Stray) → ((x : Stray) → best ≢ Some x) → best ≡ None
+not_some None none = refl
+not_some (Some x) none = absurd (none x refl)

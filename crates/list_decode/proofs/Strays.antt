@@ -181,7 +181,7 @@ module _ (soft : List ℤ) (rows : List ℕ) (losses : List (List ℤ)) (c : Cla
   same_length = length-follows from c.list rows 0 followed.follows
 
   -- what stands in the class leaves its list at a place before the last four, and loses at least what was kept there
-  stands_short : (w : List ℕ) → IsCandidate soft w → (at : StandsIn c w) → FallsShort c.list rows losses soft 0 at.place w
+  pub stands_short : (w : List ℕ) → IsCandidate soft w → (at : StandsIn c w) → FallsShort c.list rows losses soft 0 at.place w
   stands_short w candidate at =
       let count = candidate.count in
       let pairs = followed.pairs in
