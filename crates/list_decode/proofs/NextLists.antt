@@ -10,7 +10,6 @@ use Rattle.list_decode.specs.Choices.{IsAtMost, stray_list}
 use Rattle.list_decode.specs.Classes.{Class, StandsIn, LeavesAt, anywhere, behind, closed, Covers}
 use Rattle.list_decode.specs.Detours.{Follows}
 use Rattle.list_decode.specs.Passes.{IsPass, losses_of, rows_of, soft_of}
-use Rattle.list_decode.specs.Ranked.{class_of}
 use Rattle.list_decode.specs.Ranking.{IsCandidate, IsRanked}
 use Rattle.list_decode.specs.declared.branch.Branch.{Branch}
 use Rattle.list_decode.specs.declared.branch.Span.{Span}
@@ -89,74 +88,88 @@ module _ (pass : Pass) (us : List (List ℕ)) (u : List ℕ) (span : Span) (x : 
   v_follows : Follows (x.leave.place + 1) (stray_of pass u x) (rows_of pass) 0
   v_follows = let n = u_long in let i = is_x.within in follows_behind u (rows_of pass) 0 place n (omega arith)
 
-  -- the places before, behind and after the one at which x leaves u take the place of the span
-  pub goes_on : (before after : List Class) (first behind_v rest : Span) → IsRanked (soft_of pass) us → Covers (soft_of pass) us (before ++ leaving u span ∷ after) →
-      ((e : Class) (w : List ℕ) → Contains (before ++ leaving u span ∷ after) e → IsCandidate (soft_of pass) w → StandsIn e w → w ≢ stray_of pass u x →
-          FallsBehind (soft_of pass) w (stray_of pass u x)) →
-      first.from ≡ span.from → first.to ≡ x.leave.place → behind_v.from ≡ x.leave.place + 1 → behind_v.to + 4 ≡ pass.bits →
-      rest.from ≡ x.leave.place + 1 → rest.to ≡ span.to →
-      IsRanked (soft_of pass) (us ++ stray_of pass u x ∷ []) ×
-      Covers (soft_of pass) (us ++ stray_of pass u x ∷ []) (((before ++ leaving u first ∷ after) ++ leaving (stray_of pass u x) behind_v ∷ []) ++ leaving u rest ∷ [])
-  goes_on before after first behind_v rest ranked covers best first_from first_to behind_from behind_to rest_from rest_to =
-      (next.0, subst (λ cs. Covers s (us ++ v ∷ []) (cs ++ leaving u rest ∷ [])) (sym (append_assoc before (a ∷ after) (b ∷ []))) parted)
-    where
-      abbrev s : List ℤ
-      s = soft_of pass
+  module _ (before after : List Class) (first behind_v rest : Span) (ranked : IsRanked (soft_of pass) us)
+      (covers : Covers (soft_of pass) us (before ++ leaving u span ∷ after))
+      (best : (e : Class) (w : List ℕ) → Contains (before ++ leaving u span ∷ after) e → IsCandidate (soft_of pass) w → StandsIn e w → w ≢ stray_of pass u x →
+          FallsBehind (soft_of pass) w (stray_of pass u x))
+      (first_from : first.from ≡ span.from) (first_to : first.to ≡ x.leave.place) (behind_from : behind_v.from ≡ x.leave.place + 1)
+      (behind_to : behind_v.to + 4 ≡ pass.bits) (rest_from : rest.from ≡ x.leave.place + 1) (rest_to : rest.to ≡ span.to) where
+    abbrev s : List ℤ
+    s = soft_of pass
 
-      abbrev c : Class
-      c = leaving u span
+    abbrev c : Class
+    c = leaving u span
 
-      abbrev a : Class
-      a = leaving u first
+    abbrev a : Class
+    a = leaving u first
 
-      abbrev b : Class
-      b = leaving (stray_of pass u x) behind_v
+    abbrev b : Class
+    b = leaving (stray_of pass u x) behind_v
 
-      next : IsRanked (soft_of pass) (us ++ stray_of pass u x ∷ []) ×
-          Covers (soft_of pass) (us ++ stray_of pass u x ∷ [])
-              ((before ++ closed (leaving u span) x.leave.place ∷ after) ++ behind (stray_of pass u x) x.leave.place ∷ [])
-      next = goes_on_ranked s us before after c v place ranked covers v_is left (is_between span.from span.to place from to) best
+    next : IsRanked (soft_of pass) (us ++ stray_of pass u x ∷ []) ×
+        Covers (soft_of pass) (us ++ stray_of pass u x ∷ [])
+            ((before ++ closed (leaving u span) x.leave.place ∷ after) ++ behind (stray_of pass u x) x.leave.place ∷ [])
+    next = goes_on_ranked s us before after c v place ranked covers v_is left (is_between span.from span.to place from to) best
 
-      narrowed : Covers (soft_of pass) (us ++ stray_of pass u x ∷ [])
-          ((before ++ closed (leaving u span) x.leave.place ∷ after) ++ leaving (stray_of pass u x) behind_v ∷ [])
-      narrowed = narrow_covers s (us ++ v ∷ []) (before ++ closed c place ∷ after) [] (behind v place) next.1 b v_is
-          (λ w at. record {
-            place = at.place;
-            leaves = at.leaves;
-            free = place-behind v place at.place (let f = between_from behind_v.from behind_v.to at.place at.free in omega arith);
-          })
-          (λ w is_w at.
-          let short = before_the_last pass (behind v place) (place + 1) w is v_is v_follows (λ k free. let l = behind-place v place k free in omega arith) is_w at in
-          let later = behind-place v place at.place at.free in
-          record { place = at.place; leaves = at.leaves; free = is_between behind_v.from behind_v.to at.place (omega arith) (omega arith) })
+    narrowed : Covers (soft_of pass) (us ++ stray_of pass u x ∷ [])
+        ((before ++ closed (leaving u span) x.leave.place ∷ after) ++ leaving (stray_of pass u x) behind_v ∷ [])
+    narrowed = narrow_covers s (us ++ v ∷ []) (before ++ closed c place ∷ after) [] (behind v place) next.1 b v_is
+        (λ w at. record {
+          place = at.place;
+          leaves = at.leaves;
+          free = place-behind v place at.place (let f = between_from behind_v.from behind_v.to at.place at.free in omega arith);
+        })
+        (λ w is_w at.
+        let short = before_the_last pass (behind v place) (place + 1) w is v_is v_follows (λ k free. let l = behind-place v place k free in omega arith) is_w at in
+        let later = behind-place v place at.place at.free in
+        record { place = at.place; leaves = at.leaves; free = is_between behind_v.from behind_v.to at.place (omega arith) (omega arith) })
 
-      parted : Covers (soft_of pass) (us ++ stray_of pass u x ∷ [])
-          ((before ++ leaving u first ∷ (after ++ leaving (stray_of pass u x) behind_v ∷ [])) ++ leaving u rest ∷ [])
-      parted = split_covers s (us ++ v ∷ []) before (after ++ b ∷ []) (closed c place)
+    in_first : Part (leaving u first) (closed (leaving u span) x.leave.place)
+    in_first w at =
+        let t = between_to first.from first.to at.place at.free in
+        let f = between_from first.from first.to at.place at.free in
+        record {
+          place = at.place;
+          leaves = at.leaves;
+          free = free-closed c place at.place (λ e. omega arith) (is_between span.from span.to at.place (omega arith) (omega arith));
+        }
+
+    in_rest : Part (leaving u rest) (closed (leaving u span) x.leave.place)
+    in_rest w at =
+        let t = between_to rest.from rest.to at.place at.free in
+        let f = between_from rest.from rest.to at.place at.free in
+        record {
+          place = at.place;
+          leaves = at.leaves;
+          free = free-closed c place at.place (λ e. omega arith) (is_between span.from span.to at.place (omega arith) (omega arith));
+        }
+
+    not_both : Disjoint (leaving u first) (leaving u rest)
+    not_both w at at' =
+        let t = between_to first.from first.to at.place at.free in
+        let f = between_from rest.from rest.to at'.place at'.free in
+        let same = leaves_once u w at.place at'.place at.leaves at'.leaves in
+        omega arith
+
+    in_one : (w : List ℕ) → StandsIn (closed (leaving u span) x.leave.place) w → StandsIn (leaving u first) w ⊎ StandsIn (leaving u rest) w
+    in_one w at =
+        let open_at = closed-free c place at.place at.free in
+        let t = between_to span.from span.to at.place open_at.1 in
+        let f = between_from span.from span.to at.place open_at.1 in
+        elim (cases_lt at.place place) [
+          | inl early ↦ inl (record { place = at.place; leaves = at.leaves; free = is_between first.from first.to at.place (omega arith) (omega arith) })
+          | inr not_early ↦
+              let late : place < at.place = elim (cases_lt place at.place) [ inl lt ↦ lt | inr not_late ↦ absurd (open_at.0 (omega arith)) ] in
+              inr (record { place = at.place; leaves = at.leaves; free = is_between rest.from rest.to at.place (omega arith) (omega arith) })
+        ]
+
+    -- the places before, behind and after the one at which x leaves u take the place of the span
+    pub goes_on : IsRanked (soft_of pass) (us ++ stray_of pass u x ∷ []) ×
+        Covers (soft_of pass) (us ++ stray_of pass u x ∷ []) (((before ++ leaving u first ∷ after) ++ leaving (stray_of pass u x) behind_v ∷ []) ++ leaving u rest ∷ [])
+    goes_on = (
+      next.0,
+      subst (λ cs. Covers s (us ++ v ∷ []) (cs ++ leaving u rest ∷ [])) (sym (append_assoc before (a ∷ after) (b ∷ [])))
+          (split_covers s (us ++ v ∷ []) before (after ++ b ∷ []) (closed c place)
           (subst (Covers s (us ++ v ∷ [])) (append_assoc before (closed c place ∷ after) (b ∷ [])) narrowed)
-          a (leaving u rest) candidate candidate
-          (λ w at.
-          let t = between_to first.from first.to at.place at.free in
-          let f = between_from first.from first.to at.place at.free in
-          record { place = at.place; leaves = at.leaves;
-            free = free-closed c place at.place (λ e. omega arith) (is_between span.from span.to at.place (omega arith) (omega arith)) })
-          (λ w at.
-          let t = between_to rest.from rest.to at.place at.free in
-          let f = between_from rest.from rest.to at.place at.free in
-          record { place = at.place; leaves = at.leaves;
-            free = free-closed c place at.place (λ e. omega arith) (is_between span.from span.to at.place (omega arith) (omega arith)) })
-          (λ w at at'.
-          let t = between_to first.from first.to at.place at.free in
-          let f = between_from rest.from rest.to at'.place at'.free in
-          let same = leaves_once u w at.place at'.place at.leaves at'.leaves in
-          absurd (omega arith))
-          (λ w is_w at.
-          let open_at = closed-free c place at.place at.free in
-          let t = between_to span.from span.to at.place open_at.1 in
-          let f = between_from span.from span.to at.place open_at.1 in
-          elim (cases_lt at.place place) [
-            | inl early ↦ inl (record { place = at.place; leaves = at.leaves; free = is_between first.from first.to at.place (omega arith) (omega arith) })
-            | inr not_early ↦
-                let late : place < at.place = elim (cases_lt place at.place) [ inl lt ↦ lt | inr not_late ↦ absurd (open_at.0 (omega arith)) ] in
-                inr (record { place = at.place; leaves = at.leaves; free = is_between rest.from rest.to at.place (omega arith) (omega arith) })
-          ])
+          a (leaving u rest) candidate candidate in_first in_rest not_both (λ w is_w at. in_one w at)),
+    )

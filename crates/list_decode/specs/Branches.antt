@@ -55,3 +55,7 @@ pub record IsBranch (pass : Pass) (u : List ℕ) (branch : Branch) : Type 0 wher
 pub record IsBranchOf (pass : Pass) (us : List (List ℕ)) (branch : Branch) : Type 0 where
   pub within : branch.span.list < length us
   pub is : IsBranch pass (slice_index_or us branch.span.list []) branch
+
+-- what leaves the list of a branch in its span
+abbrev pub class_of : List (List ℕ) → Branch → Class
+class_of us branch = leaving (slice_index_or us branch.span.list []) branch.span

@@ -1,8 +1,8 @@
 -- What the fields of `Ranked` hold.
-use Rattle.std.specs.Prelude.{ℕ, ◌≤◌, ◌<◌, ◌*◌, ◌-◌, List, [], length, map, take, slice_index_or}
+use Rattle.std.specs.Prelude.{ℕ, ◌≤◌, ◌<◌, ◌*◌, ◌-◌, List, map, take}
 use Rattle.std.specs.List.{All}
-use Rattle.list_decode.specs.Branches.{IsBranchOf, leaving}
-use Rattle.list_decode.specs.Classes.{Class, Covers}
+use Rattle.list_decode.specs.Branches.{IsBranchOf, class_of}
+use Rattle.list_decode.specs.Classes.{Covers}
 use Rattle.list_decode.specs.Passes.{IsPass, soft_of}
 use Rattle.list_decode.specs.Ranking.{IsRanked, Ranking}
 use Rattle.list_decode.specs.declared.branch.Branch.{Branch}
@@ -14,10 +14,6 @@ given_lists r = map (take r.pass.bits) (take r.given r.lists)
 
 abbrev pub ranking_of : Inside → Ranking
 ranking_of r = record { soft = soft_of r.pass; given = given_lists r }
-
--- what leaves the list of a branch
-abbrev pub class_of : List (List ℕ) → Branch → Class
-class_of us branch = leaving (slice_index_or us branch.span.list []) branch.span
 
 -- the branches in use
 abbrev pub branches_of : Inside → List Branch

@@ -9,12 +9,10 @@
 ghost use Rattle.std.specs.Prelude.{◌≡◌, ◌↔◌, ◌≤◌, ◌+◌, ◌-◌, ◌*◌, ◌%◌, ◌<◌, ◌++◌, ◌∷◌, [], length, None, IfSome, MatchOption};
 ghost use Rattle.conv_code.specs.Code.{coded, IsInformation};
 ghost use Rattle.conv_code.specs.Likelihood.{AllSoft, likelihood};
-ghost use Rattle.list_decode.specs.Branches.{IsBranch, IsSpan, IsStray, stray_of};
-ghost use Rattle.list_decode.specs.Passes.{IsPass, soft_of};
-ghost use Rattle.list_decode.specs.Ranking.{IsCandidate, IsDone, IsRanked};
+ghost use Rattle.list_decode.specs.Ranking.{IsDone, IsRanked};
 
-use crate::branch::{Branch, Span, Stray};
-use crate::choice::first_branch;
+use crate::branch::{Branch, Span};
+use crate::parting::find_next;
 use crate::pass::Pass;
 use std::marker::Model;
 use trellis_decode::decode;
@@ -122,67 +120,17 @@ impl Ranked {
     {
         let bits = self.pass.bits;
         let count = 2 * self.given - 1;
-        let choice = first_branch(
+        let next = find_next(
             &self.pass,
             &self.lists[..self.given],
             &self.branches[..count],
+            u,
         )?;
-        let span = self.branches[choice.branch].span;
-        let list = &self.lists[span.list][..bits];
-        choice.stray.write(&self.pass, list, u);
-        let parts = parted(&self.pass, list, u, span, &choice.stray, self.given);
-        self.branches[choice.branch] = parts.before;
-        self.branches[count] = parts.behind;
-        self.branches[count + 1] = parts.after;
+        self.branches[next.branch] = next.parts.before;
+        self.branches[count] = next.parts.behind;
+        self.branches[count + 1] = next.parts.after;
         self.lists[self.given][..bits].copy_from_slice(u);
         self.given += 1;
-        Some(choice.stray.likelihood)
-    }
-}
-
-/// What comes in place of a branch whose best list is given.
-#[derive(Clone, Copy)]
-struct Parts {
-    before: Branch,
-    behind: Branch,
-    after: Branch,
-}
-
-/// The places of a span before and after the one at which its best list `v` leaves `u`, and those behind it in `v`, which is
-/// given as number `new`.
-fn parted(pass: &Pass, u: &[u8], v: &[u8], span: Span, stray: &Stray, new: usize) -> Parts
-    requires pass { IsPass pass.now }
-    requires list { IsCandidate (soft_of pass.now) u.now }
-    requires stray_list { IsCandidate (soft_of pass.now) v.now }
-    requires span { IsSpan pass.now u.now span }
-    requires stray { IsStray pass.now u.now stray.now }
-    requires written { v.now ≡ stray_of pass.now u.now stray.now }
-    requires from { span.from ≤ stray.now.leave.place }
-    requires to { stray.now.leave.place < span.to }
-    ensures before { IsBranch pass.now u.now result.before }
-    ensures behind { IsBranch pass.now v.now result.behind }
-    ensures after { IsBranch pass.now u.now result.after }
-    ensures before_span { (result.before.span.list ≡ span.list) × (result.before.span.from ≡ span.from) × (result.before.span.to ≡ stray.now.leave.place) }
-    ensures behind_span { (result.behind.span.list ≡ new) × (result.behind.span.from ≡ stray.now.leave.place + 1) × (result.behind.span.to + 4 ≡ pass.now.bits) }
-    ensures after_span { (result.after.span.list ≡ span.list) × (result.after.span.from ≡ stray.now.leave.place + 1) × (result.after.span.to ≡ span.to) }
-{
-    let place = stray.leave.place;
-    let before = Span { to: place, ..span };
-    let behind = Span {
-        list: new,
-        likelihood: stray.likelihood,
-        from: place + 1,
-        to: pass.bits - 4,
-        state: (2 * stray.leave.state + usize::from(v[place])) % 16,
-    };
-    let after = Span {
-        from: place + 1,
-        state: (2 * stray.leave.state + usize::from(u[place])) % 16,
-        ..span
-    };
-    Parts {
-        before: Branch::new(pass, u, before),
-        behind: Branch::new(pass, v, behind),
-        after: Branch::new(pass, u, after),
+        Some(next.likelihood)
     }
 }

@@ -1,7 +1,7 @@
 use Rattle.std.proofs.Common.{arith, rules, ◌≡◌, ◌+◌, ◌*◌, ◌%◌, refl, ap, w32, FitsSigned}
 use Rattle.std.proofs.lemmas.Int.{to_z-of_z}
 use Rattle.list_decode.proofs.Spans.{span_after, span_behind}
-use Rattle.list_decode.proofs.ranked.parted.Goals as goal
+use Rattle.list_decode.proofs.parting.parted.Goals as goal
 
 pub new-requires-2-clause-span : goal.new-requires-2-clause-span
 new-requires-2-clause-span c =
