@@ -93,7 +93,7 @@ classes_kept pass us u (b ∷ bs) all =
     (classes_kept pass us u bs (All-tail (IsBranchOf pass us) b bs all))
 
 -- a class of branches is that of one of them
-class_at : (us : List (List ℕ)) (bs : List Branch) (P : Branch → Type 0) (e : Class) → All P bs → Contains (map (class_of us) bs) e → (b : Branch) × P b × (class_of us b ≡ e)
+pub class_at : (us : List (List ℕ)) (bs : List Branch) (P : Branch → Type 0) (e : Class) → All P bs → Contains (map (class_of us) bs) e → (b : Branch) × P b × (class_of us b ≡ e)
 class_at us [] P e all found = absurd (omega (arith, found.1))
 class_at us (b ∷ bs) P e all (zero, lt, is) = (b, All-head P b bs all, is)
 class_at us (b ∷ bs) P e all (suc k, lt, is) = class_at us bs P e (All-tail P b bs all) (k, omega arith, is)

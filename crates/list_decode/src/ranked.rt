@@ -6,7 +6,7 @@
 //! span. (List Viterbi decoding: Seshadri and Sundberg 1994; the parting is Lawler's way to the best solutions one after the
 //! other, 1972.)
 
-ghost use Rattle.std.specs.Prelude.{◌≡◌, ◌↔◌, ◌≤◌, ◌+◌, ◌-◌, ◌*◌, ◌%◌, ◌<◌, ◌++◌, ◌∷◌, [], length, None, IfSome, MatchOption};
+ghost use Rattle.std.specs.Prelude.{◌≡◌, ◌↔◌, ◌≤◌, ◌+◌, ◌-◌, ◌*◌, ◌%◌, ◌<◌, ◌++◌, ◌∷◌, [], length, take, None, IfSome, MatchOption};
 ghost use Rattle.conv_code.specs.Code.{coded, IsInformation};
 ghost use Rattle.conv_code.specs.Likelihood.{AllSoft, likelihood};
 ghost use Rattle.list_decode.specs.Ranking.{IsDone, IsRanked};
@@ -95,7 +95,7 @@ impl Ranked {
     {
         let bits = self.pass.bits;
         let likelihood = decode(&self.pass.soft[..2 * bits], u);
-        self.lists[0][..bits].copy_from_slice(u);
+        self.lists[0] = padded(u);
         let span = Span {
             list: 0,
             likelihood,
@@ -118,7 +118,6 @@ impl Ranked {
         ensures given { MatchOption result ((self.new ≡ self.old) × (u.new ≡ u.old) × IsDone self.old) (λ value.
             (self.new.given ≡ self.old.given ++ u.new ∷ []) × (value ≡ likelihood self.old.soft (coded u.new))) }
     {
-        let bits = self.pass.bits;
         let count = 2 * self.given - 1;
         let next = find_next(
             &self.pass,
@@ -129,8 +128,18 @@ impl Ranked {
         self.branches[next.branch] = next.parts.before;
         self.branches[count] = next.parts.behind;
         self.branches[count + 1] = next.parts.after;
-        self.lists[self.given][..bits].copy_from_slice(u);
+        self.lists[self.given] = padded(u);
         self.given += 1;
         Some(next.likelihood)
     }
+}
+
+/// A list with zeros behind it.
+fn padded(u: &[u8]) -> [u8; 228]
+    requires { length u.now ≤ 228 }
+    ensures { take (length u.now) result ≡ u.now }
+{
+    let mut list = [0; 228];
+    list[..u.len()].copy_from_slice(u);
+    list
 }

@@ -1,0 +1,139 @@
+-- The fields of `Ranked`, one list more at a time.
+use Rattle.std.proofs.Common.{◌≡◌, ◌≢◌, ◌⊎◌, ℕ, zero, suc, ◌+◌, ◌-◌, ◌*◌, ◌<◌, ◌≤◌, inl, inr, ℤ, List, [], ◌∷◌, ◌++◌, map, length, get_or, set, take, Option, Some, None, refl, ap, ap₂, sym, ◌∙◌, subst, arith}
+use Rattle.std.specs.List.{All, Contains}
+use Rattle.std.proofs.lemmas.Grind.{take-set_at}
+use Rattle.std.proofs.lemmas.List.{length-set, length-take, map-append, take_more_set}
+use Rattle.std.proofs.Math.Seq.{take-set-lt}
+use Rattle.std.proofs.lemmas.List.Elements.{All-nil, All-cons, All-contains, Contains-append_right}
+use Rattle.conv_code.specs.Likelihood.{IsMostLikely}
+use Rattle.trellis_decode.specs.Trellis.{read_out}
+use Rattle.trellis_decode.proofs.Lists.{IsMostLikely-best}
+use Rattle.trellis_decode.proofs.MostLikely.{IsMostLikely-only}
+use Rattle.trellis_decode.proofs.Paths.{length-read_out}
+use Rattle.list_decode.specs.Branches.{IsBestStray, IsBranch, IsBranchOf, class_of, leaving}
+use Rattle.list_decode.specs.Classes.{Covers, StandsIn}
+use Rattle.list_decode.specs.Detours.{Follows}
+use Rattle.list_decode.specs.Parting.{HasNone, IsNext, branches_after}
+use Rattle.list_decode.specs.Passes.{IsPass, losses_of, rows_of, soft_of}
+use Rattle.list_decode.specs.Ranked.{IsSound, branches_of, given_lists}
+use Rattle.list_decode.specs.Ranking.{IsCandidate, IsDone, IsRanked, Ranking}
+use Rattle.list_decode.specs.declared.branch.Branch.{Branch}
+use Rattle.list_decode.specs.declared.parting.Next.{Next}
+use Rattle.list_decode.specs.declared.pass.Pass.{Pass}
+use Rattle.list_decode.specs.declared.ranked.Ranked.TheInside.{Inside}
+use Rattle.list_decode.proofs.Chosen.{class_at}
+use Rattle.list_decode.proofs.ClassSteps.{ends_ranked}
+use Rattle.list_decode.proofs.Detours.{kept_best}
+use Rattle.list_decode.proofs.NextLists.{begins}
+use Rattle.list_decode.proofs.Rankings.{Contains-here, not_given}
+
+-- ---- the first list
+
+pub first_chosen : (pass : Pass) (u : List ℕ) → IsPass pass → IsMostLikely (soft_of pass) u → u ≡ read_out (rows_of pass) 0
+first_chosen pass u is best =
+    let n = length-read_out (rows_of pass) 0 in
+    let p = is.places in
+    let five = is.at_least in
+    let m = is.pairs in
+    IsMostLikely-only (soft_of pass) (read_out (rows_of pass) 0) u
+    (IsMostLikely-best (soft_of pass) (read_out (rows_of pass) 0) _ (omega arith) (omega arith)
+    (kept_best (rows_of pass) (losses_of pass) (soft_of pass) is.kept (omega arith) 0 (omega arith)))
+    best
+
+module _ (r : Inside) (sound : IsSound r) (many : length r.lists ≡ 64) (room : length r.branches ≡ 127) (u row : List ℕ) (reads : take r.pass.bits row ≡ u)
+    (b : Branch) where
+  abbrev started : Inside
+  started = record { pass = r.pass; lists = set r.lists 0 row; branches = set r.branches 0 b; given = 1 }
+
+  pub first_given : given_lists (record { pass = r.pass; lists = set r.lists 0 row; branches = set r.branches 0 b; given = 1 }) ≡ u ∷ []
+  first_given = ap (map (take r.pass.bits)) (take-set_at r.lists 0 1 row (omega arith) (omega arith)) ∙ ap (λ u. u ∷ []) reads
+
+  one_branch : branches_of (record { pass = r.pass; lists = set r.lists 0 row; branches = set r.branches 0 b; given = 1 }) ≡ b ∷ []
+  one_branch = take-set_at r.branches 0 (2 * 1 - 1) b (omega arith) (omega arith)
+
+  pub sound_first : IsMostLikely (soft_of r.pass) u → IsBranch r.pass u b → b.span.list ≡ 0 → b.span.from ≡ 0 → b.span.to + 4 ≡ r.pass.bits →
+      IsSound (record { pass = r.pass; lists = set r.lists 0 row; branches = set r.branches 0 b; given = 1 })
+  sound_first best is_b list from to =
+      let first = begins r.pass u b.span sound.pass best (first_chosen r.pass u sound.pass best) from to in
+      let read : get_or (u ∷ []) b.span.list [] ≡ u = ap (λ k. get_or (u ∷ []) k []) list in
+      record {
+        pass = sound.pass;
+        most = omega arith;
+        ranked = subst (IsRanked (soft_of r.pass)) (sym first_given) first.0;
+        branches = subst (λ us. All (IsBranchOf r.pass us) (branches_of started)) (sym first_given)
+            (subst (All (IsBranchOf r.pass (u ∷ []))) (sym one_branch)
+            (All-cons (IsBranchOf r.pass (u ∷ [])) b []
+            (record { within = omega arith; is = subst (λ u. IsBranch r.pass u b) (sym read) is_b })
+            (All-nil (IsBranchOf r.pass (u ∷ [])))));
+        covers = (λ some. subst (λ us. Covers (soft_of r.pass) us (map (class_of us) (branches_of started))) (sym first_given)
+            (subst (λ bs. Covers (soft_of r.pass) (u ∷ []) (map (class_of (u ∷ [])) bs)) (sym one_branch)
+            (subst (λ u'. Covers (soft_of r.pass) (u ∷ []) (leaving u' b.span ∷ [])) (sym read) first.1)));
+      }
+
+-- ---- the lists behind it
+
+module _ (r : Inside) (sound : IsSound r) (some : 0 < r.given) (few : r.given < 64) (many : length r.lists ≡ 64) (room : length r.branches ≡ 127)
+    (u row : List ℕ) (reads : take r.pass.bits row ≡ u) (next : Next) (is : IsNext r.pass (given_lists r) (branches_of r) u next) where
+  abbrev after : Inside
+  after = record {
+    pass = r.pass;
+    lists = set r.lists r.given row;
+    branches = set (set (set r.branches next.branch next.parts.before) (2 * r.given - 1) next.parts.behind) (2 * r.given - 1 + 1) next.parts.after;
+    given = r.given + 1;
+  }
+
+  pub next_given : map (take r.pass.bits) (take (r.given + 1) (set r.lists r.given row)) ≡ given_lists r ++ u ∷ []
+  next_given =
+      ap (map (take r.pass.bits)) (take_more_set r.lists r.given row (omega arith))
+      ∙ map-append (take r.pass.bits) (take r.given r.lists) (row ∷ [])
+      ∙ ap (λ u. given_lists r ++ u ∷ []) reads
+
+  next_branches : branches_of after ≡ branches_after (branches_of r) next
+  next_branches =
+      let n = 2 * r.given - 1 in
+      let one = set r.branches next.branch next.parts.before in
+      let within : next.branch < n = let i = is.within in omega (arith, length-take n r.branches) in
+      let long : length one ≡ 127 = length-set r.branches next.branch next.parts.before ∙ room in
+      take-set_at (set one n next.parts.behind) (n + 1) (2 * (r.given + 1) - 1) next.parts.after (omega arith)
+      (omega (arith, length-set one n next.parts.behind))
+      ∙ ap (λ bs. bs ++ next.parts.after ∷ []) (
+        take_more_set one n next.parts.behind (omega arith)
+        ∙ ap (λ bs. bs ++ next.parts.behind ∷ []) (take-set-lt n r.branches next.branch next.parts.before within))
+
+  pub sound_next : IsSound (record {
+    pass = r.pass;
+    lists = set r.lists r.given row;
+    branches = set (set (set r.branches next.branch next.parts.before) (2 * r.given - 1) next.parts.behind) (2 * r.given - 1 + 1) next.parts.after;
+    given = r.given + 1;
+  })
+  sound_next =
+      let went = is.covers sound.ranked (sound.covers some) in
+      record {
+        pass = sound.pass;
+        most = omega arith;
+        ranked = subst (IsRanked (soft_of r.pass)) (sym next_given) went.0;
+        branches = subst (λ us. All (IsBranchOf r.pass us) (branches_of after)) (sym next_given)
+            (subst (All (IsBranchOf r.pass (given_lists r ++ u ∷ []))) (sym next_branches) is.each);
+        covers = (λ some. subst (λ us. Covers (soft_of r.pass) us (map (class_of us) (branches_of after))) (sym next_given)
+            (subst (λ bs. Covers (soft_of r.pass) (given_lists r ++ u ∷ []) (map (class_of (given_lists r ++ u ∷ [])) bs)) (sym next_branches) went.1));
+      }
+
+-- ---- the end
+
+-- where no branch has a best list, all are given
+pub all_given : (r : Inside) → IsSound r → 0 < r.given → HasNone (branches_of r) → (w : List ℕ) → IsCandidate (soft_of r.pass) w → Contains (given_lists r) w
+all_given r sound some none w is_w =
+    ends_ranked (soft_of r.pass) (given_lists r) (map (class_of (given_lists r)) (branches_of r)) (sound.covers some)
+    (λ e w member is_w stands.
+    let found = class_at (given_lists r) (branches_of r) (λ b. IsBranchOf r.pass (given_lists r) b × (b.best ≡ None)) e
+        (λ k d lt. (sound.branches k d lt, none k d lt)) member in
+    let u = get_or (given_lists r) found.0.span.list [] in
+    subst (IsBestStray r.pass u found.0.span) found.1.1 found.1.0.is.best w is_w (subst (λ e. StandsIn e w) (sym found.2) stands))
+    w is_w
+
+-- where one list more is given, it was not done
+pub not_done : (old : Ranking) (u : List ℕ) → length old.given < 64 → IsRanked old.soft (old.given ++ u ∷ []) → IsDone old → ⊥
+not_done old u few ranked (inl full) = omega arith
+not_done old u few ranked (inr all) =
+    not_given old.soft old.given u ranked
+    (all u (All-contains (IsCandidate old.soft) (old.given ++ u ∷ []) u ranked.each (Contains-append_right old.given (u ∷ []) u (Contains-here u []))))
