@@ -2,7 +2,7 @@
 use Rattle.std.proofs.Common.{◌≡◌, ◌≢◌, ◌⊎◌, ℕ, zero, suc, ◌+◌, ◌-◌, ◌*◌, ◌<◌, ◌≤◌, inl, inr, ℤ, List, [], ◌∷◌, ◌++◌, map, length, get_or, set, take, Option, Some, None, refl, ap, ap₂, sym, ◌∙◌, subst, arith}
 use Rattle.std.specs.List.{All, Contains}
 use Rattle.std.proofs.lemmas.Grind.{take-set_at}
-use Rattle.std.proofs.lemmas.List.{length-set, length-take, map-append, take_more_set}
+use Rattle.std.proofs.lemmas.List.{length-map, length-set, length-take, length-take-le, map-append, take_more_set}
 use Rattle.std.proofs.Math.Seq.{take-set-lt}
 use Rattle.std.proofs.lemmas.List.Elements.{All-nil, All-cons, All-contains, Contains-append_right}
 use Rattle.conv_code.specs.Likelihood.{IsMostLikely}
@@ -15,7 +15,7 @@ use Rattle.list_decode.specs.Classes.{Covers, StandsIn}
 use Rattle.list_decode.specs.Detours.{Follows}
 use Rattle.list_decode.specs.Parting.{HasNone, IsNext, branches_after}
 use Rattle.list_decode.specs.Passes.{IsPass, losses_of, rows_of, soft_of}
-use Rattle.list_decode.specs.Ranked.{IsSound, branches_of, given_lists}
+use Rattle.list_decode.specs.Ranked.{IsSound, branches_of, given_lists, ranking_of}
 use Rattle.list_decode.specs.Ranking.{IsCandidate, IsDone, IsRanked, Ranking}
 use Rattle.list_decode.specs.declared.branch.Branch.{Branch}
 use Rattle.list_decode.specs.declared.parting.Next.{Next}
@@ -137,3 +137,21 @@ not_done old u few ranked (inl full) = omega arith
 not_done old u few ranked (inr all) =
     not_given old.soft old.given u ranked
     (all u (All-contains (IsCandidate old.soft) (old.given ++ u ∷ []) u ranked.each (Contains-append_right old.given (u ∷ []) u (Contains-here u []))))
+
+-- ---- what the view tells of the fields
+
+module _ (r : Inside) (view : Ranking) (is : ranking_of r ≡ view) where
+  pub soft_is : soft_of r.pass ≡ view.soft
+  soft_is = ap (λ (v : Ranking). v.soft) is
+
+  pub given_is : given_lists r ≡ view.given
+  given_is = ap (λ (v : Ranking). v.given) is
+
+  pub count_is : r.given ≤ length r.lists → length view.given ≡ r.given
+  count_is few = sym (ap length given_is) ∙ length-map (take r.given r.lists) (take r.pass.bits) ∙ length-take-le r.given r.lists few
+
+  pub bits_is : IsPass r.pass → (n : ℕ) → length view.soft ≡ 2 * n → n ≡ r.pass.bits
+  bits_is pass n count = let p = pass.pairs in let s = ap length soft_is in omega arith
+
+pub reads_as : (bits : ℕ) (row u : List ℕ) → take (length u) row ≡ u → length u ≡ bits → take bits row ≡ u
+reads_as bits row u reads same = subst (λ n. take n row ≡ u) same reads

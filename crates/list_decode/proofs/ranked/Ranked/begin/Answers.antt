@@ -1,0 +1,2 @@
+use Rattle.list_decode.proofs.Given.{first_chosen, sound_first}
+use Rattle.list_decode.proofs.ranked.Ranked.begin.Goals as goal
