@@ -5,19 +5,22 @@ use Rattle.std.proofs.lemmas.Grind.{take-set_at}
 use Rattle.std.proofs.lemmas.List.{length-map, length-set, length-take, length-take-le, map-append, take_more_set}
 use Rattle.std.proofs.Math.Seq.{take-set-lt}
 use Rattle.std.proofs.lemmas.List.Elements.{All-nil, All-cons, All-contains, Contains-append_right}
-use Rattle.conv_code.specs.Likelihood.{IsMostLikely}
+use Rattle.std.specs.Prelude.{IfSome, MatchOption}
+use Rattle.conv_code.specs.Code.{IsInformation, coded}
+use Rattle.conv_code.specs.Likelihood.{IsMostLikely, likelihood}
 use Rattle.trellis_decode.specs.Trellis.{read_out}
 use Rattle.trellis_decode.proofs.Lists.{IsMostLikely-best}
 use Rattle.trellis_decode.proofs.MostLikely.{IsMostLikely-only}
 use Rattle.trellis_decode.proofs.Paths.{length-read_out}
-use Rattle.list_decode.specs.Branches.{IsBestStray, IsBranch, IsBranchOf, class_of, leaving}
+use Rattle.list_decode.specs.Branches.{IsBestStray, IsBranch, IsBranchOf, IsSpan, class_of, leaving}
 use Rattle.list_decode.specs.Classes.{Covers, StandsIn}
-use Rattle.list_decode.specs.Detours.{Follows}
+use Rattle.list_decode.specs.Detours.{Follows, reached}
 use Rattle.list_decode.specs.Parting.{HasNone, IsNext, branches_after}
 use Rattle.list_decode.specs.Passes.{IsPass, losses_of, rows_of, soft_of}
 use Rattle.list_decode.specs.Ranked.{IsSound, branches_of, given_lists, ranking_of}
 use Rattle.list_decode.specs.Ranking.{IsCandidate, IsDone, IsRanked, Ranking}
 use Rattle.list_decode.specs.declared.branch.Branch.{Branch}
+use Rattle.list_decode.specs.declared.branch.Span.{Span}
 use Rattle.list_decode.specs.declared.parting.Next.{Next}
 use Rattle.list_decode.specs.declared.pass.Pass.{Pass}
 use Rattle.list_decode.specs.declared.ranked.Ranked.TheInside.{Inside}
@@ -39,6 +42,19 @@ first_chosen pass u is best =
     (IsMostLikely-best (soft_of pass) (read_out (rows_of pass) 0) _ (omega arith) (omega arith)
     (kept_best (rows_of pass) (losses_of pass) (soft_of pass) is.kept (omega arith) 0 (omega arith)))
     best
+
+pub first_span : (pass : Pass) (u : List ℕ) (span : Span) → IsPass pass → IsMostLikely (soft_of pass) u → span.likelihood ≡ likelihood (soft_of pass) (coded u) →
+    span.from ≡ 0 → span.to + 4 ≡ pass.bits → span.state ≡ 0 → IsSpan pass u span
+first_span pass u span is best value from to state =
+    let n = best.count in
+    let m = is.pairs in record {
+      follows = subst (λ from. Follows from u (rows_of pass) 0) (sym from) (first_chosen pass u is best);
+      value = value;
+      order = omega arith;
+      end = omega arith;
+      small = omega arith;
+      state = state ∙ ap (λ from. reached 0 (take from u)) (sym from);
+    }
 
 module _ (r : Inside) (sound : IsSound r) (many : length r.lists ≡ 64) (room : length r.branches ≡ 127) (u row : List ℕ) (reads : take r.pass.bits row ≡ u)
     (b : Branch) where
@@ -131,12 +147,16 @@ all_given r sound some none w is_w =
     subst (IsBestStray r.pass u found.0.span) found.1.1 found.1.0.is.best w is_w (subst (λ e. StandsIn e w) (sym found.2) stands))
     w is_w
 
+candidate_last : (s : List ℤ) (us : List (List ℕ)) (u : List ℕ) → IsRanked s (us ++ u ∷ []) → IsCandidate s u
+candidate_last s us u ranked =
+    All-contains (IsCandidate s) (us ++ u ∷ []) u ranked.each (Contains-append_right us (u ∷ []) u (Contains-here u []))
+
 -- where one list more is given, it was not done
 pub not_done : (old : Ranking) (u : List ℕ) → length old.given < 64 → IsRanked old.soft (old.given ++ u ∷ []) → IsDone old → ⊥
 not_done old u few ranked (inl full) = omega arith
 not_done old u few ranked (inr all) =
     not_given old.soft old.given u ranked
-    (all u (All-contains (IsCandidate old.soft) (old.given ++ u ∷ []) u ranked.each (Contains-append_right old.given (u ∷ []) u (Contains-here u []))))
+    (all u (candidate_last old.soft old.given u ranked))
 
 -- ---- what the view tells of the fields
 
@@ -155,3 +175,31 @@ module _ (r : Inside) (view : Ranking) (is : ranking_of r ≡ view) where
 
 pub reads_as : (bits : ℕ) (row u : List ℕ) → take (length u) row ≡ u → length u ≡ bits → take bits row ≡ u
 reads_as bits row u reads same = subst (λ n. take n row ≡ u) same reads
+
+-- ---- what `next` answers
+
+pub not_done_at_first : (old new : Ranking) (u : List ℕ) → length old.given ≡ 0 → new.soft ≡ old.soft → new.given ≡ u ∷ [] → IsRanked new.soft new.given →
+    IsDone old → ⊥
+not_done_at_first old new u none soft given ranked (inl full) = omega arith
+not_done_at_first old new u none soft given ranked (inr all) =
+    let found = all u (subst (λ s. IsCandidate s u) soft (candidate_last new.soft [] u (subst (IsRanked new.soft) given ranked))) in
+    omega (arith, found.1)
+
+pub none_some : {X : Type 0} {x : X} → Some x ≡ None → ⊥
+none_some e = cc
+
+module _ (old new : Ranking) (u : List ℕ) (P Q : Type 0) (few : length old.given < 64) (soft : new.soft ≡ old.soft) (ranked : IsRanked new.soft new.given) where
+  last_ranked : new.given ≡ old.given ++ u ∷ [] → IsRanked old.soft (old.given ++ u ∷ [])
+  last_ranked given = subst (λ s. IsRanked s (old.given ++ u ∷ [])) soft (subst (IsRanked new.soft) given ranked)
+
+  pub done_exactly : (result : Option ℤ) →
+      MatchOption result (P × Q × IsDone old) (λ value. (new.given ≡ old.given ++ u ∷ []) × (value ≡ likelihood old.soft (coded u))) →
+      (result ≡ None → IsDone old) × (IsDone old → result ≡ None)
+  done_exactly None none = ((λ e. none.2), (λ done. refl))
+  done_exactly (Some value) some = ((λ e. absurd (none_some e)), (λ done. absurd (not_done old u few (last_ranked some.0) done)))
+
+  pub information : (result : Option ℤ) →
+      MatchOption result (P × Q × IsDone old) (λ value. (new.given ≡ old.given ++ u ∷ []) × (value ≡ likelihood old.soft (coded u))) →
+      IfSome result (λ value. IsInformation u)
+  information None none = tt
+  information (Some value) some = (candidate_last old.soft old.given u (last_ranked some.0)).information
