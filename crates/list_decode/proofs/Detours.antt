@@ -17,7 +17,7 @@ use Rattle.list_decode.specs.Detours.{reached, loss_at, detour, IsLeastLoss}
 use Rattle.list_decode.specs.Ranking.{IsCandidate, IsSecond}
 
 -- one bit, and then the rest of the list
-gain-more : (state x : ℕ) (u : List ℕ) (soft : List ℤ) → 2 ≤ length soft →
+pub gain-more : (state x : ℕ) (u : List ℕ) (soft : List ℤ) → 2 ≤ length soft →
     gain state (x ∷ u) soft ≡ edge state x (take 2 soft) +ℤ gain (next state x) u (drop 2 soft)
 gain-more state x u soft long =
     ap (gain state (x ∷ u)) (sym (take-append-drop 2 soft)) ∙ gain-cons state x u (take 2 soft) (drop 2 soft) (omega (arith, length-take 2 soft))
@@ -27,7 +27,7 @@ Loses-more state x w u soft long h =
     subst (λ soft. Loses state soft (x ∷ w) (x ∷ u)) (take-append-drop 2 soft)
     (Loses-same state x w u (take 2 soft) (drop 2 soft) (omega (arith, length-take 2 soft)) h)
 
-kept_best : (rows : List ℕ) (losses : List (List ℤ)) (soft : List ℤ) → IsKept rows losses soft → 1 ≤ length rows → (s : ℕ) → s < 16 →
+pub kept_best : (rows : List ℕ) (losses : List (List ℤ)) (soft : List ℤ) → IsKept rows losses soft → 1 ≤ length rows → (s : ℕ) → s < 16 →
     IsBest s (read_out rows s) soft (gain s (read_out rows s) soft)
 kept_best [] losses soft kept some s lt = absurd (omega arith)
 kept_best (row ∷ rows) [] soft kept some s lt = absurd kept
@@ -38,13 +38,13 @@ AllBits-kept rows losses soft kept some = Ends-bits (read_out rows 0) (kept_best
 
 -- ---- the detour at a place
 
-record IsDetour (rows : List ℕ) (losses : List (List ℤ)) (soft : List ℤ) (state place : ℕ) : Type 0 where
+pub record IsDetour (rows : List ℕ) (losses : List (List ℤ)) (soft : List ℤ) (state place : ℕ) : Type 0 where
   pub gained : gain state (detour rows state place) soft ≡ gain state (read_out rows state) soft -ℤ loss_at state (read_out rows state) losses place
   pub ends : Ends (detour rows state place)
   pub count : length (detour rows state place) ≡ length rows
   pub leaves : LeavesAt (read_out rows state) (detour rows state place) place
 
-agree-cons : (x : ℕ) (u w : List ℕ) (place : ℕ) → LeavesAt u w place → LeavesAt (x ∷ u) (x ∷ w) (suc place)
+pub agree-cons : (x : ℕ) (u w : List ℕ) (place : ℕ) → LeavesAt u w place → LeavesAt (x ∷ u) (x ∷ w) (suc place)
 agree-cons x u w place h = record { within = (let i = h.within in omega arith); same = same; differs = h.differs } where
   same : (j : ℕ) → j < suc place → get_or (x ∷ u) j 0 ≡ get_or (x ∷ w) j 0
   same zero lt = refl
@@ -53,7 +53,7 @@ agree-cons x u w place h = record { within = (let i = h.within in omega arith); 
 leaves_now : (x y : ℕ) (u w : List ℕ) → x ≢ y → LeavesAt (x ∷ u) (y ∷ w) 0
 leaves_now x y u w ne = record { within = omega arith; same = (λ j lt. absurd (omega arith)); differs = ne }
 
-is_detour : (rows : List ℕ) (losses : List (List ℤ)) (soft : List ℤ) (state place : ℕ) → IsKept rows losses soft → state < 16 → place + 4 < length rows →
+pub is_detour : (rows : List ℕ) (losses : List (List ℤ)) (soft : List ℤ) (state place : ℕ) → IsKept rows losses soft → state < 16 → place + 4 < length rows →
     IsDetour rows losses soft state place
 is_detour [] losses soft state place kept lt within = absurd (omega arith)
 is_detour (row ∷ rows) [] soft state place kept lt within = absurd kept
@@ -84,7 +84,7 @@ is_detour (row ∷ rows) (lost ∷ losses) soft state (suc place) kept lt within
 
 -- ---- every other list
 
-record Left (rows : List ℕ) (losses : List (List ℤ)) (soft : List ℤ) (state : ℕ) (w : List ℕ) : Type 0 where
+pub record Left (rows : List ℕ) (losses : List (List ℤ)) (soft : List ℤ) (state : ℕ) (w : List ℕ) : Type 0 where
   pub place : ℕ
   pub within : place + 4 < length rows
   pub leaves : LeavesAt (read_out rows state) w place
@@ -135,7 +135,7 @@ module _ (row : ℕ) (rows : List ℕ) (lost : List ℤ) (losses : List (List �
         ];
       }
 
-left : (rows : List ℕ) (losses : List (List ℤ)) (soft : List ℤ) (state : ℕ) (w : List ℕ) → IsKept rows losses soft → state < 16 → Ends w →
+pub left : (rows : List ℕ) (losses : List (List ℤ)) (soft : List ℤ) (state : ℕ) (w : List ℕ) → IsKept rows losses soft → state < 16 → Ends w →
     length w ≡ length rows → read_out rows state ≢ w → Left rows losses soft state w
 left [] losses soft state [] kept lt ends same ne = absurd (ne refl)
 left [] losses soft state (y ∷ w) kept lt ends same ne = absurd (omega arith)

@@ -19,7 +19,7 @@ pub(crate) struct Leave {
 }
 
 impl Leave {
-    fn new(place: usize, state: usize, loss: i16, bit: u8) -> Leave
+    pub(crate) fn new(place: usize, state: usize, loss: i16, bit: u8) -> Leave
         requires { bit ≤ 1 }
         ensures place { result.place ≡ place }
         ensures state { result.state ≡ state }
@@ -36,7 +36,7 @@ impl Leave {
     }
 
     /// Whether a later place that loses so much is better.
-    fn comes_after(&self, loss: i32) -> bool
+    pub(crate) fn comes_after(&self, loss: i32) -> bool
         ensures after { result ≡ true → loss <ℤ self.now.limit }
         ensures not_after { result ≡ false → self.now.limit ≤ℤ loss }
     {
@@ -72,16 +72,14 @@ pub(crate) fn read_least(rows: &[u16], losses: &[[i16; 16]], u: &mut [u8]) -> Le
     best
 }
 
-/// Writes `u` up to a place, the other bit there, and then what the rows choose. `u` is what they choose from the first
-/// state on.
+/// Writes `u` up to a place, the other bit there, and then what the rows choose. Behind the place `u` is what they choose too.
 pub(crate) fn write_detour(u: &[u8], rows: &[u16], leave: Leave, v: &mut [u8])
     requires bits { AllBits u.now }
     requires rows { length rows.now ≡ length u.now }
-    requires chosen { u.now ≡ read_out rows.now 0 }
+    requires chosen { drop (leave.place + 1) u.now ≡ read_out (drop (leave.place + 1) rows.now) (next leave.state (slice_index u.now leave.place)) }
     requires count { length v.old ≡ length u.now }
     requires within { leave.place < length u.now }
     requires state { leave.state < 16 }
-    requires reached { leave.state ≡ reached 0 (take leave.place u.now) }
     ensures { v.new ≡ take leave.place u.now ++ (1 - slice_index u.now leave.place) ∷
         read_out (drop (leave.place + 1) rows.now) (next leave.state (1 - slice_index u.now leave.place)) }
 {

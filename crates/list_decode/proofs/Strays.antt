@@ -1,0 +1,271 @@
+-- The best list that leaves a given one at a free place, where the given one follows the choices of the pass from some place on.
+use Rattle.std.proofs.Common.{◌≡◌, ◌≢◌, ◌⊎◌, ℕ, zero, suc, ◌+◌, ◌-◌, ◌*◌, ◌/◌, ◌%◌, ◌^◌, ◌<◌, ◌≤◌, Bool, true, inl, inr, ℤ, ◌+ℤ◌, ◌-ℤ◌, List, [], ◌∷◌, ◌++◌, length, get_or, take, drop, refl, ap, ap₂, sym, ◌∙◌, subst, arith}
+use Rattle.std.specs.Prelude.{◌<ℤ◌, ◌≤ℤ◌}
+use Rattle.std.proofs.lemmas.Bool.{cases_lt}
+use Rattle.std.proofs.lemmas.Int.{ints, by_lt_z}
+use Rattle.conv_code.specs.Code.{coded}
+use Rattle.conv_code.specs.Likelihood.{likelihood, IsBefore, FallsBehind}
+use Rattle.conv_code.proofs.Coding.{bit_at-most_1}
+use Rattle.trellis_decode.specs.Trellis.{next, gain, Ends, IsNotAfter, read_out, IsKept}
+use Rattle.trellis_decode.proofs.Lists.{gain-start, Ends-from_tail, Ends-bits, IsInformation-ends, IsBefore-not_after}
+use Rattle.trellis_decode.proofs.MostLikely.{same_number}
+use Rattle.trellis_decode.proofs.Paths.{length-read_out}
+use Rattle.list_decode.specs.Classes.{LeavesAt, Class, StandsIn}
+use Rattle.list_decode.specs.Detours.{reached, loss_at, detour, Follows, stray, IsLeastFree}
+use Rattle.list_decode.specs.Ranking.{IsCandidate}
+use Rattle.list_decode.proofs.ClassSteps.{leaves_once}
+use Rattle.list_decode.proofs.Detours.{gain-more, IsDetour, is_detour, agree-cons, Left, left}
+
+-- ---- falling behind is transitive
+
+IsBefore-trans : (u v w : List ℕ) → IsBefore u v → IsBefore v w → IsBefore u w
+IsBefore-trans u v w h g = elim (cases_lt h.place g.place) [
+  | inl early ↦ record {
+    place = h.place;
+    within = h.within;
+    same = (λ j lt. h.same j lt ∙ g.same j (omega arith));
+    zero = h.zero;
+    differs = (λ e. h.differs (g.same h.place early ∙ e));
+  }
+  | inr not_early ↦ elim (cases_lt g.place h.place) [
+    | inl late ↦ record {
+      place = g.place;
+      within = (let i = h.within in omega arith);
+      same = (λ j lt. h.same j (omega arith) ∙ g.same j lt);
+      zero = h.same g.place late ∙ g.zero;
+      differs = g.differs;
+    }
+    | inr not_late ↦
+        let at : g.place ≡ h.place = omega arith in
+        absurd (h.differs (subst (λ p. get_or v p 0 ≡ 0) at g.zero))
+  ]
+]
+
+pub FallsBehind-trans : (s : List ℤ) (w v u : List ℕ) → FallsBehind s w v → FallsBehind s v u → FallsBehind s w u
+FallsBehind-trans s w v u (inl less) (inl less') = inl (omega (arith, ints))
+FallsBehind-trans s w v u (inl less) (inr tie) = let e = tie.0 in inl (omega (arith, ints))
+FallsBehind-trans s w v u (inr tie) (inl less) = let e = tie.0 in inl (omega (arith, ints))
+FallsBehind-trans s w v u (inr tie) (inr tie') = inr (tie.0 ∙ tie'.0, IsBefore-trans u v w tie'.1 tie.1)
+
+-- ---- what strays from a list
+
+pub length-follows : (from : ℕ) (u rows : List ℕ) (state : ℕ) → Follows from u rows state → length u ≡ length rows
+length-follows zero u rows state h = ap length h ∙ length-read_out rows state
+length-follows (suc from) [] rows state h = absurd h
+length-follows (suc from) (x ∷ u) [] state h = absurd h
+length-follows (suc from) (x ∷ u) (row ∷ rows) state h = ap suc (length-follows from u rows (next state x) h)
+
+stray-detour : (rows : List ℕ) (state place : ℕ) → stray (read_out rows state) rows state place ≡ detour rows state place
+stray-detour [] state place = refl
+stray-detour (row ∷ rows) state zero = refl
+stray-detour (row ∷ rows) state (suc place) =
+    ap (λ rest. (row / 2 ^ state % 2) ∷ rest) (stray-detour rows (next state (row / 2 ^ state % 2)) place)
+
+pub record IsStray (u rows : List ℕ) (losses : List (List ℤ)) (soft : List ℤ) (state place : ℕ) : Type 0 where
+  pub gained : gain state (stray u rows state place) soft ≡ gain state u soft -ℤ loss_at state u losses place
+  pub ends : Ends (stray u rows state place)
+  pub count : length (stray u rows state place) ≡ length rows
+  pub leaves : LeavesAt u (stray u rows state place) place
+
+pub is_stray : (from : ℕ) (u rows : List ℕ) (losses : List (List ℤ)) (soft : List ℤ) (state place : ℕ) → IsKept rows losses soft → state < 16 → Ends u →
+    Follows from u rows state → from ≤ place → place + 4 < length rows → IsStray u rows losses soft state place
+is_stray zero u rows losses soft state place kept lt ends follows le within =
+    let d = is_detour rows losses soft state place kept lt within in
+    subst (λ u. IsStray u rows losses soft state place) (sym follows) (record {
+      gained = ap (λ w. gain state w soft) (stray-detour rows state place) ∙ d.gained;
+      ends = subst Ends (sym (stray-detour rows state place)) d.ends;
+      count = ap length (stray-detour rows state place) ∙ d.count;
+      leaves = subst (λ w. LeavesAt (read_out rows state) w place) (sym (stray-detour rows state place)) d.leaves;
+    })
+is_stray (suc from) [] rows losses soft state place kept lt ends follows le within = absurd follows
+is_stray (suc from) (x ∷ u) [] losses soft state place kept lt ends follows le within = absurd follows
+is_stray (suc from) (x ∷ u) (row ∷ rows) [] soft state place kept lt ends follows le within = absurd kept
+is_stray (suc from) (x ∷ u) (row ∷ rows) (lost ∷ losses) soft state zero kept lt ends follows le within = absurd (omega arith)
+is_stray (suc from) (x ∷ u) (row ∷ rows) (lost ∷ losses) soft state (suc place) kept lt ends follows le within =
+    let there : next state x < 16 = omega arith in
+    let rest = is_stray from u rows losses (drop 2 soft) (next state x) place kept.2 there ends.2 follows (omega arith) (omega arith) in
+    let gu = gain-more state x u soft kept.0 in
+    let gv = gain-more state x (stray u rows (next state x) place) soft kept.0 in
+    let is = rest.gained in
+    record {
+      gained = omega (arith, ints);
+      ends = (ends.0, (λ short. absurd (let c = rest.count in omega arith)), rest.ends);
+      count = ap suc rest.count;
+      leaves = agree-cons x _ _ place rest.leaves;
+    }
+
+-- a list that leaves u at a place behind its first choices loses at least what was kept there
+pub record FallsShort (u rows : List ℕ) (losses : List (List ℤ)) (soft : List ℤ) (state place : ℕ) (w : List ℕ) : Type 0 where
+  pub within : place + 4 < length rows
+  pub short : (gain state w soft <ℤ (gain state u soft -ℤ loss_at state u losses place)) ⊎
+      ((gain state w soft ≡ (gain state u soft -ℤ loss_at state u losses place)) × IsNotAfter (stray u rows state place) w)
+
+falls_short : (from : ℕ) (u rows : List ℕ) (losses : List (List ℤ)) (soft : List ℤ) (state place : ℕ) (w : List ℕ) → IsKept rows losses soft → state < 16 →
+    Ends u → Ends w → length w ≡ length rows → Follows from u rows state → from ≤ place → LeavesAt u w place → FallsShort u rows losses soft state place w
+falls_short zero u rows losses soft state place w kept lt ends wends same follows le leaves =
+    subst (λ u. FallsShort u rows losses soft state place w) (sym follows) (chosen (subst (λ u. LeavesAt u w place) follows leaves))
+  where
+    chosen : LeavesAt (read_out rows state) w place → FallsShort (read_out rows state) rows losses soft state place w
+    chosen at =
+        let l = left rows losses soft state w kept lt wends same (λ e. at.differs (ap (λ v. get_or v place 0) e)) in
+        let here : l.place ≡ place = leaves_once (read_out rows state) w l.place place l.leaves at in
+        subst (λ place. FallsShort (read_out rows state) rows losses soft state place w) here (record {
+          within = l.within;
+          short = elim l.behind [
+            | inl less ↦ inl less
+            | inr tie ↦ inr (tie.0, subst (λ v. IsNotAfter v w) (sym (stray-detour rows state l.place)) tie.1)
+          ];
+        })
+falls_short (suc from) [] rows losses soft state place w kept lt ends wends same follows le leaves = absurd follows
+falls_short (suc from) (x ∷ u) [] losses soft state place w kept lt ends wends same follows le leaves = absurd follows
+falls_short (suc from) (x ∷ u) (row ∷ rows) [] soft state place w kept lt ends wends same follows le leaves = absurd kept
+falls_short (suc from) (x ∷ u) (row ∷ rows) (lost ∷ losses) soft state zero w kept lt ends wends same follows le leaves = absurd (omega arith)
+falls_short (suc from) (x ∷ u) (row ∷ rows) (lost ∷ losses) soft state (suc place) [] kept lt ends wends same follows le leaves = absurd (omega arith)
+falls_short (suc from) (x ∷ u) (row ∷ rows) (lost ∷ losses) soft state (suc place) (y ∷ w) kept lt ends wends same follows le leaves =
+    subst (λ y. FallsShort (x ∷ u) (row ∷ rows) (lost ∷ losses) soft state (suc place) (y ∷ w)) (leaves.same 0 (omega arith))
+    (later (falls_short from u rows losses (drop 2 soft) (next state x) place w kept.2 (omega arith) ends.2 wends.2 (omega arith) follows (omega arith) behind))
+  where
+    behind : LeavesAt u w place
+    behind = record {
+      within = (let i = leaves.within in omega arith);
+      same = (λ j lt. leaves.same (suc j) (omega arith));
+      differs = leaves.differs;
+    }
+
+    later : FallsShort u rows losses (drop 2 soft) (next state x) place w → FallsShort (x ∷ u) (row ∷ rows) (lost ∷ losses) soft state (suc place) (x ∷ w)
+    later rest =
+        let gu = gain-more state x u soft kept.0 in
+        let gw = gain-more state x w soft kept.0 in
+        record {
+          within = let i = rest.within in omega arith;
+          short = elim rest.short [ inl less ↦ inl (omega (arith, ints)) | inr tie ↦ inr ((let e = tie.0 in omega (arith, ints)), inr (refl, tie.1)) ];
+        }
+
+-- behind the place at which it strays a list follows the choices
+pub follows_behind : (u rows : List ℕ) (state place : ℕ) → length u ≡ length rows → place < length rows → Follows (place + 1) (stray u rows state place) rows state
+follows_behind [] [] state place same within = absurd (omega arith)
+follows_behind [] (row ∷ rows) state place same within = absurd (omega arith)
+follows_behind (x ∷ u) [] state place same within = absurd (omega arith)
+follows_behind (x ∷ u) (row ∷ rows) state zero same within = refl
+follows_behind (x ∷ u) (row ∷ rows) state (suc place) same within =
+    let more : suc place + 1 ≡ suc (place + 1) = omega arith in
+    subst (λ from. Follows from (x ∷ stray u rows (next state x) place) (row ∷ rows) state) (sym more)
+    (follows_behind u rows (next state x) place (omega arith) (omega arith))
+
+-- what is written out: the list up to the place, the other bit, and then what the rows choose
+pub stray_written : (u rows : List ℕ) (state place : ℕ) → place < length u → length rows ≡ length u →
+    take place u ++ (1 - get_or u place 0) ∷ read_out (drop (place + 1) rows) (next (reached state (take place u)) (1 - get_or u place 0))
+    ≡ stray u rows state place
+stray_written [] rows state place within same = absurd (omega arith)
+stray_written (x ∷ u) [] state place within same = absurd (omega arith)
+stray_written (x ∷ u) (row ∷ rows) state zero within same = refl
+stray_written (x ∷ u) (row ∷ rows) state (suc place) within same =
+    let more : suc place + 1 ≡ suc (place + 1) = omega arith in
+    rw more (ap (λ rest. x ∷ rest) (stray_written u rows (next state x) place (omega arith) (omega arith)))
+
+-- ---- the best of a class
+
+-- a class whose list is a candidate that follows the choices from a place on, before which no place is free
+pub record IsFollowed (soft : List ℤ) (rows : List ℕ) (losses : List (List ℤ)) (c : Class) (from : ℕ) : Type 0 where
+  pub kept : IsKept rows losses soft
+  pub pairs : length soft ≡ 2 * length rows
+  pub candidate : IsCandidate soft c.list
+  pub follows : Follows from c.list rows 0
+  pub later : (k : ℕ) → c.free k ≡ true → from ≤ k
+
+module _ (soft : List ℤ) (rows : List ℕ) (losses : List (List ℤ)) (c : Class) (from : ℕ) (followed : IsFollowed soft rows losses c from) where
+  list_ends : Ends c.list
+  list_ends = Ends-from_tail c.list followed.candidate.information.bits followed.candidate.information.tail
+
+  same_length : length c.list ≡ length rows
+  same_length = length-follows from c.list rows 0 followed.follows
+
+  -- what stands in the class leaves its list at a place before the last four, and loses at least what was kept there
+  pub stands_short : (w : List ℕ) → IsCandidate soft w → (at : StandsIn c w) → FallsShort c.list rows losses soft 0 at.place w
+  stands_short w candidate at =
+      let count = candidate.count in
+      let pairs = followed.pairs in
+      falls_short from c.list rows losses soft 0 at.place w followed.kept (omega arith) list_ends
+      (Ends-from_tail w candidate.information.bits candidate.information.tail) (omega arith) followed.follows (followed.later at.place at.free) at.leaves
+
+  -- where no such place is free no candidate stands in the class
+  pub none_stands : ((k : ℕ) → k + 4 < length rows → c.free k ≡ true → ⊥) → (w : List ℕ) → IsCandidate soft w → StandsIn c w → ⊥
+  none_stands none w candidate at = none at.place (stands_short w candidate at).within at.free
+
+  module _ (place : ℕ) (least : IsLeastFree c.list losses c.free (length c.list - 4) place) where
+    abbrev v : List ℕ
+    v = stray c.list rows 0 place
+
+    inside : place + 4 < length rows
+    inside = let i = least.within in let n = same_length in let five = followed.candidate.information.count in omega arith
+
+    here : IsStray c.list rows losses soft 0 place
+    here = is_stray from c.list rows losses soft 0 place followed.kept (omega arith) list_ends followed.follows (followed.later place least.unlocked) inside
+
+    pub stray_candidate : IsCandidate soft v
+    stray_candidate = record {
+      information = IsInformation-ends v (let n = here.count in let i = inside in omega arith) here.ends;
+      count = followed.pairs ∙ ap (λ n. 2 * n) (sym here.count);
+    }
+
+    pub stray_leaves : LeavesAt c.list v place
+    stray_leaves = here.leaves
+
+    pub stray_value : likelihood soft (coded v) ≡ likelihood soft (coded c.list) -ℤ loss_at 0 c.list losses place
+    stray_value =
+        let gv = gain-start soft v (Ends-bits v here.ends) in
+        let gu = gain-start soft c.list (Ends-bits c.list list_ends) in
+        let g = here.gained in
+        omega (arith, ints)
+
+    -- a list that is as likely and leaves the class's list elsewhere comes later
+    before_at : (w : List ℕ) (k : ℕ) → k + 4 < length rows → LeavesAt c.list w k → c.free k ≡ true →
+        loss_at 0 c.list losses k ≡ loss_at 0 c.list losses place → k ≢ place → IsBefore v w
+    before_at w k within at free tie other = elim (cases_lt k place) [
+      | inl early ↦
+          let zero_bit = least.before k early free tie in
+          record {
+            place = k;
+            within = let n = here.count in omega arith;
+            same = (λ j lt. sym (here.leaves.same j (omega arith)) ∙ at.same j lt);
+            zero = sym (here.leaves.same k early) ∙ zero_bit;
+            differs = (λ e. at.differs (zero_bit ∙ sym e));
+          }
+      | inr not_early ↦
+          let late : place < k = elim (cases_lt place k) [ inl lt ↦ lt | inr not_late ↦ absurd (other (omega arith)) ] in
+          let one_bit = least.after k late (let n = same_length in omega arith) free tie in
+          record {
+            place = place;
+            within = let n = here.count in omega arith;
+            same = (λ j lt. sym (here.leaves.same j lt) ∙ at.same j (omega arith));
+            zero = zero_of (get_or v place 0) (bit_at-most_1 v place (Ends-bits v here.ends)) (λ e. here.leaves.differs (one_bit ∙ sym e));
+            differs = (λ e. let s = at.same place late in omega arith);
+          }
+    ] where
+      zero_of : (x : ℕ) → x ≤ 1 → x ≢ 1 → x ≡ 0
+      zero_of zero le ne = refl
+      zero_of (suc x) le ne = absurd (ne (omega arith))
+
+    -- every other candidate of the class falls behind it
+    pub stray_best : (w : List ℕ) → IsCandidate soft w → StandsIn c w → w ≢ v → FallsBehind soft w v
+    stray_best w candidate at ne =
+        let short = stands_short w candidate at in
+        let gu = gain-start soft c.list (Ends-bits c.list list_ends) in
+        let gw = gain-start soft w candidate.information.bits in
+        let value = stray_value in
+        let low = least.least at.place (let n = same_length in let i = short.within in omega arith) at.free in
+        let count : length w ≡ length v = let a = candidate.count in let b = followed.pairs in let n = here.count in omega arith in
+        elim short.short [
+          | inl less ↦ inl (omega (arith, ints))
+          | inr tie ↦ let e = tie.0 in by_lt_z (loss_at 0 c.list losses place) (loss_at 0 c.list losses at.place)
+              (λ more. inl (omega (arith, ints)))
+              (λ not_more.
+              let equal : loss_at 0 c.list losses at.place ≡ loss_at 0 c.list losses place = omega (arith, ints) in
+              inr (
+                omega (arith, ints),
+                elim (same_number at.place place) [
+                  | inl there ↦ IsBefore-not_after v w candidate.information.bits count (subst (λ k. IsNotAfter (stray c.list rows 0 k) w) there tie.1) ne
+                  | inr elsewhere ↦ before_at w at.place short.within at.leaves at.free equal elsewhere
+                ],
+              ))
+        ]
