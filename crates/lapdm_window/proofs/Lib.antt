@@ -6,6 +6,7 @@ mod Keeping
 pub mod Lemmas
 mod Moves
 mod Numbers
+mod Pasts
 mod Refusing
 mod Rows
 mod Sessions

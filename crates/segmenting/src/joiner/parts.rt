@@ -1,6 +1,7 @@
 //! A joiner as plain values, and made from them again.
 
-ghost use Rattle.std.specs.Prelude.{◌≡◌, ◌↔◌, IsSome, IfSome};
+ghost use Rattle.std.specs.Prelude.{◌≡◌, ◌↔◌, [], take, IsTrue, IsSome, IfSome};
+ghost use Rattle.segmenting.specs.Joiners.{HasJoined};
 ghost use Rattle.segmenting.specs.Parts.{parts_of, IsOfAJoiner};
 
 use super::{Joiner, Part};
@@ -12,6 +13,18 @@ pub struct JoinerParts {
     pub octets: [u8; LONGEST],
     pub len: usize,
     pub part: Part,
+}
+
+impl JoinerParts {
+    /// Whether a joiner that has taken nothing may have these parts.
+    pub fn are_unused(&self) -> bool
+        ensures { IsTrue result ↔ HasJoined self.now.part (take self.now.len self.now.octets) [] }
+    {
+        match self.part {
+            Part::Open | Part::Whole => self.len == 0,
+            Part::Over => false,
+        }
+    }
 }
 
 impl Joiner {
