@@ -1,12 +1,12 @@
 -- Messages and counts that lead to whatever a window holds.
-use Rattle.std.proofs.Common.{◌≡◌, refl, sym, ◌∙◌, ap, subst, arith, ℕ, zero, suc, ◌+◌, ◌-◌, ◌*◌, ◌/◌, ◌%◌, ◌<◌, ◌≤◌, List, [], ◌∷◌, ◌++◌, length, take, drop, replicate, get_or, All}
+use Rattle.std.proofs.Common.{◌≡◌, refl, sym, ◌∙◌, ap, arith, ℕ, zero, suc, ◌+◌, ◌-◌, ◌*◌, ◌/◌, ◌%◌, ◌<◌, ◌≤◌, List, [], ◌∷◌, ◌++◌, length, take, drop, replicate, get_or, All}
 use Rattle.std.specs.List.{flat_map}
 use Rattle.std.proofs.Math.Nat.{mul-div_cancel}
 use Rattle.std.proofs.Math.Seq.{take-append-add, drop-append-add, drop-append_seam}
-use Rattle.std.proofs.lemmas.List.{length-append, length-replicate, append-nil}
+use Rattle.std.proofs.lemmas.List.{length-append, length-replicate}
 use Rattle.std.proofs.lemmas.List.Concat.{flat_map-append}
 use Rattle.std.proofs.lemmas.List.Elements.{All-nil, All-cons, All-append}
-use Rattle.segmenting.specs.Pieces.{Message, Piece, IsMessage, pieces, count_of, longest}
+use Rattle.segmenting.specs.Pieces.{Message, IsMessage, pieces, count_of}
 use Rattle.segmenting.specs.Joining.{ended}
 use Rattle.segmenting.proofs.Lemmas.{length-pieces, ended-append, ended-all, ended-whole}
 
@@ -38,13 +38,13 @@ pieces-singles n (suc d) room =
     )
 
 -- a message of so many pieces and one more
-abbrev message_of : ℕ → ℕ → Message
+abbrev pub message_of : ℕ → ℕ → Message
 message_of n k = replicate (k * n + 1) 0
 
 length-message_of : (n k : ℕ) → length (message_of n k) ≡ k * n + 1
 length-message_of n k = length-replicate {A = ℕ} (k * n + 1) 0
 
-pieces-message_of : (n k : ℕ) → 0 < n → length (pieces n (message_of n k)) ≡ k + 1
+pub pieces-message_of : (n k : ℕ) → 0 < n → length (pieces n (message_of n k)) ≡ k + 1
 pieces-message_of n k room =
     let less : length (message_of n k) - 1 ≡ k * n = omega (arith, length-message_of n k) in
     length-pieces n (message_of n k) ∙ ap (λ l. l / n + 1) less ∙ ap (λ q. q + 1) (mul-div_cancel k room)
@@ -52,7 +52,7 @@ pieces-message_of n k room =
 few_octets : (n k : ℕ) → n ≤ 20 → k ≤ 7 → k * n ≤ 140
 few_octets n k room few = grind arith
 
-is_message_of : (n k : ℕ) → n ≤ 20 → k ≤ 7 → IsMessage (message_of n k)
+pub is_message_of : (n k : ℕ) → n ≤ 20 → k ≤ 7 → IsMessage (message_of n k)
 is_message_of n k room few =
     record { some = omega (arith, length-message_of n k); most = omega (arith, length-message_of n k, few_octets n k room few) }
 

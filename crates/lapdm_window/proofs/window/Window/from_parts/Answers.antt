@@ -1,9 +1,8 @@
-use Rattle.std.proofs.Common.{◌≡◌, refl, sym, ◌∙◌, ap, arith}
+use Rattle.std.proofs.Common.{◌≡◌, refl, ap}
 use Rattle.std.proofs.lemmas.Bool.{false≢true}
-use Rattle.segmenting.specs.Parts as J
 use Rattle.lapdm_window.specs.declared.window.Window.{Window}
 use Rattle.lapdm_window.specs.declared.window.parts.WindowParts.{WindowParts}
-use Rattle.lapdm_window.specs.Parts.{parts_of, IsOfAWindow, AreInStep}
+use Rattle.lapdm_window.specs.Parts.{parts_of, AreInStep}
 use Rattle.lapdm_window.proofs.window.Window.from_parts.Goals as goal
 
 pub returns-in_default-clause-known : goal.returns-in_default-clause-known

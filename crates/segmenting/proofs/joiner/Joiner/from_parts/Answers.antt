@@ -1,6 +1,5 @@
-use Rattle.std.proofs.Common.{◌≡◌, refl, arith}
+use Rattle.std.proofs.Common.{refl}
 use Rattle.segmenting.specs.declared.joiner.Joiner.{Joiner}
-use Rattle.segmenting.specs.Parts.{parts_of, IsOfAJoiner}
 use Rattle.segmenting.proofs.joiner.Joiner.from_parts.Goals as goal
 
 pub returns-clause-known : goal.returns-clause-known
