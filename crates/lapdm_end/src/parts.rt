@@ -2,13 +2,15 @@
 
 ghost use Rattle.std.specs.Prelude.{◌≡◌, ◌↔◌, ◌⊎◌, ◌+◌, ◌%◌, ◌^◌, ◌<◌, ◌≤◌, [], length, IsTrue, IsSome, IfSome};
 ghost use Rattle.lapdm_frame.specs.Layout.{n201};
+ghost use Rattle.segmenting.specs.Pieces.{longest, most_pieces};
 ghost use Rattle.lapdm_window.specs.Ends.{EndState};
 ghost use Rattle.lapdm_end.specs.Parts.{parts_of, StandFor, AreOfAnEnd, IsUnused, IsInState, AreInStep};
-ghost use Rattle.lapdm_end.specs.Standing.{Stands};
+ghost use Rattle.lapdm_end.specs.Standing.{Stands, channel_of};
 
 use crate::Role;
 use crate::ends::End;
 use crate::link::Link;
+use lapdm_frame::Channel;
 use lapdm_window::{Message, Sapi, State, Window, WindowParts};
 
 /// What an end holds. Its channel is its window's.
@@ -80,8 +82,17 @@ fn is_unused(window: &WindowParts) -> bool
 }
 
 impl End {
+    pub fn channel(&self) -> Channel
+        ensures channel { result ≡ channel_of self.now }
+        ensures stands { (e : EndState) → Stands self.now e → result ≡ e.channel }
+    {
+        self.link.channel
+    }
+
     pub fn into_parts(self) -> EndParts
-        ensures { result ≡ parts_of self }
+        ensures parts { result ≡ parts_of self }
+        ensures place { result.window.place < most_pieces result.window.channel }
+        ensures most { result.window.joiner.len ≤ longest }
     {
         EndParts {
             role: self.link.role,

@@ -3,3 +3,4 @@ pub mod Reports
 pub mod Plain
 pub mod MarginReports
 pub mod RepairReports
+pub mod States

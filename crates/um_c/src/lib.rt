@@ -10,3 +10,4 @@ mod frames;
 mod margins;
 mod repairs;
 mod soft;
+mod states;

@@ -1,8 +1,8 @@
 //! A window as plain values, and made from them again.
 
-ghost use Rattle.std.specs.Prelude.{◌≡◌, ◌↔◌, ◌≤◌, length, slice_index_or, [], All, IsTrue, IsSome, IfSome};
+ghost use Rattle.std.specs.Prelude.{◌≡◌, ◌↔◌, ◌<◌, ◌≤◌, length, slice_index_or, [], All, IsTrue, IsSome, IfSome};
 ghost use Rattle.lapdm_frame.specs.Layout.{n201};
-ghost use Rattle.segmenting.specs.Pieces.{IsMessage, count_of};
+ghost use Rattle.segmenting.specs.Pieces.{IsMessage, count_of, longest, most_pieces};
 ghost use Rattle.lapdm_window.specs.Parts.{parts_of, IsOfAWindow, AreInStep};
 
 use super::Window;
@@ -81,7 +81,9 @@ fn pieces_in(message: &[u8], channel: Channel) -> usize
 
 impl Window {
     pub fn into_parts(self) -> WindowParts
-        ensures { result ≡ parts_of self }
+        ensures parts { result ≡ parts_of self }
+        ensures place { result.place < most_pieces result.channel }
+        ensures most { result.joiner.len ≤ longest }
     {
         WindowParts {
             channel: self.channel,

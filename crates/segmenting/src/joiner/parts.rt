@@ -1,7 +1,8 @@
 //! A joiner as plain values, and made from them again.
 
-ghost use Rattle.std.specs.Prelude.{◌≡◌, ◌↔◌, [], take, IsTrue, IsSome, IfSome};
+ghost use Rattle.std.specs.Prelude.{◌≡◌, ◌↔◌, ◌≤◌, [], take, IsTrue, IsSome, IfSome};
 ghost use Rattle.segmenting.specs.Joiners.{HasJoined};
+ghost use Rattle.segmenting.specs.Pieces.{longest};
 ghost use Rattle.segmenting.specs.Parts.{parts_of, IsOfAJoiner};
 
 use super::{Joiner, Part};
@@ -29,7 +30,8 @@ impl JoinerParts {
 
 impl Joiner {
     pub fn into_parts(self) -> JoinerParts
-        ensures { result ≡ parts_of self }
+        ensures parts { result ≡ parts_of self }
+        ensures most { result.len ≤ longest }
     {
         let octets = self.octets;
         JoinerParts {
