@@ -4,3 +4,5 @@ pub mod Plain
 pub mod MarginReports
 pub mod RepairReports
 pub mod States
+pub mod Effects
+pub mod EndCalls

@@ -31,16 +31,6 @@ pub struct PlainEffects {
     pub frames: [[u8; 23]; 2],
 }
 
-const NOTHING: PlainNotice = PlainNotice {
-    number: 0,
-    kind: 0,
-    reason: 0,
-    message: PlainMessage {
-        count: 0,
-        octets: [0; 255],
-    },
-};
-
 pub(crate) fn plain_effects(effects: &Effects) -> PlainEffects
     ensures { result ≡ plain_effects effects.now.frames effects.now.notices }
 {
@@ -61,12 +51,19 @@ fn plain_notices(notices: &[Notice]) -> [PlainNotice; 3]
     requires { length notices.now ≤ 3 }
     ensures { result ≡ map plain_notice notices.now ++ replicate (3 - length notices.now) nothing }
 {
+    let none = nothing();
     match notices {
-        [] => [NOTHING, NOTHING, NOTHING],
-        [a] => [plain_notice(a), NOTHING, NOTHING],
-        [a, b] => [plain_notice(a), plain_notice(b), NOTHING],
+        [] => [none, none, none],
+        [a] => [plain_notice(a), none, none],
+        [a, b] => [plain_notice(a), plain_notice(b), none],
         [a, b, c, ..] => [plain_notice(a), plain_notice(b), plain_notice(c)],
     }
+}
+
+fn nothing() -> PlainNotice
+    ensures { result ≡ nothing }
+{
+    handed_up(0, &[])
 }
 
 fn plain_notice(notice: &Notice) -> PlainNotice
@@ -79,13 +76,13 @@ fn plain_notice(notice: &Notice) -> PlainNotice
         Notice::Acked(number) => PlainNotice {
             number: *number,
             kind: 4,
-            ..NOTHING
+            ..nothing()
         },
-        Notice::Oversize => PlainNotice { kind: 5, ..NOTHING },
+        Notice::Oversize => PlainNotice { kind: 5, ..nothing() },
         Notice::Closed(reason) => PlainNotice {
             kind: 6,
             reason: reason_number(*reason),
-            ..NOTHING
+            ..nothing()
         },
     }
 }
@@ -95,9 +92,10 @@ fn handed_up(kind: u8, octets: &[u8]) -> PlainNotice
     ensures { result ≡ record { number = 0; kind = kind; reason = 0; message = plain_message octets.now } }
 {
     PlainNotice {
+        number: 0,
         kind,
+        reason: 0,
         message: plain_message(octets),
-        ..NOTHING
     }
 }
 

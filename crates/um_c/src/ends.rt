@@ -7,7 +7,8 @@ ghost use Rattle.um_c.specs.Effects.{plain_effects};
 ghost use Rattle.um_c.specs.EndCalls.{refused_number, IsCalledAs, IsGivenAs, IsBegunAs};
 
 use crate::effects::{PlainEffects, plain_effects};
-use crate::states::{PlainEnd, PlainMessage, begun, end_in, plain_end};
+use crate::frames::channel_of;
+use crate::states::{PlainEnd, PlainMessage, end_in, plain_end, role_of, sapi_of};
 use lapdm_end::End;
 use lapdm_frame::read_on;
 use lapdm_window::{Effects, Refused, Sapi};
@@ -21,10 +22,16 @@ const NO_FRAME: u8 = 9;
 pub extern "C" fn um_end_new(end: &mut PlainEnd, role: u8, sapi: u8, channel: u8) -> bool
     ensures { IsBegunAs role sapi channel result end.old end.new }
 {
-    let Some(first) = begun(role, sapi, channel) else {
+    let Some(role) = role_of(role) else {
         return false;
     };
-    *end = plain_end(first);
+    let Some(sapi) = sapi_of(sapi) else {
+        return false;
+    };
+    let Some(channel) = channel_of(channel) else {
+        return false;
+    };
+    *end = plain_end(End::new_on(role, sapi, channel));
     true
 }
 
@@ -40,11 +47,13 @@ pub extern "C" fn um_end_open(
     let Some(mut held) = end_in(end) else {
         return NO_END;
     };
-    if held.sapi() != Sapi::Zero {
-        return OTHER_SAPI;
+    match held.sapi() {
+        Sapi::Three => OTHER_SAPI,
+        Sapi::Zero => {
+            let answer = held.open(info.octets());
+            carry_out(answer, held, end, effects)
+        }
     }
-    let answer = held.open(info.octets());
-    carry_out(answer, held, end, effects)
 }
 
 /// Asks the other end to open the link of SAPI 3, with no information.
@@ -55,11 +64,13 @@ pub extern "C" fn um_end_open_bare(end: &mut PlainEnd, effects: &mut PlainEffect
     let Some(mut held) = end_in(end) else {
         return NO_END;
     };
-    if held.sapi() != Sapi::Three {
-        return OTHER_SAPI;
+    match held.sapi() {
+        Sapi::Zero => OTHER_SAPI,
+        Sapi::Three => {
+            let answer = held.open_bare();
+            carry_out(answer, held, end, effects)
+        }
     }
-    let answer = held.open_bare();
-    carry_out(answer, held, end, effects)
 }
 
 /// Sends a message over the link.

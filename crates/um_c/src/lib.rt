@@ -6,6 +6,8 @@
 
 mod blocks;
 mod bursts;
+mod effects;
+mod ends;
 mod frames;
 mod margins;
 mod repairs;

@@ -1,9 +1,10 @@
 //! An end of a link as numbers and arrays in the caller's memory.
-ghost use Rattle.std.specs.Prelude.{◌≡◌, ◌≤◌, ◌↔◌, Some, None, length, IsSome, IfSome, MatchOption};
+ghost use Rattle.std.specs.Prelude.{◌≡◌, ◌≤◌, ◌↔◌, Some, None, length, take, replicate, IsSome, IfSome, MatchOption};
 ghost use Rattle.segmenting.specs.Pieces.{longest};
 ghost use Rattle.lapdm_window.specs.Ends.{EndState};
 ghost use Rattle.lapdm_end.specs.Parts.{parts_of};
 ghost use Rattle.lapdm_end.specs.Standing.{Stands};
+ghost use Rattle.um_c.specs.Plain.{channel_of};
 ghost use Rattle.um_c.specs.States.{octets_in, plain_message, role_of, sapi_of, state_of, part_of, said_message, said_held, said_window, said_end, StandsFor, IsOfAnEnd};
 
 use crate::frames::channel_of;
@@ -80,12 +81,18 @@ pub(crate) fn plain_message(octets: &[u8]) -> PlainMessage
     requires { length octets.now ≤ longest }
     ensures { result ≡ plain_message octets.now }
 {
-    let mut room = [0; 255];
+    let mut room = zeros();
     room[..octets.len()].copy_from_slice(octets);
     PlainMessage {
         count: octets.len() as u8,
         octets: room,
     }
+}
+
+fn zeros() -> [u8; 255]
+    ensures { result ≡ replicate 255 0 }
+{
+    [0; 255]
 }
 
 /// The end whose state this is, exactly where it is that of one.
@@ -157,7 +164,7 @@ fn held_in(count: u8, messages: &[PlainMessage; 8]) -> Option<ArrayVec<Message, 
     Some(held)
 }
 
-fn role_of(number: u8) -> Option<Role>
+pub(crate) fn role_of(number: u8) -> Option<Role>
     ensures { result ≡ role_of number }
 {
     match number {
@@ -167,7 +174,7 @@ fn role_of(number: u8) -> Option<Role>
     }
 }
 
-fn sapi_of(number: u8) -> Option<Sapi>
+pub(crate) fn sapi_of(number: u8) -> Option<Sapi>
     ensures { result ≡ sapi_of number }
 {
     match number {
@@ -198,5 +205,108 @@ fn part_of(number: u8) -> Option<Part>
         1 => Some(Part::Whole),
         2 => Some(Part::Over),
         _ => None,
+    }
+}
+
+/// The state of an end.
+pub(crate) fn plain_end(end: End) -> PlainEnd
+    ensures { said_end result ≡ Some (parts_of end) }
+{
+    let parts = end.into_parts();
+    let window = parts.window;
+    let messages = window.held.as_slice();
+    let held = plain_messages(messages);
+    PlainEnd {
+        done: window.done,
+        role: role_number(parts.role),
+        sapi: sapi_number(parts.sapi),
+        channel: channel_number(window.channel),
+        state: state_number(parts.state),
+        retries: parts.retries,
+        vs: window.vs,
+        va: window.va,
+        vr: window.vr,
+        repeats: window.retries,
+        rejecting: u8::from(window.rejecting),
+        place: window.place as u8,
+        held_count: messages.len() as u8,
+        part: part_number(window.joiner.part),
+        kept: plain_message(parts.kept.octets()),
+        joined: plain_joined(&window.joiner),
+        held,
+    }
+}
+
+fn plain_joined(parts: &JoinerParts) -> PlainMessage
+    requires { parts.now.len ≤ longest }
+    ensures count { result.count ≡ parts.now.len }
+    ensures octets { take longest result.octets ≡ parts.now.octets }
+{
+    let mut octets = zeros();
+    octets[..LONGEST].copy_from_slice(&parts.octets);
+    PlainMessage {
+        count: parts.len as u8,
+        octets,
+    }
+}
+
+fn plain_messages(messages: &[Message]) -> [PlainMessage; 8]
+    requires { length messages.now ≤ 8 }
+    ensures { said_held (length messages.now) result ≡ Some messages.now }
+{
+    let none = plain_message(&[]);
+    let mut plain = [none; 8];
+    for (i, message) in messages.iter().enumerate() {
+        plain[i] = plain_message(message.octets());
+    }
+    plain
+}
+
+fn role_number(role: Role) -> u8
+    ensures { role_of result ≡ Some role }
+{
+    match role {
+        Role::Mobile => 0,
+        Role::Network => 1,
+    }
+}
+
+fn sapi_number(sapi: Sapi) -> u8
+    ensures { sapi_of result ≡ Some sapi }
+{
+    match sapi {
+        Sapi::Zero => 0,
+        Sapi::Three => 3,
+    }
+}
+
+fn channel_number(channel: Channel) -> u8
+    ensures { channel_of result ≡ Some channel }
+{
+    match channel {
+        Channel::Sdcch => 0,
+        Channel::Sacch => 1,
+    }
+}
+
+fn state_number(state: State) -> u8
+    ensures { state_of result ≡ Some state }
+{
+    match state {
+        State::Idle => 0,
+        State::Opening => 1,
+        State::Open => 2,
+        State::Closing => 3,
+        State::Closed => 4,
+    }
+}
+
+fn part_number(part: Part) -> u8
+    ensures { part_of result ≡ Some part }
+{
+    match part {
+        Part::Open => 0,
+        Part::Whole => 1,
+        Part::Over => 2,
     }
 }
