@@ -8,6 +8,7 @@
  *   A block is 23 octets. In its 184 bits each octet stands from its bit of value 1 on.
  *   No call takes memory, keeps a state between calls, waits or prints; each may be called from any thread. Pointers are
  *   never null, point to as many elements as the type says, and what a call writes overlaps nothing else that it gets.
+ *   The state of an end of a link is the caller's, in a um_end.
  *   A call that refuses has written nothing. */
 #ifndef UM_H
 #define UM_H
@@ -131,6 +132,115 @@ uint8_t um_read_frame(const uint8_t octets[23], uint8_t channel, um_frame *frame
 /* Writes the one canonical block of a frame: layer 1 octets 00, fill 2b. In bits any number but 0 is a 1; numbers and bits that
  * the kind has not are not looked at. False: the fields say no frame that fits the channel. */
 bool um_write_frame(const um_frame *frame, uint8_t channel, uint8_t octets[23]);
+
+/* Ends: one end of a link of LAPDm in acknowledged mode (3GPP TS 44.006, 5), a mobile's or a network's.
+ *
+ * An end has no timer and no line of its own. Its caller sends what each call writes into a um_effects, the frames in their order,
+ * gives it each block that comes in, and calls um_end_timer when T200 has run out: T200 starts anew whenever an end sends a SABM,
+ * a DISC or an I frame, and stops once nothing awaits an answer (um_end_timer then answers UM_END_NOT_RUNNING).
+ *
+ * The state is plain numbers and arrays: it may be copied, kept in a file and taken up again. Each call tests it, and answers
+ * UM_END_NONE, with nothing written, where no end has such a state; whatever state passes stands for an end, and the call does what
+ * that end does. Nobody needs to look into a state; what an end has to say is in its effects. */
+
+enum um_role { UM_MOBILE, UM_NETWORK };
+enum um_state { UM_IDLE, UM_OPENING, UM_OPEN, UM_CLOSING, UM_CLOSED };
+enum um_part { UM_PART_OPEN, UM_PART_WHOLE, UM_PART_OVER };
+
+typedef struct um_message {
+	uint8_t count;       /* how many octets */
+	uint8_t octets[255]; /* the octets; those from count on are not looked at, and are zeros where a call writes a message */
+} um_message;
+
+typedef struct um_end {
+	uint64_t done;      /* how many messages are wholly acknowledged */
+	uint8_t role;       /* um_role */
+	uint8_t sapi;       /* 0 signalling, 3 short messages */
+	uint8_t channel;    /* um_channel */
+	uint8_t state;      /* um_state */
+	uint8_t retries;    /* how often the SABM or the DISC that awaits an answer went out again */
+	uint8_t vs, va, vr; /* V(S), V(A), V(R): 0 to 7 */
+	uint8_t repeats;    /* how often the I frame that waits went out again */
+	uint8_t rejecting;  /* whether a REJ was sent and no I frame was accepted since; any number but 0 is yes */
+	uint8_t place;      /* the piece that waits, or the next one, among the pieces of the first message held */
+	uint8_t held_count; /* how many messages are held: at most 8 */
+	uint8_t part;       /* um_part: what `joined` is */
+	um_message kept;    /* the information of the SABM that was sent, or that opened the link */
+	um_message joined;  /* what came in of a message that goes on, or the last whole message */
+	um_message held[8]; /* the messages that are not wholly acknowledged, in the order in which they were taken */
+} um_end;
+
+enum um_notice_kind {
+	UM_NO_NOTICE,
+	UM_OPENED,   /* the link is open: the information that it was opened by */
+	UM_GOT,      /* a message came in whole */
+	UM_UNIT,     /* a message came in one unnumbered frame */
+	UM_ACKED,    /* a message is wholly acknowledged: its number, counted from 1 in the order in which they were taken */
+	UM_OVERSIZE, /* a message came in that was too long, and is dropped */
+	UM_ENDED     /* the link is closed: the reason */
+};
+enum um_reason {
+	UM_CONTENTION, /* the other end was opened by another mobile */
+	UM_FAILED,     /* a frame went out again as often as it may, or the other end is not there */
+	UM_REFUSED,    /* the other end did not open the link */
+	UM_RELEASED    /* one of the ends closed the link */
+};
+
+typedef struct um_notice {
+	uint64_t number;    /* of UM_ACKED, else 0 */
+	uint8_t kind;       /* um_notice_kind */
+	uint8_t reason;     /* of UM_ENDED: um_reason, else 0 */
+	um_message message; /* of UM_OPENED, UM_GOT and UM_UNIT, else no octets */
+} um_notice;
+
+typedef struct um_effects {
+	um_notice notices[3];  /* what is reported, in its order; behind notice_count zeros */
+	uint8_t notice_count;
+	uint8_t frame_count;
+	uint8_t frames[2][23]; /* the blocks to be sent, in their order; behind frame_count zeros */
+} um_effects;
+
+enum um_answer {
+	UM_END_DONE,        /* the state and the effects are written; with every other answer nothing is */
+	UM_END_NOT_IDLE,    /* the link was opened before */
+	UM_END_NOT_OPEN,    /* the link is not open */
+	UM_END_NOT_RUNNING, /* no frame awaits an answer */
+	UM_END_EMPTY,       /* the message has no octets */
+	UM_END_TOO_LONG,    /* it has too many */
+	UM_END_FULL,        /* eight messages are not wholly acknowledged */
+	UM_END_NONE,        /* no end has this state */
+	UM_END_OTHER_SAPI,  /* the link of the other SAPI is opened so */
+	UM_END_NO_FRAME     /* the octets are no frame: um_read_frame says why */
+};
+
+/* Writes the state of an end before its first call, whatever stood there. False: no such role, SAPI (0 or 3) or channel. */
+bool um_end_new(um_end *end, uint8_t role, uint8_t sapi, uint8_t channel);
+
+/* Asks the other end to open the link of SAPI 0, with 1 to 20 octets of information (18 on SACCH), which tell mobiles apart.
+ * Answers a um_answer, as the other calls do; of several reasons the first in the order of that enum, UM_END_NONE and
+ * UM_END_OTHER_SAPI before all. */
+uint8_t um_end_open(um_end *end, const um_message *info, um_effects *effects);
+
+/* Asks the other end to open the link of SAPI 3. */
+uint8_t um_end_open_bare(um_end *end, um_effects *effects);
+
+/* Sends a message of 1 to 251 octets over the open link, in as many frames as it needs, each after the one before is acknowledged. */
+uint8_t um_end_send(um_end *end, const um_message *message, um_effects *effects);
+
+/* Sends 1 to 20 octets (18 on SACCH) in one unnumbered frame, in any state and unacknowledged. */
+uint8_t um_end_unit(const um_end *end, const um_message *message, um_effects *effects);
+
+/* Closes the link. What is not acknowledged is given up. */
+uint8_t um_end_close(um_end *end, um_effects *effects);
+
+/* T200 has run out: the frame that awaits an answer goes out again, or the link is given up. */
+uint8_t um_end_timer(um_end *end, um_effects *effects);
+
+/* Writes the fill frame, to be sent when there is nothing else to send. */
+uint8_t um_end_idle(const um_end *end, um_effects *effects);
+
+/* Takes a block that came in. */
+uint8_t um_end_take(um_end *end, const uint8_t octets[23], um_effects *effects);
 
 #ifdef __cplusplus
 }

@@ -1,4 +1,4 @@
-"""The signalling link of GSM for Python: blocks, bursts and frames of LAPDm, by a library whose every answer is proved.
+"""The signalling link of GSM for Python: blocks, bursts, frames of LAPDm and ends of a link, by a library whose every answer is proved.
 
 By ctypes, over a shared object made of libum_c.a:
 
@@ -12,6 +12,16 @@ By ctypes, over a shared object made of libum_c.a:
     >>> report = um.receive_block(soft)
     >>> report.accepted == octets, report.tsc, report.wrong_coded
     (True, 7, 1)
+
+An end of a link, which has no timer and no line of its own:
+
+    >>> mobile, network = um.End("mobile"), um.End("network")
+    >>> answer = network.take(mobile.open(bytes([1, 2])).frames[0])
+    >>> answer.notices, mobile.take(answer.frames[0]).notices
+    ([('opened', b'\x01\x02')], [('opened', b'\x01\x02')])
+    >>> got = network.take(mobile.send(b"hello").frames[0])
+    >>> got.notices, mobile.take(got.frames[0]).notices
+    ([('got', b'hello')], [('acked', 1)])
 
 A bit is 0 or 1; a soft value is from -127 for a sure 1 to 127 for a sure 0. Values that the library refuses raise ValueError.
 """
@@ -164,3 +174,97 @@ def write_frame(frame, channel=SDCCH):
     octets = (c.c_uint8 * 23)()
     _told(_lib.um_write_frame(c.byref(raw), _channel(channel), octets), "the frame does not fit")
     return bytes(octets)
+
+
+ROLES = ("mobile", "network")
+STATES = ("idle", "opening", "open", "closing", "closed")
+NOTICES = ("opened", "got", "unit", "acked", "oversize", "closed")
+REASONS = ("contention", "failed", "refused", "released")
+ANSWERS = ("not idle", "not open", "not running", "empty", "too long", "full", "no end", "other sapi", "no frame")
+
+Effects = collections.namedtuple("Effects", "frames notices")
+
+
+class _Message(c.Structure):
+    _fields_ = [("count", c.c_uint8), ("octets", c.c_uint8 * 255)]
+
+
+class _End(c.Structure):
+    _fields_ = [("done", c.c_uint64)] + [(name, c.c_uint8) for name in (
+        "role", "sapi", "channel", "state", "retries", "vs", "va", "vr", "repeats", "rejecting", "place", "held_count", "part")] + [
+        ("kept", _Message), ("joined", _Message), ("held", _Message * 8)]
+
+
+class _Notice(c.Structure):
+    _fields_ = [("number", c.c_uint64), ("kind", c.c_uint8), ("reason", c.c_uint8), ("message", _Message)]
+
+
+class _Effects(c.Structure):
+    _fields_ = [("notices", _Notice * 3), ("notice_count", c.c_uint8), ("frame_count", c.c_uint8), ("frames", c.c_uint8 * 23 * 2)]
+
+
+_lib.um_end_new.restype = c.c_bool
+for _name in ("open", "open_bare", "send", "unit", "close", "timer", "idle", "take"):
+    getattr(_lib, f"um_end_{_name}").restype = c.c_uint8
+
+
+def _message(octets):
+    octets = bytes(octets)[:255]
+    return _Message(len(octets), (c.c_uint8 * 255)(*octets))
+
+
+def _noticed(raw):
+    octets = bytes(raw.message.octets[: raw.message.count])
+    value = (octets, octets, octets, raw.number, None, REASONS[raw.reason])[raw.kind - 1]
+    return NOTICES[raw.kind - 1], value
+
+
+class End:
+    """One end of a link. A call that is refused raises ValueError with the reason, and leaves the end as it was."""
+
+    def __init__(self, role, sapi=0, channel=SDCCH):
+        self._end = _End()
+        _told(sapi in (0, 3) and _lib.um_end_new(c.byref(self._end), ROLES.index(role), c.c_uint8(sapi), _channel(channel)), "a SAPI is 0 or 3")
+
+    @property
+    def state(self):
+        """One of STATES."""
+        return STATES[self._end.state]
+
+    def _call(self, name, *arguments):
+        raw = _Effects()
+        answer = getattr(_lib, f"um_end_{name}")(c.byref(self._end), *arguments, c.byref(raw))
+        _told(answer == 0, ANSWERS[answer - 1])
+        return Effects([bytes(frame) for frame in raw.frames[: raw.frame_count]], [_noticed(notice) for notice in raw.notices[: raw.notice_count]])
+
+    def open(self, info):
+        """Asks the other end to open the link of SAPI 0, with this information."""
+        return self._call("open", c.byref(_message(info)))
+
+    def open_bare(self):
+        """Asks the other end to open the link of SAPI 3."""
+        return self._call("open_bare")
+
+    def send(self, message):
+        """Sends a message of at most 251 octets over the link."""
+        return self._call("send", c.byref(_message(message)))
+
+    def unit(self, message):
+        """Sends a message in one unnumbered frame, outside the link."""
+        return self._call("unit", c.byref(_message(message)))
+
+    def close(self):
+        """Closes the link. What is not acknowledged is given up."""
+        return self._call("close")
+
+    def timer(self):
+        """The timer T200 has run out."""
+        return self._call("timer")
+
+    def idle(self):
+        """The fill frame, which is sent when there is nothing else to send."""
+        return self._call("idle")
+
+    def take(self, octets):
+        """Takes a block of 23 octets that came in."""
+        return self._call("take", _octets(octets, 23))

@@ -1,5 +1,5 @@
-//! The signalling link of GSM for Rust: blocks, access and synchronisation bursts, and frames of LAPDm, over `libum_c.a`, whose
-//! every answer is proved.
+//! The signalling link of GSM for Rust: blocks, access and synchronisation bursts, frames of LAPDm, and ends of a link ([`End`]),
+//! over `libum_c.a`, whose every answer is proved.
 //!
 //! A bit is an octet, 0 or 1, in the order of sending. A soft value is from -127 for a sure 1 to 127 for a sure 0, and 0 where
 //! nothing is known. No call takes memory.
@@ -18,6 +18,10 @@
 //! assert_eq!(um::read_frame(&octets, Channel::Sdcch).unwrap().view(), frame);
 //! ```
 #![no_std]
+
+mod ends;
+
+pub use ends::{Effects, End, Notice, Reason, Refused, Sapi};
 
 /// What four bursts of a block are received as.
 #[repr(C)]

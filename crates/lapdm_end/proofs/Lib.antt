@@ -1,3 +1,5 @@
 pub mod Rules
 pub mod Giving
 pub mod Moves
+mod PartsOfEnds
+mod Pasts

@@ -4,3 +4,4 @@ pub mod Standing
 pub mod Following
 pub mod Replies
 pub mod Units
+pub mod Parts

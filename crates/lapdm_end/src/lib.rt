@@ -6,10 +6,12 @@ mod calls;
 mod ends;
 mod link;
 mod open;
+mod parts;
 mod replies;
 mod taking;
 
 pub use ends::End;
+pub use parts::EndParts;
 
 /// Which end of a link.
 #[derive(Clone, Copy, PartialEq, Eq, Debug)]

@@ -16,6 +16,8 @@ use lapdm_end::{End, Role};
 use lapdm_frame::{Channel, FrameView};
 use lapdm_window::{Effects, Refused, Sapi, State};
 
+mod parts;
+
 /// The network's end of a link. A refused call changes nothing.
 #[derive(Debug, Drop)]
 pub struct Network {

@@ -3,6 +3,9 @@ pub use Rattle.lapdm_window.proofs.Counting.{wholly_acked-more, wholly_acked-las
 pub use Rattle.lapdm_window.proofs.Few.{AtMost, few-frame, few-call}
 pub use Rattle.lapdm_window.proofs.Following.{counted, counts-is, rejects-due, rejects-not_due}
 pub use Rattle.lapdm_window.proofs.Keeping.{IsEnd-moved, IsEnd-start, plain_fits, Keeps, keeps-frame, keeps-call, three_bits, waits_within}
-pub use Rattle.lapdm_window.proofs.Moves.{KeepsWindow-acked, KeepsWindow-taken}
+pub use Rattle.lapdm_window.proofs.FirstPieces.{within_all}
+pub use Rattle.lapdm_window.proofs.Moves.{KeepsWindow-acked, KeepsWindow-taken, within_held}
+pub use Rattle.lapdm_window.proofs.Parts.{Tracks-parts, Stands-parts}
+pub use Rattle.lapdm_window.proofs.Pasts.{IsPast, HasPast, past_of, message_of, is_message_of, pieces-message_of}
 pub use Rattle.lapdm_window.proofs.Numbers.{waits-nothing, waits-one}
 pub use Rattle.lapdm_window.proofs.Refusing.{passes, not_false, is_open-is, is_message, is_idle-is}

@@ -6,6 +6,8 @@ mod Keeping
 pub mod Lemmas
 mod Moves
 mod Numbers
+mod Parts
+mod Pasts
 mod Refusing
 mod Rows
 mod Sessions

@@ -5,3 +5,4 @@ pub mod Calls
 pub mod Steps
 pub mod Answers
 pub mod Standing
+pub mod Parts

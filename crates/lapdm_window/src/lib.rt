@@ -16,7 +16,7 @@ use lapdm_frame::Channel;
 pub use laws::{law_end, law_few, law_frames_fit, law_got, law_wholly_acked};
 pub use message::Message;
 use segmenting::Joined;
-pub use window::Window;
+pub use window::{Window, WindowParts};
 
 /// How often a frame goes out again in a state before the link is given up: N200 of GSM 04.06.
 pub fn n200(channel: Channel, state: State) -> u8

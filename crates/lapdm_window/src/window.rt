@@ -9,6 +9,10 @@ use arrayvec::ArrayVec;
 use lapdm_frame::Channel;
 use segmenting::{Joiner, LONGEST, Piece, Pieces};
 
+mod parts;
+
+pub use parts::WindowParts;
+
 /// The messages that are not wholly acknowledged, the piece that waits, and what came in.
 #[derive(Debug, Drop)]
 pub struct Window {

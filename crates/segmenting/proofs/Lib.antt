@@ -2,5 +2,6 @@ mod Cutting
 mod Fronts
 mod Joins
 pub mod Lemmas
+mod Pasts
 mod Taking
 mod Worked

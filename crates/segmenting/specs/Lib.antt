@@ -2,3 +2,4 @@ pub mod Pieces
 pub mod Joining
 pub mod Joiners
 pub mod Cuttings
+pub mod Parts

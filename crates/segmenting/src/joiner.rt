@@ -6,6 +6,10 @@ ghost use Rattle.segmenting.specs.Pieces.{longest};
 
 use crate::LONGEST;
 
+mod parts;
+
+pub use parts::JoinerParts;
+
 /// What a piece brings.
 #[derive(Clone, Copy, PartialEq, Eq, Debug)]
 pub enum Joined {
@@ -17,14 +21,14 @@ pub enum Joined {
     Oversize,
 }
 
-// What the octets held are.
+/// What the octets are that a joiner holds.
 #[derive(Clone, Copy, PartialEq, Eq, Debug)]
-enum Part {
-    // The beginning of a message that goes on.
+pub enum Part {
+    /// The beginning of a message that goes on.
     Open,
-    // A message that was handed up.
+    /// A message that was handed up.
     Whole,
-    // Nothing: what the message had was too long, and it goes on.
+    /// Nothing: what the message had was too long, and it goes on.
     Over,
 }
 

@@ -6,7 +6,7 @@ mod joiner;
 mod laws;
 mod pieces;
 
-pub use joiner::{Joined, Joiner};
+pub use joiner::{Joined, Joiner, JoinerParts, Part};
 pub use laws::{law_fronts, law_messages_come_back, law_one_cutting, law_what_is_handed_up};
 pub use pieces::{Piece, Pieces};
 

@@ -3,3 +3,6 @@ pub mod Reports
 pub mod Plain
 pub mod MarginReports
 pub mod RepairReports
+pub mod States
+pub mod Effects
+pub mod EndCalls

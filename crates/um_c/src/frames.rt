@@ -72,7 +72,7 @@ pub extern "C" fn um_write_frame(frame: &PlainFrame, channel: u8, octets: &mut [
 }
 
 /// The channel that a number names.
-fn channel_of(number: u8) -> Option<Channel>
+pub(crate) fn channel_of(number: u8) -> Option<Channel>
     ensures { result ≡ channel_of number }
 {
     match number {

@@ -6,7 +6,10 @@
 
 mod blocks;
 mod bursts;
+mod effects;
+mod ends;
 mod frames;
 mod margins;
 mod repairs;
 mod soft;
+mod states;

@@ -1,0 +1,39 @@
+-- What an end sends and reports, as a C program is told of it.
+use Rattle.std.specs.Prelude.{ℕ, ◌-◌, List, [], ◌++◌, length, replicate, map}
+use Rattle.lapdm_window.specs.declared.Notice.{Notice}
+use Rattle.lapdm_window.specs.declared.Notice.TheVariants as N
+use Rattle.lapdm_window.specs.declared.Reason.{Reason}
+use Rattle.lapdm_window.specs.declared.Reason.TheVariants as R
+use Rattle.um_c.specs.declared.effects.PlainNotice.{PlainNotice}
+use Rattle.um_c.specs.declared.effects.PlainEffects.{PlainEffects}
+use Rattle.um_c.specs.States.{plain_message}
+
+abbrev pub reason_number : Reason → ℕ
+reason_number R.Contention = 0
+reason_number R.Failed = 1
+reason_number R.Refused = 2
+reason_number R.Released = 3
+
+abbrev pub notice_of : (kind number reason : ℕ) → List ℕ → PlainNotice
+notice_of kind number reason octets = record { number = number; kind = kind; reason = reason; message = plain_message octets }
+
+-- a place without a notice
+abbrev pub nothing : PlainNotice
+nothing = notice_of 0 0 0 []
+
+abbrev pub plain_notice : Notice → PlainNotice
+plain_notice (N.Opened info) = notice_of 1 0 0 info
+plain_notice (N.Got m) = notice_of 2 0 0 m
+plain_notice (N.Unit m) = notice_of 3 0 0 m
+plain_notice (N.Acked number) = notice_of 4 number 0 []
+plain_notice N.Oversize = notice_of 5 0 0 []
+plain_notice (N.Closed reason) = notice_of 6 0 (reason_number reason) []
+
+-- frames and notices in their order, and zeros behind them
+abbrev pub plain_effects : List (List ℕ) → List Notice → PlainEffects
+plain_effects frames notices = record {
+  notices = map plain_notice notices ++ replicate (3 - length notices) nothing;
+  notice_count = length notices;
+  frame_count = length frames;
+  frames = frames ++ replicate (2 - length frames) (replicate 23 0);
+}
