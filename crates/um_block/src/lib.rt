@@ -16,6 +16,7 @@ pub use laws::{law_block_places, law_few_wrong};
 pub use radio::{PlainRadio, Radio};
 pub use received::{Received, ReceivedAccess, ReceivedSync};
 pub use receiving::{
-    gather_block, join_halves, receive_access, receive_block, receive_sync, soften,
+    access_data, block_data, gather_block, join_halves, receive_access, receive_block,
+    receive_sync, soften, sync_data,
 };
 pub use sending::{send_access, send_block, send_sync};
