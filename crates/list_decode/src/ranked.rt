@@ -6,14 +6,18 @@
 //! and it begins a branch of its own, with the places behind that one free. (List Viterbi decoding: Seshadri and Sundberg 1994; the
 //! branches are those of Lawler's way to the best solutions one after the other, 1972.)
 
-ghost use Rattle.std.specs.Prelude.{◌≡◌, ◌≤◌, ℕ, ◌+◌, ◌-◌, ◌*◌, ◌<◌, ℤ, Bool, true, false, List, ◌∷◌, ◌++◌, length, slice_index, slice_index_or};
+ghost use Rattle.std.specs.Prelude.{◌≡◌, ◌↔◌, ◌≤◌, ℕ, ◌+◌, ◌-◌, ◌*◌, ◌%◌, ◌<◌, ℤ, Bool, true, false, List, [], ◌∷◌, ◌++◌, length, slice_index, slice_index_or, None, IfSome, MatchOption};
 ghost use Rattle.bit_blocks.specs.Bits.{AllBits};
 ghost use Rattle.std.proofs.Common.{take, drop};
 ghost use Rattle.trellis_decode.specs.Trellis.{next, read_out, IsKept};
 ghost use Rattle.list_decode.specs.Detours.{reached, stray};
 ghost use Rattle.list_decode.specs.FreePlaces.{IsLeave, IsBestFree};
+ghost use Rattle.list_decode.specs.Ranking.{IsDone, IsRanked};
+ghost use Rattle.conv_code.specs.Code.{coded, IsInformation};
+ghost use Rattle.conv_code.specs.Likelihood.{AllSoft, likelihood};
 
 use crate::leaving::Leave;
+use std::marker::Model;
 use trellis_decode::{decode, keep, read_list};
 
 /// The most lists that are given.
@@ -47,9 +51,27 @@ pub struct Ranked {
     given: usize,
 }
 
+impl Model for Ranked {
+    ghost use Rattle.std.specs.Prelude.{◌≤◌, ◌*◌, take, map};
+    ghost use Rattle.list_decode.specs.Ranking.{Ranking};
+
+    ghost Value = { Ranking };
+
+    ghost view = { λ r. record { soft = take (2 * r.pass.bits) r.soft; given = map (λ b. take r.pass.bits b.list) (take r.given r.branches) } };
+
+    ghost invariant = { λ r. r.given ≤ 64 };
+}
+
 impl Ranked {
     /// No list is given yet. A pair of soft values belongs to each bit, of 5 to 228.
-    pub fn new(soft: &[i8]) -> Ranked {
+    pub fn new(soft: &[i8]) -> Ranked
+        requires at_least { 10 ≤ length soft.now }
+        requires at_most { length soft.now ≤ 456 }
+        requires pairs { length soft.now % 2 ≡ 0 }
+        requires soft { AllSoft soft.now }
+        ensures soft { result.soft ≡ soft.now }
+        ensures given { result.given ≡ [] }
+    {
         let mut copy = [0; 456];
         copy[..soft.len()].copy_from_slice(soft);
         let blank = Branch {
@@ -67,7 +89,15 @@ impl Ranked {
     }
 
     /// Writes the next list and answers its likelihood, or nothing where 64 were given or none is left.
-    pub fn next(&mut self, u: &mut [u8]) -> Option<i32> {
+    pub fn next(&mut self, u: &mut [u8]) -> Option<i32>
+        requires count { length self.old.soft ≡ 2 * length u.old }
+        ensures soft { self.new.soft ≡ self.old.soft }
+        ensures ranked { IsRanked self.new.soft self.new.given }
+        ensures given { MatchOption result ((self.new.given ≡ self.old.given) × (u.new ≡ u.old)) (λ value.
+            (self.new.given ≡ self.old.given ++ u.new ∷ []) × (value ≡ likelihood self.old.soft (coded u.new))) }
+        ensures information { IfSome result (λ _. IsInformation u.new) }
+        ensures done { (result ≡ None) ↔ IsDone self.old }
+    {
         if self.given == MOST {
             return None;
         }
