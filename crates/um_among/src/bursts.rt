@@ -4,6 +4,13 @@
 //! parity, and once in 1,024 in a synchronisation burst, which has ten. So a wrong one is accepted about that often for each list
 //! tried, and with 64 lists mostly: these calls should not be asked for more than a list or two, and not where nothing else tells a
 //! wrong burst.
+ghost use Rattle.std.specs.Prelude.{◌≡◌, ◌≢◌, ◌≤◌, ℕ, IsSome, List};
+ghost use Rattle.bit_blocks.specs.SoftValues.{AllSoft};
+ghost use Rattle.conv_code.specs.Likelihood.{FallsBehind};
+ghost use Rattle.list_decode.specs.Ranking.{IsCandidate};
+ghost use Rattle.um_block.specs.Received.{IsReceivedAccess, IsReceivedSync, access_places, sync_places};
+ghost use Rattle.um_among.specs.Among.{IsAccessAmong, IsSyncAmong};
+ghost use Rattle.um_among.specs.Parities.{HoldsInAccess, HoldsInSync};
 
 use crate::parity::Parity;
 use crate::reports::{AccessAmong, SyncAmong};
@@ -19,7 +26,18 @@ use um_block::{
 ///
 /// Its parity of six bits holds by chance about once in 64 lists tried, so that with many lists a wrong one is accepted mostly where
 /// the right one is not the first: ask with a `most` above 1 only where something else tells wrong bits.
-pub fn receive_access_among(burst: &[i8; 88], bsic: &Bits<6>, most: u32) -> AccessAmong {
+pub fn receive_access_among(burst: &[i8; 88], bsic: &Bits<6>, most: u32) -> AccessAmong
+    requires soft { AllSoft burst.now }
+    requires at_least { 1 ≤ most }
+    requires at_most { most ≤ 64 }
+    ensures received { IsAccessAmong burst.now bsic.now most result }
+    ensures only { (other : AccessAmong) → IsAccessAmong burst.now bsic.now most other → other ≡ result }
+    ensures best { IsSome result.report.accepted → (v : List ℕ) → IsCandidate (access_places burst.now) v → HoldsInAccess bsic.now v →
+        v ≢ result.report.u → FallsBehind (access_places burst.now) v result.report.u }
+    ensures first { (r : ReceivedAccess) → IsReceivedAccess burst.now bsic.now r → IsSome r.accepted → result ≡ record { report = r; rank = 1 } }
+    ensures alone { result.rank ≡ 1 → IsReceivedAccess burst.now bsic.now result.report }
+    ensures one { most ≡ 1 → result.rank ≡ 1 }
+{
     let report = receive_access(burst, bsic);
     if report.accepted.is_some() {
         return AccessAmong { report, rank: 1 };
@@ -45,7 +63,18 @@ pub fn receive_access_among(burst: &[i8; 88], bsic: &Bits<6>, most: u32) -> Acce
 ///
 /// Its parity of ten bits holds by chance about once in 1,024 lists tried, so that of 64 lists a wrong one is accepted once in some
 /// sixteen bursts of noise: ask with a `most` above 1 only where something else tells wrong bits.
-pub fn receive_sync_among(burst: &[i8; 148], most: u32) -> SyncAmong {
+pub fn receive_sync_among(burst: &[i8; 148], most: u32) -> SyncAmong
+    requires soft { AllSoft burst.now }
+    requires at_least { 1 ≤ most }
+    requires at_most { most ≤ 64 }
+    ensures received { IsSyncAmong burst.now most result }
+    ensures only { (other : SyncAmong) → IsSyncAmong burst.now most other → other ≡ result }
+    ensures best { IsSome result.report.accepted → (v : List ℕ) → IsCandidate (sync_places burst.now) v → HoldsInSync v →
+        v ≢ result.report.u → FallsBehind (sync_places burst.now) v result.report.u }
+    ensures first { (r : ReceivedSync) → IsReceivedSync burst.now r → IsSome r.accepted → result ≡ record { report = r; rank = 1 } }
+    ensures alone { result.rank ≡ 1 → IsReceivedSync burst.now result.report }
+    ensures one { most ≡ 1 → result.rank ≡ 1 }
+{
     let report = receive_sync(burst);
     if report.accepted.is_some() {
         return SyncAmong { report, rank: 1 };

@@ -1,4 +1,7 @@
 //! The parities that a list is tried by.
+ghost use Rattle.std.specs.Prelude.{◌≡◌, ◌↔◌, ◌≤◌, IsTrue, length, take};
+ghost use Rattle.bit_blocks.specs.Bits.{AllBits};
+ghost use Rattle.um_among.specs.Parities.{Holds, places};
 
 use bit_blocks::Bits;
 use fire_code::{rach_holds, sch_holds, xcch_holds};
@@ -14,7 +17,11 @@ pub(crate) enum Parity {
 
 impl Parity {
     /// Whether the parity of an information list holds.
-    pub(crate) fn holds(&self, u: &[u8]) -> bool {
+    pub(crate) fn holds(&self, u: &[u8]) -> bool
+        requires places { length u.now ≡ places self.now }
+        requires bits { AllBits u.now }
+        ensures { IsTrue result ↔ Holds self.now u.now }
+    {
         match self {
             Parity::Block => xcch_holds(&Bits::from_array(front::<224>(u))),
             Parity::Access(bsic) => rach_holds(&Bits::from_array(front::<14>(u)), bsic),
@@ -24,7 +31,12 @@ impl Parity {
 }
 
 /// The first places of a list.
-fn front<const N: usize>(u: &[u8]) -> [u8; N] {
+fn front<const N: usize>(u: &[u8]) -> [u8; N]
+    requires many { N ≤ length u.now }
+    requires bits { AllBits u.now }
+    ensures value { result ≡ take N u.now }
+    ensures bits { AllBits result }
+{
     let mut word = [0; N];
     word.copy_from_slice(&u[..N]);
     word

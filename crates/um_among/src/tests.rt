@@ -1,3 +1,6 @@
+ghost use Rattle.std.specs.Prelude.{◌↔◌, IsTrue, All};
+ghost use Rattle.bit_blocks.specs.SoftValues.{AllSoft};
+
 use crate::{
     AccessAmong, BlockAmong, SyncAmong, receive_access_among, receive_block_among,
     receive_sync_among,
@@ -6,8 +9,10 @@ use bit_blocks::Bits;
 use std::process::Abort;
 use um_block::{send_block, soften};
 
-fn are_soft(burst: &[i8]) -> bool {
-    burst.iter().all(|value| *value != -128)
+fn are_soft(values: &[i8]) -> bool
+    ensures { IsTrue result ↔ AllSoft values.now }
+{
+    values.iter().all(|value| *value != -128)
 }
 
 fn block(rt: &impl Abort, bursts: &[[i8; 148]; 4], most: u32) -> BlockAmong {
