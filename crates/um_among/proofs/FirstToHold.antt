@@ -6,6 +6,7 @@ use Rattle.std.proofs.Math.Seq.{get_or-append_seam}
 use Rattle.std.proofs.lemmas.Bool.{cases_lt}
 use Rattle.std.proofs.lemmas.List.{length-take-le, take-append-drop}
 use Rattle.std.proofs.lemmas.List.Elements.{All-nil, All-take, All-contains, Contains-append_right, Contains-append_cases}
+use Rattle.conv_code.specs.Code.{IsInformation}
 use Rattle.conv_code.specs.Likelihood.{FallsBehind, IsMostLikely}
 use Rattle.trellis_decode.proofs.MostLikely.{IsMostLikely-only}
 use Rattle.list_decode.specs.Ranking.{IsCandidate, IsRanked}
@@ -151,3 +152,7 @@ module _ (Holds : List ℕ → Type 0) (s : List ℤ) (most : ℕ) where
       IsTaken Holds told s most 1 u a
   taken_none told u None none best lacks = (none, best, refl)
   taken_none told u (Some x) none best lacks = absurd (lacks refl)
+
+  pub taken_information : {X : Type 0} (told : List ℕ → X) (r : ℕ) (u : List ℕ) (a : Option X) → IsTaken Holds told s most r u a → IsInformation u
+  taken_information told r u None h = h.1.information
+  taken_information told r u (Some x) h = (candidate r u h.0).information

@@ -3,7 +3,7 @@ use Rattle.std.proofs.Common.{◌≡◌, ◌≢◌, ℕ, ◌≤◌, ℤ, Option,
 use Rattle.std.specs.Prelude.{MatchOption, IsSome}
 use Rattle.bit_blocks.specs.Octets.{octets_of}
 use Rattle.bit_blocks.specs.SoftValues.{likelihood}
-use Rattle.conv_code.specs.Code.{coded}
+use Rattle.conv_code.specs.Code.{coded, IsInformation}
 use Rattle.conv_code.specs.Likelihood.{FallsBehind, IsMostLikely}
 use Rattle.training_seq.specs.Choice.{total_correlation}
 use Rattle.training_seq.proofs.Lemmas.{one_first_greatest}
@@ -19,7 +19,7 @@ use Rattle.um_among.specs.declared.reports.AccessAmong.{AccessAmong}
 use Rattle.um_among.specs.declared.reports.SyncAmong.{SyncAmong}
 use Rattle.um_among.specs.Parities.{HoldsInBlock, HoldsInAccess, HoldsInSync}
 use Rattle.um_among.specs.Among.{IsTaken, IsFirstToHold, NoneHolds, IsBlockAmong, IsAccessAmong, IsSyncAmong}
-use Rattle.um_among.proofs.FirstToHold.{taken_once, taken_best, taken_first, taken_of_one, taken_at_once, taken_found, taken_none}
+use Rattle.um_among.proofs.FirstToHold.{taken_once, taken_best, taken_information, taken_first, taken_of_one, taken_at_once, taken_found, taken_none}
 
 -- ---- in one way
 
@@ -94,6 +94,10 @@ block_best bursts most r h some soft v gathered =
     let told : List ℕ → List ℕ = λ u. octets_of (take 184 u) in
     let taken = subst (λ s. IsTaken HoldsInBlock told s most r.rank r.report.u r.report.accepted) same h.taken in
     taken_best HoldsInBlock soft most told r.rank r.report.u r.report.accepted taken some v
+
+pub block_information : (bursts : List (List ℤ)) (most : ℕ) (r : BlockAmong) → IsBlockAmong bursts most r → IsInformation r.report.u
+block_information bursts most r h =
+    taken_information HoldsInBlock h.soft most (λ u. octets_of (take 184 u)) r.rank r.report.u r.report.accepted h.taken
 
 -- in the first place it is what is received without a choice
 pub block_alone : (bursts : List (List ℤ)) (most : ℕ) (r : BlockAmong) → 1 ≤ most → IsBlockAmong bursts most r → r.rank ≡ 1 →
@@ -170,6 +174,10 @@ pub access_best : (burst : List ℤ) (bsic : List ℕ) (most : ℕ) (r : AccessA
 access_best burst bsic most r h some v =
     taken_best (HoldsInAccess bsic) (access_places burst) most (take 8) r.rank r.report.u r.report.accepted h.taken some v
 
+pub access_information : (burst : List ℤ) (bsic : List ℕ) (most : ℕ) (r : AccessAmong) → IsAccessAmong burst bsic most r → IsInformation r.report.u
+access_information burst bsic most r h =
+    taken_information (HoldsInAccess bsic) (access_places burst) most (take 8) r.rank r.report.u r.report.accepted h.taken
+
 pub access_alone : (burst : List ℤ) (bsic : List ℕ) (most : ℕ) (r : AccessAmong) → 1 ≤ most → IsAccessAmong burst bsic most r → r.rank ≡ 1 →
     IsReceivedAccess burst bsic r.report
 access_alone burst bsic most r some h first =
@@ -224,6 +232,10 @@ pub sync_best : (burst : List ℤ) (most : ℕ) (r : SyncAmong) → IsSyncAmong 
     (v : List ℕ) → IsCandidate (sync_places burst) v → HoldsInSync v → v ≢ r.report.u → FallsBehind (sync_places burst) v r.report.u
 sync_best burst most r h some v =
     taken_best HoldsInSync (sync_places burst) most (take 25) r.rank r.report.u r.report.accepted h.taken some v
+
+pub sync_information : (burst : List ℤ) (most : ℕ) (r : SyncAmong) → IsSyncAmong burst most r → IsInformation r.report.u
+sync_information burst most r h =
+    taken_information HoldsInSync (sync_places burst) most (take 25) r.rank r.report.u r.report.accepted h.taken
 
 pub sync_alone : (burst : List ℤ) (most : ℕ) (r : SyncAmong) → 1 ≤ most → IsSyncAmong burst most r → r.rank ≡ 1 → IsReceivedSync burst r.report
 sync_alone burst most r some h first =

@@ -6,6 +6,7 @@
 //! wrong burst.
 ghost use Rattle.std.specs.Prelude.{◌≡◌, ◌≢◌, ◌≤◌, ℕ, IsSome, List};
 ghost use Rattle.bit_blocks.specs.SoftValues.{AllSoft};
+ghost use Rattle.conv_code.specs.Code.{IsInformation};
 ghost use Rattle.conv_code.specs.Likelihood.{FallsBehind};
 ghost use Rattle.list_decode.specs.Ranking.{IsCandidate};
 ghost use Rattle.um_block.specs.Received.{IsReceivedAccess, IsReceivedSync, access_places, sync_places};
@@ -34,6 +35,7 @@ pub fn receive_access_among(burst: &[i8; 88], bsic: &Bits<6>, most: u32) -> Acce
     ensures only { (other : AccessAmong) → IsAccessAmong burst.now bsic.now most other → other ≡ result }
     ensures best { IsSome result.report.accepted → (v : List ℕ) → IsCandidate (access_places burst.now) v → HoldsInAccess bsic.now v →
         v ≢ result.report.u → FallsBehind (access_places burst.now) v result.report.u }
+    ensures information { IsInformation result.report.u }
     ensures first { (r : ReceivedAccess) → IsReceivedAccess burst.now bsic.now r → IsSome r.accepted → result ≡ record { report = r; rank = 1 } }
     ensures alone { result.rank ≡ 1 → IsReceivedAccess burst.now bsic.now result.report }
     ensures one { most ≡ 1 → result.rank ≡ 1 }
@@ -71,6 +73,7 @@ pub fn receive_sync_among(burst: &[i8; 148], most: u32) -> SyncAmong
     ensures only { (other : SyncAmong) → IsSyncAmong burst.now most other → other ≡ result }
     ensures best { IsSome result.report.accepted → (v : List ℕ) → IsCandidate (sync_places burst.now) v → HoldsInSync v →
         v ≢ result.report.u → FallsBehind (sync_places burst.now) v result.report.u }
+    ensures information { IsInformation result.report.u }
     ensures first { (r : ReceivedSync) → IsReceivedSync burst.now r → IsSome r.accepted → result ≡ record { report = r; rank = 1 } }
     ensures alone { result.rank ≡ 1 → IsReceivedSync burst.now result.report }
     ensures one { most ≡ 1 → result.rank ≡ 1 }

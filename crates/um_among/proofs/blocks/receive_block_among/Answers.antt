@@ -1,6 +1,6 @@
 use Rattle.std.proofs.Common.{rules, sym, ◌∙◌}
 use Rattle.um_among.proofs.FirstToHold.{never}
-use Rattle.um_among.proofs.Once.{one_block_among, block_best, block_alone, block_of_one, block_at_once, block_first, block_lost, block_found}
+use Rattle.um_among.proofs.Once.{one_block_among, block_best, block_information, block_alone, block_of_one, block_at_once, block_first, block_lost, block_found}
 use Rattle.um_among.proofs.blocks.receive_block_among.Goals as goal
 
 pub returns-then-is_some-clause-received : goal.returns-then-is_some-clause-received
@@ -13,6 +13,9 @@ returns-then-is_some-clause-only c other h = one_block_among c.args.bursts.now c
 
 pub returns-then-is_some-clause-best : goal.returns-then-is_some-clause-best
 returns-then-is_some-clause-best c = block_best c.args.bursts.now c.args.most _ (returns-then-is_some-clause-received c)
+
+pub returns-then-is_some-clause-information : goal.returns-then-is_some-clause-information
+returns-then-is_some-clause-information c = block_information c.args.bursts.now c.args.most _ (returns-then-is_some-clause-received c)
 
 pub returns-then-is_some-clause-first : goal.returns-then-is_some-clause-first
 returns-then-is_some-clause-first c = block_first c.args.bursts.now c.args.most _ c.requires.at_least (returns-then-is_some-clause-received c)
@@ -34,6 +37,9 @@ returns-in_default-clause-only c other h = one_block_among c.args.bursts.now c.a
 pub returns-in_default-clause-best : goal.returns-in_default-clause-best
 returns-in_default-clause-best c = block_best c.args.bursts.now c.args.most _ (returns-in_default-clause-received c)
 
+pub returns-in_default-clause-information : goal.returns-in_default-clause-information
+returns-in_default-clause-information c = block_information c.args.bursts.now c.args.most _ (returns-in_default-clause-received c)
+
 pub returns-in_default-clause-first : goal.returns-in_default-clause-first
 returns-in_default-clause-first c = block_first c.args.bursts.now c.args.most _ c.requires.at_least (returns-in_default-clause-received c)
 
@@ -54,6 +60,9 @@ returns-clause-only c other h = one_block_among c.args.bursts.now c.args.most ot
 
 pub returns-clause-best : goal.returns-clause-best
 returns-clause-best c = block_best c.args.bursts.now c.args.most _ (returns-clause-received c)
+
+pub returns-clause-information : goal.returns-clause-information
+returns-clause-information c = block_information c.args.bursts.now c.args.most _ (returns-clause-received c)
 
 pub returns-clause-first : goal.returns-clause-first
 returns-clause-first c = block_first c.args.bursts.now c.args.most _ c.requires.at_least (returns-clause-received c)

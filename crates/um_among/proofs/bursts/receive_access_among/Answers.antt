@@ -3,7 +3,7 @@ use Rattle.bit_blocks.specs.SoftValues.{AllSoft}
 use Rattle.burst_map.specs.AccessBurst.{body}
 use Rattle.um_block.proofs.Lemmas.{AllSoft-range}
 use Rattle.um_among.proofs.FirstToHold.{never}
-use Rattle.um_among.proofs.Once.{one_access_among, access_best, access_alone, access_of_one, access_at_once, access_first, access_lost, access_found}
+use Rattle.um_among.proofs.Once.{one_access_among, access_best, access_information, access_alone, access_of_one, access_at_once, access_first, access_lost, access_found}
 use Rattle.um_among.proofs.bursts.receive_access_among.Goals as goal
 
 pub first_to_hold-requires-clause-soft : goal.first_to_hold-requires-clause-soft
@@ -20,6 +20,9 @@ returns-then-is_some-clause-only c other h = one_access_among c.args.burst.now c
 
 pub returns-then-is_some-clause-best : goal.returns-then-is_some-clause-best
 returns-then-is_some-clause-best c = access_best c.args.burst.now c.args.bsic.now c.args.most _ (returns-then-is_some-clause-received c)
+
+pub returns-then-is_some-clause-information : goal.returns-then-is_some-clause-information
+returns-then-is_some-clause-information c = access_information c.args.burst.now c.args.bsic.now c.args.most _ (returns-then-is_some-clause-received c)
 
 pub returns-then-is_some-clause-first : goal.returns-then-is_some-clause-first
 returns-then-is_some-clause-first c = access_first c.args.burst.now c.args.bsic.now c.args.most _ c.requires.at_least (returns-then-is_some-clause-received c)
@@ -41,6 +44,9 @@ returns-in_default-clause-only c other h = one_access_among c.args.burst.now c.a
 pub returns-in_default-clause-best : goal.returns-in_default-clause-best
 returns-in_default-clause-best c = access_best c.args.burst.now c.args.bsic.now c.args.most _ (returns-in_default-clause-received c)
 
+pub returns-in_default-clause-information : goal.returns-in_default-clause-information
+returns-in_default-clause-information c = access_information c.args.burst.now c.args.bsic.now c.args.most _ (returns-in_default-clause-received c)
+
 pub returns-in_default-clause-first : goal.returns-in_default-clause-first
 returns-in_default-clause-first c = access_first c.args.burst.now c.args.bsic.now c.args.most _ c.requires.at_least (returns-in_default-clause-received c)
 
@@ -61,6 +67,9 @@ returns-clause-only c other h = one_access_among c.args.burst.now c.args.bsic.no
 
 pub returns-clause-best : goal.returns-clause-best
 returns-clause-best c = access_best c.args.burst.now c.args.bsic.now c.args.most _ (returns-clause-received c)
+
+pub returns-clause-information : goal.returns-clause-information
+returns-clause-information c = access_information c.args.burst.now c.args.bsic.now c.args.most _ (returns-clause-received c)
 
 pub returns-clause-first : goal.returns-clause-first
 returns-clause-first c = access_first c.args.burst.now c.args.bsic.now c.args.most _ c.requires.at_least (returns-clause-received c)

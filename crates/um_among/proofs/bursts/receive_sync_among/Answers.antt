@@ -4,7 +4,7 @@ use Rattle.bit_blocks.specs.SoftValues.{IsSoft, AllSoft}
 use Rattle.burst_map.specs.SyncBurst.{first_half, second_half}
 use Rattle.um_block.proofs.Lemmas.{AllSoft-range}
 use Rattle.um_among.proofs.FirstToHold.{never}
-use Rattle.um_among.proofs.Once.{one_sync_among, sync_best, sync_alone, sync_of_one, sync_at_once, sync_first, sync_lost, sync_found}
+use Rattle.um_among.proofs.Once.{one_sync_among, sync_best, sync_information, sync_alone, sync_of_one, sync_at_once, sync_first, sync_lost, sync_found}
 use Rattle.um_among.proofs.bursts.receive_sync_among.Goals as goal
 
 pub first_to_hold-requires-clause-soft : goal.first_to_hold-requires-clause-soft
@@ -25,6 +25,9 @@ returns-then-is_some-clause-only c other h = one_sync_among c.args.burst.now c.a
 
 pub returns-then-is_some-clause-best : goal.returns-then-is_some-clause-best
 returns-then-is_some-clause-best c = sync_best c.args.burst.now c.args.most _ (returns-then-is_some-clause-received c)
+
+pub returns-then-is_some-clause-information : goal.returns-then-is_some-clause-information
+returns-then-is_some-clause-information c = sync_information c.args.burst.now c.args.most _ (returns-then-is_some-clause-received c)
 
 pub returns-then-is_some-clause-first : goal.returns-then-is_some-clause-first
 returns-then-is_some-clause-first c = sync_first c.args.burst.now c.args.most _ c.requires.at_least (returns-then-is_some-clause-received c)
@@ -49,6 +52,9 @@ returns-in_default-clause-only c other h = one_sync_among c.args.burst.now c.arg
 pub returns-in_default-clause-best : goal.returns-in_default-clause-best
 returns-in_default-clause-best c = sync_best c.args.burst.now c.args.most _ (returns-in_default-clause-received c)
 
+pub returns-in_default-clause-information : goal.returns-in_default-clause-information
+returns-in_default-clause-information c = sync_information c.args.burst.now c.args.most _ (returns-in_default-clause-received c)
+
 pub returns-in_default-clause-first : goal.returns-in_default-clause-first
 returns-in_default-clause-first c = sync_first c.args.burst.now c.args.most _ c.requires.at_least (returns-in_default-clause-received c)
 
@@ -71,6 +77,9 @@ returns-clause-only c other h = one_sync_among c.args.burst.now c.args.most othe
 
 pub returns-clause-best : goal.returns-clause-best
 returns-clause-best c = sync_best c.args.burst.now c.args.most _ (returns-clause-received c)
+
+pub returns-clause-information : goal.returns-clause-information
+returns-clause-information c = sync_information c.args.burst.now c.args.most _ (returns-clause-received c)
 
 pub returns-clause-first : goal.returns-clause-first
 returns-clause-first c = sync_first c.args.burst.now c.args.most _ c.requires.at_least (returns-clause-received c)
