@@ -15,6 +15,7 @@
 //! let report = um::receive_block(&soft).unwrap();
 //! assert_eq!(report.accepted(), Some(&octets));
 //! assert_eq!((report.tsc, report.wrong_coded), (7, 1));
+//! assert_eq!(um::receive_block_among(&soft, 64), Some((report, 1)));
 //! assert_eq!(um::read_frame(&octets, Channel::Sdcch).unwrap().view(), frame);
 //! ```
 #![no_std]
@@ -33,7 +34,7 @@ pub struct BlockReport {
     pub tsc: u8,
     accepted: u8,
     octets: [u8; 23],
-    /// The most likely word, a bit an octet: 184 of data, 40 of parity, four zeros.
+    /// The word, a bit an octet: 184 of data, 40 of parity, four zeros. [`receive_block`]'s is the most likely one.
     pub word: [u8; 228],
 }
 
@@ -202,6 +203,7 @@ impl ReadFrame {
 unsafe extern "C" {
     fn um_send_block(octets: &[u8; 23], tsc: u8, bursts: &mut [[u8; 148]; 4]) -> bool;
     fn um_receive_block(bursts: &[[i8; 148]; 4], report: &mut BlockReport) -> bool;
+    fn um_receive_block_among(bursts: &[[i8; 148]; 4], most: u32, report: &mut BlockReport, rank: &mut u32) -> bool;
     fn um_margin_block(bursts: &[[i8; 148]; 4], report: &mut MarginReport) -> bool;
     fn um_repair(word: &[u8; 224], report: &mut RepairReport) -> u8;
     fn um_send_access(info: &[u8; 8], bsic: &[u8; 6], burst: &mut [u8; 88]) -> bool;
@@ -221,11 +223,21 @@ pub fn send_block(octets: &[u8; 23], tsc: u8) -> Option<[[u8; 148]; 4]> {
     unsafe { um_send_block(octets, tsc, &mut bursts) }.then_some(bursts)
 }
 
+const NO_BLOCK: BlockReport =
+    BlockReport { metric: 0, wrong_training: 0, wrong_coded: 0, tsc: 0, accepted: 0, octets: [0; 23], word: [0; 228] };
+
 /// What four bursts are received as; `None` where a value is -128.
 pub fn receive_block(bursts: &[[i8; 148]; 4]) -> Option<BlockReport> {
-    let mut report =
-        BlockReport { metric: 0, wrong_training: 0, wrong_coded: 0, tsc: 0, accepted: 0, octets: [0; 23], word: [0; 228] };
+    let mut report = NO_BLOCK;
     unsafe { um_receive_block(bursts, &mut report) }.then_some(report)
+}
+
+/// What four bursts are received as where of the `most` words that fit best, 1 to 64, the first whose parity holds is taken, and the
+/// most likely one where none of them does; with the word's place among all words, 1 for the most likely one. `None` where a value is
+/// -128 or `most` is 0 or above 64.
+pub fn receive_block_among(bursts: &[[i8; 148]; 4], most: u32) -> Option<(BlockReport, u32)> {
+    let (mut report, mut rank) = (NO_BLOCK, 0);
+    unsafe { um_receive_block_among(bursts, most, &mut report, &mut rank) }.then_some((report, rank))
 }
 
 /// By how much the word of four bursts fits better than every other; `None` where a value is -128.

@@ -1,10 +1,10 @@
 -- Bursts are received among lists in one way, and where the list in the first place is taken as they are received without a choice.
-use Rattle.std.proofs.Common.{◌≡◌, ◌≢◌, ℕ, ◌≤◌, ℤ, Option, Some, None, List, map, take, subst, ap, ap₂, sym, ◌∙◌, refl}
+use Rattle.std.proofs.Common.{◌≡◌, ◌≢◌, ℕ, ◌≤◌, ℤ, Option, List, map, take, subst, ap, ap₂, sym, ◌∙◌}
 use Rattle.std.specs.Prelude.{MatchOption, IsSome}
 use Rattle.bit_blocks.specs.Octets.{octets_of}
 use Rattle.bit_blocks.specs.SoftValues.{likelihood}
 use Rattle.conv_code.specs.Code.{coded, IsInformation}
-use Rattle.conv_code.specs.Likelihood.{FallsBehind, IsMostLikely}
+use Rattle.conv_code.specs.Likelihood.{FallsBehind}
 use Rattle.training_seq.specs.Choice.{total_correlation}
 use Rattle.training_seq.proofs.Lemmas.{one_first_greatest}
 use Rattle.interleave.specs.Bursts.{IsInterleaved}

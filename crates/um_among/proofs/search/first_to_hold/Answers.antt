@@ -1,4 +1,4 @@
-use Rattle.std.proofs.Common.{◌≡◌, ◌+◌, ℕ, List, [], ◌∷◌, length, length-append, ap, sym, subst, ◌∙◌}
+use Rattle.std.proofs.Common.{◌+◌, ℕ, List, [], ◌∷◌, length, length-append, ap, sym, subst, ◌∙◌}
 use Rattle.std.specs.List.{All}
 use Rattle.std.proofs.lemmas.List.Elements.{All-nil, All-cons, All-append}
 use Rattle.list_decode.specs.Ranking.{IsRanked}
