@@ -67,7 +67,7 @@ pub record IsStray (u rows : List ℕ) (losses : List (List ℤ)) (soft : List �
   pub count : length (stray u rows state place) ≡ length rows
   pub leaves : LeavesAt u (stray u rows state place) place
 
-is_stray : (from : ℕ) (u rows : List ℕ) (losses : List (List ℤ)) (soft : List ℤ) (state place : ℕ) → IsKept rows losses soft → state < 16 → Ends u →
+pub is_stray : (from : ℕ) (u rows : List ℕ) (losses : List (List ℤ)) (soft : List ℤ) (state place : ℕ) → IsKept rows losses soft → state < 16 → Ends u →
     Follows from u rows state → from ≤ place → place + 4 < length rows → IsStray u rows losses soft state place
 is_stray zero u rows losses soft state place kept lt ends follows le within =
     let d = is_detour rows losses soft state place kept lt within in
@@ -181,7 +181,7 @@ module _ (soft : List ℤ) (rows : List ℕ) (losses : List (List ℤ)) (c : Cla
   same_length = length-follows from c.list rows 0 followed.follows
 
   -- what stands in the class leaves its list at a place before the last four, and loses at least what was kept there
-  stands_short : (w : List ℕ) → IsCandidate soft w → (at : StandsIn c w) → FallsShort c.list rows losses soft 0 at.place w
+  pub stands_short : (w : List ℕ) → IsCandidate soft w → (at : StandsIn c w) → FallsShort c.list rows losses soft 0 at.place w
   stands_short w candidate at =
       let count = candidate.count in
       let pairs = followed.pairs in

@@ -63,16 +63,14 @@ pub(crate) fn least_loss(u: &[u8], losses: &[[i32; 16]]) -> Leave
     best
 }
 
-/// Writes `u` up to a place, the other bit there, and then what the rows choose. `u` is what they choose from the first
-/// state on.
+/// Writes `u` up to a place, the other bit there, and then what the rows choose. Behind the place `u` is what they choose too.
 pub(crate) fn write_detour(u: &[u8], rows: &[u16], leave: Leave, v: &mut [u8])
     requires bits { AllBits u.now }
     requires rows { length rows.now ≡ length u.now }
-    requires chosen { u.now ≡ read_out rows.now 0 }
+    requires chosen { drop (leave.place + 1) u.now ≡ read_out (drop (leave.place + 1) rows.now) (next leave.state (slice_index u.now leave.place)) }
     requires count { length v.old ≡ length u.now }
     requires within { leave.place < length u.now }
     requires state { leave.state < 16 }
-    requires reached { leave.state ≡ reached 0 (take leave.place u.now) }
     ensures { v.new ≡ take leave.place u.now ++ (1 - slice_index u.now leave.place) ∷
         read_out (drop (leave.place + 1) rows.now) (next leave.state (1 - slice_index u.now leave.place)) }
 {

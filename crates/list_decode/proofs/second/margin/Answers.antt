@@ -3,7 +3,7 @@ use Rattle.std.proofs.lemmas.Int.{to_z-of_z}
 use Rattle.std.specs.Prelude.{◌≤ℤ◌}
 use Rattle.bit_blocks.specs.Bits.{AllBits}
 use Rattle.list_decode.proofs.Detours.{AllBits-kept, first_two}
-use Rattle.list_decode.proofs.Losses.{reached_small}
+use Rattle.list_decode.proofs.Losses.{chosen_behind, reached_small}
 use Rattle.list_decode.proofs.Margins.{IsMargin-second, tie_by_margin, hard_margin, both_only}
 use Rattle.list_decode.proofs.second.margin.Goals as goal
 
@@ -16,6 +16,14 @@ pub write_detour-requires-clause-bits : goal.write_detour-requires-clause-bits
 write_detour-requires-clause-bits c =
     let pairs = c.keep.ensures.count in
     subst AllBits (sym c.read_list.ensures) (AllBits-kept c.keep.new.rows c.keep.new.losses c.args.soft.now c.keep.ensures.kept (omega arith))
+
+pub write_detour-requires-clause-chosen : goal.write_detour-requires-clause-chosen
+write_detour-requires-clause-chosen c =
+    let leave = c.least_loss-leave in
+    let count = c.read_list.ensures in
+    chosen_behind c.keep.new.rows c.read_list.new.u leave.result.place leave.result.state c.read_list.ensures
+    (let i = leave.ensures.within in let n = c.keep.auto.rows in let m = c.read_list.auto.u in omega arith)
+    (let n = c.keep.auto.rows in let m = c.read_list.auto.u in omega arith) leave.ensures.state
 
 pub write_detour-requires-clause-state : goal.write_detour-requires-clause-state
 write_detour-requires-clause-state c =

@@ -3,7 +3,7 @@ use Rattle.std.specs.Prelude.{◌<ℤ◌, ◌≤ℤ◌}
 use Rattle.std.proofs.lemmas.Int.{to_z-of_z}
 use Rattle.list_decode.specs.FreePlaces.{IsBestFree}
 use Rattle.list_decode.proofs.FreePlaces.{best_taken, best_kept}
-use Rattle.list_decode.proofs.ranked.better.Goals as goal
+use Rattle.list_decode.proofs.branch.better.Goals as goal
 
 pub returns-then-comes_after : goal.returns-then-comes_after
 returns-then-comes_after c u losses free k old is_free is at =

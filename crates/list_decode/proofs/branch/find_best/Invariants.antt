@@ -1,11 +1,12 @@
-use Rattle.std.proofs.Common.{◌≡◌, ◌<◌, false, get_or, take}
+use Rattle.std.proofs.Common.{◌≡◌, ◌<◌, take}
+use Rattle.list_decode.specs.Branches.{between}
 use Rattle.list_decode.specs.Detours.{reached}
 use Rattle.list_decode.specs.FreePlaces.{IsBestFree}
-use Rattle.list_decode.proofs.ranked.find_best.Given as goal
+use Rattle.list_decode.proofs.branch.find_best.Given as goal
 
 abbrev pub invariant-loop-k : goal.invariant-loop-k
 invariant-loop-k l = record {
   small : l.state < 16;
   state : l.state ≡ reached 0 (take l.k l.list);
-  best : IsBestFree l.list l.losses (λ k. get_or l.free k false) l.k l.best;
+  best : IsBestFree l.list l.losses (between l.span.from l.span.to) l.k l.best;
 }

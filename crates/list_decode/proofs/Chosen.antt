@@ -1,0 +1,219 @@
+-- The branch whose best list comes next, and the branches once that is given.
+use Rattle.std.proofs.Common.{◌≡◌, ◌≢◌, ◌⊎◌, ℕ, zero, suc, ◌+◌, ◌*◌, ◌<◌, ◌≤◌, inl, inr, ℤ, List, [], ◌∷◌, ◌++◌, map, length, get_or, set, take, drop, Option, Some, None, refl, ap, ap₂, sym, ◌∙◌, subst, arith}
+use Rattle.std.specs.List.{All, Contains, slice_get}
+use Rattle.std.proofs.lemmas.List.{get_or_append_left, get_or_push, length-append, map-append, set-get_or, set_split}
+use Rattle.std.proofs.lemmas.List.Elements.{All-nil, All-cons, All-head, All-tail, All-append, All-drop, All-set, All-take, All-weaker}
+use Rattle.conv_code.specs.Code.{coded}
+use Rattle.conv_code.specs.Likelihood.{FallsBehind, likelihood}
+use Rattle.list_decode.specs.Branches.{IsBestStray, IsBranch, IsBranchOf, IsSpan, IsStray, class_of, leaving, stray_of}
+use Rattle.list_decode.specs.Choices.{IsAtMost, IsFirst, stray_list}
+use Rattle.list_decode.specs.Classes.{Class, Covers, StandsIn}
+use Rattle.list_decode.specs.Parting.{HasNone, IsNext, branches_after}
+use Rattle.list_decode.specs.Passes.{IsPass, soft_of}
+use Rattle.list_decode.specs.Ranking.{IsCandidate, IsRanked}
+use Rattle.list_decode.specs.declared.branch.Branch.{Branch}
+use Rattle.list_decode.specs.declared.branch.Span.{Span}
+use Rattle.list_decode.specs.declared.branch.Stray.{Stray}
+use Rattle.list_decode.specs.declared.choice.Choice.{Choice}
+use Rattle.list_decode.specs.declared.parting.Next.{Next}
+use Rattle.list_decode.specs.declared.pass.Pass.{Pass}
+use Rattle.list_decode.proofs.Choices.{all_at, blank, given_at, given_within, stray_is}
+use Rattle.list_decode.proofs.NextLists.{below_best, goes_on}
+
+-- ---- the chosen branch
+
+slice_get-is : (bs : List Branch) (b d : Branch) (k : ℕ) → slice_get bs k ≡ Some b → (k < length bs) × (get_or bs k d ≡ b)
+slice_get-is [] b d k at = absurd (none_some at)
+  where
+    none_some : {x : Branch} → None ≡ Some x → ⊥
+    none_some e = cc
+slice_get-is (c ∷ bs) b d zero at = (omega arith, same at)
+  where
+    same : Some c ≡ Some b → c ≡ b
+    same e = all_at (λ x. c ≡ x) (c ∷ []) b zero (All-cons (λ x. c ≡ x) c [] refl (All-nil (λ x. c ≡ x))) e
+slice_get-is (c ∷ bs) b d (suc k) at = let rest = slice_get-is bs b d k at in (omega (arith, rest.0), rest.1)
+
+-- a list u that was given, a span of it, and the best list that leaves it there
+pub record IsChosen (pass : Pass) (u : List ℕ) (span : Span) (x : Stray) : Type 0 where
+  pub candidate : IsCandidate (soft_of pass) u
+  pub is_span : IsSpan pass u span
+  pub stray : IsStray pass u x
+  pub from : span.from ≤ x.leave.place
+  pub to : x.leave.place < span.to
+
+module _ (pass : Pass) (us : List (List ℕ)) (branches : List Branch) (choice : Choice) (lists : All (IsCandidate (soft_of pass)) us)
+    (all : All (IsBranchOf pass us) branches) (first : IsFirst pass us branches (Some choice)) where
+  pub within : choice.branch < length branches
+  within = (slice_get-is branches first.0.0 blank choice.branch first.0.1).0
+
+  pub chosen_branch : IsBranchOf pass us (get_or branches choice.branch blank)
+  chosen_branch = all choice.branch blank within
+
+  best_is : (get_or branches choice.branch blank).best ≡ Some choice.stray
+  best_is = ap (λ (b : Branch). b.best) (slice_get-is branches first.0.0 blank choice.branch first.0.1).1 ∙ first.0.2
+
+  pub best_chosen : IsBestStray pass (get_or us (get_or branches choice.branch blank).span.list []) (get_or branches choice.branch blank).span (Some choice.stray)
+  best_chosen = subst (IsBestStray pass (get_or us (get_or branches choice.branch blank).span.list []) (get_or branches choice.branch blank).span) best_is chosen_branch.is.best
+
+  pub chosen : IsChosen pass (get_or us (get_or branches choice.branch blank).span.list []) (get_or branches choice.branch blank).span choice.stray
+  chosen = record {
+    candidate = lists (get_or branches choice.branch blank).span.list [] chosen_branch.within;
+    is_span = chosen_branch.is.span;
+    stray = best_chosen.0;
+    from = best_chosen.2;
+    to = best_chosen.3;
+  }
+
+-- the same for the list as it is read
+pub chosen_read : (pass : Pass) (lists : List (List ℕ)) (branches : List Branch) (choice : Choice) → All (IsCandidate (soft_of pass)) (map (take pass.bits) lists) →
+    All (IsBranchOf pass (map (take pass.bits) lists)) branches → IsFirst pass (map (take pass.bits) lists) branches (Some choice) →
+    IsChosen pass (take pass.bits (get_or lists (get_or branches choice.branch blank).span.list [])) (get_or branches choice.branch blank).span choice.stray
+chosen_read pass lists branches choice each all first =
+    let us = map (take pass.bits) lists in
+    let i = (get_or branches choice.branch blank).span.list in
+    subst (λ u. IsChosen pass u (get_or branches choice.branch blank).span choice.stray)
+    (given_at pass.bits lists i (given_within pass.bits lists i (chosen_branch pass us branches choice each all first).within))
+    (chosen pass us branches choice each all first)
+
+-- ---- one list more
+
+get_or-kept : (us : List (List ℕ)) (u : List ℕ) (i : ℕ) → i < length us → get_or us i [] ≡ get_or (us ++ u ∷ []) i []
+get_or-kept us u i lt = sym (get_or_append_left us (u ∷ []) [] i lt)
+
+pub branch_kept : (pass : Pass) (us : List (List ℕ)) (u : List ℕ) (b : Branch) → IsBranchOf pass us b → IsBranchOf pass (us ++ u ∷ []) b
+branch_kept pass us u b is = record {
+  within = let i = is.within in omega (arith, length-append us (u ∷ []));
+  is = subst (λ u. IsBranch pass u b) (get_or-kept us u b.span.list is.within) is.is;
+}
+
+classes_kept : (pass : Pass) (us : List (List ℕ)) (u : List ℕ) (bs : List Branch) → All (IsBranchOf pass us) bs → map (class_of us) bs ≡ map (class_of (us ++ u ∷ [])) bs
+classes_kept pass us u [] all = refl
+classes_kept pass us u (b ∷ bs) all =
+    ap₂ (λ c cs. c ∷ cs) (ap (λ v. leaving v b.span) (get_or-kept us u b.span.list (All-head (IsBranchOf pass us) b bs all).within))
+    (classes_kept pass us u bs (All-tail (IsBranchOf pass us) b bs all))
+
+-- a class of branches is that of one of them
+pub class_at : (us : List (List ℕ)) (bs : List Branch) (P : Branch → Type 0) (e : Class) → All P bs → Contains (map (class_of us) bs) e → (b : Branch) × P b × (class_of us b ≡ e)
+class_at us [] P e all found = absurd (omega (arith, found.1))
+class_at us (b ∷ bs) P e all (zero, lt, is) = (b, All-head P b bs all, is)
+class_at us (b ∷ bs) P e all (suc k, lt, is) = class_at us bs P e (All-tail P b bs all) (k, omega arith, is)
+
+module _ (pass : Pass) (us : List (List ℕ)) (branches : List Branch) (choice : Choice) (is : IsPass pass) (lists : All (IsCandidate (soft_of pass)) us)
+    (all : All (IsBranchOf pass us) branches) (first : IsFirst pass us branches (Some choice)) where
+  abbrev i : ℕ
+  i = choice.branch
+
+  abbrev b : Branch
+  b = get_or branches choice.branch blank
+
+  abbrev u : List ℕ
+  u = get_or us (get_or branches choice.branch blank).span.list []
+
+  abbrev v : List ℕ
+  v = stray_of pass (get_or us (get_or branches choice.branch blank).span.list []) choice.stray
+
+  has : IsChosen pass (get_or us (get_or branches choice.branch blank).span.list []) (get_or branches choice.branch blank).span choice.stray
+  has = chosen pass us branches choice lists all first
+
+  inside : choice.branch < length branches
+  inside = within pass us branches choice lists all first
+
+  u_within : (get_or branches choice.branch blank).span.list < length us
+  u_within = (chosen_branch pass us branches choice lists all first).within
+
+  v_is : IsCandidate (soft_of pass) (stray_of pass (get_or us (get_or branches choice.branch blank).span.list []) choice.stray)
+  v_is = stray_is pass u choice.stray is has.candidate has.stray
+
+  split : map (class_of us) branches ≡
+      map (class_of us) (take choice.branch branches) ++ class_of us (get_or branches choice.branch blank) ∷ map (class_of us) (drop (suc choice.branch) branches)
+  split = ap (map (class_of us)) (sym (set-get_or branches i blank) ∙ set_split branches i b inside) ∙ map-append (class_of us) (take i branches) (b ∷ drop (suc i) branches)
+
+  best : (e : Class) (w : List ℕ) → Contains (map (class_of us) branches) e → IsCandidate (soft_of pass) w → StandsIn e w →
+      w ≢ stray_of pass (get_or us (get_or branches choice.branch blank).span.list []) choice.stray →
+      FallsBehind (soft_of pass) w (stray_of pass (get_or us (get_or branches choice.branch blank).span.list []) choice.stray)
+  best e w member is_w stands ne =
+      let here : stray_list pass us choice.stray ≡ v = ap (λ k. stray_of pass (get_or us k []) choice.stray) (best_chosen pass us branches choice lists all first).1 in
+      let found = class_at us branches (λ b. IsBranchOf pass us b × IsAtMost pass us choice.stray b.best) e (λ k d lt. (all k d lt, first.1 k d lt)) member in
+      subst (FallsBehind (soft_of pass) w) here
+      (below_best pass us found.0.span choice.stray w found.0.best found.1.0.is.best found.1.1 is_w
+      (subst (λ e. StandsIn e w) (sym found.2) stands) (λ e. ne (e ∙ here)))
+
+  module _ (next : Next) (at : next.branch ≡ choice.branch) (value : next.likelihood ≡ choice.stray.likelihood)
+      (before : IsBranch pass (get_or us (get_or branches choice.branch blank).span.list []) next.parts.before)
+      (behind_v : IsBranch pass (stray_of pass (get_or us (get_or branches choice.branch blank).span.list []) choice.stray) next.parts.behind)
+      (after : IsBranch pass (get_or us (get_or branches choice.branch blank).span.list []) next.parts.after)
+      (before_span : (next.parts.before.span.list ≡ (get_or branches choice.branch blank).span.list) ×
+          (next.parts.before.span.from ≡ (get_or branches choice.branch blank).span.from) × (next.parts.before.span.to ≡ choice.stray.leave.place))
+      (behind_span : (next.parts.behind.span.list ≡ length us) × (next.parts.behind.span.from ≡ choice.stray.leave.place + 1) ×
+          (next.parts.behind.span.to + 4 ≡ pass.bits))
+      (after_span : (next.parts.after.span.list ≡ (get_or branches choice.branch blank).span.list) ×
+          (next.parts.after.span.from ≡ choice.stray.leave.place + 1) × (next.parts.after.span.to ≡ (get_or branches choice.branch blank).span.to)) where
+    abbrev us' : List (List ℕ)
+    us' = us ++ v ∷ []
+
+    abbrev f : Branch → Class
+    f = class_of (us ++ v ∷ [])
+
+    -- a list that was given is the same once v is given
+    same_u : (k : ℕ) → k ≡ (get_or branches choice.branch blank).span.list → get_or us' k [] ≡ u
+    same_u k same = ap (λ k. get_or us' k []) same ∙ sym (get_or-kept us v b.span.list u_within)
+
+    same_v : (k : ℕ) → k ≡ length us → get_or us' k [] ≡ v
+    same_v k same = get_or_push us v [] k (sym same)
+
+    old_branch : (p : Branch) → p.span.list ≡ (get_or branches choice.branch blank).span.list →
+        IsBranch pass (get_or us (get_or branches choice.branch blank).span.list []) p → IsBranchOf pass us' p
+    old_branch p same is_p = record {
+      within = let k = u_within in omega (arith, length-append us (v ∷ []));
+      is = subst (λ u. IsBranch pass u p) (sym (same_u p.span.list same)) is_p;
+    }
+
+    new_branch : IsBranchOf pass us' next.parts.behind
+    new_branch = record {
+      within = let k = behind_span.0 in omega (arith, length-append us (v ∷ []));
+      is = subst (λ u. IsBranch pass u next.parts.behind) (sym (same_v next.parts.behind.span.list behind_span.0)) behind_v;
+    }
+
+    each : All (IsBranchOf pass us') ((set branches choice.branch next.parts.before ++ next.parts.behind ∷ []) ++ next.parts.after ∷ [])
+    each = All-append (IsBranchOf pass us') (set branches i next.parts.before ++ next.parts.behind ∷ []) (next.parts.after ∷ [])
+        (All-append (IsBranchOf pass us') (set branches i next.parts.before) (next.parts.behind ∷ [])
+        (All-set (IsBranchOf pass us') branches i next.parts.before (old_branch next.parts.before before_span.0 before)
+        (All-weaker (IsBranchOf pass us) (IsBranchOf pass us') (λ b is_b. branch_kept pass us v b is_b) branches all))
+        (All-cons (IsBranchOf pass us') next.parts.behind [] new_branch (All-nil (IsBranchOf pass us'))))
+        (All-cons (IsBranchOf pass us') next.parts.after [] (old_branch next.parts.after after_span.0 after) (All-nil (IsBranchOf pass us')))
+
+    classes : ((map (class_of us) (take choice.branch branches) ++ leaving u next.parts.before.span ∷ map (class_of us) (drop (suc choice.branch) branches))
+        ++ leaving v next.parts.behind.span ∷ []) ++ leaving u next.parts.after.span ∷ [] ≡
+        map f ((set branches choice.branch next.parts.before ++ next.parts.behind ∷ []) ++ next.parts.after ∷ [])
+    classes =
+        let early = classes_kept pass us v (take i branches) (All-take (IsBranchOf pass us) i branches all) in
+        let late = classes_kept pass us v (drop (suc i) branches) (All-drop (IsBranchOf pass us) (suc i) branches all) in
+        let one = ap (λ u. leaving u next.parts.before.span) (sym (same_u next.parts.before.span.list before_span.0)) in
+        let two = ap (λ u. leaving u next.parts.behind.span) (sym (same_v next.parts.behind.span.list behind_span.0)) in
+        let three = ap (λ u. leaving u next.parts.after.span) (sym (same_u next.parts.after.span.list after_span.0)) in
+        let old : map (class_of us) (take i branches) ++ leaving u next.parts.before.span ∷ map (class_of us) (drop (suc i) branches) ≡
+            map f (set branches i next.parts.before) =
+        ap₂ (λ xs ys. xs ++ ys) early (ap₂ (λ c cs. c ∷ cs) one late)
+        ∙ sym (map-append f (take i branches) (next.parts.before ∷ drop (suc i) branches))
+        ∙ ap (map f) (sym (set_split branches i next.parts.before inside)) in
+        ap₂ (λ xs c. xs ++ c ∷ [])
+        (ap₂ (λ xs c. xs ++ c ∷ []) old two ∙ sym (map-append f (set branches i next.parts.before) (next.parts.behind ∷ [])))
+        three
+        ∙ sym (map-append f (set branches i next.parts.before ++ next.parts.behind ∷ []) (next.parts.after ∷ []))
+
+    is_next_stray : IsNext pass us branches (stray_of pass (get_or us (get_or branches choice.branch blank).span.list []) choice.stray) next
+    is_next_stray = record {
+      within = subst (λ k. k < length branches) (sym at) inside;
+      value = value ∙ has.stray.value;
+      each = subst (λ k. All (IsBranchOf pass us') ((set branches k next.parts.before ++ next.parts.behind ∷ []) ++ next.parts.after ∷ [])) (sym at) each;
+      covers = (λ ranked covers.
+          let went = goes_on pass us u b.span choice.stray is has.candidate has.stray v_is has.from has.to
+              (map (class_of us) (take i branches)) (map (class_of us) (drop (suc i) branches)) next.parts.before.span next.parts.behind.span next.parts.after.span
+              ranked (subst (Covers (soft_of pass) us) split covers) (λ e w member. best e w (subst (λ cs. Contains cs e) (sym split) member))
+              before_span.1 before_span.2 behind_span.1 behind_span.2 after_span.1 after_span.2 in
+          (went.0, subst (Covers (soft_of pass) us') (classes ∙ ap (λ k. map f ((set branches k next.parts.before ++ next.parts.behind ∷ []) ++ next.parts.after ∷ [])) (sym at)) went.1));
+    }
+
+    pub is_next : (written : List ℕ) → written ≡ stray_of pass (get_or us (get_or branches choice.branch blank).span.list []) choice.stray →
+        IsNext pass us branches written next
+    is_next written same = subst (λ v. IsNext pass us branches v next) (sym same) is_next_stray

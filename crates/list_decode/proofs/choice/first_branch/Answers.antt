@@ -1,0 +1,38 @@
+use Rattle.std.proofs.Common.{arith, ◌≡◌, ◌+◌, ◌++◌, ◌∷◌, [], None, get_or, map, take, length, sym, subst}
+use Rattle.std.proofs.lemmas.List.{length-take, take_all, take_more}
+use Rattle.std.proofs.lemmas.List.Elements.{All-take}
+use Rattle.list_decode.specs.Branches.{IsBranchOf}
+use Rattle.list_decode.specs.Choices.{IsFirst}
+use Rattle.list_decode.proofs.Choices.{blank, first_kept, first_stray, not_some}
+use Rattle.list_decode.proofs.choice.first_branch.Goals as goal
+use Rattle.list_decode.proofs.choice.first_branch.Goals.{in-Some, in_default}
+
+pub loop-i-preserved : goal.loop-i-preserved
+loop-i-preserved c =
+    let pass = c.args.pass.now in
+    let us = map (take pass.bits) c.args.lists.now in
+    let branches = c.args.branches.now in
+    let i = c.loop-i.i in
+    let branch = get_or branches i blank in
+    let more = take_more branches i blank c.loop-i-test.true in
+    let count : i ≡ length (take i branches) = let end = c.loop-i-test.true in omega (arith, length-take i branches) in
+    let first : IsFirst pass us (take (i + 1) branches) c.match-branch.first =
+    subst (λ bs. IsFirst pass us bs c.match-branch.first) (sym more) (elim c.match-branch.branch [
+      | in-Some w ↦ subst (IsFirst pass us (take i branches ++ branch ∷ [])) (sym w.first-is)
+          (w.earlier-first.ensures (take i branches) branch c.loop-i.invariant.first w.in-Some.is count)
+      | in_default w ↦ subst (IsFirst pass us (take i branches ++ branch ∷ [])) (sym w.first-is)
+          (first_kept pass us (take i branches) branch c.loop-i.first c.loop-i.invariant.first (not_some branch.best w.in_default.not-Some))
+    ]) in
+    record {
+      first = first;
+      stray = first_stray pass us (take (i + 1) branches) c.match-branch.first (All-take (IsBranchOf pass us) (i + 1) branches c.requires.branches) first;
+    }
+
+pub returns : goal.returns
+returns c =
+    let branches = c.args.branches.now in
+    let all : length branches ≡ c.loop-i.i = let end = c.loop-i-test.false in let i = c.loop-i.auto.i-end in omega arith in
+    record {
+      first = subst (λ bs. IsFirst c.args.pass.now (map (take c.args.pass.now.bits) c.args.lists.now) bs c.loop-i.first)
+          (take_all c.loop-i.i branches (omega arith)) c.loop-i.invariant.first;
+    }

@@ -1,0 +1,35 @@
+use Rattle.std.proofs.Common.{arith, rules, ◌≡◌, ◌+◌, length, refl, ap, ◌∙◌, w32, FitsSigned}
+use Rattle.std.proofs.lemmas.Int.{to_z-of_z}
+use Rattle.list_decode.specs.declared.branch.Span.{Span}
+use Rattle.list_decode.proofs.Given.{bits_is, first_given, first_span, reads_as, sound_first}
+use Rattle.list_decode.proofs.ranked.Ranked.begin.Goals as goal
+
+pub new-requires-clause-span : goal.new-requires-clause-span
+new-requires-clause-span c =
+    let pass = c.self.invariant.pass in
+    let fits : FitsSigned w32 c.decode-likelihood.result = search rules in
+    first_span c.self.inside.pass c.decode-likelihood.new.u _ pass c.decode-likelihood.ensures.best
+    (to_z-of_z w32 c.decode-likelihood.result fits ∙ c.decode-likelihood.ensures.value) refl (let five = pass.at_least in omega arith) refl
+
+pub invariant_of-self : goal.invariant_of-self
+invariant_of-self c =
+    let many : length c.self.inside.lists ≡ 64 = search rules in
+    let room : length c.self.inside.branches ≡ 127 = search rules in
+    let span = c.new.ensures.span in
+    let five = c.self.invariant.pass.at_least in
+    let bits = bits_is c.self.inside c.args.self.now c.self.view_is c.self.invariant.pass (length c.args.u.now) c.requires.count in
+    let reads = reads_as c.self.inside.pass.bits c.padded.result c.decode-likelihood.new.u c.padded.ensures (c.decode-likelihood.auto.u ∙ bits) in
+    sound_first c.self.inside c.self.invariant many room c.decode-likelihood.new.u c.padded.result reads c.new.result
+    c.decode-likelihood.ensures.best c.new.ensures.branch (ap (λ (s : Span). s.list) span) (ap (λ (s : Span). s.from) span)
+    (ap (λ (s : Span). s.to + 4) span ∙ omega arith)
+
+pub returns-clause-ranked : goal.returns-clause-ranked
+returns-clause-ranked c = (invariant_of-self c).ranked
+
+pub returns-clause-given : goal.returns-clause-given
+returns-clause-given c =
+    let many : length c.self.inside.lists ≡ 64 = search rules in
+    let room : length c.self.inside.branches ≡ 127 = search rules in
+    let bits = bits_is c.self.inside c.args.self.now c.self.view_is c.self.invariant.pass (length c.args.u.now) c.requires.count in
+    let reads = reads_as c.self.inside.pass.bits c.padded.result c.decode-likelihood.new.u c.padded.ensures (c.decode-likelihood.auto.u ∙ bits) in
+    first_given c.self.inside c.self.invariant many room c.decode-likelihood.new.u c.padded.result reads c.new.result
