@@ -27,7 +27,7 @@ typedef struct um_block_report {
 	uint8_t tsc;             /* the training sequence heard, 0 to 7 */
 	uint8_t accepted;        /* 1 where the parity holds, else 0 */
 	uint8_t octets[23];      /* the block where it holds, else zeros */
-	uint8_t word[228];       /* the most likely word, a bit an octet: data 184, parity 40, tail 4 */
+	uint8_t word[228];       /* the word, a bit an octet: data 184, parity 40, tail 4; um_receive_block's is the most likely one */
 } um_block_report;
 
 /* Writes the four normal bursts of a block with a training sequence 0 to 7.
@@ -37,6 +37,12 @@ bool um_send_block(const uint8_t octets[23], uint8_t tsc, uint8_t bursts[4][148]
 /* Reports what four normal bursts are received as: of all words the one that fits the soft values best, the first of equals.
  * False: a value is -128. */
 bool um_receive_block(const int8_t bursts[4][148], um_block_report *report);
+
+/* Reports what four normal bursts are received as where of the `most` words that fit best, 1 to 64, the first whose parity holds is
+ * taken: no other word whose parity holds fits better. Where none of them holds the report is that of um_receive_block. Writes the
+ * word's place among all words, 1 for the one that fits best. A wrong word holds by chance once in 2^40 that are tried.
+ * False: a value is -128, or most is 0 or above 64. */
+bool um_receive_block_among(const int8_t bursts[4][148], uint32_t most, um_block_report *report, uint32_t *rank);
 
 typedef struct um_margin_report {
 	int32_t margin;    /* how much likelier the word is than the next: 0 exactly where some other word fits as well */

@@ -12,6 +12,8 @@ By ctypes, over a shared object made of libum_c.a:
     >>> report = um.receive_block(soft)
     >>> report.accepted == octets, report.tsc, report.wrong_coded
     (True, 7, 1)
+    >>> um.receive_block_among(soft, 64) == (report, 1)
+    True
 
 An end of a link, which has no timer and no line of its own:
 
@@ -62,7 +64,8 @@ class _Frame(c.Structure):
     _fields_ = [(name, c.c_uint8) for name in ("kind", "sapi", "cr", "pf", "ns", "nr", "more", "count")] + [("info", c.c_uint8 * 20)]
 
 
-for _name in ("send_block", "receive_block", "margin_block", "send_access", "receive_access", "send_sync", "receive_sync", "write_frame"):
+for _name in ("send_block", "receive_block", "receive_block_among", "margin_block", "send_access", "receive_access", "send_sync", "receive_sync",
+              "write_frame"):
     getattr(_lib, f"um_{_name}").restype = c.c_bool
 _lib.um_read_frame.restype = c.c_uint8
 _lib.um_repair.restype = c.c_uint8
@@ -110,6 +113,16 @@ def receive_block(bursts):
     values = [value for burst in bursts for value in burst]
     _told(_lib.um_receive_block(_soft(values, 592), c.byref(raw)), "a soft value is -127 to 127")
     return _reported(raw, raw.tsc)
+
+
+def receive_block_among(bursts, most):
+    """What four bursts are received as where of the `most` words that fit best, 1 to 64, the first whose parity holds is taken, and the
+    most likely one where none of them does; with the word's place among all words, 1 for the most likely one."""
+    raw, rank = _Block(), c.c_uint32()
+    values = [value for burst in bursts for value in burst]
+    tried = c.c_uint32(most if 1 <= most <= 64 else 0)
+    _told(_lib.um_receive_block_among(_soft(values, 592), tried, c.byref(raw), c.byref(rank)), "of 1 to 64 words the first is taken")
+    return _reported(raw, raw.tsc), rank.value
 
 
 def margin_block(bursts):

@@ -83,6 +83,45 @@ static void blocks(void)
 		&& report.value.wrong_training == 104 && report.value.wrong_coded == 456 && report.value.octets[0] == 0, "four lost bursts");
 }
 
+/* Of the seven places at which a block's word and a neighbour of it differ four are as the neighbour has them, so that this is the
+ * likelier by one place and the word that was sent is the second. */
+static void among(void)
+{
+	static const uint8_t places[4][2] = { { 0, 3 }, { 0, 131 }, { 1, 115 }, { 1, 129 } };
+	uint8_t octets[23] = { 0x03, 0x03, 0x01 }, sent[4][148];
+	ROOM(um_block_report) report;
+	ROOM(uint32_t) rank;
+	um_block_report alone;
+	int8_t soft[4][148];
+
+	memset(octets + 3, 0x2b, 20);
+	um_send_block(octets, 7, sent);
+	soften(sent[0], soft[0], 592);
+	for (int i = 0; i < 4; i++)
+		soft[places[i][0]][places[i][1]] *= -1;
+	MARK(report);
+	MARK(rank);
+	check(!um_receive_block_among((const int8_t (*)[148])soft, 0, &report.value, &rank.value) && UNTOUCHED(report) && UNTOUCHED(rank),
+		"no word to be tried is refused");
+	check(!um_receive_block_among((const int8_t (*)[148])soft, 65, &report.value, &rank.value) && UNTOUCHED(report) && UNTOUCHED(rank),
+		"65 words to be tried are refused");
+	soft[3][147] = -128;
+	check(!um_receive_block_among((const int8_t (*)[148])soft, 64, &report.value, &rank.value) && UNTOUCHED(report) && UNTOUCHED(rank),
+		"a value of -128 is refused");
+	soft[3][147] = sent[3][147] ? -127 : 127;
+	check(um_receive_block_among((const int8_t (*)[148])soft, 1, &report.value, &rank.value) && AROUND(report) && AROUND(rank)
+		&& rank.value == 1 && !report.value.accepted && report.value.metric == 57150, "the most likely word alone does not hold");
+	check(um_receive_block((const int8_t (*)[148])soft, &alone) && alone.metric == 57150 && alone.wrong_coded == 3
+		&& !alone.accepted && !memcmp(alone.word, report.value.word, 228), "and is that of um_receive_block");
+	for (uint32_t most = 2; most <= 64; most += 31)
+		check(um_receive_block_among((const int8_t (*)[148])soft, most, &report.value, &rank.value) && AROUND(report) && AROUND(rank)
+			&& rank.value == 2 && report.value.accepted && !memcmp(report.value.octets, octets, 23) && report.value.metric == 56896
+			&& report.value.wrong_coded == 4 && report.value.tsc == 7 && report.value.wrong_training == 0, "the second word is the one sent");
+	memset(soft, 0, sizeof soft);
+	check(um_receive_block_among((const int8_t (*)[148])soft, 64, &report.value, &rank.value) && rank.value == 1 && !report.value.accepted
+		&& report.value.metric == 0 && report.value.word[223] == 0, "four lost bursts stay lost");
+}
+
 static void repairs(void)
 {
 	/* 23 octets of zeros have a parity of 40 ones */
@@ -247,6 +286,7 @@ int main(int argc, char **argv)
 	int count = argc == 3 ? vectors(argv[1], argv[2]) : 0;
 	check(count >= 0, "the vectors are not there");
 	blocks();
+	among();
 	repairs();
 	bursts();
 	frames();

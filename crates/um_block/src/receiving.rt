@@ -82,7 +82,7 @@ fn best_sequence(bursts: &[[i8; 148]; 4]) -> (u8, u32)
 }
 
 /// The octets of an information list whose parity holds.
-fn block_data(u: &[u8; 228]) -> Option<[u8; 23]>
+pub fn block_data(u: &[u8; 228]) -> Option<[u8; 23]>
     requires { AllBits u.now }
     ensures { MatchOption result
         (¬ IsXcchWord (take 224 u.now))
@@ -120,7 +120,7 @@ pub fn receive_access(burst: &[i8; 88], bsic: &Bits<6>) -> ReceivedAccess
 }
 
 /// The eight bits of an information list whose parity holds for the code.
-fn access_data(u: &[u8; 18], bsic: &Bits<6>) -> Option<Bits<8>>
+pub fn access_data(u: &[u8; 18], bsic: &Bits<6>) -> Option<Bits<8>>
     requires { AllBits u.now }
     ensures { MatchOption result
         (¬ IsRachWord (take 14 u.now) bsic.now)
@@ -170,7 +170,7 @@ pub fn join_halves(first: &[i8], second: &[i8]) -> [i8; 78]
 }
 
 /// The 25 bits of an information list whose parity holds.
-fn sync_data(u: &[u8; 39]) -> Option<Bits<25>>
+pub fn sync_data(u: &[u8; 39]) -> Option<Bits<25>>
     requires { AllBits u.now }
     ensures { MatchOption result
         (¬ IsSchWord (take 35 u.now))

@@ -3,10 +3,16 @@ ghost use Rattle.std.specs.Prelude.{◌≡◌, ◌≤◌, ◌↔◌, All, IsTrue
 ghost use Rattle.bit_blocks.specs.Bits.{AllBits};
 ghost use Rattle.bit_blocks.specs.SoftValues.{AllSoft};
 ghost use Rattle.um_block.specs.Sent.{IsSentBlock};
-ghost use Rattle.um_c.specs.Reports.{IsBlockReport};
+ghost use Rattle.um_block.specs.Received.{IsReceivedBlock};
+ghost use Rattle.conv_code.specs.Code.{IsInformation};
+ghost use Rattle.um_c.specs.Reports.{IsBlockReport, IsBlockReportAmong, TellsBlock};
 
 use crate::soft::are_soft_bursts;
-use um_block::{receive_block, send_block, wrong_block_places};
+use um_among::receive_block_among;
+use um_block::{Received, receive_block, send_block, wrong_block_places};
+
+/// How many of the most likely words can be tried.
+const MOST: u32 = 64;
 
 /// What four bursts are received as.
 #[repr(C)]
@@ -54,11 +60,43 @@ pub extern "C" fn um_receive_block(bursts: &[[i8; 148]; 4], report: &mut BlockRe
     if !are_soft_bursts(bursts) {
         return false;
     }
-    let received = receive_block(bursts);
+    *report = told_block(bursts, &receive_block(bursts));
+    true
+}
+
+/// Reports what four bursts of soft values are received as where of the `most` most likely words, 1 to 64, the first whose parity holds
+/// is taken, and the most likely one where none of them does; and its place among all words, 1 for the most likely one. False, and
+/// nothing written, where a value is -128 or `most` is 0 or above 64.
+#[unsafe(no_mangle)]
+pub extern "C" fn um_receive_block_among(
+    bursts: &[[i8; 148]; 4],
+    most: u32,
+    report: &mut BlockReport,
+    rank: &mut u32,
+) -> bool
+    ensures known { IsTrue result ↔ (All AllSoft bursts.now × (1 ≤ most) × (most ≤ 64)) }
+    ensures received { IsTrue result → IsBlockReportAmong bursts.now most rank.new report.new }
+    ensures refused { result ≡ false → (report.new ≡ report.old) × (rank.new ≡ rank.old) }
+{
+    if most == 0 || most > MOST || !are_soft_bursts(bursts) {
+        return false;
+    }
+    let among = receive_block_among(bursts, most);
+    *report = told_block(bursts, &among.report);
+    *rank = among.rank;
+    true
+}
+
+/// The report that tells what four bursts are received as.
+fn told_block(bursts: &[[i8; 148]; 4], received: &Received) -> BlockReport
+    requires soft { All AllSoft bursts.now }
+    requires information { IsInformation received.now.u }
+    ensures { TellsBlock bursts.now received.now result }
+{
     let mut word = [0; 228];
     word.copy_from_slice(received.u.as_slice());
     let (accepted, octets) = told_octets(&received.accepted);
-    *report = BlockReport {
+    BlockReport {
         metric: received.metric,
         wrong_training: received.wrong_training,
         wrong_coded: wrong_block_places(bursts, &word),
@@ -66,8 +104,7 @@ pub extern "C" fn um_receive_block(bursts: &[[i8; 148]; 4], report: &mut BlockRe
         accepted,
         octets,
         word,
-    };
-    true
+    }
 }
 
 /// 1 and the octets that were accepted, or 0 and zeros where none were.

@@ -2,15 +2,12 @@ use Rattle.std.proofs.Common.{◌≡◌, refl, ap, ◌∙◌}
 use Rattle.std.proofs.lemmas.Int.{to_z-of_z}
 use Rattle.bit_blocks.specs.SoftValues.{wrong_places}
 use Rattle.conv_code.specs.Code.{coded}
-use Rattle.um_c.proofs.blocks.um_receive_block.Goals as goal
+use Rattle.um_c.proofs.blocks.told_block.Goals as goal
 
-pub returns-clause-received : goal.returns-clause-received
-returns-clause-received c =
-    let received = c.receive_block-received in
-    let same : c.copy_from_slice.new.self ≡ received.result.u = c.copy_from_slice.ensures.after ∙ c.as_slice.ensures.value in
-    λ _. record {
-      received = received.result;
-      is = received.ensures.received;
+pub returns : goal.returns
+returns c =
+    let same : c.copy_from_slice.new.self ≡ c.args.received.now.u = c.copy_from_slice.ensures.after ∙ c.as_slice.ensures.value in
+    record {
       word = same;
       metric = search (to_z-of_z);
       tsc = refl;

@@ -1,0 +1,158 @@
+-- The first list whose parity holds: there is one at most, or none holds; and of all lists that hold it is the most likely one.
+use Rattle.std.proofs.Common.{◌≡◌, ◌≢◌, inl, inr, false, true, ℕ, zero, suc, ◌+◌, ◌<◌, ◌≤◌, ℤ, Option, Some, None, List, [], ◌∷◌, ◌++◌, length, take, drop, get_or, length-append, refl, ap, ap₂, sym, ◌∙◌, subst, arith}
+use Rattle.std.specs.Prelude.{MatchOption, IsSome}
+use Rattle.std.specs.List.{All, Contains}
+use Rattle.std.proofs.Math.Seq.{get_or-append_seam}
+use Rattle.std.proofs.lemmas.Bool.{cases_lt}
+use Rattle.std.proofs.lemmas.List.{length-take-le, take-append-drop}
+use Rattle.std.proofs.lemmas.List.Elements.{All-nil, All-take, All-contains, Contains-append_right, Contains-append_cases}
+use Rattle.conv_code.specs.Code.{IsInformation}
+use Rattle.conv_code.specs.Likelihood.{FallsBehind, IsMostLikely}
+use Rattle.trellis_decode.proofs.MostLikely.{IsMostLikely-only}
+use Rattle.list_decode.specs.Ranking.{IsCandidate, IsRanked}
+use Rattle.list_decode.proofs.Lemmas.{most_likely_is_ranked, beginning_is_ranked, one_ranking}
+use Rattle.um_among.specs.Among.{IsFirstToHold, NoneHolds, IsTaken}
+
+pub never : false ≡ true → ⊥
+never e = cc
+
+All-last : {X : Type 0} (P : X → Type 0) (xs : List X) (x : X) → All P (xs ++ x ∷ []) → P x
+All-last P xs x all = All-contains P (xs ++ x ∷ []) x all (Contains-append_right xs (x ∷ []) x (0, omega arith, refl))
+
+only_one : (u v : List ℕ) → Contains (u ∷ []) v → v ≡ u
+only_one u v (zero, lt, e) = sym e
+only_one u v (suc k, lt, e) = absurd (omega arith)
+
+-- of two rankings the shorter begins the longer
+All-shorter : (s : List ℤ) (P : List ℕ → Type 0) (us vs : List (List ℕ)) → IsRanked s us → IsRanked s vs → length us ≤ length vs → All P vs → All P us
+All-shorter s P us vs ranked ranked' few all =
+    let n = length us in
+    let begins = beginning_is_ranked s (take n vs) (drop n vs) (subst (IsRanked s) (sym (take-append-drop n vs)) ranked') in
+    let same = one_ranking s us (take n vs) ranked begins (sym (length-take-le n vs few)) in
+    subst (All P) (sym same) (All-take P n vs all)
+
+alone : (s : List ℤ) (before : List (List ℕ)) (u : List ℕ) → IsRanked s (before ++ u ∷ []) → length before ≡ 0 → IsMostLikely s u
+alone s [] u ranked none = (most_likely_is_ranked s u).1 ranked
+alone s (v ∷ before) u ranked none = absurd (omega arith)
+
+module _ (Holds : List ℕ → Type 0) (s : List ℤ) (most : ℕ) where
+  fails_earlier : (before us : List (List ℕ)) (u : List ℕ) → IsRanked s (before ++ u ∷ []) → IsRanked s us → length before + 1 ≤ length us →
+      All (λ v. ¬ Holds v) us → Holds u → ⊥
+  fails_earlier before us u ranked ranked' few fail holds =
+      let Fails : List ℕ → Type 0 = λ v. ¬ Holds v in
+      let count = length-append before (u ∷ []) in
+      All-last Fails before u (All-shorter s Fails (before ++ u ∷ []) us ranked ranked' (omega arith) fail) holds
+
+  later : (r r' : ℕ) (u u' : List ℕ) (h : IsFirstToHold Holds s most r u) (g : IsFirstToHold Holds s most r' u') → length h.before < length g.before → ⊥
+  later r r' u u' h g less =
+      fails_earlier h.before g.before u h.ranked (beginning_is_ranked s g.before (u' ∷ []) g.ranked) (omega arith) g.fail h.holds
+
+  -- there is one at most
+  one_first : (r r' : ℕ) (u u' : List ℕ) → IsFirstToHold Holds s most r u → IsFirstToHold Holds s most r' u' → (r ≡ r') × (u ≡ u')
+  one_first r r' u u' h g = elim (cases_lt (length h.before) (length g.before)) [
+    | inl less ↦ absurd (later r r' u u' h g less)
+    | inr many ↦ elim (cases_lt (length g.before) (length h.before)) [
+      | inl less ↦ absurd (later r' r u' u g h less)
+      | inr few ↦ same (omega arith)
+    ]
+  ] where
+    same : length h.before ≡ length g.before → (r ≡ r') × (u ≡ u')
+    same e =
+        let long = length-append h.before (u ∷ []) in
+        let long' = length-append g.before (u' ∷ []) in
+        let whole = one_ranking s (h.before ++ u ∷ []) (g.before ++ u' ∷ []) h.ranked g.ranked (omega arith) in (
+          h.place ∙ ap (λ n. n + 1) e ∙ sym g.place,
+          sym (get_or-append_seam h.before u [] [])
+              ∙ ap₂ (λ us n. get_or us n []) whole e
+              ∙ get_or-append_seam g.before u' [] [],
+        )
+
+  candidate : (r : ℕ) (u : List ℕ) → IsFirstToHold Holds s most r u → IsCandidate s u
+  candidate r u h = All-last (IsCandidate s) h.before u h.ranked.each
+
+  not_both : (r : ℕ) (u : List ℕ) → IsFirstToHold Holds s most r u → NoneHolds Holds s most → ⊥
+  not_both r u h none = elim none.whole [
+    | inl many ↦ fails_earlier h.before none.tried u h.ranked none.ranked (few h.place h.tried many) none.fail h.holds
+    | inr all ↦ All-contains (λ v. ¬ Holds v) none.tried u none.fail (all u (candidate r u h)) h.holds
+  ] where
+    few : r ≡ length h.before + 1 → r ≤ most → length none.tried ≡ most → length h.before + 1 ≤ length none.tried
+    few place tried many = omega arith
+
+  -- one list is taken, and is told of in one way
+  pub taken_once : {X : Type 0} (told : List ℕ → X) (r r' : ℕ) (u u' : List ℕ) (a a' : Option X) → IsTaken Holds told s most r u a →
+      IsTaken Holds told s most r' u' a' → (r ≡ r') × (u ≡ u') × (a ≡ a')
+  taken_once told r r' u u' None None h g = (h.2 ∙ sym g.2, IsMostLikely-only s u' u g.1 h.1, refl)
+  taken_once told r r' u u' None (Some x) h g = absurd (not_both r' u' g.0 h.0)
+  taken_once told r r' u u' (Some x) None h g = absurd (not_both r u h.0 g.0)
+  taken_once told r r' u u' (Some x) (Some x') h g =
+      let same = one_first r r' u u' h.0 g.0 in
+      (same.0, same.1, ap Some (h.1 ∙ ap told same.1 ∙ sym g.1))
+
+  -- of all lists that hold it is the most likely one
+  pub first_is_best : (r : ℕ) (u : List ℕ) → IsFirstToHold Holds s most r u → (v : List ℕ) → IsCandidate s v → Holds v → v ≢ u → FallsBehind s v u
+  first_is_best r u h v is holds ne = elim (h.ranked.others v is) [
+    | inl given ↦ elim (Contains-append_cases h.before (u ∷ []) v given) [
+      | inl early ↦ absurd (All-contains (λ v. ¬ Holds v) h.before v h.fail early holds)
+      | inr here ↦ absurd (ne (only_one u v here))
+    ]
+    | inr behind ↦ All-last (FallsBehind s v) h.before u behind
+  ]
+
+  -- the list in the first place is the most likely one
+  pub first_place : (u : List ℕ) → IsFirstToHold Holds s most 1 u → IsMostLikely s u
+  first_place u h = alone s h.before u h.ranked (none h.place)
+    where
+      none : 1 ≡ length h.before + 1 → length h.before ≡ 0
+      none e = omega arith
+
+  -- the most likely list is taken where it holds
+  pub most_likely_holds : (u : List ℕ) → 1 ≤ most → IsMostLikely s u → Holds u → IsFirstToHold Holds s most 1 u
+  most_likely_holds u some best holds = record {
+    before = [];
+    ranked = (most_likely_is_ranked s u).0 best;
+    place = refl;
+    tried = some;
+    fail = All-nil (λ v. ¬ Holds v);
+    holds = holds;
+  }
+
+  -- ---- what was taken
+
+  pub taken_best : {X : Type 0} (told : List ℕ → X) (r : ℕ) (u : List ℕ) (a : Option X) → IsTaken Holds told s most r u a → IsSome a →
+      (v : List ℕ) → IsCandidate s v → Holds v → v ≢ u → FallsBehind s v u
+  taken_best told r u None h some = absurd (never some)
+  taken_best told r u (Some x) h some = first_is_best r u h.0
+
+  pub taken_first : {X : Type 0} (told : List ℕ → X) (r : ℕ) (u : List ℕ) (a : Option X) → 1 ≤ most → r ≡ 1 → IsTaken Holds told s most r u a →
+      IsMostLikely s u × MatchOption a (¬ Holds u) (λ x. Holds u × (x ≡ told u))
+  taken_first told r u None some e h = (h.1, λ holds. not_both 1 u (most_likely_holds u some h.1 holds) h.0)
+  taken_first told r u (Some x) some e h = (first_place u (subst (λ n. IsFirstToHold Holds s most n u) e h.0), (h.0.holds, h.1))
+
+  pub taken_of_one : {X : Type 0} (told : List ℕ → X) (r : ℕ) (u : List ℕ) (a : Option X) → most ≡ 1 → IsTaken Holds told s most r u a → r ≡ 1
+  taken_of_one told r u None e h = h.2
+  taken_of_one told r u (Some x) e h = place h.0.place h.0.tried
+    where
+      place : r ≡ length h.0.before + 1 → r ≤ most → r ≡ 1
+      place one two = omega arith
+
+  -- what is taken where the most likely list holds
+  pub taken_at_once : {X : Type 0} (told : List ℕ → X) (u : List ℕ) (a : Option X) → 1 ≤ most → IsMostLikely s u →
+      MatchOption a (¬ Holds u) (λ x. Holds u × (x ≡ told u)) → IsSome a → IsTaken Holds told s most 1 u a
+  taken_at_once told u None some best h is = absurd (never is)
+  taken_at_once told u (Some x) some best h is = (most_likely_holds u some best h.0, h.1)
+
+  -- what is taken where a list that holds is found
+  pub taken_found : {X : Type 0} (told : List ℕ → X) (r : ℕ) (u : List ℕ) (a : Option X) → IsFirstToHold Holds s most r u →
+      MatchOption a (¬ Holds u) (λ x. Holds u × (x ≡ told u)) → IsTaken Holds told s most r u a
+  taken_found told r u None first h = absurd (h first.holds)
+  taken_found told r u (Some x) first h = (first, h.1)
+
+  -- what is taken where none holds
+  pub taken_none : {X : Type 0} (told : List ℕ → X) (u : List ℕ) (a : Option X) → NoneHolds Holds s most → IsMostLikely s u → ¬ IsSome a →
+      IsTaken Holds told s most 1 u a
+  taken_none told u None none best lacks = (none, best, refl)
+  taken_none told u (Some x) none best lacks = absurd (lacks refl)
+
+  pub taken_information : {X : Type 0} (told : List ℕ → X) (r : ℕ) (u : List ℕ) (a : Option X) → IsTaken Holds told s most r u a → IsInformation u
+  taken_information told r u None h = h.1.information
+  taken_information told r u (Some x) h = (candidate r u h.0).information

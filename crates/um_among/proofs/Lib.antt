@@ -1,0 +1,2 @@
+mod FirstToHold
+mod Once
