@@ -4,7 +4,9 @@ mod CodedBits
 mod ColumnBits
 mod Existence
 mod HalfBursts
+mod InColumns
+mod JoinedLanes
+pub mod Lemmas
 mod Orders
 mod Rows
 mod WholeBursts
-pub mod Lemmas

@@ -1,4 +1,5 @@
 pub mod Bursts
+pub mod ColumnPlaces
 pub mod Columns
 pub mod Halves
 pub mod Places

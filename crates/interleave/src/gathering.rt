@@ -1,8 +1,11 @@
 //! From the soft values of the bursts back to the order of the coded list.
-ghost use Rattle.std.specs.Prelude.{◌≡◌, ◌≢◌, ℕ, ℤ, pos, ◌+◌, ◌*◌, ◌<◌, ◌≤◌, ◌++◌, List, length, slice_index_or};
+ghost use Rattle.std.specs.Prelude.{◌≡◌, ◌≢◌, ℕ, ℤ, pos, ◌+◌, ◌*◌, ◌/◌, ◌%◌, ◌^◌, ◌<◌, ◌≤◌, ◌++◌, List, [], map, length, slice_index, slice_index_or};
+ghost use Rattle.std.specs.Int.{cast_signed, w8};
 ghost use Rattle.interleave.specs.Bursts.{IsInterleaved, IsGathered};
+ghost use Rattle.interleave.specs.ColumnPlaces.{column_bit, column_place};
 ghost use Rattle.interleave.specs.Places.{burst_of, place_of};
 
+use crate::joining::eight_columns;
 use crate::table::coded_bits;
 
 /// The soft values of a block's coded bits, from those of its four bursts.
@@ -10,19 +13,75 @@ pub fn gather(parts: &[[i8; 114]; 4]) -> [i8; 456]
     ensures interleaved { IsInterleaved result parts.now }
     ensures only { (coded : List ℤ) → IsInterleaved coded parts.now → coded ≡ result }
 {
+    let octets = [
+        octets_of(&parts[0]),
+        octets_of(&parts[1]),
+        octets_of(&parts[2]),
+        octets_of(&parts[3]),
+    ];
     let mut soft = [0; 456];
-    for (b, part) in parts.iter().enumerate() {
-        gather_part(b, part, &mut soft);
+    for group in 0..7 {
+        write_columns(&eight_columns(&octets, group), group, &mut soft);
     }
+    write_column(&last_column(&octets), 56, &mut soft);
     soft
 }
 
-fn gather_part(b: usize, part: &[i8; 114], soft: &mut [i8; 456])
-    requires { b < 4 }
+/// Soft values as octets, so that they can be moved in vectors.
+fn octets_of(part: &[i8; 114]) -> [u8; 114]
     ensures count { length part.now ≡ 114 }
-    ensures gathered { IsGathered b part.now soft.old soft.new }
+    ensures value { map (cast_signed w8) result ≡ part.now }
 {
-    gather_burst(b, &part[..57], &part[57..], soft);
+    let mut octets = [0; 114];
+    for (j, value) in part.iter().enumerate() {
+        octets[j] = value.cast_unsigned();
+    }
+    octets
+}
+
+/// Column 56, which is left over.
+fn last_column(parts: &[[u8; 114]; 4]) -> [u8; 8]
+    ensures { (r : ℕ) → r < 8 →
+        slice_index result r ≡ slice_index (slice_index_or parts.now (r % 4) []) (column_place 56 r) }
+{
+    [
+        parts[0][112],
+        parts[1][96],
+        parts[2][80],
+        parts[3][64],
+        parts[0][49],
+        parts[1][33],
+        parts[2][17],
+        parts[3][1],
+    ]
+}
+
+/// Writes the eight columns from 8 `group` on.
+fn write_columns(columns: &[u64; 8], group: usize, soft: &mut [i8; 456])
+    requires { group < 7 }
+    ensures own { (s r : ℕ) → s < 8 → r < 8 →
+        slice_index_or soft.new (column_bit (8 * group + s) r) (pos 0)
+        ≡ cast_signed w8 (slice_index columns.now s / 256 ^ r % 256) }
+    ensures others { (q r : ℕ) → q < 8 * group → r < 8 →
+        slice_index_or soft.new (column_bit q r) (pos 0) ≡ slice_index_or soft.old (column_bit q r) (pos 0) }
+{
+    for (s, column) in columns.iter().enumerate() {
+        write_column(&column.to_le_bytes(), 8 * group + s, soft);
+    }
+}
+
+/// Writes column `q`.
+fn write_column(octets: &[u8; 8], q: usize, soft: &mut [i8; 456])
+    requires { q < 57 }
+    ensures own { (r : ℕ) → r < 8 →
+        slice_index_or soft.new (column_bit q r) (pos 0) ≡ cast_signed w8 (slice_index octets.now r) }
+    ensures others { (p r : ℕ) → p < 57 → p ≢ q → r < 8 →
+        slice_index_or soft.new (column_bit p r) (pos 0) ≡ slice_index_or soft.old (column_bit p r) (pos 0) }
+{
+    let first = 8 * (8 * q % 57);
+    for (r, octet) in octets.iter().enumerate() {
+        soft[first + r] = octet.cast_signed();
+    }
 }
 
 /// Writes the 114 soft values of burst `b`, which come in two halves.

@@ -4,6 +4,7 @@
 
 mod columns;
 mod gathering;
+mod joining;
 mod laws;
 mod spreading;
 mod table;

@@ -1,15 +1,14 @@
 -- Soft values: which of them a burst has, and where they stand in its block.
-use Rattle.std.proofs.Common.{◌≡◌, ℕ, ◌-◌, ◌<◌, ◌==◌, if◌then◌else◌, true, false, ℤ, pos, negsuc, List, [], ◌∷◌, ◌++◌, map, take, drop, length, get_or, ap, sym, subst, ◌∙◌, arith}
+use Rattle.std.proofs.Common.{◌≡◌, ℕ, ◌-◌, ◌==◌, if◌then◌else◌, true, false, ℤ, pos, negsuc, List, [], ◌∷◌, ◌++◌, map, take, drop, length, get_or, refl, ap, ◌∙◌, arith}
 use Rattle.std.specs.Prelude.{slice_range}
 use Rattle.std.proofs.lemmas.Int.{ints}
 use Rattle.std.specs.List.{All}
-use Rattle.std.proofs.lemmas.List.{get_or-map, get_or_default, length-map, take_at, drop_at, drop_all, append-nil}
+use Rattle.std.proofs.lemmas.List.{take_at, drop_at, drop_all, append-nil}
 use borrow.Rule.Slice.PartMut.{put_mid}
 use Rattle.std.proofs.lemmas.List.Elements.{All-append, All-cons, All-nil, All-take, All-drop, All-map}
 use Rattle.bit_blocks.specs.SoftValues.{IsSoft, AllSoft}
 use Rattle.interleave.specs.Bursts.{IsInterleaved}
-use Rattle.interleave.specs.Places.{burst_of, place_of}
-use Rattle.interleave.proofs.Lemmas.{burst_of-below, place_of-below, All-interleaved}
+use Rattle.interleave.proofs.Lemmas.{All-interleaved}
 use Rattle.um_block.specs.Received.{soft_value, softened, coded_places}
 
 IsSoft-soft_value : (bit : ℕ) → IsSoft (soft_value bit)
@@ -29,27 +28,11 @@ AllSoft-range values i j soft = All-take IsSoft (j - i) (drop i values) (All-dro
 pub AllSoft-coded_places : (burst : List ℤ) → AllSoft burst → AllSoft (coded_places burst)
 AllSoft-coded_places burst soft = All-append IsSoft _ _ (AllSoft-range burst 3 60 soft) (AllSoft-range burst 88 145 soft)
 
--- each coded bit has the value at its place
-pub interleaved_places : (bursts : List (List ℤ)) (soft : List ℤ) → length bursts ≡ 4 → length soft ≡ 456 →
-    ((i : ℕ) → i < 4 → length (coded_places (get_or bursts i [])) ≡ 114) →
-    ((k : ℕ) → k < 456 → get_or soft k (pos 0) ≡ get_or (coded_places (get_or bursts (burst_of k) [])) (place_of k) (pos 0)) →
-    IsInterleaved soft (map coded_places bursts)
-interleaved_places bursts soft four whole each stands = record {
-  coded_count = whole;
-  burst_count = length-map bursts coded_places ∙ four;
-  each_count = λ i d h.
-      let within : i < length bursts = subst (λ n. i < n) (length-map bursts coded_places) h in
-      ap length (get_or-map coded_places bursts i [] d within) ∙ each i (omega arith);
-  places = λ k d h.
-      let burst = burst_of-below k in
-      let within : burst_of k < length bursts = omega arith in
-      let long = each (burst_of k) burst in
-      let place = place_of-below k in
-      ap (λ values. get_or values (place_of k) d) (get_or-map coded_places bursts (burst_of k) [] [] within)
-      ∙ get_or_default (coded_places (get_or bursts (burst_of k) [])) (place_of k) d (pos 0) (omega arith)
-      ∙ sym (stands k h)
-      ∙ get_or_default soft k (pos 0) d (omega arith);
-}
+-- what is made of each of four bursts
+pub map-four : (f : List ℤ → List ℤ) (bursts : List (List ℤ)) → length bursts ≡ 4 →
+    map f bursts ≡ f (get_or bursts 0 []) ∷ f (get_or bursts 1 []) ∷ f (get_or bursts 2 []) ∷ f (get_or bursts 3 []) ∷ []
+map-four f (a ∷ b ∷ c ∷ d ∷ []) four = refl
+map-four f _ four = absurd (omega arith)
 
 pub AllSoft-gathered : (bursts : List (List ℤ)) (soft : List ℤ) → IsInterleaved soft (map coded_places bursts) → All AllSoft bursts → AllSoft soft
 AllSoft-gathered bursts soft gathered all =

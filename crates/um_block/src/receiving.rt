@@ -16,7 +16,7 @@ use crate::received::{Received, ReceivedAccess, ReceivedSync};
 use bit_blocks::{Bits, to_octets, wrong_places};
 use burst_map::{AccessView, NormalView, SyncView, access_sequence, sync_sequence};
 use fire_code::{rach_holds, sch_holds, xcch_holds};
-use interleave::gather_burst;
+use interleave::gather;
 use training_seq::best;
 use trellis_decode::decode;
 
@@ -62,12 +62,23 @@ pub fn gather_block(bursts: &[[i8; 148]; 4]) -> [i8; 456]
     ensures gathered { IsInterleaved result (map coded_places bursts.now) }
     ensures soft { AllSoft result }
 {
-    let mut soft = [0; 456];
-    for (b, burst) in bursts.iter().enumerate() {
-        let parts = NormalView::new(burst);
-        gather_burst(b, parts.first(), parts.second(), &mut soft);
-    }
-    soft
+    gather(&[
+        coded_part(&bursts[0]),
+        coded_part(&bursts[1]),
+        coded_part(&bursts[2]),
+        coded_part(&bursts[3]),
+    ])
+}
+
+/// The 114 soft values of a burst's coded bits.
+fn coded_part(burst: &[i8; 148]) -> [i8; 114]
+    ensures { result ≡ coded_places burst.now }
+{
+    let parts = NormalView::new(burst);
+    let mut part = [0; 114];
+    part[..57].copy_from_slice(parts.first());
+    part[57..].copy_from_slice(parts.second());
+    part
 }
 
 /// The training sequence of four bursts, and how many of its places are wrong.

@@ -1,41 +1,95 @@
-use Rattle.std.proofs.Common.{inl, inr, [], length, get_or, pos, ap, sym, ◌∙◌, arith, below_more}
-use Rattle.std.proofs.lemmas.Bool.{cases_eq}
+use Rattle.std.proofs.Common.{◌≡◌, inl, inr, ℕ, zero, suc, ◌+◌, ◌-◌, ◌*◌, ◌/◌, ◌%◌, ◌<◌, List, [], ◌∷◌, map, length, get_or, pos, ap, ap₂, sym, ◌∙◌, arith, w8}
+use Rattle.std.specs.Int.{cast_signed}
+use Rattle.std.proofs.Math.ListN.{get_or-map}
+use Rattle.std.proofs.lemmas.Bool.{cases_lt}
 use Rattle.std.proofs.lemmas.List.{get_or_default}
+use Rattle.interleave.specs.ColumnPlaces.{column_bit, column_place}
 use Rattle.interleave.specs.Places.{burst_of, place_of}
 use Rattle.interleave.proofs.Bijection.{same_coded}
+use Rattle.interleave.proofs.InColumns.{in_column}
 use Rattle.interleave.proofs.WholeBursts.{burst_of-below, place_of-below}
 use Rattle.interleave.proofs.gathering.gather.Goals as goal
+use Rattle.interleave.proofs.gathering.gather.Goals.{After-write_column}
 
-pub loop-b-preserved : goal.loop-b-preserved
-loop-b-preserved c =
-    let b = c.loop-b.b in
-    let gathered = c.gather_part.ensures.gathered in (
-      omega arith,
-      below_more _ b c.loop-b.invariant.1 c.gather_part.ensures.count,
-      λ k hk lt.
-          elim (cases_eq (burst_of k) b) [
-            | inl same ↦ gathered.own k (pos 0) hk same ∙ ap (λ n. get_or (get_or c.args.parts.now n []) (place_of k) (pos 0)) (sym same)
-            | inr other ↦ gathered.others k (pos 0) hk other ∙ c.loop-b.invariant.2 k hk (omega arith)
+pub loop-group-preserved : goal.loop-group-preserved
+loop-group-preserved c =
+    let group = c.loop-group.group in
+    let octets : List (List ℕ) = c.octets_of.result ∷ c.octets_of-2.result ∷ c.octets_of-3.result ∷ c.octets_of-4.result ∷ [] in (
+      c.write_columns.array_long,
+      λ q r hq hr.
+          elim (cases_lt q (8 * group)) [
+            | inl before ↦ c.write_columns.ensures.others q r before hr ∙ c.loop-group.invariant.1 q r before hr
+            | inr after ↦
+                let s : ℕ = q - 8 * group in
+                let same : 8 * group + s ≡ q = omega arith in
+                let small : s < 8 = omega arith in
+                ap (λ q. get_or c.write_columns.new.soft (column_bit q r) (pos 0)) (sym same)
+                ∙ c.write_columns.ensures.own s r small hr
+                ∙ ap (cast_signed w8) (c.eight_columns.ensures s r small hr)
+                ∙ ap (λ q. cast_signed w8 (get_or (get_or octets (r % 4) []) (column_place q r) 0)) same
           ],
     )
 
+-- the octets of the four bursts
+octets : After-write_column → List (List ℕ)
+octets c = c.octets_of.result ∷ c.octets_of-2.result ∷ c.octets_of-3.result ∷ c.octets_of-4.result ∷ []
+
+long : (c : After-write_column) (b : ℕ) → b < 4 → length (get_or c.args.parts.now b []) ≡ 114
+long c zero h = c.octets_of.ensures.count
+long c (suc zero) h = c.octets_of-2.ensures.count
+long c (suc (suc zero)) h = c.octets_of-3.ensures.count
+long c (suc (suc (suc zero))) h = c.octets_of-4.ensures.count
+long c (suc (suc (suc (suc b)))) h = absurd (omega arith)
+
+signed : (c : After-write_column) (b : ℕ) → b < 4 → map (cast_signed w8) (get_or (octets c) b []) ≡ get_or c.args.parts.now b []
+unfolding octets
+signed c zero h = c.octets_of.ensures.value
+signed c (suc zero) h = c.octets_of-2.ensures.value
+signed c (suc (suc zero)) h = c.octets_of-3.ensures.value
+signed c (suc (suc (suc zero))) h = c.octets_of-4.ensures.value
+signed c (suc (suc (suc (suc b)))) h = absurd (omega arith)
+
+-- all 57 columns are written
+written : (c : After-write_column) (q r : ℕ) → q < 57 → r < 8 →
+    get_or c.write_column.new.soft (column_bit q r) (pos 0) ≡ get_or (get_or c.args.parts.now (r % 4) []) (column_place q r) (pos 0)
+unfolding octets
+written c q r hq hr =
+    let soft = c.write_column.new.soft in
+    let burst : r % 4 < 4 = omega arith in
+    let octet = get_or (octets c) (r % 4) [] in
+    elim (cases_lt q 56) [
+      | inl before ↦
+          c.write_column.ensures.others q r hq (omega arith) hr ∙ c.loop-group.invariant.1 q r (omega arith) hr
+      | inr after ↦
+          let last : 56 ≡ q = omega arith in
+          ap (λ q. get_or soft (column_bit q r) (pos 0)) (sym last)
+          ∙ c.write_column.ensures.own r hr
+          ∙ ap (cast_signed w8) (c.last_column.ensures r hr)
+          ∙ ap (λ q. cast_signed w8 (get_or octet (column_place q r) 0)) last
+    ]
+    ∙ sym (get_or-map (cast_signed w8) octet (column_place q r) 0)
+    ∙ ap (λ values. get_or values (column_place q r) (pos 0)) (signed c (r % 4) burst)
+
 pub returns-clause-interleaved : goal.returns-clause-interleaved
 returns-clause-interleaved c =
-    let soft = c.loop-b.soft in
+    let soft = c.write_column.new.soft in
     let parts = c.args.parts.now in
     record {
-      coded_count = omega arith;
+      coded_count = c.write_column.array_long;
       burst_count = omega arith;
       each_count = λ b d lt.
-          ap length (get_or_default parts b d [] lt) ∙ c.loop-b.invariant.1 b (omega arith);
+          ap length (get_or_default parts b d [] lt) ∙ long c b (omega arith);
       places = λ k d hk.
           let burst = burst_of-below k in
-          let long = c.loop-b.invariant.1 (burst_of k) (omega arith) in
           let place = place_of-below k in
+          let count = long c (burst_of k) burst in
+          let at = in_column k hk in
           get_or_default (get_or parts (burst_of k) []) (place_of k) d (pos 0) (omega arith)
-          ∙ sym (c.loop-b.invariant.2 k hk (omega arith))
-          ∙ get_or_default soft k (pos 0) d (omega arith);
+          ∙ ap₂ (λ b j. get_or (get_or parts b []) j (pos 0)) at.burst at.place
+          ∙ sym (written c (50 * (k / 8) % 57) (k % 8) at.column at.bit)
+          ∙ ap (λ k. get_or soft k (pos 0)) at.same
+          ∙ get_or_default soft k (pos 0) d (omega (arith, c.write_column.array_long));
     }
 
 pub returns-clause-only : goal.returns-clause-only
-returns-clause-only c coded whole = same_coded coded c.loop-b.soft c.args.parts.now whole (returns-clause-interleaved c)
+returns-clause-only c coded whole = same_coded coded c.write_column.new.soft c.args.parts.now whole (returns-clause-interleaved c)

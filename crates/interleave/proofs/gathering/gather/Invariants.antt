@@ -1,10 +1,11 @@
-use Rattle.std.proofs.Common.{◌≡◌, ℕ, ◌<◌, [], length, get_or, pos}
-use Rattle.interleave.specs.Places.{burst_of, place_of}
+use Rattle.std.proofs.Common.{◌≡◌, ℕ, ◌*◌, ◌%◌, ◌<◌, [], length, get_or, pos, w8}
+use Rattle.std.specs.Int.{cast_signed}
+use Rattle.interleave.specs.ColumnPlaces.{column_bit, column_place}
 use Rattle.interleave.proofs.gathering.gather.Given as goal
 
--- the coded bits of the bursts so far have their values
-abbrev pub invariant-loop-b : goal.invariant-loop-b
-invariant-loop-b l =
+-- the columns so far have their values
+abbrev pub invariant-loop-group : goal.invariant-loop-group
+invariant-loop-group l =
     (length l.soft ≡ 456)
-    × ((i : ℕ) → i < l.b → length (get_or l.parts i []) ≡ 114)
-    × ((k : ℕ) → k < 456 → burst_of k < l.b → get_or l.soft k (pos 0) ≡ get_or (get_or l.parts (burst_of k) []) (place_of k) (pos 0))
+    × ((q r : ℕ) → q < 8 * l.group → r < 8 →
+    get_or l.soft (column_bit q r) (pos 0) ≡ cast_signed w8 (get_or (get_or l.octets (r % 4) []) (column_place q r) 0))

@@ -1,0 +1,22 @@
+-- Each coded bit stands in one column.
+use Rattle.std.proofs.Common.{◌≡◌, ℕ, ◌*◌, ◌/◌, ◌%◌, ◌<◌, arith}
+use Rattle.interleave.specs.ColumnPlaces.{column_bit, column_place}
+use Rattle.interleave.specs.Places.{burst_of, place_of}
+
+-- coded bit k is bit r of column q
+pub record IsInColumn (k q r : ℕ) : Type 0 where
+  pub column : q < 57
+  pub bit : r < 8
+  pub same : column_bit q r ≡ k
+  pub burst : burst_of k ≡ r % 4
+  pub place : place_of k ≡ column_place q r
+
+pub in_column : (k : ℕ) → k < 456 → IsInColumn k (50 * (k / 8) % 57) (k % 8)
+unfolding column_bit column_place burst_of place_of
+in_column k h = record {
+  column = omega arith;
+  bit = omega arith;
+  same = omega arith;
+  burst = omega arith;
+  place = omega arith;
+}

@@ -1,0 +1,154 @@
+-- Vectors whose lanes stand in turns, and are read as lanes of twice the width.
+use Rattle.std.proofs.Common.{◌≡◌, ℕ, zero, suc, ◌+◌, ◌*◌, ◌/◌, ◌%◌, ◌^◌, ◌<◌, List, [], ◌∷◌, ◌++◌, length, get_or, refl, ap, ap₂, sym, subst, ◌∙◌, arith, bit_and, Fits, ◌-◌, ◌≤◌, replicate, w8, w16, zero-add}
+use Rattle.std.proofs.Math.Nat.{mul_comm, pow-suc, pow-zero}
+use Rattle.std.proofs.Math.Arith.{digits_lt}
+use Rattle.std.proofs.lemmas.List.{get_or_append_left, get_or-append_right, get_or-map, length-map}
+use mir.Syntax.{Width}
+use mir.Val.{bits}
+use Rattle.std.proofs.lemmas.Nat.{and_mask, pow_pos}
+use Rattle.std.proofs.lemmas.Nat.Bits.{and_high_mask}
+use Rattle.std.proofs.lemmas.Simd.{get_or_wider, below_from_Fits, get_or-zip2, length-zip2, get_or-replicate, get_or-chunk, chunk-fits, length-chunk, Each1-chunk}
+use borrow.Rule.Slice.PartMut.{mid_of}
+use lib.Lanes.{Each1, zip2, chunk, number_l, digits_l, pick_l}
+
+-- a number of two digits
+pub number-two : (p : ℕ) (xs : List ℕ) (i : ℕ) → suc i < length xs → number_l p (chunk i 2 xs) ≡ get_or xs i 0 + p * get_or xs (suc i) 0
+number-two p [] i h = absurd (omega arith)
+number-two p (x ∷ []) i h = absurd (omega arith)
+number-two p (x ∷ y ∷ xs) zero h = grind arith
+number-two p (x ∷ y ∷ xs) (suc i) h = let h' : suc i < length (y ∷ xs) = omega arith in number-two p (y ∷ xs) i h'
+
+-- the digits of a number make it again
+number-digits : (n x : ℕ) → x < 256 ^ n → number_l 256 (digits_l 256 n x) ≡ x
+number-digits zero x h = omega arith
+number-digits (suc n) x h =
+    let front : x / 256 < 256 ^ n = omega arith in
+    let rest = number-digits n (x / 256) front in
+    omega arith
+
+number-below : (p : ℕ) (xs : List ℕ) → Each1 (λ x. x < p) xs → number_l p xs < p ^ length xs
+number-below p [] h = omega (arith, pow-zero p)
+number-below p (x ∷ xs) h = omega (arith, digits_lt (number-below p xs h.1) h.0, mul_comm p (number_l p xs), pow-suc p (length xs))
+
+-- the octets of a number that is joined of pairs and fours
+pub joined_octet : (e : ℕ → ℕ) → ((r : ℕ) → e r < 256) → (r : ℕ) → r < 8 →
+    (e 0 + 256 * e 1 + 65536 * (e 2 + 256 * e 3) + 2 ^ 32 * (e 4 + 256 * e 5 + 65536 * (e 6 + 256 * e 7))) / 256 ^ r % 256 ≡ e r
+joined_octet e h zero lt = omega arith
+joined_octet e h (suc zero) lt = omega arith
+joined_octet e h (suc (suc zero)) lt = omega arith
+joined_octet e h (suc (suc (suc zero))) lt = omega arith
+joined_octet e h (suc (suc (suc (suc zero)))) lt = omega arith
+joined_octet e h (suc (suc (suc (suc (suc zero))))) lt = omega arith
+joined_octet e h (suc (suc (suc (suc (suc (suc zero)))))) lt = omega arith
+joined_octet e h (suc (suc (suc (suc (suc (suc (suc zero))))))) lt = omega arith
+joined_octet e h (suc (suc (suc (suc (suc (suc (suc (suc r)))))))) lt = absurd (omega arith)
+
+-- two lanes in one of twice the width
+joined_lane : (p q n : ℕ) (lanes : List ℕ) → q ≡ p ^ 2 → p ^ length lanes ≡ 256 ^ 16 → Each1 (λ x. x < p) lanes →
+    (j : ℕ) → j < n → suc (2 * j) < length lanes →
+    get_or (digits_l q n (number_l 256 (digits_l 256 16 (number_l p lanes)))) j 0 ≡ get_or lanes (2 * j) 0 + p * get_or lanes (suc (2 * j)) 0
+joined_lane p q n lanes square whole small j h within =
+    ap (λ x. get_or (digits_l q n x) j 0)
+    (number-digits 16 (number_l p lanes) (subst (λ m. number_l p lanes < m) whole (number-below p lanes small)))
+    ∙ get_or_wider p 2 q n lanes j square small h
+    ∙ number-two p lanes (2 * j) within
+
+module _ (p : ℕ) (some : 0 < p) where
+  pub below_at : (xs : List ℕ) → Each1 (λ x. x < p) xs → (k : ℕ) → get_or xs k 0 < p
+  below_at [] h k = some
+  below_at (x ∷ xs) h zero = h.0
+  below_at (x ∷ xs) h (suc k) = below_at xs h.1 k
+
+  below-append : (xs ys : List ℕ) → Each1 (λ x. x < p) xs → Each1 (λ x. x < p) ys → Each1 (λ x. x < p) (xs ++ ys)
+  below-append [] ys h g = g
+  below-append (x ∷ xs) ys h g = (h.0, below-append xs ys h.1 g)
+
+  below-picked : (xs : List ℕ) → Each1 (λ x. x < p) xs → (ks : List ℕ) → Each1 (λ x. x < p) (pick_l 0 xs ks)
+  below-picked xs h [] = tt
+  below-picked xs h (k ∷ ks) = (below_at xs h k, below-picked xs h ks)
+
+-- lane s of two vectors one after the other
+side_by_side : (p n : ℕ) (x y : List ℕ) → length x ≡ n → (s : ℕ) → s < n →
+    get_or (x ++ y) s 0 + p * get_or (x ++ y) (n + s) 0 ≡ get_or x s 0 + p * get_or y s 0
+side_by_side p n x y long s h =
+    let here : s < length x = omega arith in
+    let after : n + s - n ≡ s = omega arith in
+    ap₂ (λ a b. a + p * b) (get_or_append_left x y 0 s here)
+    (get_or-append_right x y n (n + s) 0 long (omega arith) ∙ ap (λ k. get_or y k 0) after)
+
+-- what two vectors hold, lane s of one beside lane s of the other, is read as one lane of twice the width
+pub turned_lane : (w : Width) (q n m : ℕ) (x y : List ℕ) (order : List ℕ) (j s : ℕ) →
+    q ≡ (2 ^ bits w) ^ 2 → (2 ^ bits w) ^ length order ≡ 256 ^ 16 →
+    length x ≡ m → Each1 (Fits w) x → Each1 (Fits w) y → j < n → suc (2 * j) < length order → s < m →
+    get_or order (2 * j) 0 ≡ s → get_or order (suc (2 * j)) 0 ≡ m + s →
+    get_or (digits_l q n (number_l 256 (digits_l 256 16 (number_l (2 ^ bits w) (pick_l 0 (x ++ y) order))))) j 0
+    ≡ get_or x s 0 + 2 ^ bits w * get_or y s 0
+turned_lane w q n m x y order j s square whole long fits_x fits_y h within hs first second =
+    let p : ℕ = 2 ^ bits w in
+    let some : 0 < p = pow_pos (bits w) in
+    let lanes : List ℕ = pick_l 0 (x ++ y) order in
+    let count : length lanes ≡ length order = length-map order (λ k. get_or (x ++ y) k 0) in
+    let small = below-picked p some (x ++ y) (below-append p some x y (below_from_Fits w x fits_x) (below_from_Fits w y fits_y)) order in
+    let at = λ (i : ℕ) (hi : i < length order). get_or-map (λ k. get_or (x ++ y) k 0) order i 0 0 hi in
+    joined_lane p q n lanes square (ap (λ k. p ^ k) count ∙ whole) small j h (omega arith)
+    ∙ ap₂ (λ a b. a + p * b)
+    (at (2 * j) (omega arith) ∙ ap (λ k. get_or (x ++ y) k 0) first)
+    (at (suc (2 * j)) within ∙ ap (λ k. get_or (x ++ y) k 0) second)
+    ∙ side_by_side p m x y long s hs
+
+-- eight lanes by one operation with the same number in each lane
+lane_by : (f : ℕ → ℕ → ℕ) (x : List ℕ) (n s : ℕ) → length x ≡ 8 → s < 8 → get_or (zip2 f x (replicate 8 n)) s 0 ≡ f (get_or x s 0) n
+lane_by f x n s long h =
+    get_or-zip2 f x (replicate 8 n) s 0 0 0 (omega arith) h ∙ ap (f (get_or x s 0)) (get_or-replicate 8 s n 0 h)
+
+module _ (x y : List ℕ) (long_x : length x ≡ 8) (long_y : length y ≡ 8) where
+  -- the sums of eight lanes
+  sum_lane : (f g : ℕ → ℕ → ℕ) (m n s : ℕ) → s < 8 →
+      get_or (zip2 (λ a b. (a + b) % 2 ^ 16) (zip2 f x (replicate 8 m)) (zip2 g y (replicate 8 n))) s 0
+      ≡ (f (get_or x s 0) m + g (get_or y s 0) n) % 2 ^ 16
+  sum_lane f g m n s h =
+      let long_f : length (zip2 f x (replicate 8 m)) ≡ 8 = length-zip2 f x (replicate 8 m) long_x ∙ long_x in
+      let long_g : length (zip2 g y (replicate 8 n)) ≡ 8 = length-zip2 g y (replicate 8 n) long_y ∙ long_y in
+      get_or-zip2 (λ a b. (a + b) % 2 ^ 16) (zip2 f x (replicate 8 m)) (zip2 g y (replicate 8 n)) s 0 0 0 (omega arith) (omega arith)
+      ∙ ap₂ (λ a b. (a + b) % 2 ^ 16) (lane_by f x m s long_x h) (lane_by g y n s long_y h)
+
+  pub lower_lane : (s : ℕ) → s < 8 →
+      get_or (zip2 (λ a b. (a + b) % 2 ^ 16) (zip2 bit_and x (replicate 8 255)) (zip2 (λ a b. a * 2 ^ b % 2 ^ 16) y (replicate 8 8))) s 0
+      ≡ get_or x s 0 % 256 + 256 * (get_or y s 0 % 256)
+  lower_lane s h =
+      sum_lane bit_and (λ a b. a * 2 ^ b % 2 ^ 16) 255 8 s h
+      ∙ ap (λ a. (a + get_or y s 0 * 256 % 65536) % 65536) (and_mask (get_or x s 0) 8)
+      ∙ omega arith
+
+  pub upper_lane : Each1 (Fits w16) x → Each1 (Fits w16) y → (s : ℕ) → s < 8 →
+      get_or (zip2 (λ a b. (a + b) % 2 ^ 16) (zip2 (λ a b. a / 2 ^ b) x (replicate 8 8)) (zip2 bit_and y (replicate 8 65280))) s 0
+      ≡ get_or x s 0 / 256 % 256 + 256 * (get_or y s 0 / 256 % 256)
+  upper_lane fits_x fits_y s h =
+      let small_x = below_at (2 ^ 16) (pow_pos 16) x (below_from_Fits w16 x fits_x) s in
+      let small_y = below_at (2 ^ 16) (pow_pos 16) y (below_from_Fits w16 y fits_y) s in
+      sum_lane (λ a b. a / 2 ^ b) bit_and 8 65280 s h
+      ∙ ap (λ b. (get_or x s 0 / 256 + b) % 65536) (and_high_mask 16 8 (omega arith) (get_or y s 0) small_y)
+      ∙ omega arith
+
+  pub length-sums : (f g : ℕ → ℕ → ℕ) (m n : ℕ) → length (zip2 (λ a b. (a + b) % 2 ^ 16) (zip2 f x (replicate 8 m)) (zip2 g y (replicate 8 n))) ≡ 8
+  length-sums f g m n =
+      let long_f : length (zip2 f x (replicate 8 m)) ≡ 8 = length-zip2 f x (replicate 8 m) long_x ∙ long_x in
+      let long_g : length (zip2 g y (replicate 8 n)) ≡ 8 = length-zip2 g y (replicate 8 n) long_y ∙ long_y in
+      length-zip2 (λ a b. (a + b) % 2 ^ 16) (zip2 f x (replicate 8 m)) (zip2 g y (replicate 8 n)) (long_f ∙ sym long_g) ∙ long_f
+
+-- the octets from a place on in pairs
+pub pair_lane : (octets : List ℕ) (from s : ℕ) → from + 16 ≤ length octets → ((k : ℕ) → Fits w8 (get_or octets k 0)) → s < 8 →
+    get_or (digits_l 65536 8 (number_l 256 (chunk 0 16 (mid_of from (from + 16 - from) octets)))) s 0
+    ≡ get_or octets (from + 2 * s) 0 + 256 * get_or octets (from + suc (2 * s)) 0
+pair_lane octets from s room fits h =
+    let part : List ℕ = chunk from 16 octets in
+    let lanes : List ℕ = chunk 0 16 part in
+    let whole : from + 16 - from ≡ 16 = omega arith in
+    let long : length lanes ≡ 16 = length-chunk 0 16 part (omega (arith, length-chunk from 16 octets room)) in
+    let small = Each1-chunk (λ x. x < 256) 0 16 part (below_from_Fits w8 part (chunk-fits w8 from 16 octets fits)) in
+    let at = λ (k : ℕ) (hk : k < 16).
+    get_or-chunk 0 16 part k 0 hk ∙ ap (λ m. get_or part m 0) (zero-add k) ∙ get_or-chunk from 16 octets k 0 hk in
+    ap (λ n. get_or (digits_l 65536 8 (number_l 256 (chunk 0 16 (mid_of from n octets)))) s 0) whole
+    ∙ get_or_wider 256 2 65536 8 lanes s refl small h
+    ∙ number-two 256 lanes (2 * s) (omega arith)
+    ∙ ap₂ (λ a b. a + 256 * b) (at (2 * s) (omega arith)) (at (suc (2 * s)) (omega arith))

@@ -1,0 +1,17 @@
+use Rattle.std.proofs.Common.{inl, inr, ◌+◌, ◌*◌, ◌%◌, arith}
+use Rattle.std.proofs.lemmas.Bool.{cases_lt}
+use Rattle.interleave.specs.ColumnPlaces.{column_bit}
+use Rattle.interleave.proofs.gathering.write_column.Goals as goal
+
+pub returns-clause-own : goal.returns-clause-own
+unfolding column_bit
+returns-clause-own c r h = c.loop-r.invariant.1 r (omega arith)
+
+pub returns-clause-others : goal.returns-clause-others
+unfolding column_bit
+returns-clause-others c p r hp other hr =
+    let q = c.args.q in
+    elim (cases_lt (8 * p % 57) (8 * q % 57)) [
+      | inl before ↦ c.loop-r.invariant.2 (8 * (8 * p % 57) + r) (inl (omega arith))
+      | inr after ↦ c.loop-r.invariant.2 (8 * (8 * p % 57) + r) (inr (omega arith))
+    ]

@@ -1,0 +1,34 @@
+use Rattle.std.proofs.Common.{◌≡◌, ℕ, zero, suc, ◌+◌, ◌*◌, ◌/◌, ◌%◌, ◌^◌, ◌<◌, get_or, pos, refl, ap, ◌∙◌, arith, below_more, w8, w64}
+use Rattle.std.specs.Int.{cast_signed, to_le_bytes}
+use Rattle.interleave.specs.ColumnPlaces.{column_bit}
+use Rattle.interleave.proofs.gathering.write_columns.Goals as goal
+
+octet_at : (n r : ℕ) → r < 8 → get_or (to_le_bytes w64 n) r 0 ≡ n / 256 ^ r % 256
+octet_at n zero h = omega arith
+octet_at n (suc zero) h = refl
+octet_at n (suc (suc zero)) h = refl
+octet_at n (suc (suc (suc zero))) h = refl
+octet_at n (suc (suc (suc (suc zero)))) h = refl
+octet_at n (suc (suc (suc (suc (suc zero))))) h = refl
+octet_at n (suc (suc (suc (suc (suc (suc zero)))))) h = refl
+octet_at n (suc (suc (suc (suc (suc (suc (suc zero))))))) h = refl
+octet_at n (suc (suc (suc (suc (suc (suc (suc (suc r)))))))) h = absurd (omega arith)
+
+pub loop-s-preserved : goal.loop-s-preserved
+loop-s-preserved c =
+    let s = c.loop-s.s in
+    let group = c.args.group in
+    let columns = c.args.columns.now in
+    let soft = c.write_column.new.soft in
+    let others = c.write_column.ensures.others in
+    let Stands : ℕ → Type 0 = λ i. (r : ℕ) → r < 8 → get_or soft (column_bit (8 * group + i) r) (pos 0) ≡ cast_signed w8 (get_or columns i 0 / 256 ^ r % 256) in
+    let all = below_more Stands s
+    (λ i hi r hr. others (8 * group + i) r (omega arith) (omega arith) hr ∙ c.loop-s.invariant.1 i r hi hr)
+    (λ r hr.
+    c.write_column.ensures.own r hr
+    ∙ ap (λ octets. cast_signed w8 (get_or octets r 0)) c.to_le_bytes.ensures
+    ∙ ap (cast_signed w8) (octet_at (get_or columns s 0) r hr)) in (
+      c.write_column.array_long,
+      λ i r hi hr. all i hi r hr,
+      λ q r hq hr. others q r (omega arith) (omega arith) hr ∙ c.loop-s.invariant.2 q r hq hr,
+    )

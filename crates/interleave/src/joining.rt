@@ -1,0 +1,113 @@
+//! Eight columns of a block at once. A row holds one octet of each column, and the columns one after the other: so eight rows
+//! from eight places on are turned round, as octets are joined to pairs, pairs to fours, and fours to the eight octets of a
+//! column.
+ghost use Rattle.std.specs.Prelude.{◌≡◌, ℕ, ◌+◌, ◌*◌, ◌/◌, ◌%◌, ◌^◌, ◌<◌, ◌≤◌, [], length, slice_index, slice_index_or};
+ghost use Rattle.interleave.specs.ColumnPlaces.{column_place};
+
+use std::simd::prelude::*;
+
+/// The columns from 8 `group` on, each as one number whose lowest octet comes first.
+pub(crate) fn eight_columns(parts: &[[u8; 114]; 4], group: usize) -> [u64; 8]
+    requires { group < 7 }
+    ensures { (s r : ℕ) → s < 8 → r < 8 →
+        slice_index result s / 256 ^ r % 256
+        ≡ slice_index (slice_index_or parts.now (r % 4) []) (column_place (8 * group + s) r) }
+{
+    let (a, b) = join_pairs(
+        lower_octets(
+            pairs(&parts[0], start(group, 0)),
+            pairs(&parts[1], start(group, 1)),
+        ),
+        lower_octets(
+            pairs(&parts[2], start(group, 2)),
+            pairs(&parts[3], start(group, 3)),
+        ),
+    );
+    let (c, d) = join_pairs(
+        upper_octets(
+            pairs(&parts[0], start(group, 4)),
+            pairs(&parts[1], start(group, 5)),
+        ),
+        upper_octets(
+            pairs(&parts[2], start(group, 6)),
+            pairs(&parts[3], start(group, 7)),
+        ),
+    );
+    let [first, second, third, fourth] = join_fours(a, c);
+    let [fifth, sixth, seventh, eighth] = join_fours(b, d);
+    [first, second, third, fourth, fifth, sixth, seventh, eighth]
+}
+
+/// Where the columns from 8 `group` on begin in a row.
+fn start(group: usize, row: usize) -> usize
+    requires group { group < 7 }
+    requires row { row < 8 }
+    ensures place { result ≡ (8 * group + 49 * row) % 57 }
+    ensures room { result ≤ 49 }
+{
+    if group >= row {
+        8 * (group - row)
+    } else {
+        57 - 8 * (row - group)
+    }
+}
+
+/// Eight pairs of octets of a burst, the even one in the lower half.
+fn pairs(part: &[u8], from: usize) -> u16x8
+    requires { 2 * from + 16 ≤ length part.now }
+    ensures count { length result ≡ 8 }
+    ensures even { (s : ℕ) → s < 8 → slice_index result s % 256 ≡ slice_index part.now (2 * (from + s)) }
+    ensures odd { (s : ℕ) → s < 8 → slice_index result s / 256 % 256 ≡ slice_index part.now (2 * (from + s) + 1) }
+{
+    u16x8::from_le_bytes(u8x16::from_slice(&part[2 * from..2 * from + 16]))
+}
+
+/// The lower halves of both in pairs.
+fn lower_octets(x: u16x8, y: u16x8) -> u16x8
+    requires x { length x ≡ 8 }
+    requires y { length y ≡ 8 }
+    ensures count { length result ≡ 8 }
+    ensures each { (s : ℕ) → s < 8 → slice_index result s ≡ slice_index x s % 256 + 256 * (slice_index y s % 256) }
+{
+    (x & u16x8::splat(255)) + (y << u16x8::splat(8))
+}
+
+/// The upper halves of both in pairs.
+fn upper_octets(x: u16x8, y: u16x8) -> u16x8
+    requires x { length x ≡ 8 }
+    requires y { length y ≡ 8 }
+    ensures count { length result ≡ 8 }
+    ensures each { (s : ℕ) → s < 8 → slice_index result s ≡ slice_index x s / 256 % 256 + 256 * (slice_index y s / 256 % 256) }
+{
+    (x >> u16x8::splat(8)) + (y & u16x8::splat(0xff00))
+}
+
+/// Both side by side, the first four lanes and the last four.
+fn join_pairs(x: u16x8, y: u16x8) -> (u32x4, u32x4)
+    requires x { length x ≡ 8 }
+    requires y { length y ≡ 8 }
+    ensures first_count { length result.0 ≡ 4 }
+    ensures last_count { length result.1 ≡ 4 }
+    ensures first { (s : ℕ) → s < 4 → slice_index result.0 s ≡ slice_index x s + 65536 * slice_index y s }
+    ensures last { (s : ℕ) → s < 4 → slice_index result.1 s ≡ slice_index x (4 + s) + 65536 * slice_index y (4 + s) }
+{
+    let first = x.shuffle::<8>(y, [0, 8, 1, 9, 2, 10, 3, 11]);
+    let last = x.shuffle::<8>(y, [4, 12, 5, 13, 6, 14, 7, 15]);
+    (
+        u32x4::from_le_bytes(first.to_le_bytes()),
+        u32x4::from_le_bytes(last.to_le_bytes()),
+    )
+}
+
+/// Both side by side.
+fn join_fours(x: u32x4, y: u32x4) -> [u64; 4]
+    requires x { length x ≡ 4 }
+    requires y { length y ≡ 4 }
+    ensures { (s : ℕ) → s < 4 → slice_index result s ≡ slice_index x s + 2 ^ 32 * slice_index y s }
+{
+    let first = x.shuffle::<4>(y, [0, 4, 1, 5]);
+    let last = x.shuffle::<4>(y, [2, 6, 3, 7]);
+    let [a, b] = u64x2::from_le_bytes(first.to_le_bytes()).to_array();
+    let [c, d] = u64x2::from_le_bytes(last.to_le_bytes()).to_array();
+    [a, b, c, d]
+}
