@@ -91,7 +91,7 @@ module _ (pass : Pass) (us : List (List ℕ)) (u : List ℕ) (span : Span) (x : 
   module _ (before after : List Class) (first behind_v rest : Span) (ranked : IsRanked (soft_of pass) us)
       (covers : Covers (soft_of pass) us (before ++ leaving u span ∷ after))
       (best : (e : Class) (w : List ℕ) → Contains (before ++ leaving u span ∷ after) e → IsCandidate (soft_of pass) w → StandsIn e w → w ≢ stray_of pass u x →
-          FallsBehind (soft_of pass) w (stray_of pass u x))
+      FallsBehind (soft_of pass) w (stray_of pass u x))
       (first_from : first.from ≡ span.from) (first_to : first.to ≡ x.leave.place) (behind_from : behind_v.from ≡ x.leave.place + 1)
       (behind_to : behind_v.to + 4 ≡ pass.bits) (rest_from : rest.from ≡ x.leave.place + 1) (rest_to : rest.to ≡ span.to) where
     abbrev s : List ℤ
@@ -108,7 +108,7 @@ module _ (pass : Pass) (us : List (List ℕ)) (u : List ℕ) (span : Span) (x : 
 
     next : IsRanked (soft_of pass) (us ++ stray_of pass u x ∷ []) ×
         Covers (soft_of pass) (us ++ stray_of pass u x ∷ [])
-            ((before ++ closed (leaving u span) x.leave.place ∷ after) ++ behind (stray_of pass u x) x.leave.place ∷ [])
+        ((before ++ closed (leaving u span) x.leave.place ∷ after) ++ behind (stray_of pass u x) x.leave.place ∷ [])
     next = goes_on_ranked s us before after c v place ranked covers v_is left (is_between span.from span.to place from to) best
 
     narrowed : Covers (soft_of pass) (us ++ stray_of pass u x ∷ [])

@@ -54,7 +54,6 @@ pub(crate) fn find_next(
     })
 }
 
-
 /// The places of a span before and after the one at which its best list `v` leaves `u`, and those behind it in `v`, which is
 /// given as number `new`.
 fn parted(pass: &Pass, u: &[u8], v: &[u8], span: Span, stray: &Stray, new: usize) -> Parts
