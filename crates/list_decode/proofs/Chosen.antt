@@ -1,16 +1,15 @@
 -- The branch whose best list comes next, and the branches once that is given.
-use Rattle.std.proofs.Common.{◌≡◌, ◌≢◌, ◌⊎◌, ℕ, zero, suc, ◌+◌, ◌*◌, ◌<◌, ◌≤◌, inl, inr, ℤ, List, [], ◌∷◌, ◌++◌, map, length, get_or, set, take, drop, Option, Some, None, refl, ap, ap₂, sym, ◌∙◌, subst, arith}
+use Rattle.std.proofs.Common.{◌≡◌, ◌≢◌, ℕ, zero, suc, ◌+◌, ◌<◌, ◌≤◌, List, [], ◌∷◌, ◌++◌, map, length, get_or, set, take, drop, Some, None, refl, ap, ap₂, sym, ◌∙◌, subst, arith}
 use Rattle.std.specs.List.{All, Contains, slice_get}
 use Rattle.std.proofs.lemmas.List.{get_or_append_left, get_or_push, length-append, map-append, set-get_or, set_split}
 use Rattle.std.proofs.lemmas.List.Elements.{All-nil, All-cons, All-head, All-tail, All-append, All-drop, All-set, All-take, All-weaker}
-use Rattle.conv_code.specs.Code.{coded}
-use Rattle.conv_code.specs.Likelihood.{FallsBehind, likelihood}
+use Rattle.conv_code.specs.Likelihood.{FallsBehind}
 use Rattle.list_decode.specs.Branches.{IsBestStray, IsBranch, IsBranchOf, IsSpan, IsStray, class_of, leaving, stray_of}
 use Rattle.list_decode.specs.Choices.{IsAtMost, IsFirst, stray_list}
 use Rattle.list_decode.specs.Classes.{Class, Covers, StandsIn}
-use Rattle.list_decode.specs.Parting.{HasNone, IsNext, branches_after}
+use Rattle.list_decode.specs.Parting.{IsNext}
 use Rattle.list_decode.specs.Passes.{IsPass, soft_of}
-use Rattle.list_decode.specs.Ranking.{IsCandidate, IsRanked}
+use Rattle.list_decode.specs.Ranking.{IsCandidate}
 use Rattle.list_decode.specs.declared.branch.Branch.{Branch}
 use Rattle.list_decode.specs.declared.branch.Span.{Span}
 use Rattle.list_decode.specs.declared.branch.Stray.{Stray}

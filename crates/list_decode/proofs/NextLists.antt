@@ -1,17 +1,16 @@
 -- The next list of a ranking is the best of the bests of all branches.
-use Rattle.std.proofs.Common.{◌≡◌, ◌≢◌, ◌⊎◌, ℕ, zero, suc, ◌+◌, ◌*◌, ◌<◌, ◌≤◌, Bool, true, false, inl, inr, ℤ, List, [], ◌∷◌, ◌++◌, map, length, get_or, Option, Some, None, refl, ap, ap₂, sym, ◌∙◌, subst, append_assoc, arith}
-use Rattle.std.specs.List.{All, Contains}
+use Rattle.std.proofs.Common.{◌≡◌, ◌≢◌, ◌⊎◌, ℕ, ◌+◌, ◌*◌, ◌<◌, ◌≤◌, true, inl, inr, ℤ, List, [], ◌∷◌, ◌++◌, length, get_or, Option, Some, None, refl, ap, sym, ◌∙◌, subst, append_assoc, arith}
+use Rattle.std.specs.List.{Contains}
 use Rattle.std.proofs.lemmas.Bool.{cases_lt}
 use Rattle.conv_code.specs.Likelihood.{FallsBehind, IsMostLikely}
 use Rattle.trellis_decode.proofs.Lists.{Ends-from_tail}
 use Rattle.trellis_decode.proofs.MostLikely.{same_list}
-use Rattle.list_decode.specs.Branches.{IsBestStray, IsBranchOf, IsSpan, IsStray, between, leaving, stray_of}
+use Rattle.list_decode.specs.Branches.{IsBestStray, IsStray, leaving, stray_of}
 use Rattle.list_decode.specs.Choices.{IsAtMost, stray_list}
 use Rattle.list_decode.specs.Classes.{Class, StandsIn, LeavesAt, anywhere, behind, closed, Covers}
 use Rattle.list_decode.specs.Detours.{Follows}
 use Rattle.list_decode.specs.Passes.{IsPass, losses_of, rows_of, soft_of}
 use Rattle.list_decode.specs.Ranking.{IsCandidate, IsRanked}
-use Rattle.list_decode.specs.declared.branch.Branch.{Branch}
 use Rattle.list_decode.specs.declared.branch.Span.{Span}
 use Rattle.list_decode.specs.declared.branch.Stray.{Stray}
 use Rattle.list_decode.specs.declared.pass.Pass.{Pass}
