@@ -1,12 +1,11 @@
 -- Which of the best lists of all branches comes first.
-use Rattle.std.proofs.Common.{◌≡◌, ◌≢◌, ◌⊎◌, ℕ, zero, suc, ◌+◌, ◌*◌, ◌<◌, ◌≤◌, Bool, true, false, inl, inr, ℤ, pos, List, [], ◌∷◌, ◌++◌, length, map, get_or, take, Option, Some, None, refl, ap, ap₂, sym, ◌∙◌, subst, arith}
+use Rattle.std.proofs.Common.{◌≡◌, ◌≢◌, ◌⊎◌, ℕ, zero, suc, ◌*◌, ◌<◌, Bool, true, false, inl, inr, pos, List, [], ◌∷◌, ◌++◌, length, map, get_or, take, Option, Some, None, refl, ap, ap₂, sym, ◌∙◌, subst, arith}
 use Rattle.std.specs.List.{All, slice_get}
 use Rattle.std.specs.Prelude.{IfSome}
 use Rattle.std.proofs.lemmas.List.{get_or-map}
 use Rattle.std.proofs.lemmas.List.Elements.{All-nil, All-cons, All-head, All-tail, All-append, All-weaker}
-use Rattle.bit_blocks.specs.Bits.{AllBits}
 use Rattle.conv_code.specs.Code.{coded}
-use Rattle.conv_code.specs.Likelihood.{FallsBehind, IsBefore, likelihood}
+use Rattle.conv_code.specs.Likelihood.{FallsBehind, likelihood}
 use Rattle.trellis_decode.proofs.Lists.{Ends-from_tail, IsInformation-ends}
 use Rattle.list_decode.specs.Branches.{IsBestStray, IsBranchOf, IsStray, stray_of}
 use Rattle.list_decode.specs.Choices.{IsAtMost, IsFirst, IsStrayOf, stray_list}

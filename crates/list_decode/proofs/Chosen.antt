@@ -1,16 +1,15 @@
 -- The branch whose best list comes next, and the branches once that is given.
-use Rattle.std.proofs.Common.{◌≡◌, ◌≢◌, ◌⊎◌, ℕ, zero, suc, ◌+◌, ◌*◌, ◌<◌, ◌≤◌, inl, inr, ℤ, List, [], ◌∷◌, ◌++◌, map, length, get_or, set, take, drop, Option, Some, None, refl, ap, ap₂, sym, ◌∙◌, subst, arith}
+use Rattle.std.proofs.Common.{◌≡◌, ◌≢◌, ℕ, zero, suc, ◌+◌, ◌<◌, ◌≤◌, List, [], ◌∷◌, ◌++◌, map, length, get_or, set, take, drop, Some, None, refl, ap, ap₂, sym, ◌∙◌, subst, arith}
 use Rattle.std.specs.List.{All, Contains, slice_get}
 use Rattle.std.proofs.lemmas.List.{get_or_append_left, get_or_push, length-append, map-append, set-get_or, set_split}
 use Rattle.std.proofs.lemmas.List.Elements.{All-nil, All-cons, All-head, All-tail, All-append, All-drop, All-set, All-take, All-weaker}
-use Rattle.conv_code.specs.Code.{coded}
-use Rattle.conv_code.specs.Likelihood.{FallsBehind, likelihood}
+use Rattle.conv_code.specs.Likelihood.{FallsBehind}
 use Rattle.list_decode.specs.Branches.{IsBestStray, IsBranch, IsBranchOf, IsSpan, IsStray, class_of, leaving, stray_of}
 use Rattle.list_decode.specs.Choices.{IsAtMost, IsFirst, stray_list}
 use Rattle.list_decode.specs.Classes.{Class, Covers, StandsIn}
-use Rattle.list_decode.specs.Parting.{HasNone, IsNext, branches_after}
+use Rattle.list_decode.specs.Parting.{IsNext}
 use Rattle.list_decode.specs.Passes.{IsPass, soft_of}
-use Rattle.list_decode.specs.Ranking.{IsCandidate, IsRanked}
+use Rattle.list_decode.specs.Ranking.{IsCandidate}
 use Rattle.list_decode.specs.declared.branch.Branch.{Branch}
 use Rattle.list_decode.specs.declared.branch.Span.{Span}
 use Rattle.list_decode.specs.declared.branch.Stray.{Stray}
@@ -143,11 +142,11 @@ module _ (pass : Pass) (us : List (List ℕ)) (branches : List Branch) (choice :
       (behind_v : IsBranch pass (stray_of pass (get_or us (get_or branches choice.branch blank).span.list []) choice.stray) next.parts.behind)
       (after : IsBranch pass (get_or us (get_or branches choice.branch blank).span.list []) next.parts.after)
       (before_span : (next.parts.before.span.list ≡ (get_or branches choice.branch blank).span.list) ×
-          (next.parts.before.span.from ≡ (get_or branches choice.branch blank).span.from) × (next.parts.before.span.to ≡ choice.stray.leave.place))
+      (next.parts.before.span.from ≡ (get_or branches choice.branch blank).span.from) × (next.parts.before.span.to ≡ choice.stray.leave.place))
       (behind_span : (next.parts.behind.span.list ≡ length us) × (next.parts.behind.span.from ≡ choice.stray.leave.place + 1) ×
-          (next.parts.behind.span.to + 4 ≡ pass.bits))
+      (next.parts.behind.span.to + 4 ≡ pass.bits))
       (after_span : (next.parts.after.span.list ≡ (get_or branches choice.branch blank).span.list) ×
-          (next.parts.after.span.from ≡ choice.stray.leave.place + 1) × (next.parts.after.span.to ≡ (get_or branches choice.branch blank).span.to)) where
+      (next.parts.after.span.from ≡ choice.stray.leave.place + 1) × (next.parts.after.span.to ≡ (get_or branches choice.branch blank).span.to)) where
     abbrev us' : List (List ℕ)
     us' = us ++ v ∷ []
 
@@ -192,7 +191,7 @@ module _ (pass : Pass) (us : List (List ℕ)) (branches : List Branch) (choice :
         let two = ap (λ u. leaving u next.parts.behind.span) (sym (same_v next.parts.behind.span.list behind_span.0)) in
         let three = ap (λ u. leaving u next.parts.after.span) (sym (same_u next.parts.after.span.list after_span.0)) in
         let old : map (class_of us) (take i branches) ++ leaving u next.parts.before.span ∷ map (class_of us) (drop (suc i) branches) ≡
-            map f (set branches i next.parts.before) =
+        map f (set branches i next.parts.before) =
         ap₂ (λ xs ys. xs ++ ys) early (ap₂ (λ c cs. c ∷ cs) one late)
         ∙ sym (map-append f (take i branches) (next.parts.before ∷ drop (suc i) branches))
         ∙ ap (map f) (sym (set_split branches i next.parts.before inside)) in
@@ -208,9 +207,9 @@ module _ (pass : Pass) (us : List (List ℕ)) (branches : List Branch) (choice :
       each = subst (λ k. All (IsBranchOf pass us') ((set branches k next.parts.before ++ next.parts.behind ∷ []) ++ next.parts.after ∷ [])) (sym at) each;
       covers = (λ ranked covers.
           let went = goes_on pass us u b.span choice.stray is has.candidate has.stray v_is has.from has.to
-              (map (class_of us) (take i branches)) (map (class_of us) (drop (suc i) branches)) next.parts.before.span next.parts.behind.span next.parts.after.span
-              ranked (subst (Covers (soft_of pass) us) split covers) (λ e w member. best e w (subst (λ cs. Contains cs e) (sym split) member))
-              before_span.1 before_span.2 behind_span.1 behind_span.2 after_span.1 after_span.2 in
+          (map (class_of us) (take i branches)) (map (class_of us) (drop (suc i) branches)) next.parts.before.span next.parts.behind.span next.parts.after.span
+          ranked (subst (Covers (soft_of pass) us) split covers) (λ e w member. best e w (subst (λ cs. Contains cs e) (sym split) member))
+          before_span.1 before_span.2 behind_span.1 behind_span.2 after_span.1 after_span.2 in
           (went.0, subst (Covers (soft_of pass) us') (classes ∙ ap (λ k. map f ((set branches k next.parts.before ++ next.parts.behind ∷ []) ++ next.parts.after ∷ [])) (sym at)) went.1));
     }
 

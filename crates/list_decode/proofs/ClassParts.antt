@@ -1,6 +1,6 @@
 -- A class may give way to parts of it that hold the same candidates.
-use Rattle.std.proofs.Common.{◌≡◌, ◌⊎◌, ℕ, inl, inr, ℤ, List, [], ◌∷◌, ◌++◌, sym, subst}
-use Rattle.std.specs.List.{All, Contains}
+use Rattle.std.proofs.Common.{◌⊎◌, ℕ, inl, inr, ℤ, List, [], ◌∷◌, ◌++◌, sym, subst}
+use Rattle.std.specs.List.{Contains}
 use Rattle.std.proofs.lemmas.List.Elements.{All-nil, All-cons, All-head, All-append, Contains-append_left, Contains-append_right, Contains-append_cases}
 use Rattle.list_decode.specs.Classes.{Class, StandsIn, Covers}
 use Rattle.list_decode.specs.Ranking.{IsCandidate}

@@ -1,5 +1,5 @@
 -- The free place that loses least, one place more at a time.
-use Rattle.std.proofs.Common.{◌≡◌, ◌≢◌, ◌⊎◌, ℕ, zero, suc, ◌+◌, ◌<◌, ◌≤◌, Bool, true, false, inl, inr, ℤ, pos, ◌+ℤ◌, ◌-ℤ◌, List, get_or, take, Option, Some, None, refl, ap, ap₂, sym, ◌∙◌, subst, arith}
+use Rattle.std.proofs.Common.{◌≡◌, ◌≢◌, ◌⊎◌, ℕ, zero, suc, ◌+◌, ◌<◌, ◌≤◌, Bool, true, inl, inr, ℤ, pos, ◌+ℤ◌, ◌-ℤ◌, List, get_or, take, Some, None, refl, ap, ap₂, sym, ◌∙◌, subst, arith}
 use Rattle.std.specs.Prelude.{◌<ℤ◌, ◌≤ℤ◌}
 use Rattle.std.proofs.lemmas.Bool.{cases_lt}
 use Rattle.std.proofs.lemmas.Int.{ints}
@@ -25,10 +25,6 @@ is_leave u losses k state lost leave bits found is_lost at s l m = record {
   loss = l ∙ is_lost ∙ ap (loss_at 0 u losses) (sym at);
   limit = m ∙ ap₂ (λ lost place. lost +ℤ pos 1 -ℤ pos (get_or u place 0)) (sym l) (sym at);
 }
-
-shut_clash : (b : Bool) → b ≡ true → b ≡ false → ⊥
-shut_clash true h g = cc
-shut_clash false h g = cc
 
 module _ (u : List ℕ) (losses : List (List ℤ)) (free : ℕ → Bool) (k : ℕ) where
   abbrev loss : ℕ → ℤ
@@ -96,13 +92,6 @@ module _ (u : List ℕ) (losses : List (List ℤ)) (free : ℕ → Bool) (k : �
     after = (λ j late lt free_j equal. absurd (omega arith));
   }
 
-  -- a place that is not free changes nothing
-  pub none_more : NoneFree free k → free k ≡ false → NoneFree free (k + 1)
-  none_more none shut j lt free_j = elim (same_number j k) [
-    | inl here ↦ shut_clash (free k) (subst (λ j. free j ≡ true) here free_j) shut
-    | inr earlier ↦ none j (omega arith) free_j
-  ]
-
   -- what was found so far, and one place more
   pub best_first : (new : Leave) → IsBestFree u losses free k None → free k ≡ true → IsLeave u losses new → new.place ≡ k →
       IsBestFree u losses free (k + 1) (Some new)
@@ -135,7 +124,3 @@ module _ (u : List ℕ) (losses : List (List ℤ)) (free : ℕ → Bool) (k : �
               | inr tie ↦ inr ((let e = tie.0 in omega (arith, ints)), tie.1)
             ]),
       )
-
-  pub best_shut : (best : Option Leave) → IsBestFree u losses free k best → free k ≡ false → IsBestFree u losses free (k + 1) best
-  best_shut None none shut = none_more none shut
-  best_shut (Some best) old shut = (old.0, free_kept best.place old.0.bit old.1 (λ is_free. absurd (shut_clash (free k) is_free shut)))

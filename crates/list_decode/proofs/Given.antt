@@ -1,5 +1,5 @@
 -- The fields of `Ranked`, one list more at a time.
-use Rattle.std.proofs.Common.{◌≡◌, ◌≢◌, ◌⊎◌, ℕ, zero, suc, ◌+◌, ◌-◌, ◌*◌, ◌<◌, ◌≤◌, inl, inr, ℤ, List, [], ◌∷◌, ◌++◌, map, length, get_or, set, take, Option, Some, None, refl, ap, ap₂, sym, ◌∙◌, subst, arith}
+use Rattle.std.proofs.Common.{◌≡◌, ℕ, ◌+◌, ◌-◌, ◌*◌, ◌<◌, ◌≤◌, inl, inr, ℤ, List, [], ◌∷◌, ◌++◌, map, length, get_or, set, take, Option, Some, None, refl, ap, sym, ◌∙◌, subst, arith}
 use Rattle.std.specs.List.{All, Contains}
 use Rattle.std.proofs.lemmas.Grind.{take-set_at}
 use Rattle.std.proofs.lemmas.List.{length-map, length-set, length-take, length-take-le, map-append, take_more_set}
@@ -113,8 +113,8 @@ module _ (r : Inside) (sound : IsSound r) (some : 0 < r.given) (few : r.given < 
       take-set_at (set one n next.parts.behind) (n + 1) (2 * (r.given + 1) - 1) next.parts.after (omega arith)
       (omega (arith, length-set one n next.parts.behind))
       ∙ ap (λ bs. bs ++ next.parts.after ∷ []) (
-        take_more_set one n next.parts.behind (omega arith)
-        ∙ ap (λ bs. bs ++ next.parts.behind ∷ []) (take-set-lt n r.branches next.branch next.parts.before within))
+      take_more_set one n next.parts.behind (omega arith)
+      ∙ ap (λ bs. bs ++ next.parts.behind ∷ []) (take-set-lt n r.branches next.branch next.parts.before within))
 
   pub sound_next : IsSound (record {
     pass = r.pass;
@@ -142,7 +142,7 @@ all_given r sound some none w is_w =
     ends_ranked (soft_of r.pass) (given_lists r) (map (class_of (given_lists r)) (branches_of r)) (sound.covers some)
     (λ e w member is_w stands.
     let found = class_at (given_lists r) (branches_of r) (λ b. IsBranchOf r.pass (given_lists r) b × (b.best ≡ None)) e
-        (λ k d lt. (sound.branches k d lt, none k d lt)) member in
+    (λ k d lt. (sound.branches k d lt, none k d lt)) member in
     let u = get_or (given_lists r) found.0.span.list [] in
     subst (IsBestStray r.pass u found.0.span) found.1.1 found.1.0.is.best w is_w (subst (λ e. StandsIn e w) (sym found.2) stands))
     w is_w

@@ -1,17 +1,16 @@
 -- The next list of a ranking is the best of the bests of all branches.
-use Rattle.std.proofs.Common.{◌≡◌, ◌≢◌, ◌⊎◌, ℕ, zero, suc, ◌+◌, ◌*◌, ◌<◌, ◌≤◌, Bool, true, false, inl, inr, ℤ, List, [], ◌∷◌, ◌++◌, map, length, get_or, Option, Some, None, refl, ap, ap₂, sym, ◌∙◌, subst, append_assoc, arith}
-use Rattle.std.specs.List.{All, Contains}
+use Rattle.std.proofs.Common.{◌≡◌, ◌≢◌, ◌⊎◌, ℕ, ◌+◌, ◌*◌, ◌<◌, ◌≤◌, true, inl, inr, ℤ, List, [], ◌∷◌, ◌++◌, length, get_or, Option, Some, None, refl, ap, sym, ◌∙◌, subst, append_assoc, arith}
+use Rattle.std.specs.List.{Contains}
 use Rattle.std.proofs.lemmas.Bool.{cases_lt}
 use Rattle.conv_code.specs.Likelihood.{FallsBehind, IsMostLikely}
 use Rattle.trellis_decode.proofs.Lists.{Ends-from_tail}
 use Rattle.trellis_decode.proofs.MostLikely.{same_list}
-use Rattle.list_decode.specs.Branches.{IsBestStray, IsBranchOf, IsSpan, IsStray, between, leaving, stray_of}
+use Rattle.list_decode.specs.Branches.{IsBestStray, IsStray, leaving, stray_of}
 use Rattle.list_decode.specs.Choices.{IsAtMost, stray_list}
 use Rattle.list_decode.specs.Classes.{Class, StandsIn, LeavesAt, anywhere, behind, closed, Covers}
 use Rattle.list_decode.specs.Detours.{Follows}
 use Rattle.list_decode.specs.Passes.{IsPass, losses_of, rows_of, soft_of}
 use Rattle.list_decode.specs.Ranking.{IsCandidate, IsRanked}
-use Rattle.list_decode.specs.declared.branch.Branch.{Branch}
 use Rattle.list_decode.specs.declared.branch.Span.{Span}
 use Rattle.list_decode.specs.declared.branch.Stray.{Stray}
 use Rattle.list_decode.specs.declared.pass.Pass.{Pass}
@@ -91,7 +90,7 @@ module _ (pass : Pass) (us : List (List ℕ)) (u : List ℕ) (span : Span) (x : 
   module _ (before after : List Class) (first behind_v rest : Span) (ranked : IsRanked (soft_of pass) us)
       (covers : Covers (soft_of pass) us (before ++ leaving u span ∷ after))
       (best : (e : Class) (w : List ℕ) → Contains (before ++ leaving u span ∷ after) e → IsCandidate (soft_of pass) w → StandsIn e w → w ≢ stray_of pass u x →
-          FallsBehind (soft_of pass) w (stray_of pass u x))
+      FallsBehind (soft_of pass) w (stray_of pass u x))
       (first_from : first.from ≡ span.from) (first_to : first.to ≡ x.leave.place) (behind_from : behind_v.from ≡ x.leave.place + 1)
       (behind_to : behind_v.to + 4 ≡ pass.bits) (rest_from : rest.from ≡ x.leave.place + 1) (rest_to : rest.to ≡ span.to) where
     abbrev s : List ℤ
@@ -108,7 +107,7 @@ module _ (pass : Pass) (us : List (List ℕ)) (u : List ℕ) (span : Span) (x : 
 
     next : IsRanked (soft_of pass) (us ++ stray_of pass u x ∷ []) ×
         Covers (soft_of pass) (us ++ stray_of pass u x ∷ [])
-            ((before ++ closed (leaving u span) x.leave.place ∷ after) ++ behind (stray_of pass u x) x.leave.place ∷ [])
+        ((before ++ closed (leaving u span) x.leave.place ∷ after) ++ behind (stray_of pass u x) x.leave.place ∷ [])
     next = goes_on_ranked s us before after c v place ranked covers v_is left (is_between span.from span.to place from to) best
 
     narrowed : Covers (soft_of pass) (us ++ stray_of pass u x ∷ [])

@@ -1,21 +1,19 @@
 -- The span of a list, and the best list that leaves it there.
-use Rattle.std.proofs.Common.{◌≡◌, ◌≢◌, ◌⊎◌, ℕ, zero, suc, ◌+◌, ◌-◌, ◌*◌, ◌/◌, ◌%◌, ◌^◌, ◌<◌, ◌≤◌, Bool, true, inl, inr, ℤ, pos, negsuc, ◌+ℤ◌, ◌-ℤ◌, List, [], ◌∷◌, ◌++◌, length, get_or, take, drop, Option, Some, None, refl, ap, ap₂, sym, ◌∙◌, subst, arith, w32, FitsSigned}
+use Rattle.std.proofs.Common.{◌≡◌, ℕ, zero, suc, ◌+◌, ◌-◌, ◌*◌, ◌/◌, ◌%◌, ◌^◌, ◌<◌, ◌≤◌, true, ℤ, pos, negsuc, ◌-ℤ◌, List, [], ◌∷◌, length, get_or, take, drop, Some, None, refl, ap, sym, ◌∙◌, subst, arith, w32, FitsSigned}
 use Rattle.std.specs.Prelude.{◌≤ℤ◌}
-use Rattle.std.specs.List.{All}
 use Rattle.std.proofs.lemmas.Bool.Decides.{nat_tests}
 use Rattle.std.proofs.lemmas.Int.{ints}
 use Rattle.std.proofs.lemmas.List.Elements.{All-head, All-tail}
 use Rattle.bit_blocks.specs.Bits.{AllBits}
 use Rattle.bit_blocks.specs.SoftValues.{IsSoft, agreement}
 use Rattle.conv_code.specs.Code.{coded}
-use Rattle.conv_code.specs.Likelihood.{AllSoft, likelihood, FallsBehind}
+use Rattle.conv_code.specs.Likelihood.{AllSoft, likelihood}
 use Rattle.trellis_decode.specs.Trellis.{next, read_out}
 use Rattle.trellis_decode.proofs.EdgeLanes.{agreement-zero, agreement-one}
 use Rattle.trellis_decode.proofs.Likelihoods.{AllBits-coded}
 use Rattle.list_decode.specs.Branches.{between, leaving, stray_of, IsSpan, IsStray, IsBestStray}
-use Rattle.list_decode.specs.Classes.{Class, StandsIn, LeavesAt}
-use Rattle.list_decode.specs.Detours.{reached, loss_at, Follows, stray, IsLeastFree}
-use Rattle.list_decode.specs.FreePlaces.{IsBestFree, IsLeave}
+use Rattle.list_decode.specs.Detours.{reached, Follows, stray, IsLeastFree}
+use Rattle.list_decode.specs.FreePlaces.{IsBestFree}
 use Rattle.list_decode.specs.Passes.{IsPass, soft_of, rows_of, losses_of}
 use Rattle.list_decode.specs.Ranking.{IsCandidate}
 use Rattle.list_decode.specs.declared.branch.Span.{Span}

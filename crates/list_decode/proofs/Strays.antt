@@ -1,6 +1,6 @@
 -- The best list that leaves a given one at a free place, where the given one follows the choices of the pass from some place on.
-use Rattle.std.proofs.Common.{◌≡◌, ◌≢◌, ◌⊎◌, ℕ, zero, suc, ◌+◌, ◌-◌, ◌*◌, ◌/◌, ◌%◌, ◌^◌, ◌<◌, ◌≤◌, Bool, true, inl, inr, ℤ, ◌+ℤ◌, ◌-ℤ◌, List, [], ◌∷◌, ◌++◌, length, get_or, take, drop, refl, ap, ap₂, sym, ◌∙◌, subst, arith}
-use Rattle.std.specs.Prelude.{◌<ℤ◌, ◌≤ℤ◌}
+use Rattle.std.proofs.Common.{◌≡◌, ◌≢◌, ◌⊎◌, ℕ, zero, suc, ◌+◌, ◌-◌, ◌*◌, ◌/◌, ◌%◌, ◌^◌, ◌<◌, ◌≤◌, true, inl, inr, ℤ, ◌-ℤ◌, List, [], ◌∷◌, ◌++◌, length, get_or, take, drop, refl, ap, sym, ◌∙◌, subst, arith}
+use Rattle.std.specs.Prelude.{◌<ℤ◌}
 use Rattle.std.proofs.lemmas.Bool.{cases_lt}
 use Rattle.std.proofs.lemmas.Int.{ints, by_lt_z}
 use Rattle.conv_code.specs.Code.{coded}
@@ -14,7 +14,7 @@ use Rattle.list_decode.specs.Classes.{LeavesAt, Class, StandsIn}
 use Rattle.list_decode.specs.Detours.{reached, loss_at, detour, Follows, stray, IsLeastFree}
 use Rattle.list_decode.specs.Ranking.{IsCandidate}
 use Rattle.list_decode.proofs.ClassSteps.{leaves_once}
-use Rattle.list_decode.proofs.Detours.{gain-more, IsDetour, is_detour, agree-cons, Left, left}
+use Rattle.list_decode.proofs.Detours.{gain-more, is_detour, agree-cons, left}
 
 -- ---- falling behind is transitive
 

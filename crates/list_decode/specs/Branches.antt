@@ -1,5 +1,5 @@
 -- The spans of the lists that were given, and the best list that leaves each.
-use Rattle.std.specs.Prelude.{ℕ, ◌≡◌, ◌≢◌, ◌≤◌, ◌<◌, ◌+◌, ◌⊎◌, Bool, true, ◌&&◌, nat_le, nat_lt, List, [], length, take, slice_index_or, Option, Some, None}
+use Rattle.std.specs.Prelude.{ℕ, ◌≡◌, ◌≢◌, ◌≤◌, ◌<◌, ◌+◌, Bool, ◌&&◌, nat_le, nat_lt, List, [], length, take, slice_index_or, Option, Some, None}
 use Rattle.conv_code.specs.Code.{coded}
 use Rattle.conv_code.specs.Likelihood.{likelihood, FallsBehind}
 use Rattle.list_decode.specs.Classes.{Class, StandsIn}
@@ -45,7 +45,8 @@ abbrev pub IsBestStray : Pass → List ℕ → Span → Option Stray → Type 0
 IsBestStray pass u span None = (w : List ℕ) → IsCandidate (soft_of pass) w → StandsIn (leaving u span) w → ⊥
 IsBestStray pass u span (Some x) =
     IsStray pass u x × (x.list ≡ span.list) × (span.from ≤ x.leave.place) × (x.leave.place < span.to) ×
-    ((w : List ℕ) → IsCandidate (soft_of pass) w → StandsIn (leaving u span) w → w ≢ stray_of pass u x → FallsBehind (soft_of pass) w (stray_of pass u x))
+    ((w : List ℕ) → IsCandidate (soft_of pass) w → StandsIn (leaving u span) w → w ≢ stray_of pass u x →
+    FallsBehind (soft_of pass) w (stray_of pass u x))
 
 pub record IsBranch (pass : Pass) (u : List ℕ) (branch : Branch) : Type 0 where
   pub span : IsSpan pass u branch.span

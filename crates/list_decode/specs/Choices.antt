@@ -20,7 +20,8 @@ pub record IsStrayOf (pass : Pass) (us : List (List ℕ)) (x : Stray) : Type 0 w
 -- the best list of a branch, if there is one, is x or falls behind it
 abbrev pub IsAtMost : Pass → List (List ℕ) → Stray → Option Stray → Type 0
 IsAtMost pass us x None = Unit {0}
-IsAtMost pass us x (Some y) = (stray_list pass us y ≡ stray_list pass us x) ⊎ FallsBehind (soft_of pass) (stray_list pass us y) (stray_list pass us x)
+IsAtMost pass us x (Some y) = (stray_list pass us y ≡ stray_list pass us x) ⊎
+    FallsBehind (soft_of pass) (stray_list pass us y) (stray_list pass us x)
 
 -- a branch by its number, whose best list no other is ahead of; or none has a best list
 abbrev pub IsFirst : Pass → List (List ℕ) → List Branch → Option Choice → Type 0

@@ -6,7 +6,7 @@ use Rattle.conv_code.specs.Likelihood.{likelihood}
 use Rattle.list_decode.specs.Branches.{IsBranchOf, class_of}
 use Rattle.list_decode.specs.Classes.{Covers}
 use Rattle.list_decode.specs.Passes.{soft_of}
-use Rattle.list_decode.specs.Ranking.{IsCandidate, IsRanked}
+use Rattle.list_decode.specs.Ranking.{IsRanked}
 use Rattle.list_decode.specs.declared.branch.Branch.{Branch}
 use Rattle.list_decode.specs.declared.parting.Next.{Next}
 use Rattle.list_decode.specs.declared.pass.Pass.{Pass}

@@ -66,7 +66,8 @@ fn comes_before(pass: &Pass, lists: &[[u8; 228]], first: &Stray, second: &Stray)
     ensures before { result ≡ true → FallsBehind (soft_of pass.now) (stray_list pass.now (map (take pass.now.bits) lists.now) second.now)
         (stray_list pass.now (map (take pass.now.bits) lists.now) first.now) }
     ensures behind { result ≡ false →
-        (stray_list pass.now (map (take pass.now.bits) lists.now) first.now ≡ stray_list pass.now (map (take pass.now.bits) lists.now) second.now) ⊎
+        (stray_list pass.now (map (take pass.now.bits) lists.now) first.now ≡
+        stray_list pass.now (map (take pass.now.bits) lists.now) second.now) ⊎
         FallsBehind (soft_of pass.now) (stray_list pass.now (map (take pass.now.bits) lists.now) first.now)
         (stray_list pass.now (map (take pass.now.bits) lists.now) second.now) }
 {

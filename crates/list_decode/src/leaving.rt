@@ -76,7 +76,8 @@ pub(crate) fn read_least(rows: &[u16], losses: &[[i16; 16]], u: &mut [u8]) -> Le
 pub(crate) fn write_detour(u: &[u8], rows: &[u16], leave: Leave, v: &mut [u8])
     requires bits { AllBits u.now }
     requires rows { length rows.now ≡ length u.now }
-    requires chosen { drop (leave.place + 1) u.now ≡ read_out (drop (leave.place + 1) rows.now) (next leave.state (slice_index u.now leave.place)) }
+    requires chosen { drop (leave.place + 1) u.now ≡
+        read_out (drop (leave.place + 1) rows.now) (next leave.state (slice_index u.now leave.place)) }
     requires count { length v.old ≡ length u.now }
     requires within { leave.place < length u.now }
     requires state { leave.state < 16 }

@@ -54,7 +54,6 @@ pub(crate) fn find_next(
     })
 }
 
-
 /// The places of a span before and after the one at which its best list `v` leaves `u`, and those behind it in `v`, which is
 /// given as number `new`.
 fn parted(pass: &Pass, u: &[u8], v: &[u8], span: Span, stray: &Stray, new: usize) -> Parts
@@ -69,9 +68,12 @@ fn parted(pass: &Pass, u: &[u8], v: &[u8], span: Span, stray: &Stray, new: usize
     ensures before { IsBranch pass.now u.now result.before }
     ensures behind { IsBranch pass.now v.now result.behind }
     ensures after { IsBranch pass.now u.now result.after }
-    ensures before_span { (result.before.span.list ≡ span.list) × (result.before.span.from ≡ span.from) × (result.before.span.to ≡ stray.now.leave.place) }
-    ensures behind_span { (result.behind.span.list ≡ new) × (result.behind.span.from ≡ stray.now.leave.place + 1) × (result.behind.span.to + 4 ≡ pass.now.bits) }
-    ensures after_span { (result.after.span.list ≡ span.list) × (result.after.span.from ≡ stray.now.leave.place + 1) × (result.after.span.to ≡ span.to) }
+    ensures before_span { (result.before.span.list ≡ span.list) × (result.before.span.from ≡ span.from) ×
+        (result.before.span.to ≡ stray.now.leave.place) }
+    ensures behind_span { (result.behind.span.list ≡ new) × (result.behind.span.from ≡ stray.now.leave.place + 1) ×
+        (result.behind.span.to + 4 ≡ pass.now.bits) }
+    ensures after_span { (result.after.span.list ≡ span.list) × (result.after.span.from ≡ stray.now.leave.place + 1) ×
+        (result.after.span.to ≡ span.to) }
 {
     let place = stray.leave.place;
     let before = Span { to: place, ..span };

@@ -1,4 +1,4 @@
-use Rattle.std.proofs.Common.{rules, ◌≡◌, subst, to_z, of_z, w32, FitsSigned}
+use Rattle.std.proofs.Common.{rules, subst, w32, FitsSigned}
 use Rattle.std.specs.Prelude.{◌<ℤ◌, ◌≤ℤ◌}
 use Rattle.std.proofs.lemmas.Int.{to_z-of_z}
 use Rattle.list_decode.specs.FreePlaces.{IsBestFree}

@@ -1,8 +1,7 @@
-use Rattle.std.proofs.Common.{arith, rules, ◌≡◌, ◌+◌, ◌<◌, false, [], pos, length, get_or, ap, ap₂, sym, subst, ◌∙◌, to_z, of_z, w16, FitsSigned}
+use Rattle.std.proofs.Common.{arith, rules, ◌≡◌, ◌<◌, [], pos, length, get_or, ap, ap₂, sym, ◌∙◌, to_z, of_z, w16, FitsSigned}
 use Rattle.std.proofs.lemmas.Int.{to_z-of_z}
 use Rattle.list_decode.specs.Branches.{between}
 use Rattle.list_decode.specs.Detours.{loss_at}
-use Rattle.list_decode.specs.FreePlaces.{IsBestFree}
 use Rattle.trellis_decode.specs.Trellis.{next}
 use Rattle.list_decode.proofs.Losses.{reached_more}
 use Rattle.list_decode.proofs.FreePlaces.{is_leave}

@@ -1,4 +1,4 @@
-use Rattle.std.proofs.Common.{◌≡◌, subst}
+use Rattle.std.proofs.Common.{subst}
 use Rattle.list_decode.specs.Choices.{IsFirst}
 use Rattle.list_decode.proofs.Choices.{first_taken, first_stays}
 use Rattle.list_decode.proofs.choice.earlier.Goals as goal

@@ -1,4 +1,4 @@
-use Rattle.std.proofs.Common.{arith, ◌+◌, ◌%◌, ◌*◌, drop, ap, sym, ◌∙◌}
+use Rattle.std.proofs.Common.{◌+◌, ◌%◌, ◌*◌, drop, ap, sym, ◌∙◌}
 use Rattle.std.proofs.lemmas.List.{take_rest}
 use Rattle.trellis_decode.specs.Trellis.{read_out}
 use Rattle.list_decode.proofs.leaving.write_detour.Goals as goal

@@ -1,4 +1,4 @@
-use Rattle.std.proofs.Common.{rules, ◌≡◌, [], get_or, map, take, length, refl, ap, sym, ◌∙◌, subst, w32, FitsSigned}
+use Rattle.std.proofs.Common.{rules, ◌≡◌, [], get_or, map, take, refl, ap, sym, ◌∙◌, subst, w32, FitsSigned}
 use Rattle.std.proofs.lemmas.Int.{to_z-of_z}
 use Rattle.std.proofs.lemmas.List.{length-map}
 use Rattle.list_decode.specs.Branches.{IsBranch, stray_of}

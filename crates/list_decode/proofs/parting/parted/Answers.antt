@@ -1,4 +1,4 @@
-use Rattle.std.proofs.Common.{arith, rules, ◌≡◌, ◌+◌, ◌*◌, ◌%◌, refl, ap, w32, FitsSigned}
+use Rattle.std.proofs.Common.{arith, rules, ◌+◌, ◌*◌, ◌%◌, refl, ap, w32, FitsSigned}
 use Rattle.std.proofs.lemmas.Int.{to_z-of_z}
 use Rattle.list_decode.proofs.Spans.{span_after, span_behind}
 use Rattle.list_decode.proofs.parting.parted.Goals as goal

@@ -1,9 +1,9 @@
-use Rattle.std.proofs.Common.{arith, rules, ◌≡◌, ◌-ℤ◌, Some, refl, ap, ap₂, sym, ◌∙◌, subst, w32, FitsSigned, to_z, of_z}
+use Rattle.std.proofs.Common.{rules, ◌-ℤ◌, refl, ap, ap₂, sym, ◌∙◌, subst, w32, FitsSigned, to_z, of_z}
 use Rattle.std.proofs.lemmas.Int.{to_z-of_z}
-use Rattle.list_decode.specs.Branches.{IsBestStray, between}
+use Rattle.list_decode.specs.Branches.{between}
 use Rattle.list_decode.specs.FreePlaces.{IsBestFree}
 use Rattle.list_decode.specs.Passes.{losses_of}
-use Rattle.list_decode.proofs.Spans.{best_stray, no_best, value_fits}
+use Rattle.list_decode.proofs.Spans.{best_stray, value_fits}
 use Rattle.list_decode.proofs.branch.Branch.new.Goals as goal
 
 pub overflow_sub-best : goal.overflow_sub-best

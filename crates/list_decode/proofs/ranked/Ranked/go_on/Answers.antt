@@ -1,4 +1,4 @@
-use Rattle.std.proofs.Common.{arith, rules, ◌≡◌, ◌<◌, ◌*◌, ◌++◌, ◌∷◌, [], inr, length, take, refl, ap, ap₂, sym, ◌∙◌, subst, w32, FitsSigned}
+use Rattle.std.proofs.Common.{arith, rules, ◌≡◌, ◌<◌, ◌++◌, ◌∷◌, [], inr, length, refl, ap, ◌∙◌, subst, w32, FitsSigned}
 use Rattle.std.proofs.lemmas.Int.{to_z-of_z}
 use Rattle.conv_code.specs.Code.{coded}
 use Rattle.conv_code.specs.Likelihood.{likelihood}
@@ -40,8 +40,7 @@ returns-clause-given c =
     let next = c.in_ok-next.ensures.next in
     let fits : FitsSigned w32 c.in_ok-next.next.likelihood = search rules in
     let bits = bits_is c.self.inside c.args.self.now c.self.view_is c.self.invariant.pass (length c.args.u.now) c.requires.count in
-    let reads = reads_as c.self.inside.pass.bits c.padded.result c.find_next.new.u c.padded.ensures (c.find_next.auto.u ∙ bits) in
-    (
+    let reads = reads_as c.self.inside.pass.bits c.padded.result c.find_next.new.u c.padded.ensures (c.find_next.auto.u ∙ bits) in (
       next_given c.self.inside c.self.invariant (omega arith) (omega arith) many room u c.padded.result reads c.in_ok-next.next next
           ∙ ap (λ us. us ++ u ∷ []) (given_is c.self.inside c.args.self.now c.self.view_is),
       to_z-of_z w32 c.in_ok-next.next.likelihood fits ∙ next.value ∙ ap (λ s. likelihood s (coded u)) (soft_is c.self.inside c.args.self.now c.self.view_is),
