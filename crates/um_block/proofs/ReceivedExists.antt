@@ -1,9 +1,7 @@
 -- Every burst and every block is received in some way.
-use Rattle.std.proofs.Common.{◌≡◌, ◌≢◌, ◌⊎◌, inl, inr, ℕ, zero, suc, ◌+◌, ◌-◌, ◌*◌, ◌^◌, ◌<◌, ◌≤◌, ℤ, pos, Option, Some, None, List, ◌++◌, map, take, drop, length, get_or, subst, ap, ap₂, sym, ◌∙◌, refl, arith, lit≤}
+use Rattle.std.proofs.Common.{◌≡◌, ◌⊎◌, inl, inr, ℕ, ◌+◌, ◌-◌, ◌≤◌, ℤ, pos, Option, Some, None, List, ◌++◌, map, take, drop, length, get_or, subst, ap, ap₂, sym, ◌∙◌, refl, arith, lit≤}
 use Rattle.std.specs.Prelude.{MatchOption, slice_range}
 use Rattle.std.specs.List.{All}
-use Rattle.std.proofs.lemmas.Int.{by_lt_z}
-use Rattle.std.proofs.lemmas.Nat.{pow-add, pow_pos}
 use Rattle.std.proofs.lemmas.List.{length-take, length-drop, length-append, length-map, take-append-drop}
 use Rattle.std.proofs.lemmas.List.Elements.{All-map, All-take}
 use Rattle.bit_blocks.specs.Bits.{IsBit, AllBits}
@@ -12,11 +10,8 @@ use Rattle.bit_blocks.specs.SoftValues.{likelihood, wrong_places}
 use Rattle.fire_code.specs.Words.{IsXcchWord, IsRachWord, IsSchWord}
 use Rattle.fire_code.proofs.Lemmas.{some_xcch_parity, some_rach_parity, some_sch_parity, one_xcch_parity, one_rach_parity, one_sch_parity}
 use Rattle.conv_code.specs.Code.{coded}
-use Rattle.conv_code.specs.Likelihood.{FallsBehind, IsMostLikely}
-use Rattle.trellis_decode.specs.Words.{word}
+use Rattle.trellis_decode.proofs.Lemmas.{some_most_likely}
 use Rattle.trellis_decode.proofs.MostLikely.{same_list}
-use Rattle.trellis_decode.proofs.Searching.{new_leads, old_leads, IsMostLikely-chosen}
-use Rattle.trellis_decode.proofs.WordLists.{length-word}
 use Rattle.training_seq.specs.Choice.{total_correlation}
 use Rattle.training_seq.proofs.Lemmas.{some_first_greatest}
 use Rattle.interleave.specs.Bursts.{IsInterleaved}
@@ -27,52 +22,6 @@ use Rattle.um_block.specs.Received.{coded_places, access_places, sync_places, tr
 use Rattle.um_block.specs.declared.received.Received.{Received}
 use Rattle.um_block.specs.declared.received.ReceivedAccess.{ReceivedAccess}
 use Rattle.um_block.specs.declared.received.ReceivedSync.{ReceivedSync}
-
--- ---- the most likely list
-
--- the first of the most likely among the lists up to a number
-record Leading (soft : List ℤ) (n number : ℕ) : Type 0 where
-  chosen : ℕ
-  within : chosen < number
-  others : (m : ℕ) → m < number → m ≢ chosen → FallsBehind soft (word n (16 * m)) (word n (16 * chosen))
-
-leading : (soft : List ℤ) (n number : ℕ) → 16 * (number + 1) ≤ 2 ^ n → Leading soft n (number + 1)
-leading soft n zero room = record {
-  chosen = 0;
-  within = omega arith;
-  others = λ m h ne. absurd (omega arith);
-}
-leading soft n (suc number) room =
-    let before = leading soft n number (omega arith) in
-    let chosen = before.chosen in
-    let within = before.within in
-    let last : ℕ = number + 1 in
-    let inside : 16 * last < 2 ^ n = omega arith in
-    let value : ℕ → ℤ = λ m. likelihood soft (coded (word n (16 * m))) in
-    by_lt_z (value chosen) (value last)
-    (λ more. record {
-      chosen = last;
-      within = omega arith;
-      others = λ m h ne. new_leads soft n chosen last within inside before.others more m (omega arith) ne;
-    })
-    (λ most. record {
-      chosen = chosen;
-      within = omega arith;
-      others = λ m h ne. old_leads soft n chosen last within inside before.others most m (omega arith) ne;
-    })
-
-pub some_most_likely : (soft : List ℤ) (n : ℕ) → length soft ≡ 2 * n → 5 ≤ n → (u : List ℕ) × IsMostLikely soft u × (length u ≡ n)
-some_most_likely soft n pairs long =
-    let parted : 2 ^ n ≡ 16 * 2 ^ (n - 4) =
-    ap (λ k. 2 ^ k) (let e : n ≡ 4 + (n - 4) = omega arith in e) ∙ pow-add 2 4 (n - 4) in
-    let some : 0 < 2 ^ (n - 4) = pow_pos (n - 4) in
-    let lists : ℕ = 2 ^ (n - 4) in
-    let whole : lists - 1 + 1 ≡ lists = omega arith in
-    let found = leading soft n (lists - 1) (omega arith) in (
-      word n (16 * found.chosen),
-      IsMostLikely-chosen soft n found.chosen lists long pairs (sym parted) (λ m h ne. found.others m (omega arith) ne),
-      length-word n (16 * found.chosen),
-    )
 
 -- ---- whether a parity holds
 

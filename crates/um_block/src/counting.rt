@@ -16,6 +16,7 @@ pub fn wrong_block_places(bursts: &[[i8; 148]; 4], u: &[u8; 228]) -> u32
     requires soft { All AllSoft bursts.now }
     requires information { IsInformation u.now }
     ensures value { (soft : List ℤ) → IsInterleaved soft (map coded_places bursts.now) → result ≡ wrong_places soft (coded u.now) }
+    ensures some { (soft : List ℤ) × IsInterleaved soft (map coded_places bursts.now) }
     ensures within { result ≤ 456 }
 {
     let mut coded = [0; 456];

@@ -14,3 +14,6 @@ pub returns-clause-value : goal.returns-clause-value
 returns-clause-value c = λ soft gathered.
     let same = same_coded c.gather_block.result soft (map coded_places c.args.bursts.now) c.gather_block.ensures.gathered gathered in
     c.wrong_places.ensures.value ∙ ap (λ values. wrong_places values c.encode.new.out) same ∙ ap (wrong_places soft) c.encode.ensures
+
+pub returns-clause-some : goal.returns-clause-some
+returns-clause-some c = (c.gather_block.result, c.gather_block.ensures.gathered)
