@@ -16,7 +16,7 @@ abbrev pub Follows : (EndState → Outcome) → End → Effects → End → Type
 Follows rule old effects new = (e : EndState) → Stands old e → Stands new (rule e).after × Does effects e.channel (rule e)
 
 -- the call is refused exactly where a condition holds, and for the first that does
-abbrev pub IsRefusedAs : Call → End → Result Effects Refused → Type 0
+abbrev pub IsRefusedAs : {A : Type 0} → Call → End → Result A Refused → Type 0
 IsRefusedAs call old result = (e : EndState) → Stands old e → result_err result ≡ refusal_of call e
 
 -- for the bodies of the tables: the same, where frames and notices are added to others

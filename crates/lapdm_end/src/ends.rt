@@ -1,11 +1,11 @@
-//! The calls of an end.
+//! The calls of an end, which write what they do into the caller's room. A call that is refused leaves all as it was.
 
 ghost use Rattle.std.specs.Prelude.{◌≡◌, ◌≤◌, length};
 ghost use Rattle.lapdm_frame.specs.Layout.{n201};
 ghost use Rattle.lapdm_window.specs.Standing.{channel_of as window_channel};
 
 use crate::Role;
-use crate::link::{Link, no_effects};
+use crate::link::Link;
 use lapdm_frame::{Body, Channel};
 use lapdm_window::{Effects, Message, Reason, Refused, Sapi, State, Timer, Window, n200};
 
@@ -24,7 +24,7 @@ pub struct End {
 }
 
 impl End {
-    ghost use Rattle.std.specs.Prelude.{[], ◌∷◌, OnErr, IfOk, IfNone};
+    ghost use Rattle.std.specs.Prelude.{[], ◌∷◌, OnErr, OnOk, IfNone};
     ghost use Rattle.lapdm_frame.specs.Frames.{octets_of};
     ghost use Rattle.lapdm_window.specs.declared.State.TheVariants as S;
     ghost use Rattle.lapdm_window.specs.Ends.{EndState, start};
@@ -67,12 +67,13 @@ impl End {
     }
 
     /// Asks the other end to open the link, with this information.
-    pub fn open(&mut self, info: &[u8]) -> Result<Effects, Refused>
+    pub fn open_into(&mut self, info: &[u8], effects: &mut Effects) -> Result<(), Refused>
         requires { sapi_of self.old ≡ Sapi.Zero }
         ensures refusal { IsRefusedAs (Opens info.now) self.old result }
-        ensures follows { IfOk result
-            (λ effects. Follows (after_call (Opens info.now)) self.old effects self.new) }
+        ensures follows { OnOk result
+            (Follows (after_call (Opens info.now)) self.old effects.new self.new) }
         ensures refused { OnErr result (self.new ≡ self.old) }
+        ensures kept { OnErr result (effects.new ≡ effects.old) }
         ensures sapi { sapi_of self.new ≡ sapi_of self.old }
         ensures channel { channel_of self.new ≡ channel_of self.old }
     {
@@ -82,31 +83,35 @@ impl End {
         if let Some(refusal) = self.frame_refusal(info) {
             return Err(refusal);
         }
-        Ok(self.begin(info))
+        self.begin(info, effects);
+        Ok(())
     }
 
     /// Asks the other end to open the link, with no information.
-    pub fn open_bare(&mut self) -> Result<Effects, Refused>
+    pub fn open_bare_into(&mut self, effects: &mut Effects) -> Result<(), Refused>
         requires { sapi_of self.old ≡ Sapi.Three }
         ensures refusal { IsRefusedAs OpensBare self.old result }
-        ensures follows { IfOk result
-            (λ effects. Follows (after_call OpensBare) self.old effects self.new) }
+        ensures follows { OnOk result
+            (Follows (after_call OpensBare) self.old effects.new self.new) }
         ensures refused { OnErr result (self.new ≡ self.old) }
+        ensures kept { OnErr result (effects.new ≡ effects.old) }
         ensures sapi { sapi_of self.new ≡ sapi_of self.old }
         ensures channel { channel_of self.new ≡ channel_of self.old }
     {
         if self.state != State::Idle {
             return Err(Refused::NotIdle);
         }
-        Ok(self.begin(&[]))
+        self.begin(&[], effects);
+        Ok(())
     }
 
     /// Sends a message over the link.
-    pub fn send(&mut self, message: &[u8]) -> Result<Effects, Refused>
+    pub fn send_into(&mut self, message: &[u8], effects: &mut Effects) -> Result<(), Refused>
         ensures refusal { IsRefusedAs (Sends message.now) self.old result }
-        ensures follows { IfOk result
-            (λ effects. Follows (after_call (Sends message.now)) self.old effects self.new) }
+        ensures follows { OnOk result
+            (Follows (after_call (Sends message.now)) self.old effects.new self.new) }
         ensures refused { OnErr result (self.new ≡ self.old) }
+        ensures kept { OnErr result (effects.new ≡ effects.old) }
         ensures sapi { sapi_of self.new ≡ sapi_of self.old }
         ensures channel { channel_of self.new ≡ channel_of self.old }
     {
@@ -116,17 +121,18 @@ impl End {
         if let Err(refusal) = self.window.put(message) {
             return Err(refusal);
         }
-        let mut effects = no_effects();
-        self.link.send_next(&mut self.window, &mut effects);
-        Ok(effects)
+        effects.clear();
+        self.link.send_next(&mut self.window, effects);
+        Ok(())
     }
 
     /// Sends a message in one unnumbered frame, outside the link.
-    pub fn unit(&mut self, message: &[u8]) -> Result<Effects, Refused>
+    pub fn unit_into(&mut self, message: &[u8], effects: &mut Effects) -> Result<(), Refused>
         ensures refusal { IsRefusedAs (SendsUnit message.now) self.old result }
-        ensures follows { IfOk result
-            (λ effects. Follows (after_call (SendsUnit message.now)) self.old effects self.new) }
+        ensures follows { OnOk result
+            (Follows (after_call (SendsUnit message.now)) self.old effects.new self.new) }
         ensures unchanged { self.new ≡ self.old }
+        ensures kept { OnErr result (effects.new ≡ effects.old) }
     {
         if let Some(refusal) = self.frame_refusal(message) {
             return Err(refusal);
@@ -135,15 +141,17 @@ impl End {
             p: false,
             info: message,
         };
-        Ok(self.link.only_command(body))
+        self.link.only_command(body, effects);
+        Ok(())
     }
 
     /// Closes the link. What is not acknowledged is given up.
-    pub fn close(&mut self) -> Result<Effects, Refused>
+    pub fn close_into(&mut self, effects: &mut Effects) -> Result<(), Refused>
         ensures refusal { IsRefusedAs Closes self.old result }
-        ensures follows { IfOk result
-            (λ effects. Follows (after_call Closes) self.old effects self.new) }
+        ensures follows { OnOk result
+            (Follows (after_call Closes) self.old effects.new self.new) }
         ensures refused { OnErr result (self.new ≡ self.old) }
+        ensures kept { OnErr result (effects.new ≡ effects.old) }
         ensures sapi { sapi_of self.new ≡ sapi_of self.old }
         ensures channel { channel_of self.new ≡ channel_of self.old }
     {
@@ -152,31 +160,39 @@ impl End {
         }
         self.state = State::Closing;
         self.retries = 0;
-        Ok(self.disc())
+        self.disc(effects);
+        Ok(())
     }
 
     /// The timer T200 has run out.
-    pub fn timer(&mut self) -> Result<Effects, Refused>
+    pub fn timer_into(&mut self, effects: &mut Effects) -> Result<(), Refused>
         ensures refusal { IsRefusedAs Ticks self.old result }
-        ensures follows { IfOk result
-            (λ effects. Follows (after_call Ticks) self.old effects self.new) }
+        ensures follows { OnOk result
+            (Follows (after_call Ticks) self.old effects.new self.new) }
         ensures refused { OnErr result (self.new ≡ self.old) }
+        ensures kept { OnErr result (effects.new ≡ effects.old) }
         ensures sapi { sapi_of self.new ≡ sapi_of self.old }
         ensures channel { channel_of self.new ≡ channel_of self.old }
     {
         match self.state {
             State::Idle | State::Closed => Err(Refused::NotRunning),
-            State::Opening => Ok(self.tick_opening()),
-            State::Closing => Ok(self.tick_closing()),
-            State::Open => self.tick_open(),
+            State::Opening => {
+                self.tick_opening(effects);
+                Ok(())
+            }
+            State::Closing => {
+                self.tick_closing(effects);
+                Ok(())
+            }
+            State::Open => self.tick_open(effects),
         }
     }
 
     /// The fill frame, which is sent when there is nothing else to send.
-    pub fn idle(&self) -> Effects
-        ensures { Follows (after_call Idles) self.now result self.now }
+    pub fn idle_into(&self, effects: &mut Effects)
+        ensures { Follows (after_call Idles) self.now effects.new self.now }
     {
-        self.link.fill()
+        self.link.fill(effects);
     }
 
     // Why a frame has no room for this, or needs more.
@@ -194,91 +210,96 @@ impl End {
         None
     }
 
-    fn begin(&mut self, info: &[u8]) -> Effects
+    fn begin(&mut self, info: &[u8], effects: &mut Effects)
         requires idle { state_of self.old ≡ S.Idle }
         requires fits { length info.now ≤ n201 (channel_of self.old) }
         requires bare { sapi_of self.old ≡ Sapi.Three → info.now ≡ [] }
-        ensures follows { Follows (begins info.now) self.old result self.new }
+        ensures follows { Follows (begins info.now) self.old effects.new self.new }
         ensures sapi { sapi_of self.new ≡ sapi_of self.old }
         ensures channel { channel_of self.new ≡ channel_of self.old }
     {
         self.state = State::Opening;
         self.kept = Message::new(info);
         self.retries = 0;
-        self.sabm()
+        self.sabm(effects);
     }
 
-    fn sabm(&self) -> Effects
+    fn sabm(&self, effects: &mut Effects)
         ensures frames { (e : EndState) → Stands self.now e
-            → result.frames ≡ octets_of e.channel (sabm e) ∷ [] }
-        ensures notices { result.notices ≡ [] }
+            → effects.new.frames ≡ octets_of e.channel (sabm e) ∷ [] }
+        ensures notices { effects.new.notices ≡ [] }
     {
         let body = Body::Sabm {
             p: true,
             info: self.kept.octets(),
         };
-        self.link.only_command(body)
+        self.link.only_command(body, effects);
     }
 
-    fn disc(&self) -> Effects
+    fn disc(&self, effects: &mut Effects)
         ensures frames { (e : EndState) → Stands self.now e
-            → result.frames ≡ octets_of e.channel (disc e) ∷ [] }
-        ensures notices { result.notices ≡ [] }
+            → effects.new.frames ≡ octets_of e.channel (disc e) ∷ [] }
+        ensures notices { effects.new.notices ≡ [] }
     {
-        self.link.only_command(Body::Disc { p: true })
+        self.link.only_command(Body::Disc { p: true }, effects);
     }
 
-    fn close_with(&mut self, reason: Reason) -> Effects
-        ensures follows { Follows (becomes_closed reason) self.old result self.new }
+    fn close_with(&mut self, reason: Reason, effects: &mut Effects)
+        ensures follows { Follows (becomes_closed reason) self.old effects.new self.new }
         ensures sapi { sapi_of self.new ≡ sapi_of self.old }
         ensures channel { channel_of self.new ≡ channel_of self.old }
     {
-        let mut effects = no_effects();
-        self.end_with(reason, &mut effects);
-        effects
+        effects.clear();
+        self.end_with(reason, effects);
     }
 
-    fn tick_opening(&mut self) -> Effects
+    fn tick_opening(&mut self, effects: &mut Effects)
         requires opening { state_of self.old ≡ S.Opening }
-        ensures follows { Follows ticks self.old result self.new }
+        ensures follows { Follows ticks self.old effects.new self.new }
         ensures sapi { sapi_of self.new ≡ sapi_of self.old }
         ensures channel { channel_of self.new ≡ channel_of self.old }
     {
         if self.retries >= n200(self.link.channel, State::Opening) {
-            return self.close_with(Reason::Failed);
+            self.close_with(Reason::Failed, effects);
+            return;
         }
         self.retries += 1;
-        self.sabm()
+        self.sabm(effects);
     }
 
-    fn tick_closing(&mut self) -> Effects
+    fn tick_closing(&mut self, effects: &mut Effects)
         requires closing { state_of self.old ≡ S.Closing }
-        ensures follows { Follows ticks self.old result self.new }
+        ensures follows { Follows ticks self.old effects.new self.new }
         ensures sapi { sapi_of self.new ≡ sapi_of self.old }
         ensures channel { channel_of self.new ≡ channel_of self.old }
     {
         if self.retries >= n200(self.link.channel, State::Closing) {
-            return self.close_with(Reason::Failed);
+            self.close_with(Reason::Failed, effects);
+            return;
         }
         self.retries += 1;
-        self.disc()
+        self.disc(effects);
     }
 
-    fn tick_open(&mut self) -> Result<Effects, Refused>
+    fn tick_open(&mut self, effects: &mut Effects) -> Result<(), Refused>
         requires open { state_of self.old ≡ S.Open }
         ensures refusal { IsRefusedAs Ticks self.old result }
-        ensures follows { IfOk result (λ effects. Follows ticks self.old effects self.new) }
+        ensures follows { OnOk result (Follows ticks self.old effects.new self.new) }
         ensures refused { OnErr result (self.new ≡ self.old) }
+        ensures kept { OnErr result (effects.new ≡ effects.old) }
         ensures sapi { sapi_of self.new ≡ sapi_of self.old }
         ensures channel { channel_of self.new ≡ channel_of self.old }
     {
         match self.window.on_timer() {
             Timer::NotRunning => Err(Refused::NotRunning),
-            Timer::Spent => Ok(self.close_with(Reason::Failed)),
+            Timer::Spent => {
+                self.close_with(Reason::Failed, effects);
+                Ok(())
+            }
             Timer::Again => {
-                let mut effects = no_effects();
-                self.link.send_waiting(true, &self.window, &mut effects);
-                Ok(effects)
+                effects.clear();
+                self.link.send_waiting(true, &self.window, effects);
+                Ok(())
             }
         }
     }

@@ -2,6 +2,7 @@
 //! and where they differ, by their role. No call takes memory.
 #![tactic(auto)]
 
+mod calls;
 mod ends;
 mod link;
 mod open;

@@ -7,7 +7,7 @@ ghost use Rattle.lapdm_window.specs.Ends.{command_cr, sapi_number};
 
 use crate::Role;
 use lapdm_frame::{Body, Channel, FrameView, fill_on, write_on};
-use lapdm_window::{Effects, Frames, Notices, Sapi};
+use lapdm_window::{Effects, Sapi};
 
 /// What the frames of an end say of it, and the channel that they go over.
 #[derive(Clone, Copy, PartialEq, Eq, Debug)]
@@ -15,16 +15,6 @@ pub(crate) struct Link {
     pub(crate) role: Role,
     pub(crate) sapi: Sapi,
     pub(crate) channel: Channel,
-}
-
-pub(crate) fn no_effects() -> Effects
-    ensures frames { result.frames ≡ [] }
-    ensures notices { result.notices ≡ [] }
-{
-    Effects {
-        frames: Frames::new(),
-        notices: Notices::new(),
-    }
 }
 
 impl Link {
@@ -86,28 +76,26 @@ impl Link {
     }
 
     // One command and no more.
-    pub(crate) fn only_command(self, body: Body<'_>) -> Effects
+    pub(crate) fn only_command(self, body: Body<'_>, effects: &mut Effects)
         requires numbers { NumbersFit (content_of body) }
         requires information { InformationFits self.channel (content_of body) }
-        ensures frames { result.frames
+        ensures frames { effects.new.frames
             ≡ octets_of self.channel (command_by self (content_of body.entry)) ∷ [] }
-        ensures notices { result.notices ≡ [] }
+        ensures notices { effects.new.notices ≡ [] }
     {
-        let mut effects = no_effects();
-        self.command(body, &mut effects);
-        effects
+        effects.clear();
+        self.command(body, effects);
     }
 
-    // The fill frame.
-    pub(crate) fn fill(self) -> Effects
-        ensures frames { result.frames
+    // The fill frame and no more.
+    pub(crate) fn fill(self, effects: &mut Effects)
+        ensures frames { effects.new.frames
             ≡ octets_of self.channel (fill (command_cr (role_of self.role))) ∷ [] }
-        ensures notices { result.notices ≡ [] }
+        ensures notices { effects.new.notices ≡ [] }
     {
-        let mut effects = no_effects();
+        effects.clear();
         effects
             .frames
             .push(fill_on(self.command_cr(), self.channel));
-        effects
     }
 }

@@ -10,7 +10,6 @@ ghost use Rattle.lapdm_window.specs.Tables.{becomes_open, becomes_closed, opened
 ghost use Rattle.lapdm_end.specs.Units.{unit_notices};
 
 use crate::ends::End;
-use crate::link::no_effects;
 use crate::replies::{Reply, is_poll, is_taken};
 use lapdm_frame::{Body, FrameView};
 use lapdm_window::{Effects, Message, Notice, Reason, State};
@@ -35,20 +34,19 @@ impl End {
     ghost use Rattle.lapdm_end.specs.Standing.{Stands, channel_of, sapi_of, state_of};
     ghost use Rattle.lapdm_end.specs.Following.{Follows, Obeys};
 
-    /// Takes a frame that came in.
-    pub fn take(&mut self, frame: &FrameView<'_>) -> Effects
+    /// Takes a frame that came in. What stood in `effects` is gone.
+    pub fn take_into(&mut self, frame: &FrameView<'_>, effects: &mut Effects)
         requires { Fits (channel_of self.old) (frame_of frame.now) }
-        ensures follows { Follows (after_frame (frame_of frame.now)) self.old result self.new }
+        ensures follows { Follows (after_frame (frame_of frame.now)) self.old effects.new self.new }
         ensures sapi { sapi_of self.new ≡ sapi_of self.old }
         ensures channel { channel_of self.new ≡ channel_of self.old }
     {
-        let mut effects = no_effects();
+        effects.clear();
         let command = frame.cr != self.link.command_cr();
         if frame.sapi != self.link.sapi_number() || !is_taken(command, &frame.body) {
-            return effects;
+            return;
         }
-        self.take_content(command, &frame.body, &mut effects);
-        effects
+        self.take_content(command, &frame.body, effects);
     }
 
     fn take_content(&mut self, command: bool, body: &Body<'_>, effects: &mut Effects)

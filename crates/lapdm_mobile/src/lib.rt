@@ -2,6 +2,7 @@
 //! and 3. No call takes memory.
 #![tactic(auto)]
 
+mod into;
 mod mobile;
 
 pub use mobile::Mobile;

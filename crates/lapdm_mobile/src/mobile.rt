@@ -21,7 +21,7 @@ mod parts;
 /// The mobile's end of a link. A refused call changes nothing.
 #[derive(Debug, Drop)]
 pub struct Mobile {
-    end: End,
+    pub(crate) end: End,
 }
 
 impl Mobile {

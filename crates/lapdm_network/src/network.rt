@@ -21,7 +21,7 @@ mod parts;
 /// The network's end of a link. A refused call changes nothing.
 #[derive(Debug, Drop)]
 pub struct Network {
-    end: End,
+    pub(crate) end: End,
 }
 
 impl Network {

@@ -1,8 +1,8 @@
-//! What an end sends and reports.
+//! What an end sends and reports. Both lists lie in the value itself, so that an end writes them into its
+//! caller's room, and a list is emptied by its length alone.
 ghost use Rattle.std.specs.Prelude.{◌≡◌, ◌<◌, ◌≤◌, [], ◌∷◌, ◌++◌, length};
 
 use crate::Notice;
-use arrayvec::ArrayVec;
 use std::marker::Model;
 
 /// What a call of an end sends, and what it reports.
@@ -12,19 +12,44 @@ pub struct Effects {
     pub notices: Notices,
 }
 
+impl Effects {
+    /// Nothing is sent, and nothing reported.
+    pub fn new() -> Effects
+        ensures frames { result.frames ≡ [] }
+        ensures notices { result.notices ≡ [] }
+    {
+        Effects {
+            frames: Frames::new(),
+            notices: Notices::new(),
+        }
+    }
+
+    /// Drops what stands in it.
+    pub fn clear(&mut self)
+        ensures frames { self.new.frames ≡ [] }
+        ensures notices { self.new.notices ≡ [] }
+    {
+        self.frames.clear();
+        self.notices.clear();
+    }
+}
+
 /// At most two blocks, in the order in which they are sent.
 #[derive(Debug, Drop)]
 pub struct Frames {
-    blocks: ArrayVec<[u8; 23], 2>,
+    blocks: [[u8; 23]; 2],
+    len: usize,
 }
 
 // Clauses see the list of blocks, each a list of octets.
 impl Model for Frames {
-    ghost use Rattle.std.specs.Prelude.{List, ℕ};
+    ghost use Rattle.std.specs.Prelude.{◌≤◌, List, ℕ, take};
 
     ghost Value = { List (List ℕ) };
 
-    ghost view = { λ f. f.blocks.items };
+    ghost view = { λ f. take f.len f.blocks };
+
+    ghost invariant = { λ f. f.len ≤ 2 };
 }
 
 impl Frames {
@@ -32,8 +57,16 @@ impl Frames {
         ensures { result ≡ [] }
     {
         Frames {
-            blocks: ArrayVec::new(),
+            blocks: [[0; 23]; 2],
+            len: 0,
         }
+    }
+
+    /// Drops all blocks.
+    pub fn clear(&mut self)
+        ensures { self.new ≡ [] }
+    {
+        self.len = 0;
     }
 
     /// Appends a block.
@@ -41,31 +74,36 @@ impl Frames {
         requires { length self.old < 2 }
         ensures { self.new ≡ self.old ++ block ∷ [] }
     {
-        self.blocks.push(block);
+        let len = self.len;
+        self.blocks[len] = block;
+        self.len = len + 1;
     }
 
     pub fn as_slice(&self) -> &[[u8; 23]]
         ensures value { result.now ≡ self.now }
         ensures fits { length result.now ≤ 2 }
     {
-        self.blocks.as_slice()
+        &self.blocks[..self.len]
     }
 }
 
 /// At most three notices, in the order in which they are reported.
 #[derive(Debug, Drop)]
 pub struct Notices {
-    items: ArrayVec<Notice, 3>,
+    items: [Notice; 3],
+    len: usize,
 }
 
 // Clauses see the list of notices.
 impl Model for Notices {
-    ghost use Rattle.std.specs.Prelude.{List};
+    ghost use Rattle.std.specs.Prelude.{◌≤◌, List, take};
     ghost use Rattle.lapdm_window.specs.declared.Notice.{Notice};
 
     ghost Value = { List Notice };
 
-    ghost view = { λ n. n.items.items };
+    ghost view = { λ n. take n.len n.items };
+
+    ghost invariant = { λ n. n.len ≤ 3 };
 }
 
 impl Notices {
@@ -73,8 +111,16 @@ impl Notices {
         ensures { result ≡ [] }
     {
         Notices {
-            items: ArrayVec::new(),
+            items: [Notice::Oversize, Notice::Oversize, Notice::Oversize],
+            len: 0,
         }
+    }
+
+    /// Drops all notices.
+    pub fn clear(&mut self)
+        ensures { self.new ≡ [] }
+    {
+        self.len = 0;
     }
 
     /// Appends a notice.
@@ -82,13 +128,15 @@ impl Notices {
         requires { length self.old < 3 }
         ensures { self.new ≡ self.old ++ notice ∷ [] }
     {
-        self.items.push(notice);
+        let len = self.len;
+        self.items[len] = notice;
+        self.len = len + 1;
     }
 
     pub fn as_slice(&self) -> &[Notice]
         ensures value { result.now ≡ self.now }
         ensures fits { length result.now ≤ 3 }
     {
-        self.items.as_slice()
+        &self.items[..self.len]
     }
 }

@@ -2,23 +2,26 @@
 ghost use Rattle.std.specs.Prelude.{◌≡◌, ◌≤◌, length};
 ghost use Rattle.segmenting.specs.Pieces.{longest};
 
-use arrayvec::ArrayVec;
 use segmenting::LONGEST;
 use std::marker::Model;
 
 /// A message of at most 251 octets, which lie in the value itself.
 #[derive(Debug, Drop)]
 pub struct Message {
-    octets: ArrayVec<u8, LONGEST>,
+    held: [u8; LONGEST],
+    len: usize,
 }
 
 // Clauses see the list of octets.
 impl Model for Message {
-    ghost use Rattle.std.specs.Prelude.{List, ℕ};
+    ghost use Rattle.std.specs.Prelude.{◌≤◌, List, ℕ, take};
+    ghost use Rattle.segmenting.specs.Pieces.{longest};
 
     ghost Value = { List ℕ };
 
-    ghost view = { λ m. m.octets.items };
+    ghost view = { λ m. take m.len m.held };
+
+    ghost invariant = { λ m. m.len ≤ longest };
 }
 
 // What an unused place of a list of messages holds.
@@ -29,7 +32,8 @@ impl Default for Message {
         ensures { result ≡ [] }
     {
         Message {
-            octets: ArrayVec::new(),
+            held: [0; LONGEST],
+            len: 0,
         }
     }
 }
@@ -39,16 +43,16 @@ impl Message {
         requires { length octets.now ≤ longest }
         ensures { result ≡ octets.now }
     {
-        let mut held = ArrayVec::new();
-        // There is room for as many octets as the condition allows.
-        let _ = held.try_extend_from_slice(octets);
-        Message { octets: held }
+        let len = octets.len();
+        let mut held = [0; LONGEST];
+        held[..len].copy_from_slice(octets);
+        Message { held, len }
     }
 
     pub fn octets(&self) -> &[u8]
         ensures value { result.now ≡ self.now }
         ensures most { length result.now ≤ longest }
     {
-        self.octets.as_slice()
+        &self.held[..self.len]
     }
 }

@@ -1,5 +1,5 @@
 //! What a link is asked, by the events of the air.
-ghost use Rattle.std.specs.Prelude.{◌≡◌, [], IfOk, OnErr};
+ghost use Rattle.std.specs.Prelude.{◌≡◌, OnOk, OnErr};
 ghost use Rattle.lapdm_window.specs.Calls.{after_call};
 ghost use Rattle.lapdm_end.specs.Following.{Follows, IsRefusedAs};
 ghost use Rattle.lapdm_end.specs.Standing.{channel_of, sapi_of};
@@ -8,7 +8,7 @@ ghost use Rattle.um_link.specs.Naming.{call_of, event_of, why_of};
 ghost use Rattle.um_end.specs.Asking.{IsCall, sapi_in, call_in};
 
 use lapdm_end::End;
-use lapdm_window::{Effects, Frames, Notices, Refused, Sapi};
+use lapdm_window::{Effects, Refused, Sapi};
 use um_link::{Call, Event, No};
 
 /// The link that a call is of.
@@ -24,37 +24,46 @@ pub(crate) fn link_asked(event: &Event<'_>) -> Sapi
     }
 }
 
-pub(crate) fn ask_event(link: &mut End, event: &Event<'_>) -> Result<Effects, Refused>
+pub(crate) fn ask_event(
+    link: &mut End,
+    event: &Event<'_>,
+    effects: &mut Effects,
+) -> Result<(), Refused>
     requires call { IsCall (event_of event.now) }
     requires sapi { sapi_of link.old ≡ sapi_in (event_of event.now) }
     ensures refusal { IsRefusedAs (call_in (event_of event.now)) link.old result }
-    ensures follows { IfOk result (λ effects. Follows (after_call (call_in (event_of event.now))) link.old effects link.new) }
+    ensures follows { OnOk result (Follows (after_call (call_in (event_of event.now))) link.old effects.new link.new) }
     ensures refused { OnErr result (link.new ≡ link.old) }
+    ensures kept { OnErr result (effects.new ≡ effects.old) }
     ensures channel { channel_of link.new ≡ channel_of link.old }
     ensures sapi { sapi_of link.new ≡ sapi_of link.old }
 {
     match event {
-        Event::Open(info) => link.open(info),
-        Event::OpenBare(_) => link.open_bare(),
-        Event::End(_, _, call) => ask_call(link, call),
+        Event::Open(info) => link.open_into(info, effects),
+        Event::OpenBare(_) => link.open_bare_into(effects),
+        Event::End(_, _, call) => ask_call(link, call, effects),
         Event::Air(_, _) => unreachable!(),
         Event::Rival(_) => unreachable!(),
     }
 }
 
-fn ask_call(link: &mut End, call: &Call<'_>) -> Result<Effects, Refused>
+fn ask_call(link: &mut End, call: &Call<'_>, effects: &mut Effects) -> Result<(), Refused>
     ensures refusal { IsRefusedAs (call_of call.now) link.old result }
-    ensures follows { IfOk result (λ effects. Follows (after_call (call_of call.now)) link.old effects link.new) }
+    ensures follows { OnOk result (Follows (after_call (call_of call.now)) link.old effects.new link.new) }
     ensures refused { OnErr result (link.new ≡ link.old) }
+    ensures kept { OnErr result (effects.new ≡ effects.old) }
     ensures channel { channel_of link.new ≡ channel_of link.old }
     ensures sapi { sapi_of link.new ≡ sapi_of link.old }
 {
     match call {
-        Call::Send(message) => link.send(message),
-        Call::Unit(message) => link.unit(message),
-        Call::Close => link.close(),
-        Call::Timer => link.timer(),
-        Call::Idle => Ok(link.idle()),
+        Call::Send(message) => link.send_into(message, effects),
+        Call::Unit(message) => link.unit_into(message, effects),
+        Call::Close => link.close_into(effects),
+        Call::Timer => link.timer_into(effects),
+        Call::Idle => {
+            link.idle_into(effects);
+            Ok(())
+        }
     }
 }
 
@@ -68,15 +77,5 @@ pub(crate) fn reason(refused: Refused) -> No
         Refused::Empty => No::Empty,
         Refused::TooLong => No::TooLong,
         Refused::Full => No::Full,
-    }
-}
-
-pub(crate) fn nothing() -> Effects
-    ensures frames { result.frames ≡ [] }
-    ensures notices { result.notices ≡ [] }
-{
-    Effects {
-        frames: Frames::new(),
-        notices: Notices::new(),
     }
 }

@@ -1,11 +1,11 @@
 //! The command `end`: one end over recorded bursts and its own calls.
-ghost use Rattle.std.specs.Prelude.{◌≡◌, ◌+◌, ◌*◌, ◌<◌, ◌≤◌, ℕ, [], ◌∷◌, ◌++◌, length, IfOk, OnOk};
+ghost use Rattle.std.specs.Prelude.{◌≡◌, ◌+◌, ◌*◌, ◌<◌, ◌≤◌, ℕ, [], ◌∷◌, ◌++◌, length, OnOk};
 ghost use Rattle.std.specs.List.{All, flat_map};
 ghost use Rattle.bit_blocks.specs.Bits.{AllBits};
 ghost use Rattle.conv_code.specs.Likelihood.{AllSoft};
 ghost use Rattle.um_text.specs.BurstTexts.{normal_text, block_text};
 ghost use Rattle.um_link.specs.Coded.{AreCoded};
-ghost use Rattle.um_link.specs.Naming.{role_of, step_of, answer_of};
+ghost use Rattle.um_link.specs.Naming.{role_of, step_of, answer_of, written};
 ghost use Rattle.um_link.specs.Standing.{FitsWho};
 ghost use Rattle.lapdm_window.specs.Ends.{Role};
 ghost use Rattle.um_io.specs.Lines.{IsLine};
@@ -21,7 +21,7 @@ use crate::terminal::Terminal;
 use um_driver::Command;
 use um_lines::{LineFault, Text};
 use um_link::{End, No, Step};
-use um_script::{Room, step_lines};
+use um_script::{Room, written_lines};
 use um_text::HeldBursts;
 
 /// Every list of octets, good or bad and of any length, has one output of the command and one way to end.
@@ -35,6 +35,8 @@ pub struct OneEnd {
     terminal: Terminal,
     held: HeldBursts,
     room: Room,
+    // What came of the last call that was not refused, or of the last block.
+    step: Step,
 }
 
 impl OneEnd {
@@ -48,6 +50,7 @@ impl OneEnd {
             terminal: Terminal::new(side, tsc),
             held: HeldBursts::new(),
             room: Room::new(),
+            step: Step::new(),
         }
     }
 
@@ -60,8 +63,8 @@ impl OneEnd {
         ensures few { (s : EndRun) → StandsFor self.old s → length out.new < 2000 }
     {
         if let Some(block) = self.held.add(burst) {
-            let answer = Ok(self.terminal.receive(&block));
-            write_answer(out, &self.terminal, &answer);
+            self.terminal.receive_into(&block, &mut self.step);
+            write_answer(out, &self.terminal, &Ok(()), &self.step);
         }
     }
 }
@@ -92,8 +95,8 @@ impl Command for OneEnd {
             EndLine::Skip => {}
             EndLine::Burst(burst) => self.hold(burst, out),
             EndLine::Ask(event) => {
-                let answer = self.terminal.ask(&event);
-                write_answer(out, &self.terminal, &answer);
+                let done = self.terminal.ask_into(&event, &mut self.step);
+                write_answer(out, &self.terminal, &done, &self.step);
             }
         }
         Ok(())
@@ -109,16 +112,16 @@ impl Command for OneEnd {
 }
 
 /// Writes an answer, and behind it the bursts of each frame that is sent.
-fn write_answer(out: &mut Text, terminal: &Terminal, answer: &Result<Step, No>)
+fn write_answer(out: &mut Text, terminal: &Terminal, done: &Result<(), No>, step: &Step)
     requires empty { out.old ≡ [] }
-    requires fits { IfOk answer.now (λ step. FitsWho (step_of step)) }
-    ensures text { IsAnswerText terminal.now.tsc (answer_of answer.now) out.new }
-    ensures lines { length (answer_text (answer_of answer.now)) < 2000 }
+    requires fits { OnOk done.now (FitsWho (step_of step.now)) }
+    ensures text { IsAnswerText terminal.now.tsc (answer_of (written done.now step.now)) out.new }
+    ensures lines { length (answer_text (answer_of (written done.now step.now))) < 2000 }
     ensures length { length out.new ≡
-        length (answer_text (answer_of answer.now)) + 604 * length (frames_of (answer_of answer.now)) }
+        length (answer_text (answer_of (written done.now step.now))) + 604 * length (frames_of (answer_of (written done.now step.now))) }
 {
-    step_lines(out, answer);
-    if let Ok(step) = answer {
+    written_lines(out, done, step);
+    if done.is_ok() {
         push_blocks(out, terminal, step.effects.frames.as_slice());
     }
 }

@@ -1,5 +1,5 @@
 //! Both links of one side, over bursts.
-ghost use Rattle.std.specs.Prelude.{◌≡◌, ◌≤◌, ℕ, List, Some, None, [], IfOk, OnErr, IsSome};
+ghost use Rattle.std.specs.Prelude.{◌≡◌, ◌≤◌, ℕ, List, Some, None, [], IfOk, OnOk, OnErr, IsSome};
 ghost use Rattle.std.specs.List.{All};
 ghost use Rattle.bit_blocks.specs.Bits.{AllBits};
 ghost use Rattle.conv_code.specs.Likelihood.{AllSoft};
@@ -11,12 +11,12 @@ ghost use Rattle.lapdm_end.specs.Following.{IsRefusedAs};
 ghost use Rattle.lapdm_end.specs.Standing.{channel_of, sapi_of};
 ghost use Rattle.lapdm_window.specs.declared.Sapi.TheVariants as S;
 ghost use Rattle.lapdm_link.specs.Events as E;
-ghost use Rattle.um_link.specs.Naming.{role_of, event_of, who_of, step_of};
+ghost use Rattle.um_link.specs.Naming.{role_of, event_of, who_of, step_of, written};
 ghost use Rattle.um_block.specs.declared.received.Received.{Received};
 ghost use Rattle.um_script.specs.AnswerLines.{heard, FitsHeard};
 ghost use Rattle.um_end.specs.Asking.{IsCall, sapi_in, call_in};
 
-use crate::asking::{ask_event, link_asked, nothing, reason};
+use crate::asking::{ask_event, link_asked, reason};
 use lapdm_end::{End as LinkEnd, Role};
 use lapdm_frame::{Channel, FrameView, read};
 use lapdm_window::{Effects, Refused, Sapi};
@@ -72,9 +72,31 @@ impl Terminal {
         ensures received { IfOk result (λ step. step.received ≡ None) }
         ensures same { IsSameSide self.old self.new }
     {
+        let mut step = Step::new();
+        match self.ask_into(event, &mut step) {
+            Ok(()) => Ok(step),
+            Err(no) => Err(no),
+        }
+    }
+
+    /// The same, with the step written over what stands in `step`, which stays where the call is refused.
+    pub fn ask_into(&mut self, event: &Event<'_>, step: &mut Step) -> Result<(), No>
+        requires own { IsCallOf (side_of self.old) (event_of event.now) }
+        ensures follows { FollowsCall (event_of event.now) self.old (written result step.new) self.new }
+        ensures only { IsOnlyAnswer (event_of event.now) self.old (written result step.new) }
+        ensures refused { OnErr result (self.new ≡ self.old) }
+        ensures kept { OnErr result (step.new ≡ step.old) }
+        ensures who { OnOk result (who_of step.new.who ≡ E.End (side_of self.old)) }
+        ensures received { OnOk result (step.new.received ≡ None) }
+        ensures same { IsSameSide self.old self.new }
+    {
         let sapi = link_asked(event);
-        match self.ask_link(sapi, event) {
-            Ok(effects) => Ok(self.step(sapi, None, effects)),
+        match self.ask_link(sapi, event, &mut step.effects) {
+            Ok(()) => {
+                step.received = None;
+                self.sign(sapi, step);
+                Ok(())
+            }
             Err(refused) => Err(reason(refused)),
         }
     }
@@ -90,9 +112,25 @@ impl Terminal {
         ensures numbers { (r : Received) → result.received ≡ Some r → FitsHeard (heard r) }
         ensures same { IsSameSide self.old self.new }
     {
+        let mut step = Step::new();
+        self.receive_into(bursts, &mut step);
+        step
+    }
+
+    /// The same, with the step written over what stands in `step`.
+    pub fn receive_into(&mut self, bursts: &[[i8; 148]; 4], step: &mut Step)
+        requires soft { All AllSoft bursts.now }
+        ensures follows { FollowsBursts bursts.now self.old step.new self.new }
+        ensures only { IsOnlyStep bursts.now self.old step.new }
+        ensures who { who_of step.new.who ≡ E.End (side_of self.old) }
+        ensures received { IsSome step.new.received }
+        ensures numbers { (r : Received) → step.new.received ≡ Some r → FitsHeard (heard r) }
+        ensures same { IsSameSide self.old self.new }
+    {
         let report = receive_block(bursts);
-        let (sapi, effects) = self.hear(&report.accepted);
-        self.step(sapi, Some(report), effects)
+        let sapi = self.hear(&report.accepted, &mut step.effects);
+        step.received = Some(report);
+        self.sign(sapi, step);
     }
 
     /// The bursts of a block of these octets, with the terminal's training sequence.
@@ -104,67 +142,73 @@ impl Terminal {
         send_block(octets, self.tsc)
     }
 
-    fn ask_link(&mut self, sapi: Sapi, event: &Event<'_>) -> Result<Effects, Refused>
+    fn ask_link(
+        &mut self,
+        sapi: Sapi,
+        event: &Event<'_>,
+        effects: &mut Effects,
+    ) -> Result<(), Refused>
         requires call { IsCall (event_of event.now) }
         requires sapi { sapi ≡ sapi_in (event_of event.now) }
         ensures refusal { IsRefusedAs (call_in (event_of event.now)) (link_of sapi self.old) result }
-        ensures follows { IfOk result (λ effects. Follows (asks sapi (call_in (event_of event.now))) self.old sapi effects self.new) }
+        ensures follows { OnOk result (Follows (asks sapi (call_in (event_of event.now))) self.old sapi effects.new self.new) }
         ensures refused { OnErr result (self.new ≡ self.old) }
+        ensures kept { OnErr result (effects.new ≡ effects.old) }
         ensures same { IsSameSide self.old self.new }
     {
         match sapi {
-            Sapi::Zero => ask_event(&mut self.link0, event),
-            Sapi::Three => ask_event(&mut self.link3, event),
+            Sapi::Zero => ask_event(&mut self.link0, event, effects),
+            Sapi::Three => ask_event(&mut self.link3, event, effects),
         }
     }
 
     /// The frame that accepted octets are, if they are one, is taken.
-    fn hear(&mut self, accepted: &Option<[u8; 23]>) -> (Sapi, Effects)
-        ensures hears { Hears accepted.now self.old result.0 result.1 self.new }
+    fn hear(&mut self, accepted: &Option<[u8; 23]>, effects: &mut Effects) -> Sapi
+        ensures hears { Hears accepted.now self.old result effects.new self.new }
         ensures same { IsSameSide self.old self.new }
     {
         if let Some(octets) = accepted {
             if let Ok(frame) = read(octets) {
-                return self.take(&frame);
+                return self.take(&frame, effects);
             }
         }
-        (Sapi::Zero, nothing())
+        effects.clear();
+        Sapi::Zero
     }
 
     /// The link of the frame's SAPI takes it.
-    fn take(&mut self, frame: &FrameView<'_>) -> (Sapi, Effects)
+    fn take(&mut self, frame: &FrameView<'_>, effects: &mut Effects) -> Sapi
         requires fits { Fits Sdcch (frame_of frame.now) }
-        ensures follows { Follows (takes (frame_of frame.now)) self.old result.0 result.1 self.new }
+        ensures follows { Follows (takes (frame_of frame.now)) self.old result effects.new self.new }
         ensures same { IsSameSide self.old self.new }
     {
         if frame.sapi == 0 {
-            return (Sapi::Zero, self.link0.take(frame));
+            self.link0.take_into(frame, effects);
+            return Sapi::Zero;
         }
         if frame.sapi == 3 {
-            return (Sapi::Three, self.link3.take(frame));
+            self.link3.take_into(frame, effects);
+            return Sapi::Three;
         }
-        (Sapi::Zero, nothing())
+        effects.clear();
+        Sapi::Zero
     }
 
-    fn step(&self, sapi: Sapi, received: Option<Received>, effects: Effects) -> Step
-        ensures step { step_of result ≡ record {
+    /// The step is one of this side, on the link.
+    fn sign(&self, sapi: Sapi, step: &mut Step)
+        ensures step { step_of step.new ≡ record {
           who = E.End (side_of self.now);
           sapi = sapi;
-          received = received;
-          frames = effects.frames;
-          notices = effects.notices;
+          received = step.old.received;
+          frames = step.old.effects.frames;
+          notices = step.old.effects.notices;
         } }
-        ensures received { result.received ≡ received }
+        ensures received { step.new.received ≡ step.old.received }
     {
-        let who = match self.side {
+        step.who = match self.side {
             End::Mobile => Who::Mobile,
             End::Network => Who::Network,
         };
-        Step {
-            who,
-            sapi,
-            received,
-            effects,
-        }
+        step.sapi = sapi;
     }
 }

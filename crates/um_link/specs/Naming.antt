@@ -80,3 +80,8 @@ step_of s = record {
 abbrev pub answer_of : Result Step No → A.Answer
 answer_of (Ok s) = A.Does (step_of s)
 answer_of (Err reason) = A.Refuses (why_of reason)
+
+-- what a call answers that writes its step into the caller's room
+abbrev pub written : {A : Type 0} → Result A No → Step → Result Step No
+written (Ok done) step = Ok step
+written (Err reason) step = Err reason

@@ -1,6 +1,6 @@
 //! The four ends of both links.
 
-ghost use Rattle.std.specs.Prelude.{◌≡◌, IfOk, OnErr};
+ghost use Rattle.std.specs.Prelude.{◌≡◌, OnOk, OnErr};
 ghost use Rattle.std.specs.Result.{result_err};
 ghost use Rattle.lapdm_frame.specs.Content.{frame_of};
 ghost use Rattle.lapdm_frame.specs.Frames.{Fits};
@@ -18,7 +18,7 @@ use crate::events::{Call, End};
 use lapdm_frame::{Channel, FrameView};
 use lapdm_mobile::Mobile;
 use lapdm_network::Network;
-use lapdm_window::{Effects, Frames, Notices, Refused, Sapi};
+use lapdm_window::{Effects, Refused, Sapi};
 
 /// The ends of both links.
 #[derive(Drop)]
@@ -46,106 +46,129 @@ impl Ends {
     }
 
     /// The mobile asks for the link of SAPI 0 with this information.
-    pub(crate) fn open(&mut self, info: &[u8]) -> Result<Effects, Refused>
+    pub(crate) fn open(&mut self, info: &[u8], effects: &mut Effects) -> Result<(), Refused>
         requires on { IsOn (ends_channel self.old) self.old }
         ensures refusal { (es : E.Ends) → Stands self.old es → result_err result ≡ refusal_of (Opens info.now) (E.end_in R.Mobile S.Zero es) }
-        ensures follows { IfOk result (λ effects. Follows (ends_channel self.old) (E.asks R.Mobile S.Zero (Opens info.now)) self.old effects self.new) }
+        ensures follows { OnOk result
+            (Follows (ends_channel self.old) (E.asks R.Mobile S.Zero (Opens info.now)) self.old effects.new self.new) }
         ensures on { IsOn (ends_channel self.old) self.new }
         ensures refused { OnErr result (self.new ≡ self.old) }
+        ensures kept { OnErr result (effects.new ≡ effects.old) }
     {
-        self.mobile.open(info)
+        self.mobile.open_into(info, effects)
     }
 
     /// An end asks for the link of SAPI 3.
-    pub(crate) fn open_bare(&mut self, end: End) -> Result<Effects, Refused>
+    pub(crate) fn open_bare(&mut self, end: End, effects: &mut Effects) -> Result<(), Refused>
         requires on { IsOn (ends_channel self.old) self.old }
         ensures refusal { (es : E.Ends) → Stands self.old es → result_err result ≡ refusal_of OpensBare (E.end_in (role_of end) S.Three es) }
-        ensures follows { IfOk result (λ effects. Follows (ends_channel self.old) (E.asks (role_of end) S.Three OpensBare) self.old effects self.new) }
+        ensures follows { OnOk result
+            (Follows (ends_channel self.old) (E.asks (role_of end) S.Three OpensBare) self.old effects.new self.new) }
         ensures on { IsOn (ends_channel self.old) self.new }
         ensures refused { OnErr result (self.new ≡ self.old) }
+        ensures kept { OnErr result (effects.new ≡ effects.old) }
     {
         match end {
-            End::Mobile => self.mobile3.open_bare(),
-            End::Network => self.network3.open_bare(),
+            End::Mobile => self.mobile3.open_bare_into(effects),
+            End::Network => self.network3.open_bare_into(effects),
         }
     }
 
     /// Asks an end of a link.
-    pub(crate) fn ask(&mut self, end: End, sapi: Sapi, call: &Call<'_>) -> Result<Effects, Refused>
+    pub(crate) fn ask(
+        &mut self,
+        end: End,
+        sapi: Sapi,
+        call: &Call<'_>,
+        effects: &mut Effects,
+    ) -> Result<(), Refused>
         requires on { IsOn (ends_channel self.old) self.old }
         ensures refusal { (es : E.Ends) → Stands self.old es → result_err result ≡ refusal_of (call_of call.now) (E.end_in (role_of end) sapi es) }
-        ensures follows { IfOk result (λ effects. Follows (ends_channel self.old) (E.asks (role_of end) sapi (call_of call.now)) self.old effects self.new) }
+        ensures follows { OnOk result
+            (Follows (ends_channel self.old) (E.asks (role_of end) sapi (call_of call.now)) self.old effects.new self.new) }
         ensures on { IsOn (ends_channel self.old) self.new }
         ensures refused { OnErr result (self.new ≡ self.old) }
+        ensures kept { OnErr result (effects.new ≡ effects.old) }
     {
         match (end, sapi) {
-            (End::Mobile, Sapi::Zero) => ask_mobile(&mut self.mobile, call),
-            (End::Mobile, Sapi::Three) => ask_mobile(&mut self.mobile3, call),
-            (End::Network, Sapi::Zero) => ask_network(&mut self.network, call),
-            (End::Network, Sapi::Three) => ask_network(&mut self.network3, call),
+            (End::Mobile, Sapi::Zero) => ask_mobile(&mut self.mobile, call, effects),
+            (End::Mobile, Sapi::Three) => ask_mobile(&mut self.mobile3, call, effects),
+            (End::Network, Sapi::Zero) => ask_network(&mut self.network, call, effects),
+            (End::Network, Sapi::Three) => ask_network(&mut self.network3, call, effects),
         }
     }
 
     /// A frame arrives at an end; the link of its SAPI takes it.
-    pub(crate) fn take(&mut self, end: End, frame: &FrameView<'_>) -> Effects
+    pub(crate) fn take(&mut self, end: End, frame: &FrameView<'_>, effects: &mut Effects)
         requires on { IsOn (ends_channel self.old) self.old }
         requires fits { Fits (ends_channel self.old) (frame_of frame.now) }
-        ensures follows { Follows (ends_channel self.old) (E.takes (role_of end) (frame_of frame.now)) self.old result self.new }
+        ensures follows { Follows (ends_channel self.old) (E.takes (role_of end) (frame_of frame.now)) self.old effects.new self.new }
         ensures on { IsOn (ends_channel self.old) self.new }
     {
         match end {
             End::Mobile => {
                 if frame.sapi == 0 {
-                    return self.mobile.take(frame);
+                    self.mobile.take_into(frame, effects);
+                    return;
                 }
                 if frame.sapi == 3 {
-                    return self.mobile3.take(frame);
+                    self.mobile3.take_into(frame, effects);
+                    return;
                 }
             }
             End::Network => {
                 if frame.sapi == 0 {
-                    return self.network.take(frame);
+                    self.network.take_into(frame, effects);
+                    return;
                 }
                 if frame.sapi == 3 {
-                    return self.network3.take(frame);
+                    self.network3.take_into(frame, effects);
+                    return;
                 }
             }
         }
-        Effects {
-            frames: Frames::new(),
-            notices: Notices::new(),
-        }
+        effects.clear();
     }
 }
 
-fn ask_mobile(mobile: &mut Mobile, call: &Call<'_>) -> Result<Effects, Refused>
+fn ask_mobile(mobile: &mut Mobile, call: &Call<'_>, effects: &mut Effects) -> Result<(), Refused>
     ensures refusal { IsRefusedAs (call_of call.now) (mobile_end mobile.old) result }
-    ensures follows { IfOk result (λ effects. EndFollows (after_call (call_of call.now)) (mobile_end mobile.old) effects (mobile_end mobile.new)) }
+    ensures follows { OnOk result
+        (EndFollows (after_call (call_of call.now)) (mobile_end mobile.old) effects.new (mobile_end mobile.new)) }
     ensures refused { OnErr result (mobile.new ≡ mobile.old) }
+    ensures kept { OnErr result (effects.new ≡ effects.old) }
     ensures channel { channel_of (mobile_end mobile.new) ≡ channel_of (mobile_end mobile.old) }
     ensures sapi { sapi_of (mobile_end mobile.new) ≡ sapi_of (mobile_end mobile.old) }
 {
     match call {
-        Call::Send(message) => mobile.send(message),
-        Call::Unit(message) => mobile.unit(message),
-        Call::Close => mobile.close(),
-        Call::Timer => mobile.timer(),
-        Call::Idle => Ok(mobile.idle()),
+        Call::Send(message) => mobile.send_into(message, effects),
+        Call::Unit(message) => mobile.unit_into(message, effects),
+        Call::Close => mobile.close_into(effects),
+        Call::Timer => mobile.timer_into(effects),
+        Call::Idle => {
+            mobile.idle_into(effects);
+            Ok(())
+        }
     }
 }
 
-fn ask_network(network: &mut Network, call: &Call<'_>) -> Result<Effects, Refused>
+fn ask_network(network: &mut Network, call: &Call<'_>, effects: &mut Effects) -> Result<(), Refused>
     ensures refusal { IsRefusedAs (call_of call.now) (network_end network.old) result }
-    ensures follows { IfOk result (λ effects. EndFollows (after_call (call_of call.now)) (network_end network.old) effects (network_end network.new)) }
+    ensures follows { OnOk result
+        (EndFollows (after_call (call_of call.now)) (network_end network.old) effects.new (network_end network.new)) }
     ensures refused { OnErr result (network.new ≡ network.old) }
+    ensures kept { OnErr result (effects.new ≡ effects.old) }
     ensures channel { channel_of (network_end network.new) ≡ channel_of (network_end network.old) }
     ensures sapi { sapi_of (network_end network.new) ≡ sapi_of (network_end network.old) }
 {
     match call {
-        Call::Send(message) => network.send(message),
-        Call::Unit(message) => network.unit(message),
-        Call::Close => network.close(),
-        Call::Timer => network.timer(),
-        Call::Idle => Ok(network.idle()),
+        Call::Send(message) => network.send_into(message, effects),
+        Call::Unit(message) => network.unit_into(message, effects),
+        Call::Close => network.close_into(effects),
+        Call::Timer => network.timer_into(effects),
+        Call::Idle => {
+            network.idle_into(effects);
+            Ok(())
+        }
     }
 }

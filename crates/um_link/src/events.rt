@@ -1,5 +1,9 @@
 //! What may happen to a mobile and a network over the air, and what comes of it.
 
+ghost use Rattle.std.specs.Prelude.{◌≡◌, None, []};
+ghost use Rattle.lapdm_window.specs.declared.Sapi.TheVariants as S;
+ghost use Rattle.lapdm_link.specs.Events as E;
+
 use lapdm_window::{Effects, Sapi};
 use um_block::Received;
 
@@ -74,6 +78,23 @@ pub struct Step {
     /// What was received, where a block arrived.
     pub received: Option<Received>,
     pub effects: Effects,
+}
+
+impl Step {
+    ghost use Rattle.um_link.specs.Naming.{step_of};
+
+    /// Nobody did anything.
+    pub fn new() -> Step
+        ensures { step_of result
+            ≡ record { who = E.Nobody; sapi = S.Zero; received = None; frames = []; notices = [] } }
+    {
+        Step {
+            who: Who::Nobody,
+            sapi: Sapi::Zero,
+            received: None,
+            effects: Effects::new(),
+        }
+    }
 }
 
 /// Why an event is refused.

@@ -1,5 +1,5 @@
 //! The ends of both links, and the blocks on their way between them.
-ghost use Rattle.std.specs.Prelude.{◌≡◌, ◌≤◌, ◌<◌, length, IfOk, OnErr, None, [], ◌∷◌};
+ghost use Rattle.std.specs.Prelude.{◌≡◌, ◌≤◌, ◌<◌, length, IfOk, OnOk, OnErr, None, [], ◌∷◌};
 ghost use Rattle.lapdm_window.specs.declared.Sapi.TheVariants as S;
 ghost use Rattle.lapdm_window.specs.Ends as R;
 ghost use Rattle.lapdm_frame.specs.Layout.{n201};
@@ -7,18 +7,18 @@ ghost use Rattle.lapdm_frame.specs.Frames.{octets_of};
 ghost use Rattle.lapdm_link.specs.Events as E;
 ghost use Rattle.um_air.specs.Air as A;
 ghost use Rattle.um_air.specs.Air.{start_on};
-ghost use Rattle.um_link.specs.Naming.{role_of, air_event, event_of, request_of, step_of};
+ghost use Rattle.um_link.specs.Naming.{role_of, air_event, event_of, request_of, step_of, written};
 ghost use Rattle.um_link.specs.Possible.{IsPossible, IsPossibleAir};
 ghost use Rattle.um_block.specs.Tallies.{raised, raised_by};
 ghost use Rattle.um_link.specs.Ways.{ArePlaces};
 
 use crate::ends::Ends;
 use crate::events::{Air, Call, End, Event, No, Step, Way, Who};
-use crate::hearing::{hear, nothing};
+use crate::hearing::hear;
 use crate::queue::{receive_first, send_all, take_first};
 use circular_buffer::HeapCircularBuffer;
 use lapdm_frame::{Body, Channel, FrameView, write_on};
-use lapdm_window::{Effects, Frames, Notices, Refused, Sapi};
+use lapdm_window::{Effects, Refused, Sapi};
 use std::alloc::Global;
 use um_block::{Radio, Received};
 use um_io::NoMemory;
@@ -105,37 +105,30 @@ impl Links {
         }
     }
 
-    /// What an end does at a call goes out.
-    fn goes_out<R: Radio>(
-        &mut self,
-        radio: &mut R,
-        end: End,
-        sapi: Sapi,
-        received: Option<Received>,
-        effects: Effects,
-    ) -> Step
+    /// What an end did goes out.
+    fn goes_out<R: Radio>(&mut self, radio: &mut R, end: End, step: &mut Step)
         requires sound { IsSound self.old }
         requires room { length (blocks_from (role_of end) self.old) ≤ 62 }
-        ensures sends { Sends (role_of end) effects.frames self.old self.new }
+        ensures sends { Sends (role_of end) step.old.effects.frames self.old self.new }
         ensures sound { IsSound self.new }
-        ensures step { step_of result ≡ record { who = E.End (role_of end); sapi = sapi; received = received; frames = effects.frames; notices = effects.notices } }
-        ensures who { FitsWho (step_of result) }
-        ensures effects { result.effects ≡ effects }
-        ensures received { result.received ≡ received }
-        ensures sent { R.sent radio.new ≡ raised_by (length effects.frames) (R.sent radio.old) }
+        ensures step { step_of step.new ≡ record {
+          who = E.End (role_of end);
+          sapi = step.old.sapi;
+          received = step.old.received;
+          frames = step.old.effects.frames;
+          notices = step.old.effects.notices;
+        } }
+        ensures who { FitsWho (step_of step.new) }
+        ensures effects { step.new.effects ≡ step.old.effects }
+        ensures received { step.new.received ≡ step.old.received }
+        ensures sent { R.sent radio.new ≡ raised_by (length step.old.effects.frames) (R.sent radio.old) }
         ensures heard { R.heard radio.new ≡ R.heard radio.old }
     {
-        self.send(radio, end, &effects);
-        let who = match end {
+        self.send(radio, end, &step.effects);
+        step.who = match end {
             End::Mobile => Who::Mobile,
             End::Network => Who::Network,
         };
-        Step {
-            who,
-            sapi,
-            received,
-            effects,
-        }
     }
 
     /// An end of a link is asked.
@@ -145,76 +138,102 @@ impl Links {
         end: End,
         sapi: Sapi,
         call: &Call<'_>,
-    ) -> Result<Step, No>
+        step: &mut Step,
+    ) -> Result<(), No>
         requires sound { IsSound self.old }
-        ensures follows { Follows (E.Ask (role_of end) sapi (request_of call.now)) self.old result self.new }
+        ensures follows { Follows (E.Ask (role_of end) sapi (request_of call.now)) self.old (written result step.new) self.new }
         ensures sound { IsSound self.new }
         ensures refused { OnErr result (self.new ≡ self.old) }
+        ensures kept { OnErr result (step.new ≡ step.old) }
         ensures silent { OnErr result (radio.new ≡ radio.old) }
-        ensures sent { R.sent radio.new ≡ raised_by (frames_in result) (R.sent radio.old) }
-        ensures heard { R.heard radio.new ≡ raised_by (arrivals_in result) (R.heard radio.old) }
-        ensures who { IfOk result (λ step. FitsWho (step_of step)) }
+        ensures sent { R.sent radio.new ≡ raised_by (frames_in (written result step.new)) (R.sent radio.old) }
+        ensures heard { R.heard radio.new ≡ raised_by (arrivals_in (written result step.new)) (R.heard radio.old) }
+        ensures who { OnOk result (FitsWho (step_of step.new)) }
     {
         if self.is_full(end) {
             return Err(No::AirFull);
         }
-        match self.ends.ask(end, sapi, call) {
-            Ok(effects) => Ok(self.goes_out(radio, end, sapi, None, effects)),
+        match self.ends.ask(end, sapi, call, &mut step.effects) {
+            Ok(()) => {
+                step.sapi = sapi;
+                step.received = None;
+                self.goes_out(radio, end, step);
+                Ok(())
+            }
             Err(refused) => Err(No::of(refused)),
         }
     }
 
     /// The mobile asks for the link of SAPI 0.
-    fn open<R: Radio>(&mut self, radio: &mut R, info: &[u8]) -> Result<Step, No>
+    fn open<R: Radio>(&mut self, radio: &mut R, info: &[u8], step: &mut Step) -> Result<(), No>
         requires sound { IsSound self.old }
-        ensures follows { Follows (E.Open info.now) self.old result self.new }
+        ensures follows { Follows (E.Open info.now) self.old (written result step.new) self.new }
         ensures sound { IsSound self.new }
         ensures refused { OnErr result (self.new ≡ self.old) }
+        ensures kept { OnErr result (step.new ≡ step.old) }
         ensures silent { OnErr result (radio.new ≡ radio.old) }
-        ensures sent { R.sent radio.new ≡ raised_by (frames_in result) (R.sent radio.old) }
-        ensures heard { R.heard radio.new ≡ raised_by (arrivals_in result) (R.heard radio.old) }
-        ensures who { IfOk result (λ step. FitsWho (step_of step)) }
+        ensures sent { R.sent radio.new ≡ raised_by (frames_in (written result step.new)) (R.sent radio.old) }
+        ensures heard { R.heard radio.new ≡ raised_by (arrivals_in (written result step.new)) (R.heard radio.old) }
+        ensures who { OnOk result (FitsWho (step_of step.new)) }
     {
         if self.is_full(End::Mobile) {
             return Err(No::AirFull);
         }
-        match self.ends.open(info) {
-            Ok(effects) => Ok(self.goes_out(radio, End::Mobile, Sapi::Zero, None, effects)),
+        match self.ends.open(info, &mut step.effects) {
+            Ok(()) => {
+                step.sapi = Sapi::Zero;
+                step.received = None;
+                self.goes_out(radio, End::Mobile, step);
+                Ok(())
+            }
             Err(refused) => Err(No::of(refused)),
         }
     }
 
     /// An end asks for the link of SAPI 3.
-    fn open_bare<R: Radio>(&mut self, radio: &mut R, end: End) -> Result<Step, No>
+    fn open_bare<R: Radio>(&mut self, radio: &mut R, end: End, step: &mut Step) -> Result<(), No>
         requires sound { IsSound self.old }
-        ensures follows { Follows (E.OpenBare (role_of end)) self.old result self.new }
+        ensures follows { Follows (E.OpenBare (role_of end)) self.old (written result step.new) self.new }
         ensures sound { IsSound self.new }
         ensures refused { OnErr result (self.new ≡ self.old) }
+        ensures kept { OnErr result (step.new ≡ step.old) }
         ensures silent { OnErr result (radio.new ≡ radio.old) }
-        ensures sent { R.sent radio.new ≡ raised_by (frames_in result) (R.sent radio.old) }
-        ensures heard { R.heard radio.new ≡ raised_by (arrivals_in result) (R.heard radio.old) }
-        ensures who { IfOk result (λ step. FitsWho (step_of step)) }
+        ensures sent { R.sent radio.new ≡ raised_by (frames_in (written result step.new)) (R.sent radio.old) }
+        ensures heard { R.heard radio.new ≡ raised_by (arrivals_in (written result step.new)) (R.heard radio.old) }
+        ensures who { OnOk result (FitsWho (step_of step.new)) }
     {
         if self.is_full(end) {
             return Err(No::AirFull);
         }
-        match self.ends.open_bare(end) {
-            Ok(effects) => Ok(self.goes_out(radio, end, Sapi::Three, None, effects)),
+        match self.ends.open_bare(end, &mut step.effects) {
+            Ok(()) => {
+                step.sapi = Sapi::Three;
+                step.received = None;
+                self.goes_out(radio, end, step);
+                Ok(())
+            }
             Err(refused) => Err(No::of(refused)),
         }
     }
 
     /// The first block that an end sent arrives at the other, with the bits at these places turned over.
-    fn deliver<R: Radio>(&mut self, radio: &mut R, sender: End, places: &[u16]) -> Result<Step, No>
+    fn deliver<R: Radio>(
+        &mut self,
+        radio: &mut R,
+        sender: End,
+        places: &[u16],
+        step: &mut Step,
+    ) -> Result<(), No>
         requires sound { IsSound self.old }
         requires places { ArePlaces places.now }
-        ensures follows { Follows (E.Deliver (role_of sender) places.now) self.old result self.new }
+        ensures follows { Follows (E.Deliver (role_of sender) places.now) self.old (written result step.new) self.new }
         ensures sound { IsSound self.new }
         ensures refused { OnErr result (self.new ≡ self.old) }
+        ensures kept { OnErr result (step.new ≡ step.old) }
         ensures silent { OnErr result (radio.new ≡ radio.old) }
-        ensures sent { R.sent radio.new ≡ raised_by (frames_in result) (R.sent radio.old) }
-        ensures heard { R.heard radio.new ≡ raised_by (arrivals_in result) (R.heard radio.old) }
-        ensures who { IfOk result (λ step. FitsWho (step_of step)) }
+        ensures sent { R.sent radio.new ≡ raised_by (frames_in (written result step.new)) (R.sent radio.old) }
+        ensures heard { R.heard radio.new ≡ raised_by (arrivals_in (written result step.new)) (R.heard radio.old) }
+        ensures who { OnOk result (FitsWho (step_of step.new)) }
     {
         let end = other_end(sender);
         if self.has_none(sender) {
@@ -224,8 +243,16 @@ impl Links {
             return Err(No::AirFull);
         }
         let report = self.receive(radio, sender, places);
-        let (sapi, effects) = hear(&mut self.ends, self.channel, end, &report.accepted);
-        Ok(self.goes_out(radio, end, sapi, Some(report), effects))
+        step.sapi = hear(
+            &mut self.ends,
+            self.channel,
+            end,
+            &report.accepted,
+            &mut step.effects,
+        );
+        step.received = Some(report);
+        self.goes_out(radio, end, step);
+        Ok(())
     }
 
     /// The first block that an end sent is gone.
@@ -242,36 +269,37 @@ impl Links {
     }
 
     /// The first block that an end sent is lost.
-    fn lose(&mut self, sender: End) -> Result<Step, No>
+    fn lose(&mut self, sender: End, step: &mut Step) -> Result<(), No>
         requires sound { IsSound self.old }
-        ensures follows { Follows (E.Lose (role_of sender)) self.old result self.new }
+        ensures follows { Follows (E.Lose (role_of sender)) self.old (written result step.new) self.new }
         ensures sound { IsSound self.new }
         ensures refused { OnErr result (self.new ≡ self.old) }
-        ensures silent { (frames_in result ≡ 0) × (arrivals_in result ≡ 0) }
-        ensures who { IfOk result (λ step. FitsWho (step_of step)) }
+        ensures kept { OnErr result (step.new ≡ step.old) }
+        ensures silent { (frames_in (written result step.new) ≡ 0) × (arrivals_in (written result step.new) ≡ 0) }
+        ensures who { OnOk result (FitsWho (step_of step.new)) }
     {
         if self.has_none(sender) {
             return Err(No::Nothing);
         }
         self.drop_first(sender);
-        Ok(Step {
-            who: Who::Nobody,
-            sapi: Sapi::Zero,
-            received: None,
-            effects: nothing(),
-        })
+        step.who = Who::Nobody;
+        step.sapi = Sapi::Zero;
+        step.received = None;
+        step.effects.clear();
+        Ok(())
     }
 
     /// Another mobile asks for the link of SAPI 0.
-    fn rival<R: Radio>(&mut self, radio: &mut R, info: &[u8]) -> Result<Step, No>
+    fn rival<R: Radio>(&mut self, radio: &mut R, info: &[u8], step: &mut Step) -> Result<(), No>
         requires sound { IsSound self.old }
-        ensures follows { Follows (E.Rival info.now) self.old result self.new }
+        ensures follows { Follows (E.Rival info.now) self.old (written result step.new) self.new }
         ensures sound { IsSound self.new }
         ensures refused { OnErr result (self.new ≡ self.old) }
+        ensures kept { OnErr result (step.new ≡ step.old) }
         ensures silent { OnErr result (radio.new ≡ radio.old) }
-        ensures sent { R.sent radio.new ≡ raised_by (frames_in result) (R.sent radio.old) }
-        ensures heard { R.heard radio.new ≡ raised_by (arrivals_in result) (R.heard radio.old) }
-        ensures who { IfOk result (λ step. FitsWho (step_of step)) }
+        ensures sent { R.sent radio.new ≡ raised_by (frames_in (written result step.new)) (R.sent radio.old) }
+        ensures heard { R.heard radio.new ≡ raised_by (arrivals_in (written result step.new)) (R.heard radio.old) }
+        ensures who { OnOk result (FitsWho (step_of step.new)) }
     {
         if self.is_full(End::Mobile) {
             return Err(No::AirFull);
@@ -282,52 +310,63 @@ impl Links {
         if info.len() > self.channel.n201() {
             return Err(No::TooLong);
         }
-        let effects = rival_effects(info, self.channel);
-        self.send(radio, End::Mobile, &effects);
-        Ok(Step {
-            who: Who::Rival,
-            sapi: Sapi::Zero,
-            received: None,
-            effects,
-        })
+        rival_effects(info, self.channel, &mut step.effects);
+        self.send(radio, End::Mobile, &step.effects);
+        step.who = Who::Rival;
+        step.sapi = Sapi::Zero;
+        step.received = None;
+        Ok(())
     }
 
     /// The air does something with the first block that an end sent.
-    fn on_air<R: Radio>(&mut self, radio: &mut R, sender: End, air: &Air<'_>) -> Result<Step, No>
+    fn on_air<R: Radio>(
+        &mut self,
+        radio: &mut R,
+        sender: End,
+        air: &Air<'_>,
+        step: &mut Step,
+    ) -> Result<(), No>
         requires sound { IsSound self.old }
         requires possible { IsPossibleAir air.now }
-        ensures follows { Follows (air_event (role_of sender) air.now) self.old result self.new }
+        ensures follows { Follows (air_event (role_of sender) air.now) self.old (written result step.new) self.new }
         ensures sound { IsSound self.new }
         ensures refused { OnErr result (self.new ≡ self.old) }
+        ensures kept { OnErr result (step.new ≡ step.old) }
         ensures silent { OnErr result (radio.new ≡ radio.old) }
-        ensures sent { R.sent radio.new ≡ raised_by (frames_in result) (R.sent radio.old) }
-        ensures heard { R.heard radio.new ≡ raised_by (arrivals_in result) (R.heard radio.old) }
-        ensures who { IfOk result (λ step. FitsWho (step_of step)) }
+        ensures sent { R.sent radio.new ≡ raised_by (frames_in (written result step.new)) (R.sent radio.old) }
+        ensures heard { R.heard radio.new ≡ raised_by (arrivals_in (written result step.new)) (R.heard radio.old) }
+        ensures who { OnOk result (FitsWho (step_of step.new)) }
     {
         match air {
-            Air::Deliver => self.deliver(radio, sender, &[]),
-            Air::Lose => self.lose(sender),
-            Air::Flip(places) => self.deliver(radio, sender, places),
+            Air::Deliver => self.deliver(radio, sender, &[], step),
+            Air::Lose => self.lose(sender, step),
+            Air::Flip(places) => self.deliver(radio, sender, places, step),
         }
     }
 
-    pub(crate) fn happen<R: Radio>(&mut self, radio: &mut R, event: &Event<'_>) -> Result<Step, No>
+    pub(crate) fn happen<R: Radio>(
+        &mut self,
+        radio: &mut R,
+        event: &Event<'_>,
+        step: &mut Step,
+    ) -> Result<(), No>
         requires sound { IsSound self.old }
         requires possible { IsPossible event.now }
-        ensures follows { Follows (event_of event.now) self.old result self.new }
+        ensures follows { Follows (event_of event.now) self.old (written result step.new) self.new }
         ensures sound { IsSound self.new }
         ensures refused { OnErr result (self.new ≡ self.old) }
+        ensures kept { OnErr result (step.new ≡ step.old) }
         ensures silent { OnErr result (radio.new ≡ radio.old) }
-        ensures sent { R.sent radio.new ≡ raised_by (frames_in result) (R.sent radio.old) }
-        ensures heard { R.heard radio.new ≡ raised_by (arrivals_in result) (R.heard radio.old) }
-        ensures who { IfOk result (λ step. FitsWho (step_of step)) }
+        ensures sent { R.sent radio.new ≡ raised_by (frames_in (written result step.new)) (R.sent radio.old) }
+        ensures heard { R.heard radio.new ≡ raised_by (arrivals_in (written result step.new)) (R.heard radio.old) }
+        ensures who { OnOk result (FitsWho (step_of step.new)) }
     {
         match event {
-            Event::Open(info) => self.open(radio, info),
-            Event::OpenBare(end) => self.open_bare(radio, *end),
-            Event::End(end, sapi, call) => self.ask(radio, *end, *sapi, call),
-            Event::Air(way, air) => self.on_air(radio, way.sender(), air),
-            Event::Rival(info) => self.rival(radio, info),
+            Event::Open(info) => self.open(radio, info, step),
+            Event::OpenBare(end) => self.open_bare(radio, *end, step),
+            Event::End(end, sapi, call) => self.ask(radio, *end, *sapi, call, step),
+            Event::Air(way, air) => self.on_air(radio, way.sender(), air, step),
+            Event::Rival(info) => self.rival(radio, info, step),
         }
     }
 }
@@ -342,22 +381,18 @@ fn other_end(end: End) -> End
 }
 
 /// The SABM of another mobile.
-fn rival_effects(info: &[u8], channel: Channel) -> Effects
+fn rival_effects(info: &[u8], channel: Channel, effects: &mut Effects)
     requires { length info.now ≤ n201 channel }
-    ensures frames { result.frames ≡ octets_of channel (E.rival_frame info.now) ∷ [] }
-    ensures notices { result.notices ≡ [] }
+    ensures frames { effects.new.frames ≡ octets_of channel (E.rival_frame info.now) ∷ [] }
+    ensures notices { effects.new.notices ≡ [] }
 {
     let frame = FrameView {
         sapi: 0,
         cr: false,
         body: Body::Sabm { p: true, info },
     };
-    let mut frames = Frames::new();
-    frames.push(write_on(&frame, channel));
-    Effects {
-        frames,
-        notices: Notices::new(),
-    }
+    effects.clear();
+    effects.frames.push(write_on(&frame, channel));
 }
 
 impl Way {

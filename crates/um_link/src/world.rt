@@ -1,9 +1,9 @@
 //! The world of one mobile and one network: a call for each event.
-ghost use Rattle.std.specs.Prelude.{◌≡◌, ◌≤◌, IfOk, OnErr};
+ghost use Rattle.std.specs.Prelude.{◌≡◌, ◌≤◌, IfOk, OnOk, OnErr};
 ghost use Rattle.lapdm_frame.specs.declared.Channel.TheVariants as C;
 ghost use Rattle.um_air.specs.Air.{start_on};
 ghost use Rattle.um_block.specs.Tallies.{raised_by};
-ghost use Rattle.um_link.specs.Naming.{event_of, step_of};
+ghost use Rattle.um_link.specs.Naming.{event_of, step_of, written};
 ghost use Rattle.um_link.specs.Standing.{Stands, Follows, IsOnlyAnswer, FitsWho, frames_in, arrivals_in};
 ghost use Rattle.um_link.specs.Sessions.{GoesOn, KeepsOrder, KeepsDelivery, StaysHarmless};
 ghost use Rattle.um_link.specs.Possible.{IsPossible};
@@ -78,12 +78,41 @@ impl World {
         ensures harmless { StaysHarmless (event_of event.now) self.old result }
         ensures octets { IsOctetEvent (event_of event.now) }
     {
+        let mut step = Step::new();
+        match self.step_into(radio, event, &mut step) {
+            Ok(()) => Ok(step),
+            Err(no) => Err(no),
+        }
+    }
+
+    /// The same, with the step written over what stands in `step`, which stays where the event is refused.
+    pub fn step_into<R: Radio>(
+        &mut self,
+        radio: &mut R,
+        event: &Event<'_>,
+        step: &mut Step,
+    ) -> Result<(), No>
+        requires { IsPossible event.now }
+        ensures follows { Follows (event_of event.now) self.old (written result step.new) self.new }
+        ensures only { IsOnlyAnswer (event_of event.now) self.old (written result step.new) }
+        ensures session { GoesOn (event_of event.now) self.old (written result step.new) self.new }
+        ensures refused { OnErr result (self.new ≡ self.old) }
+        ensures kept { OnErr result (step.new ≡ step.old) }
+        ensures silent { OnErr result (radio.new ≡ radio.old) }
+        ensures sent { R.sent radio.new ≡ raised_by (frames_in (written result step.new)) (R.sent radio.old) }
+        ensures heard { R.heard radio.new ≡ raised_by (arrivals_in (written result step.new)) (R.heard radio.old) }
+        ensures who { OnOk result (FitsWho (step_of step.new)) }
+        ensures order { KeepsOrder (event_of event.now) self.old (written result step.new) }
+        ensures delivery { KeepsDelivery (event_of event.now) self.old (written result step.new) }
+        ensures harmless { StaysHarmless (event_of event.now) self.old (written result step.new) }
+        ensures octets { IsOctetEvent (event_of event.now) }
+    {
         law_one_answer();
         law_order();
         law_delivery();
         law_kind();
         law_octets(event);
-        self.links.happen(radio, event)
+        self.links.happen(radio, event, step)
     }
 }
 

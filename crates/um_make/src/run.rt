@@ -9,7 +9,7 @@ use crate::summary::Summary;
 use std::alloc::Global;
 use um_block::Radio;
 use um_io::NoMemory;
-use um_link::World;
+use um_link::{Step, World};
 use um_script::Room;
 
 /// Steps a new world through the generated run of so many messages, over SDCCH with a training sequence 0 to 7, and sums
@@ -28,9 +28,10 @@ pub fn make<R: Radio>(alloc: Global, n: u32, tsc: u8, radio: &mut R) -> Result<S
     let mut script = Script::new(n);
     let mut room = Room::new();
     let mut summary = Summary::new();
+    let mut step = Step::new();
     while let Some(event) = script.next(&mut room) {
-        let answer = world.step(radio, &event);
-        summary.count(&event, &answer);
+        let done = world.step_into(radio, &event, &mut step);
+        summary.count(&event, &done, &step);
     }
     Ok(summary)
 }

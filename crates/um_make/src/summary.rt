@@ -4,7 +4,7 @@ ghost use Rattle.lapdm_window.specs.declared.Sapi.TheVariants as S;
 ghost use Rattle.lapdm_window.specs.Ends as R;
 ghost use Rattle.lapdm_link.specs.Claims.{is_sapi};
 ghost use Rattle.um_air.specs.Air as A;
-ghost use Rattle.um_link.specs.Naming.{event_of, answer_of, step_of};
+ghost use Rattle.um_link.specs.Naming.{event_of, answer_of, step_of, written};
 ghost use Rattle.um_make.specs.Summaries.{is_loss};
 
 use crate::end_summary::EndSummary;
@@ -49,17 +49,17 @@ impl Summary {
         }
     }
 
-    /// Counts an event and its answer.
-    pub(crate) fn count(&mut self, event: &Event<'_>, answer: &Result<Step, No>)
+    /// Counts an event and its answer, whose step was written into the caller's room.
+    pub(crate) fn count(&mut self, event: &Event<'_>, done: &Result<(), No>, step: &Step)
         requires { IsBelow (2 ^ 58) self.old }
-        ensures counts { Counts (event_of event.now) (answer_of answer.now) self.old self.new }
+        ensures counts { Counts (event_of event.now) (answer_of (written done.now step.now)) self.old self.new }
         ensures rises { RisesAtMost 192015 self.old self.new }
     {
         self.steps += 1;
         if is_loss(event) {
             self.lost += 1;
         }
-        if let Ok(step) = answer {
+        if done.is_ok() {
             self.add(step);
         }
     }

@@ -1,5 +1,5 @@
 //! The lines that answer a line of a script.
-ghost use Rattle.std.specs.Prelude.{◌≡◌, ◌+◌, ◌*◌, ◌-◌, ◌<◌, ◌≤◌, [], ◌++◌, length, map, take, drop, codes, IfOk};
+ghost use Rattle.std.specs.Prelude.{◌≡◌, ◌+◌, ◌*◌, ◌-◌, ◌<◌, ◌≤◌, [], ◌++◌, length, map, take, drop, codes, IfOk, OnOk};
 ghost use Rattle.std.specs.Fmt.{decimal};
 ghost use Rattle.hex.specs.Hex.{encode_lower};
 ghost use Rattle.bit_blocks.specs.Octets.{bits_of, octets_of};
@@ -7,7 +7,7 @@ ghost use Rattle.um_air.specs.Air as A;
 ghost use Rattle.um_air.specs.Sessions.{AreOctets};
 ghost use Rattle.lapdm_link.specs.Events as E;
 ghost use Rattle.um_script.specs.AnswerLines.{Tells, Sends, heard, block_line, arrival_lines, answer_lines, lines_text, FitsHeard, FitsNotice, FitsLine, FitLines};
-ghost use Rattle.um_link.specs.Naming.{answer_of, step_of, who_of, why_of};
+ghost use Rattle.um_link.specs.Naming.{answer_of, step_of, who_of, why_of, written};
 ghost use Rattle.um_link.specs.Standing.{FitsWho};
 ghost use Rattle.um_script.specs.StepLines.{who_word, link_word, refusal_word, closing_word, octets_word, heard_text, dropped_text, block_text, arrival_text, notice_text, notices_text, frames_text, answer_text};
 
@@ -29,6 +29,20 @@ pub fn step_lines(out: &mut Text, answer: &Result<Step, No>)
 {
     match answer {
         Ok(step) => push_step(out, step),
+        Err(reason) => push_refusal(out, *reason),
+    }
+}
+
+/// The same for a step that was written into the caller's room.
+pub fn written_lines(out: &mut Text, done: &Result<(), No>, step: &Step)
+    requires empty { out.old ≡ [] }
+    requires fits { OnOk done.now (FitsWho (step_of step.now)) }
+    ensures text { out.new ≡ answer_text (answer_of (written done.now step.now)) }
+    ensures short { length out.new < 2000 }
+    ensures fit { FitLines (answer_lines (answer_of (written done.now step.now))) }
+{
+    match done {
+        Ok(()) => push_step(out, step),
         Err(reason) => push_refusal(out, *reason),
     }
 }

@@ -11,6 +11,6 @@ mod script;
 #[cfg(test)]
 mod tests;
 
-pub use answer::{law_different_lines, step_lines};
+pub use answer::{law_different_lines, step_lines, written_lines};
 pub use room::Room;
 pub use script::{ScriptLine, law_script, law_script_octets, parse_script};

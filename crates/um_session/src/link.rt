@@ -9,8 +9,8 @@ ghost use Rattle.um_session.specs.Courses.{Course, course_rules, frames_sent, bl
 use um_block::Radio;
 use um_driver::Command;
 use um_lines::{LineFault, Text};
-use um_link::World;
-use um_script::{Room, ScriptLine, parse_script, step_lines};
+use um_link::{Step, World};
+use um_script::{Room, ScriptLine, parse_script, written_lines};
 
 /// The command `link`: both ends over the air, and the radio that codes and receives what goes over it.
 #[derive(Drop)]
@@ -18,6 +18,8 @@ pub struct Link<'a, R> {
     pub world: &'a mut World,
     pub radio: &'a mut R,
     room: Room,
+    // What came of the last event that was not refused.
+    step: Step,
 }
 
 impl<'a, R: Radio> Link<'a, R> {
@@ -31,6 +33,7 @@ impl<'a, R: Radio> Link<'a, R> {
             world,
             radio,
             room: Room::new(),
+            step: Step::new(),
         }
     }
 }
@@ -56,7 +59,12 @@ impl<'a, R: Radio> Command for Link<'a, R> {
     fn answer(&mut self, line: &[u8], out: &mut Text) -> Result<(), LineFault> {
         match parse_script(line, &mut self.room)? {
             ScriptLine::Skip => {}
-            ScriptLine::Step(event) => step_lines(out, &self.world.step(&mut *self.radio, &event)),
+            ScriptLine::Step(event) => {
+                let done = self
+                    .world
+                    .step_into(&mut *self.radio, &event, &mut self.step);
+                written_lines(out, &done, &self.step);
+            }
         }
         Ok(())
     }

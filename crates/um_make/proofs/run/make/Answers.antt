@@ -1,6 +1,7 @@
 use Rattle.std.proofs.Common.{◌≡◌, ◌∙◌, ap, ℕ, ◌+◌}
 use Rattle.std.proofs.Common.{arith}
 use Rattle.um_block.specs.Tallies.{raised_by}
+use Rattle.um_link.specs.Naming.{written}
 use Rattle.um_link.specs.Standing.{frames_in, arrivals_in}
 use Rattle.um_make.specs.Generated.{generated}
 use Rattle.um_make.proofs.Going.{goes_on, small_enough, sums_up, delivered}
@@ -13,17 +14,19 @@ count-requires g c =
 
 pub loop-event-preserved : goal.loop-event-preserved
 loop-event-preserved g c =
-    let answer = c.step-answer.result in
+    let answer = written c.step_into-done.result c.step_into-done.new.step in
     let old = c.loop-event.summary in
     let new = c.count.new.self in
     let counts = c.count.ensures.counts in
     let sent : new.sends ≡ old.sends + frames_in answer = counts.sent ∙ ap (λ (k : ℕ). old.sends + k) (frames_are answer) in
     let heard : new.takes + new.drops ≡ (old.takes + old.drops) + arrivals_in answer = omega (arith, counts.takes, counts.drops, arrivals_are answer) in
     record {
-      underway = goes_on c.args.tsc (generated c.args.n) c.loop-event.script c.next.new.self c.loop-event.world c.step-answer.new.self old new _ answer
-          c.loop-event.invariant.underway c.in-Some.ensures.event c.step-answer.ensures.session counts c.count.ensures.rises;
-      sent = c.step-answer.ensures.sent ∙ ap (raised_by (frames_in answer)) c.loop-event.invariant.sent ∙ raised_by-more (frames_in answer) old.sends _ new.sends sent;
-      heard = c.step-answer.ensures.heard ∙ ap (raised_by (arrivals_in answer)) c.loop-event.invariant.heard
+      underway = goes_on c.args.tsc (generated c.args.n) c.loop-event.script c.next.new.self c.loop-event.world
+          c.step_into-done.new.self old new _ answer c.loop-event.invariant.underway c.in-Some.ensures.event
+          c.step_into-done.ensures.session counts c.count.ensures.rises;
+      sent = c.step_into-done.ensures.sent ∙ ap (raised_by (frames_in answer)) c.loop-event.invariant.sent
+          ∙ raised_by-more (frames_in answer) old.sends _ new.sends sent;
+      heard = c.step_into-done.ensures.heard ∙ ap (raised_by (arrivals_in answer)) c.loop-event.invariant.heard
           ∙ raised_by-more (arrivals_in answer) (old.takes + old.drops) _ (new.takes + new.drops) heard;
     }
 

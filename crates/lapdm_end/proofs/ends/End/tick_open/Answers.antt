@@ -36,6 +36,6 @@ returns-in-Again-clause-follows c e h =
     let g = c.send_waiting.ensures.follows f (runs_on c.on_timer.new.self f runs refl refl refl refl window) in
     as_outcome _ _ e _ _ (ticks-open e runs.state again.waiting again.few) (
       Stands-open _ c.requires.open h.kept (bare_of h) g,
-      Does-open c.no_effects-effects.ensures.frames
-          c.no_effects-effects.ensures.notices h.link.channel g,
+      Does-open c.clear.ensures.frames
+          c.clear.ensures.notices h.link.channel g,
     )

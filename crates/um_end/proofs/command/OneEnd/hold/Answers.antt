@@ -10,11 +10,11 @@ use Rattle.um_end.proofs.command.OneEnd.hold.Goals as goal
 pub returns-in-Some : goal.returns-in-Some
 returns-in-Some c = record {
   answers = λ s st.
-      let f = c.receive.ensures.follows s.links st.links in
+      let f = c.receive_into.ensures.follows s.links st.links in
       let bursts : List (List ℤ) = s.held ++ c.args.burst ∷ [] in
       let whole : c.in-Some.block ≡ bursts = c.in-Some.ensures.held.0 ∙ ap (λ held. held ++ c.args.burst ∷ []) (sym st.held) in
-      let step = step_of c.receive.result in
-      let tsc : c.receive.new.self.tsc ≡ s.tsc = c.receive.ensures.same.tsc ∙ sym st.tsc in (
+      let step = step_of c.receive_into.new.step in
+      let tsc : c.receive_into.new.self.tsc ≡ s.tsc = c.receive_into.ensures.same.tsc ∙ sym st.tsc in (
         record s { links = f.0; held = [] },
         inr (
           ap length (sym whole) ∙ search rules,
@@ -28,16 +28,16 @@ returns-in-Some c = record {
           },
         ),
         record {
-          role = st.role ∙ ap role_of (sym c.receive.ensures.same.side);
+          role = st.role ∙ ap role_of (sym c.receive_into.ensures.same.side);
           tsc = sym tsc;
           links = f.1;
           held = sym c.in-Some.ensures.held.1;
         },
       );
   few = λ s st.
-      let f = c.receive.ensures.follows s.links st.links in
-      let short = block_short _ s.links _ f.0 (step_of c.receive.result) _ _ f.2 c.receive.ensures.numbers c.write_answer.ensures.text
-      c.write_answer.ensures.lines in
+      let f = c.receive_into.ensures.follows s.links st.links in
+      let short = block_short _ s.links _ f.0 (step_of c.receive_into.new.step) _ _ f.2 c.receive_into.ensures.numbers
+      c.write_answer.ensures.text c.write_answer.ensures.lines in
       omega (arith, short, c.write_answer.ensures.length);
 }
 

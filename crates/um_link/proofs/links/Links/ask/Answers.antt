@@ -9,9 +9,9 @@ returns-in-Ok-clause-follows g c =
     let w = c.args.self.now in
     let role = role_of c.args.end in
     let call = call_of c.args.call.now in
-    called (E.Ask role c.args.sapi (request_of c.args.call.now)) role w c.goes_out.new.self c.ask.new.self c.in-Ok.effects
-    (E.End role) c.args.sapi (step_of c.goes_out.result) c.goes_out.ensures.step
-    (on-channel w c.ask.new.self c.in-Ok.effects (E.asks role c.args.sapi call) c.requires.sound c.in-Ok.ensures.follows)
+    called (E.Ask role c.args.sapi (request_of c.args.call.now)) role w c.goes_out.new.self c.ask.new.self c.ask.new.effects
+    (E.End role) c.args.sapi (step_of c.goes_out.new.step) c.goes_out.ensures.step
+    (on-channel w c.ask.new.self c.ask.new.effects (E.asks role c.args.sapi call) c.requires.sound c.in-Ok.ensures.follows)
     (asked-none role c.args.sapi call w (sym c.is_full.ensures ∙ c.if-is_full.false) c.in-Ok.ensures.refusal)
     (λ a. (tt, refl)) refl (λ es. refl) (λ es. refl) c.goes_out.ensures.sends
 

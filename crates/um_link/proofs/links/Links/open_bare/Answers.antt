@@ -10,9 +10,9 @@ use Rattle.um_link.proofs.links.Links.open_bare.Goals as goal
 pub returns-in-Ok-clause-follows : goal.returns-in-Ok-clause-follows
 returns-in-Ok-clause-follows g c =
     let w = c.args.self.now in
-    called (E.OpenBare (role_of c.args.end)) (role_of c.args.end) w c.goes_out.new.self c.open_bare.new.self c.in-Ok.effects
-    (E.End (role_of c.args.end)) S.Three (step_of c.goes_out.result) c.goes_out.ensures.step
-    (on-channel w c.open_bare.new.self c.in-Ok.effects (E.asks (role_of c.args.end) S.Three OpensBare) c.requires.sound
+    called (E.OpenBare (role_of c.args.end)) (role_of c.args.end) w c.goes_out.new.self c.open_bare.new.self c.open_bare.new.effects
+    (E.End (role_of c.args.end)) S.Three (step_of c.goes_out.new.step) c.goes_out.ensures.step
+    (on-channel w c.open_bare.new.self c.open_bare.new.effects (E.asks (role_of c.args.end) S.Three OpensBare) c.requires.sound
     c.in-Ok.ensures.follows)
     (asked-none (role_of c.args.end) S.Three OpensBare w (sym c.is_full.ensures ∙ c.if-is_full.false) c.in-Ok.ensures.refusal)
     (λ a. (tt, refl)) refl (λ es. refl) (λ es. refl) c.goes_out.ensures.sends

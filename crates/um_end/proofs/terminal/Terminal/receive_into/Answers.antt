@@ -4,7 +4,7 @@ use Rattle.um_end.specs.Terminals.{takes_read}
 use Rattle.um_end.specs.Standing.{side_of}
 use Rattle.um_end.proofs.Deeds.{done_step}
 use Rattle.um_end.proofs.Determined.{one_hearing}
-use Rattle.um_end.proofs.terminal.Terminal.receive.Goals as goal
+use Rattle.um_end.proofs.terminal.Terminal.receive_into.Goals as goal
 
 pub returns-clause-follows : goal.returns-clause-follows
 returns-clause-follows c a st =
@@ -19,7 +19,7 @@ returns-clause-follows c a st =
         reads = h.reads;
         after = refl;
         step_is = done_step (side_of c.args.self.now) _ (Some c.receive_block-report.result) d _ _ _
-            (step_of c.step.result) c.step.ensures.step
+            (step_of c.sign.new.step) c.sign.ensures.step
             (ap role_of c.hear-sapi.ensures.same.side) h.done;
       },
     )
@@ -27,4 +27,4 @@ returns-clause-follows c a st =
 pub returns-clause-only : goal.returns-clause-only
 returns-clause-only c a st b step h =
     let f = returns-clause-follows c a st in
-    (one_hearing (side_of c.args.self.now) a c.args.bursts.now b f.0 step (step_of c.step.result) h f.2).1
+    (one_hearing (side_of c.args.self.now) a c.args.bursts.now b f.0 step (step_of c.sign.new.step) h f.2).1

@@ -5,7 +5,7 @@ use Rattle.lapdm_window.specs.Calls.{with_taken}
 use Rattle.lapdm_end.specs.Windows.{Runs}
 use Rattle.lapdm_end.proofs.Giving.{runs_on}
 use Rattle.lapdm_end.proofs.Moves.{Runs-open, Stands-open, Does-open, bare_of}
-use Rattle.lapdm_end.proofs.ends.End.send.Goals as goal
+use Rattle.lapdm_end.proofs.ends.End.send_into.Goals as goal
 
 pub returns-clause-follows : goal.returns-clause-follows
 returns-clause-follows c e h =
@@ -14,6 +14,6 @@ returns-clause-follows c e h =
     let f : EndState = with_taken c.args.message.now e in
     let g = c.send_next.ensures.follows f (runs_on c.put.new.self f runs refl refl refl refl (c.in_default.ensures.taken e runs.window)) in (
       Stands-open _ open_now h.kept (bare_of h) g,
-      Does-open c.no_effects-effects.ensures.frames c.no_effects-effects.ensures.notices
+      Does-open c.clear.ensures.frames c.clear.ensures.notices
           h.link.channel g,
     )

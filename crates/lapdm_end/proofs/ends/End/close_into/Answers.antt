@@ -2,7 +2,7 @@ use Rattle.std.proofs.Common.{refl}
 use Rattle.lapdm_window.specs.declared.State.TheVariants.{Closing}
 use Rattle.lapdm_window.proofs.Lemmas.{IsEnd-moved}
 use Rattle.lapdm_end.proofs.Moves.{moved, both, link_moved, Tracks-moved}
-use Rattle.lapdm_end.proofs.ends.End.close.Goals as goal
+use Rattle.lapdm_end.proofs.ends.End.close_into.Goals as goal
 
 pub returns-clause-follows : goal.returns-clause-follows
 returns-clause-follows c e h =
