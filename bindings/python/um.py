@@ -20,7 +20,7 @@ An end of a link, which has no timer and no line of its own:
     >>> mobile, network = um.End("mobile"), um.End("network")
     >>> answer = network.take(mobile.open(bytes([1, 2])).frames[0])
     >>> answer.notices, mobile.take(answer.frames[0]).notices
-    ([('opened', b'\x01\x02')], [('opened', b'\x01\x02')])
+    ([('opened', b'\\x01\\x02')], [('opened', b'\\x01\\x02')])
     >>> got = network.take(mobile.send(b"hello").frames[0])
     >>> got.notices, mobile.take(got.frames[0]).notices
     ([('got', b'hello')], [('acked', 1)])
@@ -237,7 +237,8 @@ class End:
 
     def __init__(self, role, sapi=0, channel=SDCCH):
         self._end = _End()
-        _told(sapi in (0, 3) and _lib.um_end_new(c.byref(self._end), ROLES.index(role), c.c_uint8(sapi), _channel(channel)), "a SAPI is 0 or 3")
+        begun = sapi in (0, 3) and _lib.um_end_new(c.byref(self._end), c.c_uint8(ROLES.index(role)), c.c_uint8(sapi), _channel(channel))
+        _told(begun, "a SAPI is 0 or 3")
 
     @property
     def state(self):
@@ -248,7 +249,8 @@ class End:
         raw = _Effects()
         answer = getattr(_lib, f"um_end_{name}")(c.byref(self._end), *arguments, c.byref(raw))
         _told(answer == 0, ANSWERS[answer - 1])
-        return Effects([bytes(frame) for frame in raw.frames[: raw.frame_count]], [_noticed(notice) for notice in raw.notices[: raw.notice_count]])
+        frames = [bytes(frame) for frame in raw.frames[: raw.frame_count]]
+        return Effects(frames, [_noticed(notice) for notice in raw.notices[: raw.notice_count]])
 
     def open(self, info):
         """Asks the other end to open the link of SAPI 0, with this information."""

@@ -95,10 +95,11 @@ static bool is_quiet(const place *p)
 	check((call) == (answer) && !memcmp(&old, (p), sizeof old), #call " is refused"); \
 } while (0)
 
-/* Every block of one end's effects to the other: what the other then tells is in its own. */
+/* The one block that an end sends is taken by the other. */
 static void give(place *to, const place *from)
 {
-	check(from->told.frame_count == 1 && um_end_take(&to->end, from->told.frames[0], &to->told) == UM_END_DONE && is_around(to), "a block is taken");
+	check(from->told.frame_count == 1 && um_end_take(&to->end, from->told.frames[0], &to->told) == UM_END_DONE
+		&& is_around(to), "a block is taken");
 }
 
 static void opened(place *mobile, place *network, uint8_t channel)
@@ -112,8 +113,10 @@ static void opened(place *mobile, place *network, uint8_t channel)
 	REFUSED(mobile, um_end_close(&mobile->end, &mobile->told), UM_END_NOT_OPEN);
 	REFUSED(mobile, um_end_timer(&mobile->end, &mobile->told), UM_END_NOT_RUNNING);
 	REFUSED(mobile, um_end_open_bare(&mobile->end, &mobile->told), UM_END_OTHER_SAPI);
-	check(um_end_open(&mobile->end, &m, &mobile->told) == UM_END_DONE && is_around(mobile) && is_sent(mobile, sabm, 5) && is_quiet(mobile), "a SABM");
+	check(um_end_open(&mobile->end, &m, &mobile->told) == UM_END_DONE && is_around(mobile) && is_sent(mobile, sabm, 5)
+		&& is_quiet(mobile), "a SABM");
 	REFUSED(mobile, um_end_open(&mobile->end, &m, &mobile->told), UM_END_NOT_IDLE);
+	check(um_end_timer(&mobile->end, &mobile->told) == UM_END_DONE && is_sent(mobile, sabm, 5) && mobile->end.retries == 1, "the SABM again");
 	give(network, mobile);
 	check(is_sent(network, ua, 5) && is_told(network, UM_OPENED, &m), "a SABM opens the network's end");
 	give(mobile, network);
@@ -309,14 +312,16 @@ static void spoiled(void)
 	SPOILED(bare, s.kept.count = 1, "information kept on SAPI 3");
 
 	memset(&idle, 0xa5, sizeof idle);
-	check(!um_end_new(&idle.end, 2, 0, UM_SDCCH) && !um_end_new(&idle.end, UM_MOBILE, 1, UM_SDCCH) && !um_end_new(&idle.end, UM_MOBILE, 0, 2)
+	check(!um_end_new(&idle.end, 2, 0, UM_SDCCH) && !um_end_new(&idle.end, UM_MOBILE, 1, UM_SDCCH)
+		&& !um_end_new(&idle.end, UM_MOBILE, 0, 2)
 		&& is_marked((const uint8_t *)&idle, sizeof idle), "an end of no role, SAPI or channel is refused");
 
 	/* octets that mean nothing may be anything */
 	memset(mobile.end.held + 1, 0xff, 7 * sizeof(um_message));
 	memset(mobile.end.kept.octets + 2, 0xff, 253);
 	mobile.end.rejecting = 200;
-	check(um_end_timer(&mobile.end, &mobile.told) == UM_END_DONE && mobile.end.held[7].count == 0 && mobile.end.rejecting == 1, "octets without meaning");
+	check(um_end_timer(&mobile.end, &mobile.told) == UM_END_DONE && mobile.end.held[7].count == 0
+		&& mobile.end.rejecting == 1, "octets without meaning");
 }
 
 int main(void)
@@ -331,6 +336,6 @@ int main(void)
 	short_messages();
 	spoiled();
 	if (!failed)
-		printf("library: ends of a link from C: sessions on both channels and both SAPIs, each refusal, 27 states that no end has\n");
+		printf("library: ends of a link from C: sessions on both channels and SAPIs, each refusal, 27 states that no end has\n");
 	return failed;
 }

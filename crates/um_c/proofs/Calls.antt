@@ -123,9 +123,9 @@ pub given_by : (octets : List ℕ) (channel : Channel) (f : Frame) (before after
     IsGivenAs octets answer before after untold told
 given_by octets channel f before after untold told m n answer effects read same frame follows is =
     let known : (e : EndState) → StandsFor before e → IsOnlyFrame e.channel f octets =
-        λ e h. subst (λ (c : Channel). IsOnlyFrame c f octets) (same e (read.stands e h)) frame in
+    λ e h. subst (λ (c : Channel). IsOnlyFrame c f octets) (same e (read.stands e h)) frame in
     let done : (e : EndState) → StandsFor before e → IsCarriedOut e.channel (after_frame f e) answer after told =
-        λ e h. let s = follows e (read.stands e h) in carried_out (after_frame f e) e n effects answer after told s.0 s.1 is in
+    λ e h. let s = follows e (read.stands e h) in carried_out (after_frame f e) e n effects answer after told s.0 s.1 is in
     record {
       done = λ e h g only. subst (λ (x : Frame). IsCarriedOut e.channel (after_frame x e) answer after told)
           (sym ((known e h).only g only.frame)) (done e h);

@@ -78,7 +78,10 @@ fn plain_notice(notice: &Notice) -> PlainNotice
             kind: 4,
             ..nothing()
         },
-        Notice::Oversize => PlainNotice { kind: 5, ..nothing() },
+        Notice::Oversize => PlainNotice {
+            kind: 5,
+            ..nothing()
+        },
         Notice::Closed(reason) => PlainNotice {
             kind: 6,
             reason: reason_number(*reason),

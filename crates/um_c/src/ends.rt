@@ -14,7 +14,9 @@ use lapdm_frame::read_on;
 use lapdm_window::{Effects, Refused, Sapi};
 
 const NO_END: u8 = 7;
+
 const OTHER_SAPI: u8 = 8;
+
 const NO_FRAME: u8 = 9;
 
 /// Writes the state of an end before its first call. False, and nothing written, where there is no such role, SAPI or channel.

@@ -114,7 +114,10 @@ fn parts_in(plain: &PlainEnd) -> Option<EndParts>
     let sapi = sapi_of(plain.sapi)?;
     let state = state_of(plain.state)?;
     let kept = plain.kept.message()?;
-    let window = window_in(plain)?;
+    // `?` would copy what is large twice more.
+    let Some(window) = window_in(plain) else {
+        return None;
+    };
     Some(EndParts {
         role,
         sapi,
@@ -129,7 +132,9 @@ fn window_in(plain: &PlainEnd) -> Option<WindowParts>
     ensures { result ≡ said_window plain.now }
 {
     let channel = channel_of(plain.channel)?;
-    let held = held_in(plain.held_count, &plain.held)?;
+    let Some(held) = held_in(plain.held_count, &plain.held) else {
+        return None;
+    };
     let part = part_of(plain.part)?;
     let mut octets = [0; LONGEST];
     octets.copy_from_slice(&plain.joined.octets[..LONGEST]);
