@@ -32,6 +32,8 @@ pub(crate) fn send_all<R: Radio>(
 }
 
 /// Receives the first block, with the bits at these places turned over.
+// What is received has 264 octets, and each call in between would copy it once more.
+#[inline(always)]
 pub(crate) fn receive_first<R: Radio>(
     radio: &mut R,
     way: &mut HeapCircularBuffer<[[u8; 148]; 4]>,
