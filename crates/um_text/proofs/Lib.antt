@@ -1,6 +1,7 @@
 pub mod BurstLaws
 pub mod BurstRows
 pub mod CodeLaws
+pub mod DigitWords
 pub mod OtherBursts
 pub mod PackedOctets
 pub mod ReportLaws

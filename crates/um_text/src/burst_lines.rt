@@ -85,30 +85,33 @@ fn parse_lost(word: &[u8]) -> Result<BurstLine, LineFault>
     }
 }
 
+// Digits alone are one word, so that a space is looked for in other texts only.
+#[tactic(auto, using(crate::proofs::DigitWords::bit_word, crate::proofs::DigitWords::whole_word))]
 fn parse_hard_normal(rest: &[u8]) -> Result<BurstLine, LineFault>
     ensures { (held : ℕ) → result ≡ read_burst held (codes "n" ∷ words rest.now) }
 {
-    let digits = one_word(rest)?;
-    if !are_bit_digits(digits) {
+    if !are_bit_digits(rest) {
+        one_word(rest)?;
         return Err(LineFault::Digits);
     }
-    if digits.len() != 148 {
+    if rest.len() != 148 {
         return Err(LineFault::Length);
     }
-    Ok(BurstLine::Normal(hard_values(digits)))
+    Ok(BurstLine::Normal(hard_values(rest)))
 }
 
+#[tactic(auto, using(crate::proofs::DigitWords::hex_word, crate::proofs::DigitWords::whole_word))]
 fn parse_soft_normal(rest: &[u8]) -> Result<BurstLine, LineFault>
     ensures { (held : ℕ) → result ≡ read_burst held (codes "N" ∷ words rest.now) }
 {
-    let digits = one_word(rest)?;
-    if !are_hex_digits(digits) {
+    if !are_hex_digits(rest) {
+        one_word(rest)?;
         return Err(LineFault::Digits);
     }
-    if digits.len() != 296 {
+    if rest.len() != 296 {
         return Err(LineFault::Length);
     }
-    Ok(BurstLine::Normal(soft_values(digits)?))
+    Ok(BurstLine::Normal(soft_values(rest)?))
 }
 
 fn parse_hard_access(rest: &[u8], held: u8) -> Result<BurstLine, LineFault>
