@@ -1,5 +1,5 @@
 -- What a C program is told of the two words that fit a block best.
-use Rattle.std.specs.Prelude.{ℕ, ◌≡◌, ◌↔◌, ℤ, pos, ◌-ℤ◌, List, map}
+use Rattle.std.specs.Prelude.{◌≡◌, ◌↔◌, ℤ, pos, ◌-ℤ◌, List, map}
 use Rattle.bit_blocks.specs.SoftValues.{likelihood}
 use Rattle.conv_code.specs.Code.{coded}
 use Rattle.conv_code.specs.Likelihood.{IsMostLikely}
