@@ -1,5 +1,5 @@
 -- What a call of an end answers, from what the end below it does.
-use Rattle.std.proofs.Common.{◌≡◌, ◌≢◌, true, refl, sym, ◌∙◌, ap, subst, arith, ℕ, List, Option, Some, None, Result, Ok, Err, IfOk, IfErr, map}
+use Rattle.std.proofs.Common.{◌≡◌, true, refl, sym, ◌∙◌, ap, subst, ℕ, List, Option, Some, None, Result, Ok, Err, IfOk, IfErr, map}
 use Rattle.lapdm_frame.specs.declared.Channel.{Channel}
 use Rattle.lapdm_frame.specs.Content.{Frame}
 use Rattle.lapdm_frame.specs.Frames.{octets_of}
@@ -9,7 +9,7 @@ use Rattle.lapdm_window.specs.declared.Refused.{Refused}
 use Rattle.lapdm_window.specs.declared.Notice.{Notice}
 use Rattle.lapdm_window.specs.declared.effects.Effects.{Effects}
 use Rattle.lapdm_window.specs.Ends.{EndState, Outcome, start}
-use Rattle.lapdm_window.specs.Calls.{Call, HasCall, refusal_of, after_call}
+use Rattle.lapdm_window.specs.Calls.{Call, HasCall, after_call}
 use Rattle.lapdm_window.specs.Tables.{after_frame}
 use Rattle.lapdm_window.specs.Steps.{Does}
 use Rattle.lapdm_end.specs.declared.Role.{Role}
@@ -17,7 +17,7 @@ use Rattle.lapdm_end.specs.Links as L
 use Rattle.lapdm_end.specs.declared.ends.End.{End}
 use Rattle.lapdm_end.specs.Standing.{Stands}
 use Rattle.lapdm_end.specs.Following.{Follows, IsRefusedAs}
-use Rattle.lapdm_end.specs.Parts.{parts_of, StandFor}
+use Rattle.lapdm_end.specs.Parts.{parts_of}
 use Rattle.um_c.specs.declared.states.PlainEnd.{PlainEnd}
 use Rattle.um_c.specs.declared.effects.PlainEffects.{PlainEffects}
 use Rattle.um_c.specs.Plain.{channel_of}

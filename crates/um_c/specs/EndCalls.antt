@@ -1,5 +1,5 @@
 -- What a C program is answered on a call of an end, in the words of the definition of one end.
-use Rattle.std.specs.Prelude.{ℕ, ◌≡◌, ◌≢◌, ◌↔◌, Bool, true, false, IsTrue, List, map, Option, Some, None}
+use Rattle.std.specs.Prelude.{ℕ, ◌≡◌, ◌≢◌, Bool, true, false, List, map, Option, Some, None}
 use Rattle.lapdm_frame.specs.declared.Channel.{Channel}
 use Rattle.lapdm_frame.specs.declared.Refusal.{Refusal}
 use Rattle.lapdm_frame.specs.Content.{Frame}

@@ -1,4 +1,4 @@
-use Rattle.std.proofs.Common.{◌≡◌, ◌∙◌, ap, arith, ℕ, List, ◌++◌, length, drop, take, replicate}
+use Rattle.std.proofs.Common.{◌≡◌, ◌∙◌, ap, arith, ℕ, length, drop}
 use Rattle.std.proofs.lemmas.List.{take_at, length-take, length-replicate}
 use Rattle.um_c.proofs.states.plain_joined.Goals as goal
 

@@ -1,4 +1,4 @@
-use Rattle.std.proofs.Common.{◌≡◌, refl, sym, ◌∙◌, ap, arith, ℕ, zero, suc, ◌-◌, ◌+◌, List, [], ◌∷◌, ◌++◌, length, drop, replicate}
+use Rattle.std.proofs.Common.{◌≡◌, ◌∙◌, ap, ℕ, ◌-◌, List, ◌++◌, length, drop, replicate}
 use Rattle.std.proofs.lemmas.List.{drop-replicate}
 use Rattle.um_c.specs.declared.states.PlainMessage.{PlainMessage}
 use Rattle.um_c.proofs.states.plain_message.Goals as goal

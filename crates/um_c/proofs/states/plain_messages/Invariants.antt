@@ -1,4 +1,4 @@
-use Rattle.std.proofs.Common.{◌≡◌, true, map, take, length, ◌≤◌}
+use Rattle.std.proofs.Common.{◌≡◌, true, map, take, length}
 use Rattle.std.specs.List.{list_all}
 use Rattle.um_c.specs.States.{octets_in, fits}
 use Rattle.um_c.proofs.states.plain_messages.Given as goal
