@@ -49,7 +49,8 @@ impl Ends {
     pub(crate) fn open(&mut self, info: &[u8], effects: &mut Effects) -> Result<(), Refused>
         requires on { IsOn (ends_channel self.old) self.old }
         ensures refusal { (es : E.Ends) → Stands self.old es → result_err result ≡ refusal_of (Opens info.now) (E.end_in R.Mobile S.Zero es) }
-        ensures follows { OnOk result (Follows (ends_channel self.old) (E.asks R.Mobile S.Zero (Opens info.now)) self.old effects.new self.new) }
+        ensures follows { OnOk result
+            (Follows (ends_channel self.old) (E.asks R.Mobile S.Zero (Opens info.now)) self.old effects.new self.new) }
         ensures on { IsOn (ends_channel self.old) self.new }
         ensures refused { OnErr result (self.new ≡ self.old) }
         ensures kept { OnErr result (effects.new ≡ effects.old) }
@@ -61,7 +62,8 @@ impl Ends {
     pub(crate) fn open_bare(&mut self, end: End, effects: &mut Effects) -> Result<(), Refused>
         requires on { IsOn (ends_channel self.old) self.old }
         ensures refusal { (es : E.Ends) → Stands self.old es → result_err result ≡ refusal_of OpensBare (E.end_in (role_of end) S.Three es) }
-        ensures follows { OnOk result (Follows (ends_channel self.old) (E.asks (role_of end) S.Three OpensBare) self.old effects.new self.new) }
+        ensures follows { OnOk result
+            (Follows (ends_channel self.old) (E.asks (role_of end) S.Three OpensBare) self.old effects.new self.new) }
         ensures on { IsOn (ends_channel self.old) self.new }
         ensures refused { OnErr result (self.new ≡ self.old) }
         ensures kept { OnErr result (effects.new ≡ effects.old) }
@@ -82,7 +84,8 @@ impl Ends {
     ) -> Result<(), Refused>
         requires on { IsOn (ends_channel self.old) self.old }
         ensures refusal { (es : E.Ends) → Stands self.old es → result_err result ≡ refusal_of (call_of call.now) (E.end_in (role_of end) sapi es) }
-        ensures follows { OnOk result (Follows (ends_channel self.old) (E.asks (role_of end) sapi (call_of call.now)) self.old effects.new self.new) }
+        ensures follows { OnOk result
+            (Follows (ends_channel self.old) (E.asks (role_of end) sapi (call_of call.now)) self.old effects.new self.new) }
         ensures on { IsOn (ends_channel self.old) self.new }
         ensures refused { OnErr result (self.new ≡ self.old) }
         ensures kept { OnErr result (effects.new ≡ effects.old) }
@@ -130,7 +133,8 @@ impl Ends {
 
 fn ask_mobile(mobile: &mut Mobile, call: &Call<'_>, effects: &mut Effects) -> Result<(), Refused>
     ensures refusal { IsRefusedAs (call_of call.now) (mobile_end mobile.old) result }
-    ensures follows { OnOk result (EndFollows (after_call (call_of call.now)) (mobile_end mobile.old) effects.new (mobile_end mobile.new)) }
+    ensures follows { OnOk result
+        (EndFollows (after_call (call_of call.now)) (mobile_end mobile.old) effects.new (mobile_end mobile.new)) }
     ensures refused { OnErr result (mobile.new ≡ mobile.old) }
     ensures kept { OnErr result (effects.new ≡ effects.old) }
     ensures channel { channel_of (mobile_end mobile.new) ≡ channel_of (mobile_end mobile.old) }
@@ -150,7 +154,8 @@ fn ask_mobile(mobile: &mut Mobile, call: &Call<'_>, effects: &mut Effects) -> Re
 
 fn ask_network(network: &mut Network, call: &Call<'_>, effects: &mut Effects) -> Result<(), Refused>
     ensures refusal { IsRefusedAs (call_of call.now) (network_end network.old) result }
-    ensures follows { OnOk result (EndFollows (after_call (call_of call.now)) (network_end network.old) effects.new (network_end network.new)) }
+    ensures follows { OnOk result
+        (EndFollows (after_call (call_of call.now)) (network_end network.old) effects.new (network_end network.new)) }
     ensures refused { OnErr result (network.new ≡ network.old) }
     ensures kept { OnErr result (effects.new ≡ effects.old) }
     ensures channel { channel_of (network_end network.new) ≡ channel_of (network_end network.old) }

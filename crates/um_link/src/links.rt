@@ -111,7 +111,13 @@ impl Links {
         requires room { length (blocks_from (role_of end) self.old) ≤ 62 }
         ensures sends { Sends (role_of end) step.old.effects.frames self.old self.new }
         ensures sound { IsSound self.new }
-        ensures step { step_of step.new ≡ record { who = E.End (role_of end); sapi = step.old.sapi; received = step.old.received; frames = step.old.effects.frames; notices = step.old.effects.notices } }
+        ensures step { step_of step.new ≡ record {
+          who = E.End (role_of end);
+          sapi = step.old.sapi;
+          received = step.old.received;
+          frames = step.old.effects.frames;
+          notices = step.old.effects.notices;
+        } }
         ensures who { FitsWho (step_of step.new) }
         ensures effects { step.new.effects ≡ step.old.effects }
         ensures received { step.new.received ≡ step.old.received }

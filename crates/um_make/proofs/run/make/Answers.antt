@@ -21,9 +21,11 @@ loop-event-preserved g c =
     let sent : new.sends ≡ old.sends + frames_in answer = counts.sent ∙ ap (λ (k : ℕ). old.sends + k) (frames_are answer) in
     let heard : new.takes + new.drops ≡ (old.takes + old.drops) + arrivals_in answer = omega (arith, counts.takes, counts.drops, arrivals_are answer) in
     record {
-      underway = goes_on c.args.tsc (generated c.args.n) c.loop-event.script c.next.new.self c.loop-event.world c.step_into-done.new.self old new _ answer
-          c.loop-event.invariant.underway c.in-Some.ensures.event c.step_into-done.ensures.session counts c.count.ensures.rises;
-      sent = c.step_into-done.ensures.sent ∙ ap (raised_by (frames_in answer)) c.loop-event.invariant.sent ∙ raised_by-more (frames_in answer) old.sends _ new.sends sent;
+      underway = goes_on c.args.tsc (generated c.args.n) c.loop-event.script c.next.new.self c.loop-event.world
+          c.step_into-done.new.self old new _ answer c.loop-event.invariant.underway c.in-Some.ensures.event
+          c.step_into-done.ensures.session counts c.count.ensures.rises;
+      sent = c.step_into-done.ensures.sent ∙ ap (raised_by (frames_in answer)) c.loop-event.invariant.sent
+          ∙ raised_by-more (frames_in answer) old.sends _ new.sends sent;
       heard = c.step_into-done.ensures.heard ∙ ap (raised_by (arrivals_in answer)) c.loop-event.invariant.heard
           ∙ raised_by-more (arrivals_in answer) (old.takes + old.drops) _ (new.takes + new.drops) heard;
     }

@@ -36,8 +36,8 @@ returns-in-Some c = record {
       );
   few = λ s st.
       let f = c.receive_into.ensures.follows s.links st.links in
-      let short = block_short _ s.links _ f.0 (step_of c.receive_into.new.step) _ _ f.2 c.receive_into.ensures.numbers c.write_answer.ensures.text
-      c.write_answer.ensures.lines in
+      let short = block_short _ s.links _ f.0 (step_of c.receive_into.new.step) _ _ f.2 c.receive_into.ensures.numbers
+      c.write_answer.ensures.text c.write_answer.ensures.lines in
       omega (arith, short, c.write_answer.ensures.length);
 }
 

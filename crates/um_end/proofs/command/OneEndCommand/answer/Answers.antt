@@ -1,6 +1,7 @@
 use Rattle.std.proofs.Common.{arith, ◌≡◌, ℕ, None, refl, sym, ap, ◌∙◌, subst}
 use Rattle.lapdm_window.specs.Ends.{Role}
 use Rattle.um_link.specs.Naming.{role_of, event_of, answer_of, written}
+use Rattle.um_air.specs.Air.{Answer}
 use Rattle.um_end.specs.Terminals.{Asks}
 use Rattle.um_end.specs.Standing.{side_of}
 use Rattle.um_end.specs.EndLines.{Brings, Calls, meaning_of, end_fault, EndMeans}
@@ -33,6 +34,7 @@ returns-in-Ask-clause-answered c s st =
     let old = c.args.self.now in
     let event = event_of c.in-Ask.event in
     let f = c.ask_into-done.ensures.follows s.links st.links in
+    let answer : Answer = answer_of (written c.ask_into-done.result c.ask_into-done.new.step) in
     let tsc : c.ask_into-done.new.self.tsc ≡ s.tsc = c.ask_into-done.ensures.same.tsc ∙ sym st.tsc in (
       record s { links = f.0 },
       at_run (λ r n. end_fault r n line ≡ None) old s c.count.result st c.count.ensures.count (sym c.in_ok-parse_end.ensures.refused),
@@ -43,9 +45,9 @@ returns-in-Ask-clause-answered c s st =
             c.in_ok-parse_end.ensures.means),
         record {
           links = f.0;
-          answer = answer_of (written c.ask_into-done.result c.ask_into-done.new.step);
-          asked = subst (λ (r : Role). Asks r s.links event f.0 (answer_of (written c.ask_into-done.result c.ask_into-done.new.step))) (sym st.role) f.2;
-          text_is = subst (λ (n : ℕ). IsAnswerText n (answer_of (written c.ask_into-done.result c.ask_into-done.new.step)) c.write_answer.new.out) tsc
+          answer = answer;
+          asked = subst (λ (r : Role). Asks r s.links event f.0 answer) (sym st.role) f.2;
+          text_is = subst (λ (n : ℕ). IsAnswerText n answer c.write_answer.new.out) tsc
               c.write_answer.ensures.text;
           after_is = refl;
         },
@@ -56,6 +58,7 @@ returns-in-Ask-clause-answered c s st =
 pub returns-in-Ask-clause-few : goal.returns-in-Ask-clause-few
 returns-in-Ask-clause-few c s st =
     let f = c.ask_into-done.ensures.follows s.links st.links in
-    let short = call_short _ s.links (event_of c.in-Ask.event) f.0 (answer_of (written c.ask_into-done.result c.ask_into-done.new.step)) _ _ f.2 c.write_answer.ensures.text
+    let answer : Answer = answer_of (written c.ask_into-done.result c.ask_into-done.new.step) in
+    let short = call_short _ s.links (event_of c.in-Ask.event) f.0 answer _ _ f.2 c.write_answer.ensures.text
     c.write_answer.ensures.lines in
     omega (arith, short, c.write_answer.ensures.length)

@@ -11,8 +11,10 @@ use Rattle.um_link.proofs.ends.Ends.open_bare.Goals as goal
 pub returns-in-Mobile-clause-follows : goal.returns-in-Mobile-clause-follows
 returns-in-Mobile-clause-follows c =
     on_ok_weaker c.open_bare_into.result
-    (λ f. asks_at (ends_channel c.args.self.now) OpensBare c.args.self.now _ c.open_bare_into.new.effects _ _ S.Three S.Three c.in-Mobile.is refl
-    (mobile3_follows c.args.self.now (ends_channel c.args.self.now) c.requires.on (after_call OpensBare) c.open_bare_into.new.effects _ f))
+    (λ f. asks_at (ends_channel c.args.self.now) OpensBare c.args.self.now _
+    c.open_bare_into.new.effects _ _ S.Three S.Three c.in-Mobile.is refl
+    (mobile3_follows c.args.self.now (ends_channel c.args.self.now) c.requires.on (after_call OpensBare)
+    c.open_bare_into.new.effects _ f))
     c.open_bare_into.ensures.follows
 
 pub returns-in-Network-clause-refusal : goal.returns-in-Network-clause-refusal
@@ -23,6 +25,8 @@ returns-in-Network-clause-refusal c es st =
 pub returns-in-Network-clause-follows : goal.returns-in-Network-clause-follows
 returns-in-Network-clause-follows c =
     on_ok_weaker c.open_bare_into-in-Network.result
-    (λ f. asks_at (ends_channel c.args.self.now) OpensBare c.args.self.now _ c.open_bare_into-in-Network.new.effects _ _ S.Three S.Three c.in-Network.is refl
-    (network3_follows c.args.self.now (ends_channel c.args.self.now) c.requires.on (after_call OpensBare) c.open_bare_into-in-Network.new.effects _ f))
+    (λ f. asks_at (ends_channel c.args.self.now) OpensBare c.args.self.now _
+    c.open_bare_into-in-Network.new.effects _ _ S.Three S.Three c.in-Network.is refl
+    (network3_follows c.args.self.now (ends_channel c.args.self.now) c.requires.on (after_call OpensBare)
+    c.open_bare_into-in-Network.new.effects _ f))
     c.open_bare_into-in-Network.ensures.follows

@@ -23,9 +23,11 @@ returns-in-End-clause-follows g c =
 pub returns-in-Air-clause-follows : goal.returns-in-Air-clause-follows
 returns-in-Air-clause-follows g c =
     at-event (event_of c.args.event.now) (air_event (role_of c.sender.result) c.in-Air.air) c.args.self.now c.on_air.new.self
-    (written c.on_air.result c.on_air.new.step) (ap event_of c.in-Air.is ∙ ap (λ r. air_event r c.in-Air.air) (sym c.sender.ensures)) c.on_air.ensures.follows
+    (written c.on_air.result c.on_air.new.step)
+    (ap event_of c.in-Air.is ∙ ap (λ r. air_event r c.in-Air.air) (sym c.sender.ensures)) c.on_air.ensures.follows
 
 pub returns-in-Rival-clause-follows : goal.returns-in-Rival-clause-follows
 returns-in-Rival-clause-follows g c =
-    at-event (event_of c.args.event.now) (E.Rival c.in-Rival.info.now) c.args.self.now c.rival.new.self (written c.rival.result c.rival.new.step)
+    at-event (event_of c.args.event.now) (E.Rival c.in-Rival.info.now) c.args.self.now c.rival.new.self
+    (written c.rival.result c.rival.new.step)
     (ap event_of c.in-Rival.is) c.rival.ensures.follows

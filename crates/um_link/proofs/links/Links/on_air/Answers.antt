@@ -8,7 +8,8 @@ use Rattle.um_link.proofs.links.Links.on_air.Goals as goal
 pub returns-in-Deliver-clause-follows : goal.returns-in-Deliver-clause-follows
 returns-in-Deliver-clause-follows g c =
     at-event (air_event (role_of c.args.sender) c.args.air.now) (E.Deliver (role_of c.args.sender) []) c.args.self.now
-    c.deliver.new.self (written c.deliver.result c.deliver.new.step) (ap (air_event (role_of c.args.sender)) c.in-Deliver.is) c.deliver.ensures.follows
+    c.deliver.new.self (written c.deliver.result c.deliver.new.step)
+    (ap (air_event (role_of c.args.sender)) c.in-Deliver.is) c.deliver.ensures.follows
 
 pub returns-in-Lose-clause-follows : goal.returns-in-Lose-clause-follows
 returns-in-Lose-clause-follows g c =
@@ -18,5 +19,6 @@ returns-in-Lose-clause-follows g c =
 pub returns-in-Flip-clause-follows : goal.returns-in-Flip-clause-follows
 returns-in-Flip-clause-follows g c =
     at-event (air_event (role_of c.args.sender) c.args.air.now) (E.Deliver (role_of c.args.sender) c.in-Flip.places.now) c.args.self.now
-    c.deliver-in-Flip.new.self (written c.deliver-in-Flip.result c.deliver-in-Flip.new.step) (ap (air_event (role_of c.args.sender)) c.in-Flip.is)
+    c.deliver-in-Flip.new.self (written c.deliver-in-Flip.result c.deliver-in-Flip.new.step)
+    (ap (air_event (role_of c.args.sender)) c.in-Flip.is)
     c.deliver-in-Flip.ensures.follows

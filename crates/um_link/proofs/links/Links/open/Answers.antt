@@ -12,7 +12,8 @@ returns-in-Ok-clause-follows g c =
     let w = c.args.self.now in
     called (E.Open c.args.info.now) R.Mobile w c.goes_out.new.self c.open.new.self c.open.new.effects (E.End R.Mobile) S.Zero
     (step_of c.goes_out.new.step) c.goes_out.ensures.step
-    (on-channel w c.open.new.self c.open.new.effects (E.asks R.Mobile S.Zero (Opens c.args.info.now)) c.requires.sound c.in-Ok.ensures.follows)
+    (on-channel w c.open.new.self c.open.new.effects (E.asks R.Mobile S.Zero (Opens c.args.info.now)) c.requires.sound
+    c.in-Ok.ensures.follows)
     (asked-none R.Mobile S.Zero (Opens c.args.info.now) w (sym c.is_full.ensures ∙ c.if-is_full.false) c.in-Ok.ensures.refusal)
     (λ a. (tt, refl)) refl (λ es. refl) (λ es. refl) c.goes_out.ensures.sends
 
