@@ -53,11 +53,17 @@ def y_of(percent):
     return TOP - math.log10(percent / 100) * HIGH / 4 if percent else NONE
 
 
+def row(y, label):
+    """A line across the picture with its label."""
+    line = f'<path class="grid" d="M{LEFT} {y:g}h{WIDE}"/>'
+    return line + f'<text class="faint" x="{LEFT - 8}" y="{y + 4:g}" text-anchor="end">{label}</text>'
+
+
 def axes():
     for power, label in enumerate(("100 %", "10 %", "1 %", "0.1 %", "0.01 %")):
         y = TOP + power * HIGH / 4
-        yield f'<path class="grid" d="M{LEFT} {y:g}h{WIDE}"/><text class="faint" x="{LEFT - 8}" y="{y + 4:g}" text-anchor="end">{label}</text>'
-    yield f'<path class="grid" d="M{LEFT} {NONE}h{WIDE}"/><text class="faint" x="{LEFT - 8}" y="{NONE + 4}" text-anchor="end">none</text>'
+        yield row(y, label)
+    yield row(NONE, "none")
     for decibels in (-2, -1.5, -1, -0.5, 0, 0.5, 1):
         yield f'<path class="grid" d="M{x_of(decibels):.1f} {TOP}V{NONE}"/>'
         yield f'<text class="faint" x="{x_of(decibels):.1f}" y="{NONE + 20}" text-anchor="middle">{decibels:g}</text>'
@@ -74,17 +80,20 @@ def curve(points, name):
         path = " ".join(f"{x_of(at):.1f} {y_of(percent):.1f}" for at, percent in [lost[-1], *none])
         yield f'<path class="line to {name}" style="fill:none" d="M{path}"/>'
     for at, percent in points:
-        yield f'<circle class="{name}{"" if percent else " hollow"}" cx="{x_of(at):.1f}" cy="{y_of(percent):.1f}" r="4" stroke-width="2"/>'
+        kind = name if percent else f"{name} hollow"
+        yield f'<circle class="{kind}" cx="{x_of(at):.1f}" cy="{y_of(percent):.1f}" r="4" stroke-width="2"/>'
 
 
 def key(other):
     x, y = LEFT + 20, TOP + 166
     for row, (_, words, name) in enumerate(DRAWN):
         at = y + 20 * row
-        yield f'<path class="line {name}" d="M{x} {at}h26"/><circle class="{name}" cx="{x + 13}" cy="{at}" r="4"/><text x="{x + 36}" y="{at + 4}">{words}</text>'
+        yield f'<path class="line {name}" d="M{x} {at}h26"/><circle class="{name}" cx="{x + 13}" cy="{at}" r="4"/>'
+        yield f'<text x="{x + 36}" y="{at + 4}">{words}</text>'
     if other:
         at = y + 20 * len(DRAWN)
-        yield f'<rect class="other" x="{x + 7}" y="{at - 6}" width="12" height="12"/><text x="{x + 36}" y="{at + 4}">{OTHER}</text>'
+        yield f'<rect class="other" x="{x + 7}" y="{at - 6}" width="12" height="12"/>'
+        yield f'<text x="{x + 36}" y="{at + 4}">{OTHER}</text>'
 
 
 def main():

@@ -40,9 +40,9 @@ svg{max-width:100%;height:auto;border:1px solid #e2e8f0}svg rect:hover,svg circl
 """
 
 
-def made(um, words, script):
+def made(words, script, um=None):
     text = open(os.path.join(HERE, "..", "examples", script), encoding="utf-8").read() if script else None
-    done = subprocess.run([sys.executable, os.path.join(HERE, words[0]), "--um", um, *words[1:]], input=text, capture_output=True, text=True)
+    done = subprocess.run([sys.executable, os.path.join(HERE, words[0]), *(["--um", um] if um else []), *words[1:]], input=text, capture_output=True, text=True)
     if done.returncode:
         sys.exit(done.stderr)
     return done.stdout
@@ -54,10 +54,13 @@ def main():
     um = asked.parse_args().um
     page = [PAGE]
     for heading, above, name, words, script in PICTURES:
-        picture = made(um, words, script)
+        picture = made(words, script, um)
         page.append(f"<h2>{heading}</h2>\n<p>{above}</p>\n{picture}")
         with open(os.path.join(HERE, "..", "docs", "pictures", name), "w", encoding="utf-8") as file:
-            file.write(made(um, [word for word in words if word != "--titles"], script))
+            file.write(made([word for word in words if word != "--titles"], script, um))
+    # not of the program's output, and so not on the page: what bench/reach/measure.sh printed
+    with open(os.path.join(HERE, "..", "docs", "pictures", "reach.svg"), "w", encoding="utf-8") as file:
+        file.write(made(["reach_svg.py"], None))
     with open(os.path.join(HERE, "..", "docs", "tour.html"), "w", encoding="utf-8") as file:
         file.write("\n".join(page) + "</body></html>\n")
 

@@ -64,8 +64,8 @@ class _Frame(c.Structure):
     _fields_ = [(name, c.c_uint8) for name in ("kind", "sapi", "cr", "pf", "ns", "nr", "more", "count")] + [("info", c.c_uint8 * 20)]
 
 
-for _name in ("send_block", "receive_block", "receive_block_among", "margin_block", "send_access", "receive_access", "send_sync", "receive_sync",
-              "write_frame"):
+for _name in ("send_block", "receive_block", "receive_block_among", "margin_block", "send_access", "receive_access", "send_sync",
+              "receive_sync", "write_frame"):
     getattr(_lib, f"um_{_name}").restype = c.c_bool
 _lib.um_read_frame.restype = c.c_uint8
 _lib.um_repair.restype = c.c_uint8

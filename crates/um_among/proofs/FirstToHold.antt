@@ -24,7 +24,8 @@ only_one u v (zero, lt, e) = sym e
 only_one u v (suc k, lt, e) = absurd (omega arith)
 
 -- of two rankings the shorter begins the longer
-All-shorter : (s : List ℤ) (P : List ℕ → Type 0) (us vs : List (List ℕ)) → IsRanked s us → IsRanked s vs → length us ≤ length vs → All P vs → All P us
+All-shorter : (s : List ℤ) (P : List ℕ → Type 0) (us vs : List (List ℕ)) → IsRanked s us → IsRanked s vs → length us ≤ length vs →
+    All P vs → All P us
 All-shorter s P us vs ranked ranked' few all =
     let n = length us in
     let begins = beginning_is_ranked s (take n vs) (drop n vs) (subst (IsRanked s) (sym (take-append-drop n vs)) ranked') in
@@ -43,7 +44,8 @@ module _ (Holds : List ℕ → Type 0) (s : List ℤ) (most : ℕ) where
       let count = length-append before (u ∷ []) in
       All-last Fails before u (All-shorter s Fails (before ++ u ∷ []) us ranked ranked' (omega arith) fail) holds
 
-  later : (r r' : ℕ) (u u' : List ℕ) (h : IsFirstToHold Holds s most r u) (g : IsFirstToHold Holds s most r' u') → length h.before < length g.before → ⊥
+  later : (r r' : ℕ) (u u' : List ℕ) (h : IsFirstToHold Holds s most r u) (g : IsFirstToHold Holds s most r' u') →
+      length h.before < length g.before → ⊥
   later r r' u u' h g less =
       fails_earlier h.before g.before u h.ranked (beginning_is_ranked s g.before (u' ∷ []) g.ranked) (omega arith) g.fail h.holds
 
@@ -89,7 +91,8 @@ module _ (Holds : List ℕ → Type 0) (s : List ℤ) (most : ℕ) where
       (same.0, same.1, ap Some (h.1 ∙ ap told same.1 ∙ sym g.1))
 
   -- of all lists that hold it is the most likely one
-  pub first_is_best : (r : ℕ) (u : List ℕ) → IsFirstToHold Holds s most r u → (v : List ℕ) → IsCandidate s v → Holds v → v ≢ u → FallsBehind s v u
+  pub first_is_best : (r : ℕ) (u : List ℕ) → IsFirstToHold Holds s most r u → (v : List ℕ) → IsCandidate s v → Holds v → v ≢ u →
+      FallsBehind s v u
   first_is_best r u h v is holds ne = elim (h.ranked.others v is) [
     | inl given ↦ elim (Contains-append_cases h.before (u ∷ []) v given) [
       | inl early ↦ absurd (All-contains (λ v. ¬ Holds v) h.before v h.fail early holds)
@@ -123,12 +126,14 @@ module _ (Holds : List ℕ → Type 0) (s : List ℤ) (most : ℕ) where
   taken_best told r u None h some = absurd (never some)
   taken_best told r u (Some x) h some = first_is_best r u h.0
 
-  pub taken_first : {X : Type 0} (told : List ℕ → X) (r : ℕ) (u : List ℕ) (a : Option X) → 1 ≤ most → r ≡ 1 → IsTaken Holds told s most r u a →
+  pub taken_first : {X : Type 0} (told : List ℕ → X) (r : ℕ) (u : List ℕ) (a : Option X) → 1 ≤ most → r ≡ 1 →
+      IsTaken Holds told s most r u a →
       IsMostLikely s u × MatchOption a (¬ Holds u) (λ x. Holds u × (x ≡ told u))
   taken_first told r u None some e h = (h.1, λ holds. not_both 1 u (most_likely_holds u some h.1 holds) h.0)
   taken_first told r u (Some x) some e h = (first_place u (subst (λ n. IsFirstToHold Holds s most n u) e h.0), (h.0.holds, h.1))
 
-  pub taken_of_one : {X : Type 0} (told : List ℕ → X) (r : ℕ) (u : List ℕ) (a : Option X) → most ≡ 1 → IsTaken Holds told s most r u a → r ≡ 1
+  pub taken_of_one : {X : Type 0} (told : List ℕ → X) (r : ℕ) (u : List ℕ) (a : Option X) → most ≡ 1 → IsTaken Holds told s most r u a →
+      r ≡ 1
   taken_of_one told r u None e h = h.2
   taken_of_one told r u (Some x) e h = place h.0.place h.0.tried
     where
@@ -153,6 +158,7 @@ module _ (Holds : List ℕ → Type 0) (s : List ℤ) (most : ℕ) where
   taken_none told u None none best lacks = (none, best, refl)
   taken_none told u (Some x) none best lacks = absurd (lacks refl)
 
-  pub taken_information : {X : Type 0} (told : List ℕ → X) (r : ℕ) (u : List ℕ) (a : Option X) → IsTaken Holds told s most r u a → IsInformation u
+  pub taken_information : {X : Type 0} (told : List ℕ → X) (r : ℕ) (u : List ℕ) (a : Option X) → IsTaken Holds told s most r u a →
+      IsInformation u
   taken_information told r u None h = h.1.information
   taken_information told r u (Some x) h = (candidate r u h.0).information

@@ -50,13 +50,15 @@ same_sync r r' rank u metric wrong accepted =
     ∙ ap (λ b. make r'.rank r'.report.u b r.report.wrong_training r.report.accepted) metric
     ∙ ap₂ (λ d e. make r'.rank r'.report.u r'.report.metric d e) wrong accepted
 
-pub one_block_among : (bursts : List (List ℤ)) (most : ℕ) (r r' : BlockAmong) → IsBlockAmong bursts most r → IsBlockAmong bursts most r' → r ≡ r'
+pub one_block_among : (bursts : List (List ℤ)) (most : ℕ) (r r' : BlockAmong) → IsBlockAmong bursts most r →
+    IsBlockAmong bursts most r' → r ≡ r'
 one_block_among bursts most r r' h g =
     let score = total_correlation (training_of bursts 0) (training_of bursts 1) (training_of bursts 2) (training_of bursts 3) in
     let told : List ℕ → List ℕ = λ u. octets_of (take 184 u) in
     let soft : h.soft ≡ g.soft = same_coded h.soft g.soft (map coded_places bursts) h.gathered g.gathered in
     let taken = subst (λ s. IsTaken HoldsInBlock told s most r.rank r.report.u r.report.accepted) soft h.taken in
-    let same = taken_once HoldsInBlock g.soft most told r.rank r'.rank r.report.u r'.report.u r.report.accepted r'.report.accepted taken g.taken in
+    let same = taken_once HoldsInBlock g.soft most told r.rank r'.rank r.report.u r'.report.u
+    r.report.accepted r'.report.accepted taken g.taken in
     let tsc = one_first_greatest score 7 r.report.tsc r'.report.tsc h.tsc g.tsc in
     same_block r r' same.0 same.1
     (h.metric ∙ ap₂ (λ s v. likelihood s (coded v)) soft same.1 ∙ sym g.metric)
@@ -68,7 +70,8 @@ pub one_access_among : (burst : List ℤ) (bsic : List ℕ) (most : ℕ) (r r' :
     IsAccessAmong burst bsic most r' → r ≡ r'
 one_access_among burst bsic most r r' h g =
     let soft = access_places burst in
-    let same = taken_once (HoldsInAccess bsic) soft most (take 8) r.rank r'.rank r.report.u r'.report.u r.report.accepted r'.report.accepted h.taken g.taken in
+    let same = taken_once (HoldsInAccess bsic) soft most (take 8) r.rank r'.rank r.report.u r'.report.u
+    r.report.accepted r'.report.accepted h.taken g.taken in
     same_access r r' same.0 same.1
     (h.metric ∙ ap (λ v. likelihood soft (coded v)) same.1 ∙ sym g.metric)
     (h.wrong_training ∙ sym g.wrong_training)
@@ -77,7 +80,8 @@ one_access_among burst bsic most r r' h g =
 pub one_sync_among : (burst : List ℤ) (most : ℕ) (r r' : SyncAmong) → IsSyncAmong burst most r → IsSyncAmong burst most r' → r ≡ r'
 one_sync_among burst most r r' h g =
     let soft = sync_places burst in
-    let same = taken_once HoldsInSync soft most (take 25) r.rank r'.rank r.report.u r'.report.u r.report.accepted r'.report.accepted h.taken g.taken in
+    let same = taken_once HoldsInSync soft most (take 25) r.rank r'.rank r.report.u r'.report.u
+    r.report.accepted r'.report.accepted h.taken g.taken in
     same_sync r r' same.0 same.1
     (h.metric ∙ ap (λ v. likelihood soft (coded v)) same.1 ∙ sym g.metric)
     (h.wrong_training ∙ sym g.wrong_training)
@@ -137,7 +141,8 @@ block_first bursts most r some h alone received accepted =
     one_block_among bursts most r (record { report = alone; rank = 1 }) h (block_at_once bursts most alone some received accepted)
 
 pub block_lost : (bursts : List (List ℤ)) (most : ℕ) (r : Received) (soft : List ℤ) → IsReceivedBlock bursts r → ¬ IsSome r.accepted →
-    IsInterleaved soft (map coded_places bursts) → NoneHolds HoldsInBlock soft most → IsBlockAmong bursts most (record { report = r; rank = 1 })
+    IsInterleaved soft (map coded_places bursts) → NoneHolds HoldsInBlock soft most →
+    IsBlockAmong bursts most (record { report = r; rank = 1 })
 block_lost bursts most r soft h lacks gathered none =
     let same : soft ≡ h.soft = same_coded soft h.soft (map coded_places bursts) gathered h.gathered in
     record {
@@ -150,9 +155,11 @@ block_lost bursts most r soft h lacks gathered none =
       wrong_training = h.wrong_training;
     }
 
-pub block_found : (bursts : List (List ℤ)) (most rank : ℕ) (r : Received) (soft : List ℤ) (u v : List ℕ) (metric : ℤ) (accepted : Option (List ℕ)) →
+pub block_found : (bursts : List (List ℤ)) (most rank : ℕ) (r : Received) (soft : List ℤ) (u v : List ℕ) (metric : ℤ)
+    (accepted : Option (List ℕ)) →
     v ≡ u → IsReceivedBlock bursts r → IsInterleaved soft (map coded_places bursts) → IsFirstToHold HoldsInBlock soft most rank u →
-    metric ≡ likelihood soft (coded u) → MatchOption accepted (¬ HoldsInBlock u) (λ octets. HoldsInBlock u × (octets ≡ octets_of (take 184 u))) →
+    metric ≡ likelihood soft (coded u) →
+    MatchOption accepted (¬ HoldsInBlock u) (λ octets. HoldsInBlock u × (octets ≡ octets_of (take 184 u))) →
     IsBlockAmong bursts most (record {
       report = record { u = v; metric = metric; tsc = r.tsc; wrong_training = r.wrong_training; accepted = accepted };
       rank = rank;
@@ -169,19 +176,23 @@ block_found bursts most rank r soft u v metric accepted same h gathered first va
 
 -- ---- of an access burst
 
-pub access_best : (burst : List ℤ) (bsic : List ℕ) (most : ℕ) (r : AccessAmong) → IsAccessAmong burst bsic most r → IsSome r.report.accepted →
-    (v : List ℕ) → IsCandidate (access_places burst) v → HoldsInAccess bsic v → v ≢ r.report.u → FallsBehind (access_places burst) v r.report.u
+pub access_best : (burst : List ℤ) (bsic : List ℕ) (most : ℕ) (r : AccessAmong) → IsAccessAmong burst bsic most r →
+    IsSome r.report.accepted →
+    (v : List ℕ) → IsCandidate (access_places burst) v → HoldsInAccess bsic v → v ≢ r.report.u →
+    FallsBehind (access_places burst) v r.report.u
 access_best burst bsic most r h some v =
     taken_best (HoldsInAccess bsic) (access_places burst) most (take 8) r.rank r.report.u r.report.accepted h.taken some v
 
-pub access_information : (burst : List ℤ) (bsic : List ℕ) (most : ℕ) (r : AccessAmong) → IsAccessAmong burst bsic most r → IsInformation r.report.u
+pub access_information : (burst : List ℤ) (bsic : List ℕ) (most : ℕ) (r : AccessAmong) → IsAccessAmong burst bsic most r →
+    IsInformation r.report.u
 access_information burst bsic most r h =
     taken_information (HoldsInAccess bsic) (access_places burst) most (take 8) r.rank r.report.u r.report.accepted h.taken
 
 pub access_alone : (burst : List ℤ) (bsic : List ℕ) (most : ℕ) (r : AccessAmong) → 1 ≤ most → IsAccessAmong burst bsic most r → r.rank ≡ 1 →
     IsReceivedAccess burst bsic r.report
 access_alone burst bsic most r some h first =
-    let taken = taken_first (HoldsInAccess bsic) (access_places burst) most (take 8) r.rank r.report.u r.report.accepted some first h.taken in
+    let taken = taken_first (HoldsInAccess bsic) (access_places burst) most (take 8) r.rank r.report.u
+    r.report.accepted some first h.taken in
     record { best = taken.0; metric = h.metric; wrong_training = h.wrong_training; accepted = taken.1 }
 
 pub access_of_one : (burst : List ℤ) (bsic : List ℕ) (most : ℕ) (r : AccessAmong) → IsAccessAmong burst bsic most r → most ≡ 1 → r.rank ≡ 1
@@ -196,13 +207,15 @@ access_at_once burst bsic most r some h accepted = record {
   wrong_training = h.wrong_training;
 }
 
-pub access_first : (burst : List ℤ) (bsic : List ℕ) (most : ℕ) (r : AccessAmong) → 1 ≤ most → IsAccessAmong burst bsic most r → (alone : ReceivedAccess) →
+pub access_first : (burst : List ℤ) (bsic : List ℕ) (most : ℕ) (r : AccessAmong) → 1 ≤ most → IsAccessAmong burst bsic most r →
+    (alone : ReceivedAccess) →
     IsReceivedAccess burst bsic alone → IsSome alone.accepted → r ≡ record { report = alone; rank = 1 }
 access_first burst bsic most r some h alone received accepted =
     one_access_among burst bsic most r (record { report = alone; rank = 1 }) h (access_at_once burst bsic most alone some received accepted)
 
 pub access_lost : (burst : List ℤ) (bsic : List ℕ) (most : ℕ) (r : ReceivedAccess) (soft : List ℤ) → soft ≡ access_places burst →
-    IsReceivedAccess burst bsic r → ¬ IsSome r.accepted → NoneHolds (HoldsInAccess bsic) soft most → IsAccessAmong burst bsic most (record { report = r; rank = 1 })
+    IsReceivedAccess burst bsic r → ¬ IsSome r.accepted → NoneHolds (HoldsInAccess bsic) soft most →
+    IsAccessAmong burst bsic most (record { report = r; rank = 1 })
 access_lost burst bsic most r soft is h lacks none = record {
   taken = taken_none (HoldsInAccess bsic) (access_places burst) most (take 8) r.u r.accepted
       (subst (λ s. NoneHolds (HoldsInAccess bsic) s most) is none) h.best lacks;
@@ -237,7 +250,8 @@ pub sync_information : (burst : List ℤ) (most : ℕ) (r : SyncAmong) → IsSyn
 sync_information burst most r h =
     taken_information HoldsInSync (sync_places burst) most (take 25) r.rank r.report.u r.report.accepted h.taken
 
-pub sync_alone : (burst : List ℤ) (most : ℕ) (r : SyncAmong) → 1 ≤ most → IsSyncAmong burst most r → r.rank ≡ 1 → IsReceivedSync burst r.report
+pub sync_alone : (burst : List ℤ) (most : ℕ) (r : SyncAmong) → 1 ≤ most → IsSyncAmong burst most r → r.rank ≡ 1 →
+    IsReceivedSync burst r.report
 sync_alone burst most r some h first =
     let taken = taken_first HoldsInSync (sync_places burst) most (take 25) r.rank r.report.u r.report.accepted some first h.taken in
     record { best = taken.0; metric = h.metric; wrong_training = h.wrong_training; accepted = taken.1 }
@@ -268,8 +282,10 @@ sync_lost burst most r soft is h lacks none = record {
   wrong_training = h.wrong_training;
 }
 
-pub sync_found : (burst : List ℤ) (most rank : ℕ) (r : ReceivedSync) (soft : List ℤ) (u v : List ℕ) (metric : ℤ) (accepted : Option (List ℕ)) →
-    soft ≡ sync_places burst → v ≡ u → IsReceivedSync burst r → IsFirstToHold HoldsInSync soft most rank u → metric ≡ likelihood soft (coded u) →
+pub sync_found : (burst : List ℤ) (most rank : ℕ) (r : ReceivedSync) (soft : List ℤ) (u v : List ℕ) (metric : ℤ)
+    (accepted : Option (List ℕ)) →
+    soft ≡ sync_places burst → v ≡ u → IsReceivedSync burst r → IsFirstToHold HoldsInSync soft most rank u →
+    metric ≡ likelihood soft (coded u) →
     MatchOption accepted (¬ HoldsInSync u) (λ info. HoldsInSync u × (info ≡ take 25 u)) →
     IsSyncAmong burst most (record {
       report = record { u = v; metric = metric; wrong_training = r.wrong_training; accepted = accepted };

@@ -32,6 +32,16 @@ pub fn receive_block_among(bursts: &[[i8; 148]; 4], most: u32) -> BlockAmong
     ensures alone { result.rank ≡ 1 → IsReceivedBlock bursts.now result.report }
     ensures one { most ≡ 1 → result.rank ≡ 1 }
 {
+    taken_block(bursts, most)
+}
+
+/// The definition alone: what else is promised follows from it.
+fn taken_block(bursts: &[[i8; 148]; 4], most: u32) -> BlockAmong
+    requires soft { All AllSoft bursts.now }
+    requires at_least { 1 ≤ most }
+    requires at_most { most ≤ 64 }
+    ensures { IsBlockAmong bursts.now most result }
+{
     let report = receive_block(bursts);
     if report.accepted.is_some() {
         return BlockAmong { report, rank: 1 };

@@ -36,9 +36,20 @@ pub fn receive_access_among(burst: &[i8; 88], bsic: &Bits<6>, most: u32) -> Acce
     ensures best { IsSome result.report.accepted → (v : List ℕ) → IsCandidate (access_places burst.now) v → HoldsInAccess bsic.now v →
         v ≢ result.report.u → FallsBehind (access_places burst.now) v result.report.u }
     ensures information { IsInformation result.report.u }
-    ensures first { (r : ReceivedAccess) → IsReceivedAccess burst.now bsic.now r → IsSome r.accepted → result ≡ record { report = r; rank = 1 } }
+    ensures first { (r : ReceivedAccess) → IsReceivedAccess burst.now bsic.now r → IsSome r.accepted →
+        result ≡ record { report = r; rank = 1 } }
     ensures alone { result.rank ≡ 1 → IsReceivedAccess burst.now bsic.now result.report }
     ensures one { most ≡ 1 → result.rank ≡ 1 }
+{
+    taken_access(burst, bsic, most)
+}
+
+/// The definition alone: what else is promised follows from it.
+fn taken_access(burst: &[i8; 88], bsic: &Bits<6>, most: u32) -> AccessAmong
+    requires soft { AllSoft burst.now }
+    requires at_least { 1 ≤ most }
+    requires at_most { most ≤ 64 }
+    ensures { IsAccessAmong burst.now bsic.now most result }
 {
     let report = receive_access(burst, bsic);
     if report.accepted.is_some() {
@@ -77,6 +88,16 @@ pub fn receive_sync_among(burst: &[i8; 148], most: u32) -> SyncAmong
     ensures first { (r : ReceivedSync) → IsReceivedSync burst.now r → IsSome r.accepted → result ≡ record { report = r; rank = 1 } }
     ensures alone { result.rank ≡ 1 → IsReceivedSync burst.now result.report }
     ensures one { most ≡ 1 → result.rank ≡ 1 }
+{
+    taken_sync(burst, most)
+}
+
+/// The definition alone: what else is promised follows from it.
+fn taken_sync(burst: &[i8; 148], most: u32) -> SyncAmong
+    requires soft { AllSoft burst.now }
+    requires at_least { 1 ≤ most }
+    requires at_most { most ≤ 64 }
+    ensures { IsSyncAmong burst.now most result }
 {
     let report = receive_sync(burst);
     if report.accepted.is_some() {

@@ -1,91 +1,15 @@
-use Rattle.std.proofs.Common.{rules, ◌++◌, ap, ap₂, sym, subst, ◌∙◌}
-use Rattle.std.proofs.lemmas.List.Elements.{All-append}
-use Rattle.bit_blocks.specs.SoftValues.{IsSoft, AllSoft}
-use Rattle.burst_map.specs.SyncBurst.{first_half, second_half}
-use Rattle.um_block.proofs.Lemmas.{AllSoft-range}
-use Rattle.um_among.proofs.FirstToHold.{never}
-use Rattle.um_among.proofs.Once.{one_sync_among, sync_best, sync_information, sync_alone, sync_of_one, sync_at_once, sync_first, sync_lost, sync_found}
+use Rattle.um_among.proofs.Once.{one_sync_among, sync_best, sync_information, sync_first, sync_alone, sync_of_one}
 use Rattle.um_among.proofs.bursts.receive_sync_among.Goals as goal
 
-pub first_to_hold-requires-clause-soft : goal.first_to_hold-requires-clause-soft
-first_to_hold-requires-clause-soft c =
-    subst AllSoft
-    (sym (c.join_halves.ensures
-    ∙ ap₂ (λ x y. x ++ y) (c.first.ensures.value ∙ ap first_half c.new-parts.ensures.value)
-    (c.second.ensures.value ∙ ap second_half c.new-parts.ensures.value)))
-    (All-append IsSoft _ _ (AllSoft-range c.args.burst.now 3 42 c.requires.soft) (AllSoft-range c.args.burst.now 106 145 c.requires.soft))
-
-pub returns-then-is_some-clause-received : goal.returns-then-is_some-clause-received
-returns-then-is_some-clause-received c =
-    sync_at_once c.args.burst.now c.args.most _ c.requires.at_least c.receive_sync-report.ensures.received
-    (sym c.is_some.ensures ∙ c.if-is_some.true)
-
-pub returns-then-is_some-clause-only : goal.returns-then-is_some-clause-only
-returns-then-is_some-clause-only c other h = one_sync_among c.args.burst.now c.args.most other _ h (returns-then-is_some-clause-received c)
-
-pub returns-then-is_some-clause-best : goal.returns-then-is_some-clause-best
-returns-then-is_some-clause-best c = sync_best c.args.burst.now c.args.most _ (returns-then-is_some-clause-received c)
-
-pub returns-then-is_some-clause-information : goal.returns-then-is_some-clause-information
-returns-then-is_some-clause-information c = sync_information c.args.burst.now c.args.most _ (returns-then-is_some-clause-received c)
-
-pub returns-then-is_some-clause-first : goal.returns-then-is_some-clause-first
-returns-then-is_some-clause-first c = sync_first c.args.burst.now c.args.most _ c.requires.at_least (returns-then-is_some-clause-received c)
-
-pub returns-then-is_some-clause-alone : goal.returns-then-is_some-clause-alone
-returns-then-is_some-clause-alone c = sync_alone c.args.burst.now c.args.most _ c.requires.at_least (returns-then-is_some-clause-received c)
-
-pub returns-then-is_some-clause-one : goal.returns-then-is_some-clause-one
-returns-then-is_some-clause-one c = sync_of_one c.args.burst.now c.args.most _ (returns-then-is_some-clause-received c)
-
-pub returns-in_default-clause-received : goal.returns-in_default-clause-received
-returns-in_default-clause-received c =
-    sync_lost c.args.burst.now c.args.most _ c.join_halves.result
-    (c.join_halves.ensures
-    ∙ ap₂ (λ x y. x ++ y) (c.first.ensures.value ∙ ap first_half c.new-parts.ensures.value)
-    (c.second.ensures.value ∙ ap second_half c.new-parts.ensures.value))
-    c.receive_sync-report.ensures.received (λ some. never (sym c.if-is_some.false ∙ c.is_some.ensures ∙ some)) c.in_default.ensures
-
-pub returns-in_default-clause-only : goal.returns-in_default-clause-only
-returns-in_default-clause-only c other h = one_sync_among c.args.burst.now c.args.most other _ h (returns-in_default-clause-received c)
-
-pub returns-in_default-clause-best : goal.returns-in_default-clause-best
-returns-in_default-clause-best c = sync_best c.args.burst.now c.args.most _ (returns-in_default-clause-received c)
-
-pub returns-in_default-clause-information : goal.returns-in_default-clause-information
-returns-in_default-clause-information c = sync_information c.args.burst.now c.args.most _ (returns-in_default-clause-received c)
-
-pub returns-in_default-clause-first : goal.returns-in_default-clause-first
-returns-in_default-clause-first c = sync_first c.args.burst.now c.args.most _ c.requires.at_least (returns-in_default-clause-received c)
-
-pub returns-in_default-clause-alone : goal.returns-in_default-clause-alone
-returns-in_default-clause-alone c = sync_alone c.args.burst.now c.args.most _ c.requires.at_least (returns-in_default-clause-received c)
-
-pub returns-in_default-clause-one : goal.returns-in_default-clause-one
-returns-in_default-clause-one c = sync_of_one c.args.burst.now c.args.most _ (returns-in_default-clause-received c)
-
-pub returns-clause-received : goal.returns-clause-received
-returns-clause-received c =
-    sync_found c.args.burst.now c.args.most _ c.receive_sync-report.result c.join_halves.result c.first_to_hold.new.u _ _ _
-    (c.join_halves.ensures
-    ∙ ap₂ (λ x y. x ++ y) (c.first.ensures.value ∙ ap first_half c.new-parts.ensures.value)
-    (c.second.ensures.value ∙ ap second_half c.new-parts.ensures.value))
-    c.from_array.ensures.value c.receive_sync-report.ensures.received c.in-Some.ensures.0 (search rules) c.sync_data.ensures
-
-pub returns-clause-only : goal.returns-clause-only
-returns-clause-only c other h = one_sync_among c.args.burst.now c.args.most other _ h (returns-clause-received c)
-
-pub returns-clause-best : goal.returns-clause-best
-returns-clause-best c = sync_best c.args.burst.now c.args.most _ (returns-clause-received c)
-
-pub returns-clause-information : goal.returns-clause-information
-returns-clause-information c = sync_information c.args.burst.now c.args.most _ (returns-clause-received c)
-
-pub returns-clause-first : goal.returns-clause-first
-returns-clause-first c = sync_first c.args.burst.now c.args.most _ c.requires.at_least (returns-clause-received c)
-
-pub returns-clause-alone : goal.returns-clause-alone
-returns-clause-alone c = sync_alone c.args.burst.now c.args.most _ c.requires.at_least (returns-clause-received c)
-
-pub returns-clause-one : goal.returns-clause-one
-returns-clause-one c = sync_of_one c.args.burst.now c.args.most _ (returns-clause-received c)
+pub returns : goal.returns
+returns c =
+    let is = c.taken_sync.ensures in
+    record {
+      received = is;
+      only = λ other h. one_sync_among c.args.burst.now c.args.most other _ h is;
+      best = sync_best c.args.burst.now c.args.most _ is;
+      information = sync_information c.args.burst.now c.args.most _ is;
+      first = sync_first c.args.burst.now c.args.most _ c.requires.at_least is;
+      alone = sync_alone c.args.burst.now c.args.most _ c.requires.at_least is;
+      one = sync_of_one c.args.burst.now c.args.most _ is;
+    }

@@ -17,5 +17,6 @@ loop-tried-preserved c =
       ap length grew ∙ length-append before (u ∷ []) ∙ ap (λ n. n + 1) c.loop-tried.invariant.1,
       subst (λ s. IsRanked s c.next.new.self.given) soft c.in_ok-metric.ensures.ranked,
       subst (All Fails) (sym grew)
-          (All-append Fails before (u ∷ []) c.loop-tried.invariant.3 (All-cons Fails u [] (λ holds. never (c.if-holds.ensures.1 holds)) (All-nil Fails))),
+          (All-append Fails before (u ∷ []) c.loop-tried.invariant.3
+          (All-cons Fails u [] (λ holds. never (c.if-holds.ensures.1 holds)) (All-nil Fails))),
     )
