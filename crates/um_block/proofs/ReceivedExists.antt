@@ -14,9 +14,8 @@ use Rattle.fire_code.proofs.Lemmas.{some_xcch_parity, some_rach_parity, some_sch
 use Rattle.conv_code.specs.Code.{coded}
 use Rattle.conv_code.specs.Likelihood.{FallsBehind, IsMostLikely}
 use Rattle.trellis_decode.specs.Words.{word}
-use Rattle.trellis_decode.proofs.MostLikely.{same_list}
-use Rattle.trellis_decode.proofs.Searching.{new_leads, old_leads, IsMostLikely-chosen}
-use Rattle.trellis_decode.proofs.WordLists.{length-word}
+use Rattle.conv_code.proofs.Lemmas.{same_list}
+use Rattle.trellis_decode.proofs.Lemmas.{new_leads, old_leads, IsMostLikely-chosen, length-word}
 use Rattle.training_seq.specs.Choice.{total_correlation}
 use Rattle.training_seq.proofs.Lemmas.{some_first_greatest}
 use Rattle.interleave.specs.Bursts.{IsInterleaved}
