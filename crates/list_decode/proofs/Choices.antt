@@ -6,7 +6,6 @@ use Rattle.std.proofs.lemmas.List.{get_or-map}
 use Rattle.std.proofs.lemmas.List.Elements.{All-nil, All-cons, All-head, All-tail, All-append, All-weaker}
 use Rattle.conv_code.specs.Code.{coded}
 use Rattle.conv_code.specs.Likelihood.{FallsBehind, likelihood}
-use Rattle.trellis_decode.proofs.Lists.{Ends-from_tail, IsInformation-ends}
 use Rattle.list_decode.specs.Branches.{IsBestStray, IsBranchOf, IsStray, stray_of}
 use Rattle.list_decode.specs.Choices.{IsAtMost, IsFirst, IsStrayOf, stray_list}
 use Rattle.list_decode.specs.Passes.{IsPass, losses_of, rows_of, soft_of}
@@ -15,6 +14,7 @@ use Rattle.list_decode.specs.declared.branch.Branch.{Branch}
 use Rattle.list_decode.specs.declared.branch.Stray.{Stray}
 use Rattle.list_decode.specs.declared.choice.Choice.{Choice}
 use Rattle.list_decode.specs.declared.pass.Pass.{Pass}
+use Rattle.trellis_decode.proofs.Lemmas.{Ends-from_tail, IsInformation-ends}
 use Rattle.list_decode.proofs.Strays.{FallsBehind-trans, is_stray}
 use Rattle.list_decode.proofs.WordOrder.{before_tested, behind_tested, test}
 

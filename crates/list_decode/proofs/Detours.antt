@@ -9,9 +9,8 @@ use Rattle.conv_code.specs.Code.{coded}
 use Rattle.conv_code.specs.Likelihood.{likelihood, IsBefore, FallsBehind, IsMostLikely}
 use Rattle.conv_code.proofs.Coding.{bit_at-most_1}
 use Rattle.trellis_decode.specs.Trellis.{next, gain, edge, Ends, IsNotAfter, Loses, Less, Later, read_out, IsBest, IsKept}
-use Rattle.trellis_decode.proofs.Lists.{gain-start, Ends-from_tail, Ends-bits, IsInformation-ends, IsMostLikely-best, IsBefore-not_after}
-use Rattle.trellis_decode.proofs.MostLikely.{same_number}
-use Rattle.trellis_decode.proofs.Paths.{gain-cons, Loses-same, length-read_out}
+use Rattle.trellis_decode.proofs.Lemmas.{gain-start, Ends-from_tail, Ends-bits, IsInformation-ends, IsMostLikely-best, IsBefore-not_after, gain-cons, Loses-same, length-read_out}
+use Rattle.conv_code.proofs.Lemmas.{same_number}
 use Rattle.list_decode.specs.Classes.{LeavesAt}
 use Rattle.list_decode.specs.Detours.{reached, loss_at, detour, IsLeastLoss}
 use Rattle.list_decode.specs.Ranking.{IsCandidate, IsSecond}

@@ -3,12 +3,12 @@ use Rattle.std.proofs.Common.{◌≡◌, ◌≢◌, ◌⊎◌, ℕ, zero, suc, �
 use Rattle.std.specs.Prelude.{◌<ℤ◌, ◌≤ℤ◌}
 use Rattle.std.proofs.lemmas.Bool.{cases_lt}
 use Rattle.std.proofs.lemmas.Int.{ints}
-use Rattle.trellis_decode.proofs.MostLikely.{same_number}
 use Rattle.bit_blocks.specs.Bits.{AllBits}
 use Rattle.conv_code.proofs.Coding.{bit_at-most_1}
 use Rattle.list_decode.specs.Detours.{reached, loss_at, IsLeastFree}
 use Rattle.list_decode.specs.FreePlaces.{IsLeave, IsBestFree}
 use Rattle.list_decode.specs.declared.leaving.Leave.{Leave}
+use Rattle.conv_code.proofs.Lemmas.{same_number}
 use Rattle.list_decode.proofs.Losses.{below_limit, not_below_limit}
 
 -- no place before n is free

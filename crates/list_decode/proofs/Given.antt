@@ -9,9 +9,6 @@ use Rattle.std.specs.Prelude.{IfSome, MatchOption}
 use Rattle.conv_code.specs.Code.{IsInformation, coded}
 use Rattle.conv_code.specs.Likelihood.{IsMostLikely, likelihood}
 use Rattle.trellis_decode.specs.Trellis.{read_out}
-use Rattle.trellis_decode.proofs.Lists.{IsMostLikely-best}
-use Rattle.trellis_decode.proofs.MostLikely.{IsMostLikely-only}
-use Rattle.trellis_decode.proofs.Paths.{length-read_out}
 use Rattle.list_decode.specs.Branches.{IsBestStray, IsBranch, IsBranchOf, IsSpan, class_of, leaving}
 use Rattle.list_decode.specs.Classes.{Covers, StandsIn}
 use Rattle.list_decode.specs.Detours.{Follows, reached}
@@ -24,6 +21,8 @@ use Rattle.list_decode.specs.declared.branch.Span.{Span}
 use Rattle.list_decode.specs.declared.parting.Next.{Next}
 use Rattle.list_decode.specs.declared.pass.Pass.{Pass}
 use Rattle.list_decode.specs.declared.ranked.Ranked.TheInside.{Inside}
+use Rattle.conv_code.proofs.Lemmas.{IsMostLikely-only}
+use Rattle.trellis_decode.proofs.Lemmas.{IsMostLikely-best, length-read_out}
 use Rattle.list_decode.proofs.Chosen.{class_at}
 use Rattle.list_decode.proofs.ClassSteps.{ends_ranked}
 use Rattle.list_decode.proofs.Detours.{kept_best}

@@ -3,8 +3,6 @@ use Rattle.std.proofs.Common.{◌≡◌, ◌≢◌, ◌⊎◌, ℕ, ◌+◌, ◌
 use Rattle.std.specs.List.{Contains}
 use Rattle.std.proofs.lemmas.Bool.{cases_lt}
 use Rattle.conv_code.specs.Likelihood.{FallsBehind, IsMostLikely}
-use Rattle.trellis_decode.proofs.Lists.{Ends-from_tail}
-use Rattle.trellis_decode.proofs.MostLikely.{same_list}
 use Rattle.list_decode.specs.Branches.{IsBestStray, IsStray, leaving, stray_of}
 use Rattle.list_decode.specs.Choices.{IsAtMost, stray_list}
 use Rattle.list_decode.specs.Classes.{Class, StandsIn, LeavesAt, anywhere, behind, closed, Covers}
@@ -14,6 +12,8 @@ use Rattle.list_decode.specs.Ranking.{IsCandidate, IsRanked}
 use Rattle.list_decode.specs.declared.branch.Span.{Span}
 use Rattle.list_decode.specs.declared.branch.Stray.{Stray}
 use Rattle.list_decode.specs.declared.pass.Pass.{Pass}
+use Rattle.conv_code.proofs.Lemmas.{same_list}
+use Rattle.trellis_decode.proofs.Lemmas.{Ends-from_tail}
 use Rattle.list_decode.proofs.ClassParts.{narrow_covers, split_covers}
 use Rattle.list_decode.proofs.ClassSteps.{Part, Disjoint, begins_ranked, closed-free, free-closed, goes_on_ranked, leaves_once, place-behind, behind-place}
 use Rattle.list_decode.proofs.Spans.{between_from, between_to, is_between}

@@ -7,8 +7,8 @@ use Rattle.std.proofs.lemmas.Nat.{pow-add, pow_pos}
 use Rattle.conv_code.specs.Code.{coded}
 use Rattle.conv_code.specs.Likelihood.{likelihood, IsBefore, FallsBehind}
 use Rattle.trellis_decode.specs.Words.{word}
-use Rattle.trellis_decode.proofs.MostLikely.{same_number}
-use Rattle.trellis_decode.proofs.WordLists.{length-word, IsBefore-word, IsInformation-word, word-information}
+use Rattle.conv_code.proofs.Lemmas.{same_number}
+use Rattle.trellis_decode.proofs.Lemmas.{length-word, IsBefore-word, IsInformation-word, word-information}
 use Rattle.list_decode.specs.Ranking.{IsCandidate, IsSecond}
 
 -- words in their order differ

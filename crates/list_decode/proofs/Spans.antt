@@ -9,8 +9,6 @@ use Rattle.bit_blocks.specs.SoftValues.{IsSoft, agreement}
 use Rattle.conv_code.specs.Code.{coded}
 use Rattle.conv_code.specs.Likelihood.{AllSoft, likelihood}
 use Rattle.trellis_decode.specs.Trellis.{next, read_out}
-use Rattle.trellis_decode.proofs.EdgeLanes.{agreement-zero, agreement-one}
-use Rattle.trellis_decode.proofs.Likelihoods.{AllBits-coded}
 use Rattle.list_decode.specs.Branches.{between, leaving, stray_of, IsSpan, IsStray, IsBestStray}
 use Rattle.list_decode.specs.Detours.{reached, Follows, stray, IsLeastFree}
 use Rattle.list_decode.specs.FreePlaces.{IsBestFree}
@@ -20,6 +18,8 @@ use Rattle.list_decode.specs.declared.branch.Span.{Span}
 use Rattle.list_decode.specs.declared.branch.Stray.{Stray}
 use Rattle.list_decode.specs.declared.leaving.Leave.{Leave}
 use Rattle.list_decode.specs.declared.pass.Pass.{Pass}
+use Rattle.conv_code.proofs.Lemmas.{AllBits-coded}
+use Rattle.trellis_decode.proofs.Lemmas.{agreement-one, agreement-zero}
 use Rattle.list_decode.proofs.Losses.{reached_more, reached_small}
 use Rattle.list_decode.proofs.Strays.{IsFollowed, none_stands, follows_behind, stray_candidate, stray_value, stray_best}
 
@@ -140,7 +140,7 @@ module _ (pass : Pass) (u : List ℕ) (span : Span) (is : IsPass pass) (candidat
     pub value_fits : FitsSigned w32 (span.likelihood -ℤ leave.loss)
     value_fits = subst (FitsSigned w32) value_is
         (likelihood_fits (soft_of pass) (coded (stray u (rows_of pass) 0 leave.place)) is.soft
-        (AllBits-coded (stray u (rows_of pass) 0 leave.place) v_candidate.information.bits) (let p = is.pairs in let m = is.at_most in omega arith))
+        (AllBits-coded (stray u (rows_of pass) 0 leave.place)) (let p = is.pairs in let m = is.at_most in omega arith))
 
     pub best_stray : (x : Stray) → x.list ≡ span.list → x.leave ≡ leave → x.likelihood ≡ span.likelihood -ℤ leave.loss → IsBestStray pass u span (Some x)
     best_stray x list left likely =

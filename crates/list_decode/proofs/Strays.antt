@@ -7,12 +7,11 @@ use Rattle.conv_code.specs.Code.{coded}
 use Rattle.conv_code.specs.Likelihood.{likelihood, IsBefore, FallsBehind}
 use Rattle.conv_code.proofs.Coding.{bit_at-most_1}
 use Rattle.trellis_decode.specs.Trellis.{next, gain, Ends, IsNotAfter, read_out, IsKept}
-use Rattle.trellis_decode.proofs.Lists.{gain-start, Ends-from_tail, Ends-bits, IsInformation-ends, IsBefore-not_after}
-use Rattle.trellis_decode.proofs.MostLikely.{same_number}
-use Rattle.trellis_decode.proofs.Paths.{length-read_out}
 use Rattle.list_decode.specs.Classes.{LeavesAt, Class, StandsIn}
 use Rattle.list_decode.specs.Detours.{reached, loss_at, detour, Follows, stray, IsLeastFree}
 use Rattle.list_decode.specs.Ranking.{IsCandidate}
+use Rattle.conv_code.proofs.Lemmas.{same_number}
+use Rattle.trellis_decode.proofs.Lemmas.{Ends-bits, Ends-from_tail, IsBefore-not_after, IsInformation-ends, gain-start, length-read_out}
 use Rattle.list_decode.proofs.ClassSteps.{leaves_once}
 use Rattle.list_decode.proofs.Detours.{gain-more, is_detour, agree-cons, left}
 

@@ -8,8 +8,8 @@ use Rattle.std.proofs.lemmas.Bool.Decides.{nat_tests}
 use Rattle.bit_blocks.specs.Bits.{AllBits}
 use Rattle.conv_code.specs.Likelihood.{IsBefore}
 use Rattle.trellis_decode.specs.Trellis.{IsNotAfter}
-use Rattle.trellis_decode.proofs.Lists.{IsBefore-not_after}
-use Rattle.trellis_decode.proofs.MostLikely.{same_list, same_number}
+use Rattle.conv_code.proofs.Lemmas.{same_list, same_number}
+use Rattle.trellis_decode.proofs.Lemmas.{IsBefore-not_after}
 
 abbrev pub test : List ℕ → List ℕ → Bool
 test [] [] = false

@@ -1,17 +1,16 @@
-pub mod EdgeLanes
+mod EdgeLanes
 mod Existence
-pub mod Kept
+mod Kept
 pub mod Lemmas
-pub mod Likelihoods
-pub mod Lists
+mod Likelihoods
+mod Lists
 mod MapLists
-pub mod MostLikely
-pub mod Paths
-pub mod Searching
+mod Paths
+mod Searching
 mod Followed
 mod Leads
 mod FourPairs
 mod TurnedSteps
 mod TurnedVectors
 mod Walks
-pub mod WordLists
+mod WordLists

@@ -1,10 +1,10 @@
--- Likelihoods, one place more at a time, and the bits of coded lists.
+-- Likelihoods, one place more at a time.
 use Rattle.std.proofs.Common.{◌≡◌, ℕ, zero, suc, ◌<◌, ℤ, pos, ◌+ℤ◌, List, [], ◌∷◌, length, get_or, take, sym, subst, arith}
 use Rattle.std.proofs.lemmas.Int.{ints}
 use Rattle.bit_blocks.specs.Bits.{AllBits}
 use Rattle.conv_code.specs.Code.{coded}
 use Rattle.conv_code.specs.Likelihood.{agreement, likelihood}
-use Rattle.trellis_decode.proofs.Lists.{coded_from_start}
+use Rattle.conv_code.proofs.Lemmas.{coded_from_start}
 use Rattle.trellis_decode.proofs.Paths.{AllBits-coded_from}
 
 pub likelihood-more : (s : List ℤ) (c : List ℕ) (k : ℕ) → k < length s → k < length c →
@@ -17,6 +17,3 @@ likelihood-more (p ∷ s) (x ∷ c) (suc k) hs hc =
     let hc' : k < length c = omega arith in
     let rest = likelihood-more s c k hs' hc' in
     omega (arith, ints)
-
-pub AllBits-coded : (u : List ℕ) → AllBits u → AllBits (coded u)
-AllBits-coded u bits = subst AllBits (sym (coded_from_start u bits)) (AllBits-coded_from 0 u)

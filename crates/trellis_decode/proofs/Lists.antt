@@ -7,59 +7,8 @@ use Rattle.std.specs.List.{All, flat_map, range_with_len}
 use Rattle.bit_blocks.specs.Bits.{AllBits, IsBit}
 use Rattle.conv_code.specs.Code.{delayed, first_sum, second_sum, coded_pair, coded, IsInformation}
 use Rattle.conv_code.specs.Likelihood.{likelihood, IsBefore, FallsBehind, IsMostLikely}
-use Rattle.conv_code.proofs.Coding.{delayed-more, delayed-none, delayed-at_most_1, bit_at-most_1}
+use Rattle.conv_code.proofs.Lemmas.{coded_from_start}
 use Rattle.trellis_decode.specs.Trellis.{next, first_bit, second_bit, coded_from, gain, Ends, IsNotAfter, Less, Later, IsBest}
-
--- the state in which place k finds the coder
-pub state_at : List ℕ → ℕ → ℕ
-state_at u k = delayed u k 1 + 2 * delayed u k 2 + 4 * delayed u k 3 + 8 * delayed u k 4
-
-pub next_state : (u : List ℕ) (k : ℕ) → AllBits u → next (state_at u k) (get_or u k 0) ≡ state_at u (k + 1)
-unfolding state_at
-next_state u k bits =
-    let x = bit_at-most_1 u k bits in
-    let one = delayed-at_most_1 u k 1 bits in
-    let two = delayed-at_most_1 u k 2 bits in
-    let three = delayed-at_most_1 u k 3 bits in
-    let four = delayed-at_most_1 u k 4 bits in
-    rw (delayed-more u k 0 1 refl, delayed-more u k 1 2 refl, delayed-more u k 2 3 refl, delayed-more u k 3 4 refl, delayed-none u k) (omega arith)
-
-first_of_state : (u : List ℕ) (k : ℕ) → AllBits u → first_sum u k ≡ first_bit (state_at u k) (get_or u k 0)
-unfolding state_at
-first_of_state u k bits =
-    let one = delayed-at_most_1 u k 1 bits in
-    let two = delayed-at_most_1 u k 2 bits in
-    let three = delayed-at_most_1 u k 3 bits in
-    let four = delayed-at_most_1 u k 4 bits in
-    omega arith
-
-second_of_state : (u : List ℕ) (k : ℕ) → AllBits u → second_sum u k ≡ second_bit (state_at u k) (get_or u k 0)
-unfolding state_at
-second_of_state u k bits =
-    let one = delayed-at_most_1 u k 1 bits in
-    let two = delayed-at_most_1 u k 2 bits in
-    let three = delayed-at_most_1 u k 3 bits in
-    let four = delayed-at_most_1 u k 4 bits in
-    omega arith
-
-coded_from_place : (u : List ℕ) (k n : ℕ) → AllBits u → k + n ≡ length u →
-    flat_map (coded_pair u) (range_with_len k n) ≡ coded_from (state_at u k) (drop k u)
-coded_from_place u k zero bits e =
-    let end : k ≡ length u = omega arith in
-    rw (end, drop-length u) refl
-coded_from_place u k (suc n) bits e =
-    let within : k < length u = omega arith in
-    let e' : k + 1 + n ≡ length u = omega arith in
-    let rest = coded_from_place u (k + 1) n bits e' in
-    let more : k + 1 ≡ suc k = omega arith in
-    ap₂ (λ x y. x ∷ y ∷ flat_map (coded_pair u) (range_with_len (k + 1) n)) (first_of_state u k bits) (second_of_state u k bits)
-    ∙ ap (λ rest. first_bit (state_at u k) (get_or u k 0) ∷ second_bit (state_at u k) (get_or u k 0) ∷ rest)
-    (rest ∙ ap₂ coded_from (sym (next_state u k bits)) (ap (λ j. drop j u) more))
-    ∙ ap (coded_from (state_at u k)) (sym (drop-cons u k 0 within))
-
-pub coded_from_start : (u : List ℕ) → AllBits u → coded u ≡ coded_from 0 u
-unfolding state_at
-coded_from_start u bits = coded_from_place u 0 (length u) bits (omega arith)
 
 pub gain-start : (soft : List ℤ) (u : List ℕ) → AllBits u → gain 0 u soft ≡ likelihood soft (coded u)
 unfolding gain

@@ -2,22 +2,7 @@
 use Rattle.std.specs.Prelude.{ℕ, ◌≡◌, ◌+◌, ◌*◌, ◌/◌, ◌%◌, ◌^◌, ◌-◌, ◌<◌, ◌≤◌, ◌⊎◌, ℤ, pos, ◌+ℤ◌, ◌-ℤ◌, ◌<ℤ◌, ◌≤ℤ◌, List, [], ◌∷◌, length, slice_index_or, drop}
 use Rattle.bit_blocks.specs.Bits.{IsBit}
 use Rattle.conv_code.specs.Likelihood.{likelihood}
-
--- the state after one more bit
-abbrev pub next : ℕ → ℕ → ℕ
-next state bit = (2 * state + bit) % 16
-
--- the two coded bits of a bit that comes in a state
-abbrev pub first_bit : ℕ → ℕ → ℕ
-first_bit state bit = (bit + state / 4 % 2 + state / 8 % 2) % 2
-
-abbrev pub second_bit : ℕ → ℕ → ℕ
-second_bit state bit = (bit + state % 2 + state / 4 % 2 + state / 8 % 2) % 2
-
--- the coded bits of a list that begins in a state
-abbrev pub coded_from : ℕ → List ℕ → List ℕ
-coded_from state [] = []
-coded_from state (x ∷ u) = first_bit state x ∷ second_bit state x ∷ coded_from (next state x) u
+pub use Rattle.conv_code.specs.States.{next, first_bit, second_bit, coded_from}
 
 -- how likely a list is that begins in a state
 unfoldable pub gain : ℕ → List ℕ → List ℤ → ℤ

@@ -9,7 +9,7 @@ use Rattle.bit_blocks.specs.SoftValues.{wrong_places}
 use Rattle.interleave.specs.Places.{burst_of, place_of, burst_place}
 use Rattle.interleave.specs.Bursts.{IsInterleaved}
 use Rattle.interleave.proofs.Lemmas.{burst_place-lower, burst_place-upper, burst_of-below, halves-at}
-use Rattle.weight_bound.proofs.Restoring.{IsLightlyDamaged-equal}
+use Rattle.weight_bound.proofs.Lemmas.{IsLightlyDamaged-equal}
 use Rattle.burst_map.specs.NormalBurst as N
 use Rattle.um_block.specs.Sent.{IsSentBlock}
 use Rattle.um_block.specs.Received.{soft_value, softened, coded_places, IsReceivedBlock}

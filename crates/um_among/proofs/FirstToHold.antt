@@ -8,8 +8,8 @@ use Rattle.std.proofs.lemmas.List.{length-take-le, take-append-drop}
 use Rattle.std.proofs.lemmas.List.Elements.{All-nil, All-take, All-contains, Contains-append_right, Contains-append_cases}
 use Rattle.conv_code.specs.Code.{IsInformation}
 use Rattle.conv_code.specs.Likelihood.{FallsBehind, IsMostLikely}
-use Rattle.trellis_decode.proofs.MostLikely.{IsMostLikely-only}
 use Rattle.list_decode.specs.Ranking.{IsCandidate, IsRanked}
+use Rattle.conv_code.proofs.Lemmas.{IsMostLikely-only}
 use Rattle.list_decode.proofs.Lemmas.{most_likely_is_ranked, beginning_is_ranked, one_ranking}
 use Rattle.um_among.specs.Among.{IsFirstToHold, NoneHolds, IsTaken}
 

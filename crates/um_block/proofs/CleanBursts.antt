@@ -8,7 +8,7 @@ use Rattle.std.proofs.lemmas.List.Elements.{All-head, All-tail}
 use Rattle.bit_blocks.specs.Bits.{IsBit, AllBits}
 use Rattle.bit_blocks.specs.SoftValues.{wrong_places}
 use Rattle.bit_blocks.proofs.Lemmas.{passes_below, at_passes_below}
-use Rattle.trellis_decode.proofs.Searching.{less_by_test}
+use Rattle.trellis_decode.proofs.Lemmas.{less_by_test}
 use Rattle.training_seq.specs.Choice.{IsFirstGreatest, total_correlation}
 use Rattle.training_seq.specs.Sequences.{training_sequence}
 use Rattle.training_seq.proofs.Lemmas.{length-training_sequence}

@@ -6,11 +6,9 @@ use Rattle.std.proofs.lemmas.List.{length-map}
 use Rattle.std.proofs.lemmas.List.Elements.{All-head, All-tail}
 use Rattle.bit_blocks.specs.Bits.{IsBit, AllBits}
 use Rattle.conv_code.specs.Code.{coded, IsInformation}
-use Rattle.conv_code.proofs.Lemmas.{AllBits-coded, length-coded}
+use Rattle.conv_code.proofs.Lemmas.{AllBits-coded, length-coded, coded_from_start, IsMostLikely-only}
 use Rattle.conv_code.specs.Likelihood.{agreement, likelihood, IsMostLikely}
-use Rattle.trellis_decode.specs.Trellis.{next, first_bit, coded_from}
-use Rattle.trellis_decode.proofs.Lists.{coded_from_start}
-use Rattle.trellis_decode.proofs.MostLikely.{IsMostLikely-only}
+use Rattle.conv_code.specs.States.{next, first_bit, coded_from}
 use Rattle.um_block.specs.Received.{soft_value, softened}
 
 -- a sure value counts 127 for its own bit, and -127 for the other

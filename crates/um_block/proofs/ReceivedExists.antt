@@ -10,8 +10,8 @@ use Rattle.bit_blocks.specs.SoftValues.{likelihood, wrong_places}
 use Rattle.fire_code.specs.Words.{IsXcchWord, IsRachWord, IsSchWord}
 use Rattle.fire_code.proofs.Lemmas.{some_xcch_parity, some_rach_parity, some_sch_parity, one_xcch_parity, one_rach_parity, one_sch_parity}
 use Rattle.conv_code.specs.Code.{coded}
+use Rattle.conv_code.proofs.Lemmas.{same_list}
 use Rattle.trellis_decode.proofs.Lemmas.{some_most_likely}
-use Rattle.trellis_decode.proofs.MostLikely.{same_list}
 use Rattle.training_seq.specs.Choice.{total_correlation}
 use Rattle.training_seq.proofs.Lemmas.{some_first_greatest}
 use Rattle.interleave.specs.Bursts.{IsInterleaved}

@@ -6,7 +6,7 @@ use Rattle.bit_blocks.specs.SoftValues.{likelihood}
 use Rattle.fire_code.specs.Words.{IsXcchWord, IsRachWord, IsSchWord}
 use Rattle.conv_code.specs.Code.{coded}
 use Rattle.conv_code.specs.Likelihood.{IsMostLikely}
-use Rattle.trellis_decode.proofs.MostLikely.{IsMostLikely-only}
+use Rattle.conv_code.proofs.Lemmas.{IsMostLikely-only}
 use Rattle.training_seq.specs.Choice.{total_correlation}
 use Rattle.training_seq.proofs.Lemmas.{one_first_greatest}
 use Rattle.interleave.proofs.Lemmas.{same_coded}

@@ -8,7 +8,7 @@ use Rattle.conv_code.specs.Likelihood.{IsMostLikely}
 use Rattle.interleave.specs.Bursts.{IsInterleaved}
 use Rattle.interleave.proofs.Lemmas.{same_coded}
 use Rattle.weight_bound.specs.Restoring.{IsLightlyDamaged}
-use Rattle.weight_bound.proofs.Restoring.{restored}
+use Rattle.weight_bound.proofs.Lemmas.{restored}
 use Rattle.burst_map.specs.SyncBurst as S
 use Rattle.um_block.specs.Sent.{IsCodedBlock, IsCodedAccess, IsCodedSync}
 use Rattle.um_block.specs.Received.{coded_places, access_places, sync_places, IsReceivedBlock, IsReceivedAccess, IsReceivedSync}

@@ -10,9 +10,7 @@ use Rattle.conv_code.specs.Code.{coded}
 use Rattle.conv_code.specs.Likelihood.{IsMostLikely}
 use Rattle.conv_code.proofs.Lemmas.{AllBits-coded, length-coded}
 use Rattle.weight_bound.specs.Distance.{distance}
-use Rattle.weight_bound.proofs.AbsoluteValues.{Between}
-use Rattle.weight_bound.proofs.Distances.{at_least_seven}
-use Rattle.weight_bound.proofs.Restoring.{all_places}
+use Rattle.weight_bound.proofs.Lemmas.{Between, at_least_seven, all_places}
 use Rattle.list_decode.specs.Ranking.{IsCandidate, IsMargin, IsTied}
 use Rattle.um_margin.specs.Compared.{Compared, IsCompared}
 

@@ -5,7 +5,7 @@ use Rattle.bit_blocks.specs.Bits.{AllBits}
 use Rattle.bit_blocks.specs.SoftValues.{likelihood}
 use Rattle.conv_code.specs.Code.{coded}
 use Rattle.conv_code.specs.Likelihood.{IsMostLikely}
-use Rattle.trellis_decode.proofs.MostLikely.{IsMostLikely-only}
+use Rattle.conv_code.proofs.Lemmas.{IsMostLikely-only}
 use Rattle.interleave.proofs.Lemmas.{same_coded}
 use Rattle.list_decode.specs.Ranking.{IsSecond, IsMargin}
 use Rattle.list_decode.proofs.Lemmas.{IsMargin-second, both_only, one_margin, some_second}

@@ -7,8 +7,7 @@ use Rattle.bit_blocks.specs.Bits.{IsBit, AllBits, add_bits}
 use Rattle.bit_blocks.proofs.Lemmas.{AllBits-add_bits, add_bits-append}
 use Rattle.conv_code.specs.Code.{coded_pair, coded, IsInformation}
 use Rattle.conv_code.specs.States.{coded_from}
-use Rattle.conv_code.proofs.Lemmas.{AllBits-coded, coded_from_start}
-pub use Rattle.conv_code.proofs.Lemmas.{length-coded}
+use Rattle.conv_code.proofs.Lemmas.{AllBits-coded, coded_from_start, length-coded}
 use Rattle.weight_bound.specs.Distance.{distance, AtLeastSeven, ReachesSeven}
 use Rattle.weight_bound.proofs.Counting.{distance-cons}
 use Rattle.weight_bound.proofs.Linear.{coded-add_bits}

@@ -1,7 +1,8 @@
 mod Checks
-pub mod AbsoluteValues
-pub mod Counting
-pub mod Distances
-pub mod Linear
-pub mod Restoring
-pub mod Weights
+mod AbsoluteValues
+mod Counting
+mod Distances
+pub mod Lemmas
+mod Linear
+mod Restoring
+mod Weights

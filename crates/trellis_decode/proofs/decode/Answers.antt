@@ -9,7 +9,7 @@ use Rattle.trellis_decode.specs.Turned.{worths}
 use Rattle.trellis_decode.specs.Words.{word}
 use Rattle.trellis_decode.proofs.Lists.{IsMostLikely-best, likelihood-best}
 use Rattle.trellis_decode.proofs.MapLists.{walked, walked_bits, walked_state, list_of_few}
-use Rattle.trellis_decode.proofs.MostLikely.{IsMostLikely-only}
+use Rattle.conv_code.proofs.Lemmas.{IsMostLikely-only}
 use Rattle.trellis_decode.proofs.Paths.{IsBest-same}
 use Rattle.trellis_decode.proofs.decode.Goals as goal
 use Rattle.trellis_decode.proofs.decode.Goals.{After-of_state_0}

@@ -3,7 +3,7 @@ use Rattle.std.proofs.lemmas.Int.{ints, to_z-of_z}
 use Rattle.std.proofs.lemmas.List.{append-nil, drop_all, length-drop, take-append-drop, take_all, take_more, take_more_set}
 use Rattle.std.proofs.lemmas.Nat.{and_mask}
 use lib.Bits.{bit_and}
-use Rattle.trellis_decode.proofs.Paths.{length-read_out}
+use Rattle.trellis_decode.proofs.Lemmas.{length-read_out}
 use Rattle.trellis_decode.specs.Trellis.{next, read_out}
 use Rattle.list_decode.specs.Detours.{loss_at, reached, IsLeastLoss}
 use Rattle.list_decode.proofs.Losses.{IsBestLeave, reached_more, least_kept, least_taken, leave_at, below_limit, not_below_limit, chosen_bit, chosen_from, bit_small}

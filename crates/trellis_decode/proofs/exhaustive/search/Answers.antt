@@ -3,7 +3,7 @@ use Rattle.std.proofs.lemmas.Int.{to_z-of_z}
 use Rattle.conv_code.specs.Code.{coded}
 use Rattle.conv_code.specs.Likelihood.{likelihood, FallsBehind, IsMostLikely}
 use Rattle.trellis_decode.specs.Words.{word}
-use Rattle.trellis_decode.proofs.MostLikely.{IsMostLikely-only}
+use Rattle.conv_code.proofs.Lemmas.{IsMostLikely-only}
 use Rattle.trellis_decode.proofs.Searching.{less_by_test, most_by_test, new_leads, old_leads, IsMostLikely-chosen}
 use Rattle.trellis_decode.proofs.exhaustive.search.Goals as goal
 use Rattle.trellis_decode.proofs.exhaustive.search.Goals.{then-value-best, else-value-best}
