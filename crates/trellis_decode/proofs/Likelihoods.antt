@@ -1,11 +1,7 @@
 -- Likelihoods, one place more at a time.
-use Rattle.std.proofs.Common.{◌≡◌, ℕ, zero, suc, ◌<◌, ℤ, pos, ◌+ℤ◌, List, [], ◌∷◌, length, get_or, take, sym, subst, arith}
+use Rattle.std.proofs.Common.{◌≡◌, ℕ, zero, suc, ◌<◌, ℤ, pos, ◌+ℤ◌, List, [], ◌∷◌, length, get_or, take, arith}
 use Rattle.std.proofs.lemmas.Int.{ints}
-use Rattle.bit_blocks.specs.Bits.{AllBits}
-use Rattle.conv_code.specs.Code.{coded}
 use Rattle.conv_code.specs.Likelihood.{agreement, likelihood}
-use Rattle.conv_code.proofs.Lemmas.{coded_from_start}
-use Rattle.trellis_decode.proofs.Paths.{AllBits-coded_from}
 
 pub likelihood-more : (s : List ℤ) (c : List ℕ) (k : ℕ) → k < length s → k < length c →
     likelihood (take (suc k) s) (take (suc k) c) ≡ likelihood (take k s) (take k c) +ℤ agreement (get_or s k (pos 0)) (get_or c k 0)

@@ -1,14 +1,13 @@
 -- From paths that begin in state 0 to whole lists.
-use Rattle.std.proofs.Common.{◌≡◌, ◌≢◌, ℕ, zero, suc, ◌+◌, ◌-◌, ◌*◌, ◌<◌, ◌≤◌, inl, inr, ℤ, List, [], ◌∷◌, length, get_or, drop, refl, ap, ap₂, sym, ◌∙◌, arith}
-use Rattle.std.proofs.Math.Seq.{drop-cons, drop-length}
+use Rattle.std.proofs.Common.{◌≡◌, ◌≢◌, ℕ, zero, suc, ◌-◌, ◌*◌, ◌<◌, ◌≤◌, inl, inr, ℤ, List, [], ◌∷◌, length, get_or, drop, refl, ap, ap₂, sym, ◌∙◌, arith}
 use Rattle.std.proofs.lemmas.Bool.{cases_lt}
 use Rattle.std.proofs.lemmas.List.Elements.{All-nil, All-cons, All-head, All-tail}
-use Rattle.std.specs.List.{All, flat_map, range_with_len}
+use Rattle.std.specs.List.{All}
 use Rattle.bit_blocks.specs.Bits.{AllBits, IsBit}
-use Rattle.conv_code.specs.Code.{delayed, first_sum, second_sum, coded_pair, coded, IsInformation}
+use Rattle.conv_code.specs.Code.{coded, IsInformation}
 use Rattle.conv_code.specs.Likelihood.{likelihood, IsBefore, FallsBehind, IsMostLikely}
 use Rattle.conv_code.proofs.Lemmas.{coded_from_start}
-use Rattle.trellis_decode.specs.Trellis.{next, first_bit, second_bit, coded_from, gain, Ends, IsNotAfter, Less, Later, IsBest}
+use Rattle.trellis_decode.specs.Trellis.{gain, Ends, IsNotAfter, Less, Later, IsBest}
 
 pub gain-start : (soft : List ℤ) (u : List ℕ) → AllBits u → gain 0 u soft ≡ likelihood soft (coded u)
 unfolding gain

@@ -1,11 +1,11 @@
 -- The coded lists of two information lists differ in at least seven places, and some in no more.
 use Rattle.std.proofs.Common.{◌≡◌, ◌≢◌, ℕ, zero, suc, ◌+◌, ◌-◌, ◌*◌, ◌%◌, ◌≤◌, List, [], ◌∷◌, ◌++◌, length, take, drop, replicate, not, ◌==◌, cond, refl, ap, ap₂, sym, ◌∙◌, arith, length-drop}
 use Rattle.std.proofs.lemmas.List.{take-append-drop, length-replicate, length-take}
-use Rattle.std.proofs.lemmas.List.Elements.{All-nil, All-cons, All-head, All-tail, All-take, All-drop, All-replicate}
-use Rattle.std.specs.List.{All, flat_map, range_with_len}
+use Rattle.std.proofs.lemmas.List.Elements.{All-cons, All-head, All-tail, All-take, All-drop, All-replicate}
+use Rattle.std.specs.List.{All}
 use Rattle.bit_blocks.specs.Bits.{IsBit, AllBits, add_bits}
 use Rattle.bit_blocks.proofs.Lemmas.{AllBits-add_bits, add_bits-append}
-use Rattle.conv_code.specs.Code.{coded_pair, coded, IsInformation}
+use Rattle.conv_code.specs.Code.{coded, IsInformation}
 use Rattle.conv_code.specs.States.{coded_from}
 use Rattle.conv_code.proofs.Lemmas.{AllBits-coded, coded_from_start, length-coded}
 use Rattle.weight_bound.specs.Distance.{distance, AtLeastSeven, ReachesSeven}

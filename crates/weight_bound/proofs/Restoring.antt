@@ -6,7 +6,7 @@ use Rattle.std.proofs.Math.Nat.{mul-le-mul_left}
 use Rattle.std.proofs.lemmas.Int.{ints}
 use Rattle.std.proofs.lemmas.List.Elements.{All-head, All-tail, All-weaker}
 use Rattle.bit_blocks.specs.Bits.{IsBit, AllBits}
-use Rattle.bit_blocks.specs.SoftValues.{is_wrong, wrong_places}
+use Rattle.bit_blocks.specs.SoftValues.{wrong_places}
 use Rattle.conv_code.specs.Code.{coded, IsInformation}
 use Rattle.conv_code.specs.Likelihood.{agreement, likelihood, IsMostLikely}
 use Rattle.conv_code.proofs.Lemmas.{AllBits-coded, length-coded, IsMostLikely-only}
