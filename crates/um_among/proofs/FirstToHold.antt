@@ -1,6 +1,6 @@
 -- The first list whose parity holds: there is one at most, or none holds; and of all lists that hold it is the most likely one.
 use Rattle.std.proofs.Common.{◌≡◌, ◌≢◌, inl, inr, false, true, ℕ, zero, suc, ◌+◌, ◌<◌, ◌≤◌, ℤ, Option, Some, None, List, [], ◌∷◌, ◌++◌, length, take, drop, get_or, length-append, refl, ap, ap₂, sym, ◌∙◌, subst, arith}
-use Rattle.std.specs.Prelude.{MatchOption, IsSome}
+use Rattle.std.specs.Prelude.{MatchOption, IsSome, IsNone, ◌↔◌}
 use Rattle.std.specs.List.{All, Contains}
 use Rattle.std.proofs.Math.Seq.{get_or-append_seam}
 use Rattle.std.proofs.lemmas.Bool.{cases_lt}
@@ -100,6 +100,12 @@ module _ (Holds : List ℕ → Type 0) (s : List ℤ) (most : ℕ) where
     ]
     | inr behind ↦ All-last (FallsBehind s v) h.before u behind
   ]
+
+  -- nothing is accepted exactly where none holds
+  pub taken_lost : {X : Type 0} (told : List ℕ → X) (r : ℕ) (u : List ℕ) (a : Option X) → IsTaken Holds told s most r u a →
+      (IsNone a ↔ NoneHolds Holds s most)
+  taken_lost told r u None h = (λ _. h.0, λ _. refl)
+  taken_lost told r u (Some x) h = (λ e. absurd (never (sym e)), λ none. absurd (not_both r u h.0 none))
 
   -- the list in the first place is the most likely one
   pub first_place : (u : List ℕ) → IsFirstToHold Holds s most 1 u → IsMostLikely s u

@@ -1,6 +1,6 @@
 -- Bursts are received among lists in one way, and where the list in the first place is taken as they are received without a choice.
 use Rattle.std.proofs.Common.{◌≡◌, ◌≢◌, ℕ, ◌≤◌, ℤ, Option, List, map, take, subst, ap, ap₂, sym, ◌∙◌}
-use Rattle.std.specs.Prelude.{MatchOption, IsSome}
+use Rattle.std.specs.Prelude.{MatchOption, IsSome, IsNone, ◌↔◌}
 use Rattle.bit_blocks.specs.Octets.{octets_of}
 use Rattle.bit_blocks.specs.SoftValues.{likelihood}
 use Rattle.conv_code.specs.Code.{coded, IsInformation}
@@ -19,7 +19,7 @@ use Rattle.um_among.specs.declared.reports.AccessAmong.{AccessAmong}
 use Rattle.um_among.specs.declared.reports.SyncAmong.{SyncAmong}
 use Rattle.um_among.specs.Parities.{HoldsInBlock, HoldsInAccess, HoldsInSync}
 use Rattle.um_among.specs.Among.{IsTaken, IsFirstToHold, NoneHolds, IsBlockAmong, IsAccessAmong, IsSyncAmong}
-use Rattle.um_among.proofs.FirstToHold.{taken_once, taken_best, taken_information, taken_first, taken_of_one, taken_at_once, taken_found, taken_none}
+use Rattle.um_among.proofs.FirstToHold.{taken_once, taken_best, taken_lost, taken_information, taken_first, taken_of_one, taken_at_once, taken_found, taken_none}
 
 -- ---- in one way
 
@@ -98,6 +98,15 @@ block_best bursts most r h some soft v gathered =
     let told : List ℕ → List ℕ = λ u. octets_of (take 184 u) in
     let taken = subst (λ s. IsTaken HoldsInBlock told s most r.rank r.report.u r.report.accepted) same h.taken in
     taken_best HoldsInBlock soft most told r.rank r.report.u r.report.accepted taken some v
+
+-- nothing is accepted exactly where none of the lists tried holds
+pub block_none : (bursts : List (List ℤ)) (most : ℕ) (r : BlockAmong) → IsBlockAmong bursts most r → (soft : List ℤ) →
+    IsInterleaved soft (map coded_places bursts) → (IsNone r.report.accepted ↔ NoneHolds HoldsInBlock soft most)
+block_none bursts most r h soft gathered =
+    let same : h.soft ≡ soft = same_coded h.soft soft (map coded_places bursts) h.gathered gathered in
+    let told : List ℕ → List ℕ = λ u. octets_of (take 184 u) in
+    let taken = subst (λ s. IsTaken HoldsInBlock told s most r.rank r.report.u r.report.accepted) same h.taken in
+    taken_lost HoldsInBlock soft most told r.rank r.report.u r.report.accepted taken
 
 pub block_information : (bursts : List (List ℤ)) (most : ℕ) (r : BlockAmong) → IsBlockAmong bursts most r → IsInformation r.report.u
 block_information bursts most r h =
@@ -183,6 +192,11 @@ pub access_best : (burst : List ℤ) (bsic : List ℕ) (most : ℕ) (r : AccessA
 access_best burst bsic most r h some v =
     taken_best (HoldsInAccess bsic) (access_places burst) most (take 8) r.rank r.report.u r.report.accepted h.taken some v
 
+pub access_none : (burst : List ℤ) (bsic : List ℕ) (most : ℕ) (r : AccessAmong) → IsAccessAmong burst bsic most r →
+    (IsNone r.report.accepted ↔ NoneHolds (HoldsInAccess bsic) (access_places burst) most)
+access_none burst bsic most r h =
+    taken_lost (HoldsInAccess bsic) (access_places burst) most (take 8) r.rank r.report.u r.report.accepted h.taken
+
 pub access_information : (burst : List ℤ) (bsic : List ℕ) (most : ℕ) (r : AccessAmong) → IsAccessAmong burst bsic most r →
     IsInformation r.report.u
 access_information burst bsic most r h =
@@ -245,6 +259,10 @@ pub sync_best : (burst : List ℤ) (most : ℕ) (r : SyncAmong) → IsSyncAmong 
     (v : List ℕ) → IsCandidate (sync_places burst) v → HoldsInSync v → v ≢ r.report.u → FallsBehind (sync_places burst) v r.report.u
 sync_best burst most r h some v =
     taken_best HoldsInSync (sync_places burst) most (take 25) r.rank r.report.u r.report.accepted h.taken some v
+
+pub sync_none : (burst : List ℤ) (most : ℕ) (r : SyncAmong) → IsSyncAmong burst most r →
+    (IsNone r.report.accepted ↔ NoneHolds HoldsInSync (sync_places burst) most)
+sync_none burst most r h = taken_lost HoldsInSync (sync_places burst) most (take 25) r.rank r.report.u r.report.accepted h.taken
 
 pub sync_information : (burst : List ℤ) (most : ℕ) (r : SyncAmong) → IsSyncAmong burst most r → IsInformation r.report.u
 sync_information burst most r h =

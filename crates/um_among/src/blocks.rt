@@ -1,12 +1,12 @@
 //! Blocks: the first of the most likely lists whose parity holds.
-ghost use Rattle.std.specs.Prelude.{◌≡◌, ◌≢◌, ◌≤◌, ℕ, ℤ, All, IsSome, List, map};
+ghost use Rattle.std.specs.Prelude.{◌≡◌, ◌≢◌, ◌≤◌, ◌↔◌, ℕ, ℤ, All, IsNone, IsSome, List, map};
 ghost use Rattle.bit_blocks.specs.SoftValues.{AllSoft};
 ghost use Rattle.conv_code.specs.Code.{IsInformation};
 ghost use Rattle.conv_code.specs.Likelihood.{FallsBehind};
 ghost use Rattle.interleave.specs.Bursts.{IsInterleaved};
 ghost use Rattle.list_decode.specs.Ranking.{IsCandidate};
 ghost use Rattle.um_block.specs.Received.{IsReceivedBlock, coded_places};
-ghost use Rattle.um_among.specs.Among.{IsBlockAmong};
+ghost use Rattle.um_among.specs.Among.{IsBlockAmong, NoneHolds};
 ghost use Rattle.um_among.specs.Parities.{HoldsInBlock};
 
 use crate::parity::Parity;
@@ -27,6 +27,8 @@ pub fn receive_block_among(bursts: &[[i8; 148]; 4], most: u32) -> BlockAmong
     ensures only { (other : BlockAmong) → IsBlockAmong bursts.now most other → other ≡ result }
     ensures best { IsSome result.report.accepted → (soft : List ℤ) (v : List ℕ) → IsInterleaved soft (map coded_places bursts.now) →
         IsCandidate soft v → HoldsInBlock v → v ≢ result.report.u → FallsBehind soft v result.report.u }
+    ensures none { (soft : List ℤ) → IsInterleaved soft (map coded_places bursts.now) →
+        (IsNone result.report.accepted ↔ NoneHolds HoldsInBlock soft most) }
     ensures information { IsInformation result.report.u }
     ensures first { (r : Received) → IsReceivedBlock bursts.now r → IsSome r.accepted → result ≡ record { report = r; rank = 1 } }
     ensures alone { result.rank ≡ 1 → IsReceivedBlock bursts.now result.report }

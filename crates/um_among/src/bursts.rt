@@ -1,16 +1,15 @@
 //! Access and synchronisation bursts: the first of the most likely lists whose parity holds.
 //!
 //! Their parities are short. A list that was not sent holds by chance once in 64 tries in an access burst, which has six bits of
-//! parity, and once in 1,024 in a synchronisation burst, which has ten. So a wrong one is accepted about that often for each list
-//! tried, and with 64 lists mostly: these calls should not be asked for more than a list or two, and not where nothing else tells a
-//! wrong burst.
-ghost use Rattle.std.specs.Prelude.{◌≡◌, ◌≢◌, ◌≤◌, ℕ, IsSome, List};
+//! parity, and once in 1,024 in a synchronisation burst, which has ten, and is accepted about that often for each list tried. So these
+//! calls should be asked for more than one list only where something else tells a wrong burst.
+ghost use Rattle.std.specs.Prelude.{◌≡◌, ◌≢◌, ◌≤◌, ◌↔◌, ℕ, IsNone, IsSome, List};
 ghost use Rattle.bit_blocks.specs.SoftValues.{AllSoft};
 ghost use Rattle.conv_code.specs.Code.{IsInformation};
 ghost use Rattle.conv_code.specs.Likelihood.{FallsBehind};
 ghost use Rattle.list_decode.specs.Ranking.{IsCandidate};
 ghost use Rattle.um_block.specs.Received.{IsReceivedAccess, IsReceivedSync, access_places, sync_places};
-ghost use Rattle.um_among.specs.Among.{IsAccessAmong, IsSyncAmong};
+ghost use Rattle.um_among.specs.Among.{IsAccessAmong, IsSyncAmong, NoneHolds};
 ghost use Rattle.um_among.specs.Parities.{HoldsInAccess, HoldsInSync};
 
 use crate::parity::Parity;
@@ -35,6 +34,7 @@ pub fn receive_access_among(burst: &[i8; 88], bsic: &Bits<6>, most: u32) -> Acce
     ensures only { (other : AccessAmong) → IsAccessAmong burst.now bsic.now most other → other ≡ result }
     ensures best { IsSome result.report.accepted → (v : List ℕ) → IsCandidate (access_places burst.now) v → HoldsInAccess bsic.now v →
         v ≢ result.report.u → FallsBehind (access_places burst.now) v result.report.u }
+    ensures none { IsNone result.report.accepted ↔ NoneHolds (HoldsInAccess bsic.now) (access_places burst.now) most }
     ensures information { IsInformation result.report.u }
     ensures first { (r : ReceivedAccess) → IsReceivedAccess burst.now bsic.now r → IsSome r.accepted →
         result ≡ record { report = r; rank = 1 } }
@@ -84,6 +84,7 @@ pub fn receive_sync_among(burst: &[i8; 148], most: u32) -> SyncAmong
     ensures only { (other : SyncAmong) → IsSyncAmong burst.now most other → other ≡ result }
     ensures best { IsSome result.report.accepted → (v : List ℕ) → IsCandidate (sync_places burst.now) v → HoldsInSync v →
         v ≢ result.report.u → FallsBehind (sync_places burst.now) v result.report.u }
+    ensures none { IsNone result.report.accepted ↔ NoneHolds HoldsInSync (sync_places burst.now) most }
     ensures information { IsInformation result.report.u }
     ensures first { (r : ReceivedSync) → IsReceivedSync burst.now r → IsSome r.accepted → result ≡ record { report = r; rank = 1 } }
     ensures alone { result.rank ≡ 1 → IsReceivedSync burst.now result.report }

@@ -3,7 +3,6 @@ ghost use Rattle.std.specs.Prelude.{◌≡◌, ◌≤◌, ◌↔◌, All, IsTrue
 ghost use Rattle.bit_blocks.specs.Bits.{AllBits};
 ghost use Rattle.bit_blocks.specs.SoftValues.{AllSoft};
 ghost use Rattle.um_block.specs.Sent.{IsSentBlock};
-ghost use Rattle.um_block.specs.Received.{IsReceivedBlock};
 ghost use Rattle.conv_code.specs.Code.{IsInformation};
 ghost use Rattle.um_c.specs.Reports.{IsBlockReport, IsBlockReportAmong, TellsBlock};
 

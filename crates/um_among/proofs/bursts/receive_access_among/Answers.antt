@@ -1,4 +1,4 @@
-use Rattle.um_among.proofs.Once.{one_access_among, access_best, access_information, access_first, access_alone, access_of_one}
+use Rattle.um_among.proofs.Once.{one_access_among, access_best, access_none, access_information, access_first, access_alone, access_of_one}
 use Rattle.um_among.proofs.bursts.receive_access_among.Goals as goal
 
 pub returns : goal.returns
@@ -8,6 +8,7 @@ returns c =
       received = is;
       only = λ other h. one_access_among c.args.burst.now c.args.bsic.now c.args.most other _ h is;
       best = access_best c.args.burst.now c.args.bsic.now c.args.most _ is;
+      none = access_none c.args.burst.now c.args.bsic.now c.args.most _ is;
       information = access_information c.args.burst.now c.args.bsic.now c.args.most _ is;
       first = access_first c.args.burst.now c.args.bsic.now c.args.most _ c.requires.at_least is;
       alone = access_alone c.args.burst.now c.args.bsic.now c.args.most _ c.requires.at_least is;

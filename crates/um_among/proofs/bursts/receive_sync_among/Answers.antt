@@ -1,4 +1,4 @@
-use Rattle.um_among.proofs.Once.{one_sync_among, sync_best, sync_information, sync_first, sync_alone, sync_of_one}
+use Rattle.um_among.proofs.Once.{one_sync_among, sync_best, sync_none, sync_information, sync_first, sync_alone, sync_of_one}
 use Rattle.um_among.proofs.bursts.receive_sync_among.Goals as goal
 
 pub returns : goal.returns
@@ -8,6 +8,7 @@ returns c =
       received = is;
       only = λ other h. one_sync_among c.args.burst.now c.args.most other _ h is;
       best = sync_best c.args.burst.now c.args.most _ is;
+      none = sync_none c.args.burst.now c.args.most _ is;
       information = sync_information c.args.burst.now c.args.most _ is;
       first = sync_first c.args.burst.now c.args.most _ c.requires.at_least is;
       alone = sync_alone c.args.burst.now c.args.most _ c.requires.at_least is;
