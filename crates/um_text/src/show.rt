@@ -51,6 +51,10 @@ pub fn parse_show(line: &[u8]) -> Result<ShowLine, LineFault>
 fn parse_words(line: &[u8]) -> Result<ShowLine, LineFault>
     ensures { result ≡ read_show (words line.now) }
 {
+    // Most lines, which need no search for their first word.
+    if let Some(rest) = line.strip_prefix(b"octets ") {
+        return parse_octets(rest);
+    }
     let Some((command, rest)) = first_word(line) else {
         return Err(LineFault::Word);
     };
@@ -61,17 +65,19 @@ fn parse_words(line: &[u8]) -> Result<ShowLine, LineFault>
     }
 }
 
+// Digits alone are one word, so that a space is looked for in other texts only.
+#[tactic(auto, using(crate::proofs::DigitWords::hex_word, crate::proofs::DigitWords::whole_word))]
 fn parse_octets(rest: &[u8]) -> Result<ShowLine, LineFault>
     ensures { result ≡ read_show (codes "octets" ∷ words rest.now) }
 {
-    let digits = one_word(rest)?;
-    if !are_hex_digits(digits) {
+    if !are_hex_digits(rest) {
+        one_word(rest)?;
         return Err(LineFault::Digits);
     }
-    if digits.len() != 46 {
+    if rest.len() != 46 {
         return Err(LineFault::Length);
     }
-    Ok(ShowLine::Octets(octets_of(digits)))
+    Ok(ShowLine::Octets(octets_of(rest)))
 }
 
 fn parse_frame(rest: &[u8]) -> Result<ShowLine, LineFault>
