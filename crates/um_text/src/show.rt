@@ -15,9 +15,7 @@ ghost use Rattle.um_text.specs.WrittenBursts.{IsWholeLine};
 
 use crate::frame_words::frame_words;
 use lapdm_frame::Channel;
-use um_lines::{
-    LINE_LIMIT, LineFault, are_hex_digits, first_word, is_skipped, octets_of, one_word,
-};
+use um_lines::{LINE_LIMIT, LineFault, are_hex_digits, is_skipped, octets_of, one_word};
 
 /// What a line of the command `show` asks for.
 #[derive(Clone, Copy, PartialEq, Eq, Debug)]
@@ -51,27 +49,28 @@ pub fn parse_show(line: &[u8]) -> Result<ShowLine, LineFault>
 fn parse_words(line: &[u8]) -> Result<ShowLine, LineFault>
     ensures { result ≡ read_show (words line.now) }
 {
-    let Some((command, rest)) = first_word(line) else {
-        return Err(LineFault::Word);
-    };
-    match command {
-        b"octets" => parse_octets(rest),
-        b"frame" => parse_frame(rest),
-        _ => Err(LineFault::Word),
+    if let Some(rest) = line.strip_prefix(b"octets ") {
+        parse_octets(rest)
+    } else if let Some(rest) = line.strip_prefix(b"frame ") {
+        parse_frame(rest)
+    } else {
+        Err(LineFault::Word)
     }
 }
 
+// Digits alone are one word, so that a space is looked for in other texts only.
+#[tactic(auto, using(crate::proofs::DigitWords::hex_word, crate::proofs::DigitWords::whole_word))]
 fn parse_octets(rest: &[u8]) -> Result<ShowLine, LineFault>
     ensures { result ≡ read_show (codes "octets" ∷ words rest.now) }
 {
-    let digits = one_word(rest)?;
-    if !are_hex_digits(digits) {
+    if !are_hex_digits(rest) {
+        one_word(rest)?;
         return Err(LineFault::Digits);
     }
-    if digits.len() != 46 {
+    if rest.len() != 46 {
         return Err(LineFault::Length);
     }
-    Ok(ShowLine::Octets(octets_of(digits)))
+    Ok(ShowLine::Octets(octets_of(rest)))
 }
 
 fn parse_frame(rest: &[u8]) -> Result<ShowLine, LineFault>
