@@ -6,6 +6,7 @@ pub mod OtherBursts
 pub mod PackedOctets
 pub mod ReportLaws
 pub mod ShowLaws
+pub mod ShowWords
 pub mod SoftLists
 pub mod WorkedBursts
 pub mod WorkedLines

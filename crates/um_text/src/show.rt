@@ -15,9 +15,7 @@ ghost use Rattle.um_text.specs.WrittenBursts.{IsWholeLine};
 
 use crate::frame_words::frame_words;
 use lapdm_frame::Channel;
-use um_lines::{
-    LINE_LIMIT, LineFault, are_hex_digits, first_word, is_skipped, octets_of, one_word,
-};
+use um_lines::{LINE_LIMIT, LineFault, are_hex_digits, is_skipped, octets_of, one_word};
 
 /// What a line of the command `show` asks for.
 #[derive(Clone, Copy, PartialEq, Eq, Debug)]
@@ -51,17 +49,12 @@ pub fn parse_show(line: &[u8]) -> Result<ShowLine, LineFault>
 fn parse_words(line: &[u8]) -> Result<ShowLine, LineFault>
     ensures { result ≡ read_show (words line.now) }
 {
-    // Most lines, which need no search for their first word.
     if let Some(rest) = line.strip_prefix(b"octets ") {
-        return parse_octets(rest);
-    }
-    let Some((command, rest)) = first_word(line) else {
-        return Err(LineFault::Word);
-    };
-    match command {
-        b"octets" => parse_octets(rest),
-        b"frame" => parse_frame(rest),
-        _ => Err(LineFault::Word),
+        parse_octets(rest)
+    } else if let Some(rest) = line.strip_prefix(b"frame ") {
+        parse_frame(rest)
+    } else {
+        Err(LineFault::Word)
     }
 }
 
