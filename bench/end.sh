@@ -18,6 +18,12 @@ P
 "$um" code <"$work/blocks.in" >"$work/bursts.in"
 "$um" end net 0 <"$work/calls.in" | grep '^n ' | cmp - "$work/bursts.in"
 
+# A unit of no octet, which a network's end takes, and a DISC, which it answers by DM: the difference is an answer.
+for frame in 'ui p 0 info -' 'disc p 1'; do
+  octets=$(echo "frame sapi 0 cr 0 $frame" | "$um" show)
+  yes "block 0 ${octets#octets }" | head -1500 | "$um" code >"$work/${frame%% *}.in"
+done
+
 # counted FILE LINES WORD ..: what 1,000 units more cost, of so many lines each
 counted() {
   local file=$1 lines=$2
@@ -36,3 +42,5 @@ counted bursts.in 4 replay
 counted bursts.in 4 end mob 0
 counted blocks.in 1 code
 counted calls.in 1 end net 0
+counted ui.in 4 end net 0
+counted disc.in 4 end net 0
