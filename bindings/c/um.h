@@ -6,8 +6,9 @@
  *   A bit is an octet, 0 or 1, in the order of sending (libosmocore's ubit_t). A soft value is a signed octet, from -127
  *   for a sure 1 to 127 for a sure 0, and 0 where nothing is known (its sbit_t); -128 is refused.
  *   A block is 23 octets. In its 184 bits each octet stands from its bit of value 1 on.
- *   No call takes memory, keeps a state between calls, waits or prints; each may be called from any thread. Pointers are
- *   never null, point to as many elements as the type says, and what a call writes overlaps nothing else that it gets.
+ *   No call takes memory, keeps a state between calls, waits or prints; each may be called from any thread, and two threads
+ *   may use one um_end only in turns. Pointers are never null, point to as many elements as the type says, aligned as the
+ *   type asks, and what a call writes overlaps nothing else that it gets. The stack of um_receive_block_among takes some 50 KB.
  *   The state of an end of a link is the caller's, in a um_end.
  *   A call that refuses has written nothing. */
 #ifndef UM_H
@@ -155,7 +156,7 @@ enum um_part { UM_PART_OPEN, UM_PART_WHOLE, UM_PART_OVER };
 
 typedef struct um_message {
 	uint8_t count;       /* how many octets */
-	uint8_t octets[255]; /* the octets; those from count on are not looked at, and are zeros where a call writes a message */
+	uint8_t octets[255]; /* the octets; those from count on are not looked at. In a notice they are zeros, in a um_end whatever stood there */
 } um_message;
 
 typedef struct um_end {
@@ -222,7 +223,8 @@ enum um_answer {
 /* Writes the state of an end before its first call, whatever stood there. False: no such role, SAPI (0 or 3) or channel. */
 bool um_end_new(um_end *end, uint8_t role, uint8_t sapi, uint8_t channel);
 
-/* Asks the other end to open the link of SAPI 0, with 1 to 20 octets of information (18 on SACCH), which tell mobiles apart.
+/* Asks the other end to open the link of SAPI 0, with 1 to 20 octets of information (18 on SACCH), which tell mobiles apart: a call
+ * for a mobile. An end of the network is not refused it, but a mobile answers its SABM by DM.
  * Answers a um_answer, as the other calls do; of several reasons the first in the order of that enum, UM_END_NONE and
  * UM_END_OTHER_SAPI before all. */
 uint8_t um_end_open(um_end *end, const um_message *info, um_effects *effects);
