@@ -1,3 +1,5 @@
+//! Division by a generator polynomial one bit at a time, in a linear feedback shift register: the usual CRC, reflected, since the
+//! highest power comes first and stands in the bit of value 1. What is left is the parity (GSM 05.03, today 3GPP TS 45.003).
 ghost use Rattle.std.specs.Prelude.{◌≡◌, ◌<◌, ◌≤◌, ◌^◌, ◌++◌, ◌∷◌, length, replicate};
 ghost use Rattle.bit_blocks.specs.Bits.{AllBits, add_bits};
 ghost use Rattle.bit_blocks.specs.Polynomials.{HasQuotient};

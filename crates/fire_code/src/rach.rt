@@ -1,3 +1,5 @@
+//! The six parity bits of the access burst (RACH), a CRC that is sent inverted and with the base station identity code (BSIC) added,
+//! so that a burst meant for another cell fails its check (GSM 05.03 section 4.6, today 3GPP TS 45.003).
 ghost use Rattle.std.specs.Prelude.{◌≡◌, ◌↔◌, ◌++◌, List, ℕ, length, replicate, IsTrue};
 ghost use Rattle.bit_blocks.specs.Bits.{AllBits, add_bits};
 ghost use Rattle.fire_code.specs.Words.{IsRachWord};

@@ -1,3 +1,5 @@
+//! Registers of up to 64 places as one number, the place of the highest power in the bit of value 1, and the lists of bits and the
+//! octets that they stand for: eight bits are spread over eight octets, or gathered from them, by one multiplication.
 ghost use Rattle.std.specs.Prelude.{◌≡◌, ◌+◌, ◌*◌, ◌/◌, ◌<◌, ◌≤◌, ◌^◌, ◌++◌, length, take, drop};
 ghost use Rattle.bit_blocks.specs.Bits.{AllBits};
 ghost use Rattle.bit_blocks.specs.Octets.{octet_bits, bits_of as octets_to_bits};

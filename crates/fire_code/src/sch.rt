@@ -1,3 +1,5 @@
+//! The ten parity bits of the synchronisation burst (SCH), a CRC that is sent inverted (GSM 05.03 section 4.7, today 3GPP TS
+//! 45.003). The bits are divided one by one.
 ghost use Rattle.std.specs.Prelude.{◌≡◌, ◌↔◌, ◌++◌, List, ℕ, length, IsTrue};
 ghost use Rattle.bit_blocks.specs.Bits.{AllBits};
 ghost use Rattle.fire_code.specs.Words.{IsSchWord};

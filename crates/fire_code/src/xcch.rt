@@ -1,3 +1,5 @@
+//! The forty parity bits of a control channel's block (xCCH): a Fire code, the product of D^23 + 1 and a polynomial of degree 17,
+//! sent inverted (GSM 05.03 section 4.1.2, today 3GPP TS 45.003). A word is divided an octet at a time, as a CRC by a table.
 ghost use Rattle.std.specs.Prelude.{◌≡◌, ◌<◌, ◌^◌, ◌↔◌, ◌++◌, List, ℕ, length, replicate, IsTrue};
 ghost use Rattle.bit_blocks.specs.Bits.{AllBits, add_bits};
 ghost use Rattle.bit_blocks.specs.Octets.{bits_of as octets_to_bits};

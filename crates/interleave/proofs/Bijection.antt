@@ -4,7 +4,8 @@ use Rattle.std.proofs.lemmas.List.{same_lists, get_or_default}
 use Rattle.bit_blocks.specs.Bits.{AllBits}
 use Rattle.interleave.specs.Bursts.{IsInterleaved}
 use Rattle.interleave.specs.Places.{burst_of, place_of}
-use Rattle.interleave.proofs.Rows.{bit_at, bit_at-stands}
+use Rattle.interleave.specs.ColumnPlaces.{bit_at}
+use Rattle.interleave.proofs.Rows.{bit_at-stands}
 
 -- the coded bit that stands at a place of a burst
 pub coded_bit_at : (b j : ℕ) → b < 4 → j < 114 → (k : ℕ) × (k < 456) × (burst_of k ≡ b) × (place_of k ≡ j)

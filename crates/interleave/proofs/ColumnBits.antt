@@ -1,31 +1,17 @@
 -- The columns of a block, and a burst of them.
-use Rattle.std.proofs.Common.{◌≡◌, ℕ, ◌+◌, ◌-◌, ◌*◌, ◌/◌, ◌%◌, ◌^◌, ◌<◌, ◌≤◌, Bool, true, eqb, List, [], ◌++◌, map, length, length-append, get_or, take, drop, min, bit_and, refl, sym, ap, ◌∙◌, arith, inl, inr}
+use Rattle.std.proofs.Common.{◌≡◌, ℕ, ◌+◌, ◌-◌, ◌*◌, ◌/◌, ◌%◌, ◌^◌, ◌<◌, ◌≤◌, List, ◌++◌, map, length, length-append, get_or, take, drop, replicate, bit_and, sym, ap, ap₂, ◌∙◌, arith, inl, inr, zero-add}
 use Rattle.std.proofs.lemmas.Bool.{cases_lt}
-use Rattle.std.proofs.lemmas.Bool.Decides.{Decides-eqb}
 use Rattle.std.specs.List.{range_with_len}
-use Rattle.std.proofs.lemmas.List.{ext_get_or, get_or-take, length-take, get_or-map, get_or_append_left, get_or-append_right}
+use Rattle.std.proofs.lemmas.List.{get_or-take, length-take, get_or-map, get_or_append_left, get_or-append_right}
 use Rattle.std.proofs.lemmas.List.FromFn.{get_or-map-range_with_len, length-map-range_with_len}
+use Rattle.std.proofs.lemmas.Nat.{and_mask}
+use Rattle.std.proofs.lemmas.Simd.{length-zip2, get_or-chunk, length-chunk, put_chunk_is}
 use borrow.Rule.Slice.PartMut.{put_mid}
-use lib.Lanes.{pick_l}
+use lib.Lanes.{zip2, chunk, put_chunk, pick_l}
 use Rattle.bit_blocks.specs.Packed.{ArePacked, bit_of, packed_place}
-use Rattle.bit_blocks.proofs.Lemmas.{passes_below, at_passes_below}
-use Rattle.interleave.specs.Bursts.{IsInterleaved}
+use Rattle.interleave.specs.ColumnPlaces.{column_bit, bit_at}
 use Rattle.interleave.specs.Columns.{AreColumns}
-use Rattle.interleave.proofs.Rows.{bit_at, bit_at-stands}
-
--- ---- one bit of an octet
-
-abbrev is_masked : ℕ → ℕ → Bool
-is_masked x i = eqb (min (bit_and x (2 ^ i)) 1) (bit_of x i)
-
-every_bit_is_masked : passes_below (λ x. passes_below (is_masked x) 8) 256 ≡ true
-unfolding passes_below
-every_bit_is_masked = refl
-
-pub masked_bit : (x i : ℕ) → x < 256 → i < 8 → min (bit_and x (2 ^ i)) 1 ≡ bit_of x i
-masked_bit x i hx hi =
-    let octet = at_passes_below (λ x. passes_below (is_masked x) 8) 256 every_bit_is_masked x hx in
-    (Decides-eqb (min (bit_and x (2 ^ i)) 1) (bit_of x i)).0 (at_passes_below (is_masked x) 8 octet i hi)
+use Rattle.interleave.proofs.JoinedLanes.{lane_by}
 
 -- ---- the columns
 
@@ -33,7 +19,8 @@ masked_bit x i hx hi =
 abbrev order : List ℕ
 order = map (λ q. 8 * q % 57) (range_with_len 0 64)
 
-pub in_order : (packed : List ℕ) → length packed ≡ 64 → (q : ℕ) → q < 64 → get_or (pick_l 0 (packed ++ packed) order) q 0 ≡ get_or packed (8 * q % 57) 0
+pub in_order : (packed : List ℕ) → length packed ≡ 64 → (q : ℕ) → q < 64 →
+    get_or (pick_l 0 (packed ++ packed) order) q 0 ≡ get_or packed (8 * q % 57) 0
 in_order packed long q hq =
     let at : get_or order q 0 ≡ 8 * q % 57 = get_or-map-range_with_len (λ q. 8 * q % 57) 0 64 q q 0 hq (omega arith) in
     let within : 8 * q % 57 < length packed = omega arith in
@@ -42,34 +29,29 @@ in_order packed long q hq =
     ∙ ap (λ k. get_or (packed ++ packed) k 0) at
     ∙ get_or_append_left packed packed 0 (8 * q % 57) within
 
-module _ (first rest second columns : List ℕ) (long : length columns ≡ 64) (one : first ≡ columns) (two : second ≡ columns) where
-  pub twice_front : (q : ℕ) → q < 57 → get_or (put_mid 57 64 (first ++ rest) second) q 0 ≡ get_or columns q 0
-  twice_front q hq =
-      let many : length first ≡ 64 = ap length one ∙ long in
+-- a list is written over from a place within it on
+module _ (n m : ℕ) (first rest second : List ℕ) (within : n ≤ length first) where
+  pub written_before : (q : ℕ) → q < n → get_or (put_mid n m (first ++ rest) second) q 0 ≡ get_or first q 0
+  written_before q hq =
       let front : q < length first = omega arith in
-      let taken : q < length (take 57 (first ++ rest)) = omega (arith, length-take 57 (first ++ rest), length-append first rest) in
-      get_or_append_left (take 57 (first ++ rest)) _ 0 q taken
-      ∙ get_or-take 57 (first ++ rest) q 0 hq
+      let taken : q < length (take n (first ++ rest)) = omega (arith, length-take n (first ++ rest), length-append first rest) in
+      get_or_append_left (take n (first ++ rest)) _ 0 q taken
+      ∙ get_or-take n (first ++ rest) q 0 hq
       ∙ get_or_append_left first rest 0 q front
-      ∙ ap (λ xs. get_or xs q 0) one
 
-  pub twice_back : (q : ℕ) → q < 64 → get_or (put_mid 57 64 (first ++ rest) second) (57 + q) 0 ≡ get_or columns q 0
-  twice_back q hq =
-      let many : length first ≡ 64 = ap length one ∙ long in
-      let more : length second ≡ 64 = ap length two ∙ long in
-      let here : q < length second = omega arith in
-      let behind : 57 ≤ 57 + q = omega arith in
-      let taken : length (take 57 (first ++ rest)) ≡ 57 = omega (arith, length-take 57 (first ++ rest), length-append first rest) in
-      let back : 57 + q - 57 ≡ q = omega arith in
-      get_or-append_right (take 57 (first ++ rest)) (second ++ drop 64 (drop 57 (first ++ rest))) 57 (57 + q) 0 taken behind
-      ∙ ap (λ n. get_or (second ++ drop 64 (drop 57 (first ++ rest))) n 0) back
-      ∙ get_or_append_left second _ 0 q here
-      ∙ ap (λ xs. get_or xs q 0) two
+  pub written_behind : (q : ℕ) → q < length second → get_or (put_mid n m (first ++ rest) second) (n + q) 0 ≡ get_or second q 0
+  written_behind q hq =
+      let taken : length (take n (first ++ rest)) ≡ n = omega (arith, length-take n (first ++ rest), length-append first rest) in
+      let back : n + q - n ≡ q = omega arith in
+      get_or-append_right (take n (first ++ rest)) (second ++ drop m (drop n (first ++ rest))) n (n + q) 0 taken (omega arith)
+      ∙ ap (λ k. get_or (second ++ drop m (drop n (first ++ rest))) k 0) back
+      ∙ get_or_append_left second _ 0 q hq
 
 pub AreColumns-twice : (coded packed columns octets : List ℕ) → ArePacked 57 coded packed →
     ((q : ℕ) → q < 64 → get_or columns q 0 ≡ get_or packed (8 * q % 57) 0) →
     ((q : ℕ) → q < 57 → get_or octets q 0 ≡ get_or columns q 0) →
     ((q : ℕ) → q < 64 → get_or octets (57 + q) 0 ≡ get_or columns q 0) → AreColumns coded octets
+unfolding column_bit
 AreColumns-twice coded packed columns octets are ordered front back = record {
   each = λ q r hq hr. ap (λ octet. bit_of octet (packed_place r)) (column q hq) ∙ are (8 * q % 57) r (omega arith) hr;
 } where
@@ -88,46 +70,94 @@ AreColumns-twice coded packed columns octets are ordered front back = record {
 
 -- ---- a burst
 
-module _ (coded columns bits : List ℕ) (bursts : List (List ℕ)) (b : ℕ) (are : AreColumns coded columns) (whole : IsInterleaved coded bursts)
-    (hb : b < 4) (many : length bits ≡ 128)
-    (low : (p : ℕ) → p < 57 → get_or bits (2 * p) 0 ≡ bit_of (get_or columns (8 * b + p) 0) (packed_place b))
-    (high : (p : ℕ) → p < 57 → get_or bits (2 * p + 1) 0 ≡ bit_of (get_or columns (8 * b + 32 + p) 0) (packed_place (b + 4))) where
-  -- the coded bit of a row at a column
-  coded_bit : (p r j : ℕ) → p + 8 * r < 121 → r < 8 → j / 2 ≡ p → b + 4 * (j % 2) ≡ r →
-      bit_of (get_or columns (p + 8 * r) 0) (packed_place r) ≡ get_or coded (bit_at b j) 0
-  unfolding bit_at
-  coded_bit p r j hq hr half turn = rw (half, turn) (are.each (p + 8 * r) r hq hr)
+-- a row goes on by one column from one of its places to the next
+pub row_bit : (coded columns : List ℕ) (b place p : ℕ) → AreColumns coded columns → b < 4 → place ≤ 83 → p < 16 →
+    let row = b + 4 * (place % 2) in
+    bit_of (get_or columns (8 * row + place / 2 + p) 0) (packed_place row) ≡ get_or coded (bit_at b (place + 2 * p)) 0
+unfolding bit_at
+row_bit coded columns b place p are hb hj hp =
+    let row : ℕ = b + 4 * (place % 2) in
+    let same : row ≡ b + 4 * ((place + 2 * p) % 2) = omega arith in
+    let column : 8 * row + place / 2 + p ≡ 8 * (b + 4 * ((place + 2 * p) % 2)) + (place + 2 * p) / 2 = omega arith in
+    are.each (8 * row + place / 2 + p) row (omega arith) (omega arith) ∙ ap (λ k. get_or coded k 0) (ap₂ column_bit column same)
 
-  at_place : (j : ℕ) → j < 114 → get_or bits j 0 ≡ get_or coded (bit_at b j) 0
-  at_place j hj =
-      elim (cases_lt (j % 2) 1) [
-        | inl even ↦
-            let same : 2 * (j / 2) ≡ j = omega arith in
-            let column : 8 * b + j / 2 ≡ j / 2 + 8 * b = omega arith in
-            ap (λ n. get_or bits n 0) (sym same)
-            ∙ low (j / 2) (omega arith)
-            ∙ ap (λ q. bit_of (get_or columns q 0) (packed_place b)) column
-            ∙ coded_bit (j / 2) b j (omega arith) (omega arith) refl (omega arith)
-        | inr odd ↦
-            let same : 2 * (j / 2) + 1 ≡ j = omega arith in
-            let column : 8 * b + 32 + j / 2 ≡ j / 2 + 8 * (b + 4) = omega arith in
-            ap (λ n. get_or bits n 0) (sym same)
-            ∙ high (j / 2) (omega arith)
-            ∙ ap (λ q. bit_of (get_or columns q 0) (packed_place (b + 4))) column
-            ∙ coded_bit (j / 2) (b + 4) j (omega arith) (omega arith) refl (omega arith)
-      ]
+-- one bit of each of sixteen octets
+module _ (octets : List ℕ) (i : ℕ) (long : length octets ≡ 16) where
+  abbrev lanes : List ℕ
+  lanes = zip2 bit_and (zip2 (λ a b. a / 2 ^ b) (chunk 0 16 octets) (replicate 16 i)) (replicate 16 1)
 
-  pub part_of_columns : take 114 bits ≡ get_or bursts b []
-  part_of_columns =
-      let burst = get_or bursts b [] in
-      let full : length burst ≡ 114 = whole.each_count b [] (rw whole.burst_count hb) in
-      let count : length (take 114 bits) ≡ 114 = omega (arith, length-take 114 bits) in
-      ext_get_or 0 _ _
-      (count ∙ sym full)
-      (λ j lt.
-      let hj : j < 114 = omega (arith, count) in
-      let stands = bit_at-stands b j hb hj in
-      let holds = whole.places (bit_at b j) 0 stands.within in
-      get_or-take 114 bits j 0 hj
-      ∙ at_place j hj
-      ∙ sym (rw (stands.burst, stands.place) at holds))
+  length-shifted : length (zip2 (λ a b. a / 2 ^ b) (chunk 0 16 octets) (replicate 16 i)) ≡ 16
+  length-shifted =
+      let read : length (chunk 0 16 octets) ≡ 16 = length-chunk 0 16 octets (omega arith) in
+      length-zip2 (λ a b. a / 2 ^ b) (chunk 0 16 octets) (replicate 16 i) read ∙ read
+
+  pub length-bit_lanes : length lanes ≡ 16
+  length-bit_lanes =
+      length-zip2 bit_and (zip2 (λ a b. a / 2 ^ b) (chunk 0 16 octets) (replicate 16 i)) (replicate 16 1) length-shifted ∙ length-shifted
+
+  pub bit_lane : (p : ℕ) → p < 16 → get_or lanes p 0 ≡ bit_of (get_or octets p 0) i
+  bit_lane p hp =
+      let read : length (chunk 0 16 octets) ≡ 16 = length-chunk 0 16 octets (omega arith) in
+      lane_by bit_and (zip2 (λ a b. a / 2 ^ b) (chunk 0 16 octets) (replicate 16 i)) 16 1 p length-shifted hp
+      ∙ and_mask (get_or (zip2 (λ a b. a / 2 ^ b) (chunk 0 16 octets) (replicate 16 i)) p 0) 1
+      ∙ ap (λ a. a % 2)
+      (lane_by (λ a b. a / 2 ^ b) (chunk 0 16 octets) 16 i p read hp
+      ∙ ap (λ a. a / 2 ^ i) (get_or-chunk 0 16 octets p 0 hp ∙ ap (λ k. get_or octets k 0) (zero-add p)))
+
+-- two vectors of sixteen lanes in turns
+abbrev turns : List ℕ
+turns = map (λ i. i / 2 + 16 * (i % 2)) (range_with_len 0 32)
+
+pub in_turns : (first second : List ℕ) (i : ℕ) → i < 32 →
+    get_or (pick_l 0 (first ++ second) turns) i 0 ≡ get_or (first ++ second) (i / 2 + 16 * (i % 2)) 0
+in_turns first second i hi =
+    let at : get_or turns i 0 ≡ i / 2 + 16 * (i % 2) = get_or-map-range_with_len (λ i. i / 2 + 16 * (i % 2)) 0 32 i i 0 hi (omega arith) in
+    get_or-map (λ k. get_or (first ++ second) k 0) turns i 0 0 (omega (arith, length-map-range_with_len (λ i. i / 2 + 16 * (i % 2)) 0 32))
+    ∙ ap (λ k. get_or (first ++ second) k 0) at
+
+-- a vector is written over a list of its length
+pub written_whole : (old lanes : List ℕ) (i : ℕ) → length old ≡ 32 → length lanes ≡ 32 → i < 32 →
+    get_or (put_chunk 0 old lanes) i 0 ≡ get_or lanes i 0
+written_whole old lanes i o l hi =
+    ap (λ xs. get_or xs i 0) (put_chunk_is 0 old lanes (omega arith)) ∙ get_or_append_left lanes _ 0 i (omega arith)
+
+-- what two rows hold is what a burst holds
+pub turned_places : (coded first second : List ℕ) (b from i : ℕ) → length first ≡ 16 → i < 32 →
+    ((p : ℕ) → p < 16 → get_or first p 0 ≡ get_or coded (bit_at b (from + 2 * p)) 0) →
+    ((p : ℕ) → p < 16 → get_or second p 0 ≡ get_or coded (bit_at b (from + 1 + 2 * p)) 0) →
+    get_or (first ++ second) (i / 2 + 16 * (i % 2)) 0 ≡ get_or coded (bit_at b (from + i)) 0
+turned_places coded first second b from i long hi even odd =
+    let half : i / 2 < 16 = omega arith in
+    elim (cases_lt (i % 2) 1) [
+      | inl lower ↦
+          let here : i / 2 + 16 * (i % 2) ≡ i / 2 = omega arith in
+          let place : from + 2 * (i / 2) ≡ from + i = omega arith in
+          ap (λ k. get_or (first ++ second) k 0) here
+          ∙ get_or_append_left first second 0 (i / 2) (omega arith)
+          ∙ even (i / 2) half
+          ∙ ap (λ j. get_or coded (bit_at b j) 0) place
+      | inr upper ↦
+          let here : i / 2 + 16 * (i % 2) - 16 ≡ i / 2 = omega arith in
+          let place : from + 1 + 2 * (i / 2) ≡ from + i = omega arith in
+          get_or-append_right first second 16 (i / 2 + 16 * (i % 2)) 0 long (omega arith)
+          ∙ ap (λ k. get_or second k 0) here
+          ∙ odd (i / 2) half
+          ∙ ap (λ j. get_or coded (bit_at b j) 0) place
+    ]
+
+-- the places 0 to 31 of a half are written, and then those from 25 on
+pub half_place : (coded front rest back : List ℕ) (b half m i : ℕ) → length front ≡ 32 → length back ≡ 32 → i < 57 →
+    ((j : ℕ) → j < 32 → get_or front j 0 ≡ get_or coded (bit_at b (57 * half + j)) 0) →
+    ((j : ℕ) → j < 32 → get_or back j 0 ≡ get_or coded (bit_at b (57 * half + 25 + j)) 0) →
+    get_or (put_mid 25 m (front ++ rest) back) i 0 ≡ get_or coded (bit_at b (57 * half + i)) 0
+half_place coded front rest back b half m i long long' hi first second =
+    elim (cases_lt i 25) [
+      | inl lower ↦ written_before 25 m front rest back (omega arith) i lower ∙ first i (omega arith)
+      | inr upper ↦
+          let same : 25 + (i - 25) ≡ i = omega arith in
+          let place : 57 * half + 25 + (i - 25) ≡ 57 * half + i = omega arith in
+          ap (λ k. get_or (put_mid 25 m (front ++ rest) back) k 0) (sym same)
+          ∙ written_behind 25 m front rest back (omega arith) (i - 25) (omega arith)
+          ∙ second (i - 25) (omega arith)
+          ∙ ap (λ j. get_or coded (bit_at b j) 0) place
+    ]

@@ -5,7 +5,8 @@ use Rattle.std.proofs.lemmas.List.{get_or_default, get_or-map, length-map}
 use Rattle.std.proofs.lemmas.List.FromFn.{get_or-map-range_with_len, length-map-range_with_len}
 use Rattle.interleave.specs.Places.{burst_of, place_of}
 use Rattle.interleave.specs.Bursts.{IsInterleaved}
-use Rattle.interleave.proofs.Rows.{bit_at, bit_at-of}
+use Rattle.interleave.specs.ColumnPlaces.{bit_at}
+use Rattle.interleave.proofs.Rows.{bit_at-of}
 use Rattle.interleave.proofs.WholeBursts.{burst_of-below, place_of-below}
 
 -- ---- spread

@@ -7,7 +7,8 @@ use Rattle.std.proofs.lemmas.List.Edits.{length-between, get_or-between}
 use Rattle.interleave.specs.Bursts.{IsInterleaved}
 use Rattle.interleave.specs.Halves.{IsHalfBurst}
 use Rattle.interleave.specs.Places.{burst_of, place_of}
-use Rattle.interleave.proofs.Rows.{same_coded_bit}
+use Rattle.interleave.specs.ColumnPlaces.{bit_at}
+use Rattle.interleave.proofs.Rows.{same_coded_bit, bit_at-stands}
 
 module _ (row : List ℕ) (b half : ℕ) (h : IsHalfBurst row b half) where
   -- the coded bit that has this place
@@ -59,3 +60,22 @@ module _ (row : List ℕ) (b half : ℕ) (h : IsHalfBurst row b half) where
     others-more before k hk none =
         let ne : k ≢ get_or row i 0 = λ same. none i (omega arith) (sym same) in
         rw get_or-set_other (before k hk (λ j hj. none j (omega arith)))
+
+-- half a burst is read at its places
+pub half_of_bursts : (coded : List ℕ) (bursts : List (List ℕ)) (out : List ℕ) (b half : ℕ) → IsInterleaved coded bursts → b < 4 → half ≤ 1 →
+    length out ≡ 57 → ((i : ℕ) → i < 57 → get_or out i 0 ≡ get_or coded (bit_at b (57 * half + i)) 0) →
+    out ≡ slice_range (get_or bursts b []) (57 * half) (57 * half + 57)
+half_of_bursts coded bursts out b half whole hb hh long read =
+    let burst = get_or bursts b [] in
+    let full : length burst ≡ 114 = whole.each_count b [] (rw whole.burst_count hb) in
+    let within : 57 * half + 57 ≤ length burst = omega arith in
+    let count = length-between burst (57 * half) (57 * half + 57) within in
+    ext_get_or 0 _ _
+    (omega (arith, count))
+    (λ i lt.
+    let here : i < 57 = omega arith in
+    let stands = bit_at-stands b (57 * half + i) hb (omega arith) in
+    let holds = whole.places (bit_at b (57 * half + i)) 0 stands.within in
+    read i here
+    ∙ sym (rw (stands.burst, stands.place) at holds)
+    ∙ sym (get_or-between burst (57 * half) (57 * half + 57) i 0 (omega arith)))

@@ -7,7 +7,7 @@ use mir.Syntax.{Width}
 use mir.Val.{bits}
 use Rattle.std.proofs.lemmas.Nat.{and_mask, pow_pos}
 use Rattle.std.proofs.lemmas.Nat.Bits.{and_high_mask}
-use Rattle.std.proofs.lemmas.Simd.{get_or_wider, below_from_Fits, get_or-zip2, length-zip2, get_or-replicate, get_or-chunk, chunk-fits, length-chunk, Each1-chunk}
+use Rattle.std.proofs.lemmas.Simd.{get_or_wider, below_from_Fits, get_or-zip2, length-zip2, get_or-replicate, length-replicate, get_or-chunk, chunk-fits, length-chunk, Each1-chunk}
 use borrow.Rule.Slice.PartMut.{mid_of}
 use lib.Lanes.{Each1, zip2, chunk, number_l, digits_l, pick_l}
 
@@ -96,10 +96,11 @@ turned_lane w q n m x y order j s square whole long fits_x fits_y h within hs fi
     (at (suc (2 * j)) within ∙ ap (λ k. get_or (x ++ y) k 0) second)
     ∙ side_by_side p m x y long s hs
 
--- eight lanes by one operation with the same number in each lane
-lane_by : (f : ℕ → ℕ → ℕ) (x : List ℕ) (n s : ℕ) → length x ≡ 8 → s < 8 → get_or (zip2 f x (replicate 8 n)) s 0 ≡ f (get_or x s 0) n
-lane_by f x n s long h =
-    get_or-zip2 f x (replicate 8 n) s 0 0 0 (omega arith) h ∙ ap (f (get_or x s 0)) (get_or-replicate 8 s n 0 h)
+-- lanes by one operation with the same number in each lane
+pub lane_by : (f : ℕ → ℕ → ℕ) (x : List ℕ) (m n s : ℕ) → length x ≡ m → s < m → get_or (zip2 f x (replicate m n)) s 0 ≡ f (get_or x s 0) n
+lane_by f x m n s long h =
+    get_or-zip2 f x (replicate m n) s 0 0 0 (omega arith) (omega (arith, length-replicate m n))
+    ∙ ap (f (get_or x s 0)) (get_or-replicate m s n 0 h)
 
 module _ (x y : List ℕ) (long_x : length x ≡ 8) (long_y : length y ≡ 8) where
   -- the sums of eight lanes
@@ -110,7 +111,7 @@ module _ (x y : List ℕ) (long_x : length x ≡ 8) (long_y : length y ≡ 8) wh
       let long_f : length (zip2 f x (replicate 8 m)) ≡ 8 = length-zip2 f x (replicate 8 m) long_x ∙ long_x in
       let long_g : length (zip2 g y (replicate 8 n)) ≡ 8 = length-zip2 g y (replicate 8 n) long_y ∙ long_y in
       get_or-zip2 (λ a b. (a + b) % 2 ^ 16) (zip2 f x (replicate 8 m)) (zip2 g y (replicate 8 n)) s 0 0 0 (omega arith) (omega arith)
-      ∙ ap₂ (λ a b. (a + b) % 2 ^ 16) (lane_by f x m s long_x h) (lane_by g y n s long_y h)
+      ∙ ap₂ (λ a b. (a + b) % 2 ^ 16) (lane_by f x 8 m s long_x h) (lane_by g y 8 n s long_y h)
 
   pub lower_lane : (s : ℕ) → s < 8 →
       get_or (zip2 (λ a b. (a + b) % 2 ^ 16) (zip2 bit_and x (replicate 8 255)) (zip2 (λ a b. a * 2 ^ b % 2 ^ 16) y (replicate 8 8))) s 0

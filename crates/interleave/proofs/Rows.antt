@@ -1,13 +1,8 @@
--- Which coded bit stands at each place. Row r is the coded bits k with k mod 8 = r: every other place of one burst. Let column
--- q be the eight bits from 8 (8 q mod 57) on: then row r takes the columns in turn from column 8 r on, after column 56
--- column 0 again, since modulo 57 the factor 50 undoes 8 and 49 is -8.
+-- Which coded bit stands at each place, found by computing.
 use Rattle.std.proofs.Common.{◌≡◌, ℕ, ◌+◌, ◌*◌, ◌/◌, ◌%◌, ◌<◌, Bool, true, ◌&&◌, eqb, ltb, refl, rules, tests}
 use Rattle.bit_blocks.proofs.Lemmas.{passes_below, at_passes_below, both_true}
+use Rattle.interleave.specs.ColumnPlaces.{column_bit, bit_at}
 use Rattle.interleave.specs.Places.{burst_of, place_of}
-
--- the coded bit at place j of burst b
-unfoldable pub bit_at : ℕ → ℕ → ℕ
-bit_at b j = 8 * (8 * (j / 2 + 8 * (b + 4 * (j % 2))) % 57) + (b + 4 * (j % 2))
 
 -- coded bit k stands at place j of burst b
 pub record StandsAt (k b j : ℕ) : Type 0 where
@@ -19,7 +14,7 @@ abbrev is_right : ℕ → ℕ → Bool
 is_right b j = ltb (bit_at b j) 456 && (eqb (burst_of (bit_at b j)) b && eqb (place_of (bit_at b j)) j)
 
 every_place_is_right : passes_below (λ b. passes_below (is_right b) 114) 4 ≡ true
-unfolding bit_at burst_of place_of passes_below
+unfolding bit_at column_bit burst_of place_of passes_below
 every_place_is_right = refl
 
 pub bit_at-stands : (b j : ℕ) → b < 4 → j < 114 → StandsAt (bit_at b j) b j
@@ -40,7 +35,7 @@ abbrev is_found : ℕ → Bool
 is_found k = eqb (bit_at (burst_of k) (place_of k)) k
 
 every_coded_bit_is_found : passes_below is_found 456 ≡ true
-unfolding bit_at burst_of place_of passes_below
+unfolding bit_at column_bit burst_of place_of passes_below
 every_coded_bit_is_found = refl
 
 pub bit_at-of : (k : ℕ) → k < 456 → bit_at (burst_of k) (place_of k) ≡ k

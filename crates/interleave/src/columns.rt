@@ -1,9 +1,9 @@
 //! From the coded bits eight to an octet to the bursts, without a look at each place: a burst takes each of its two rows from
-//! 57 octets in turn, one bit of each.
-ghost use Rattle.std.specs.Prelude.{◌≡◌, ℕ, ◌+◌, ◌*◌, ◌%◌, ◌<◌, ◌^◌, List, [], length, take, slice_index, slice_index_or};
-ghost use Rattle.bit_blocks.specs.Bits.{AllBits};
-ghost use Rattle.bit_blocks.specs.Packed.{ArePacked, bit_of, packed_place};
+//! 57 octets in turn, one bit of each. Sixteen octets are read at once, and 32 places of a half written where it stands.
+ghost use Rattle.std.specs.Prelude.{◌≡◌, ℕ, ◌+◌, ◌*◌, ◌/◌, ◌%◌, ◌<◌, ◌≤◌, ◌++◌, List, [], length, slice_index, slice_index_or, slice_range};
+ghost use Rattle.bit_blocks.specs.Packed.{ArePacked, bit_of};
 ghost use Rattle.interleave.specs.Bursts.{IsInterleaved};
+ghost use Rattle.interleave.specs.ColumnPlaces.{bit_at};
 ghost use Rattle.interleave.specs.Columns.{AreColumns};
 
 use std::simd::prelude::*;
@@ -21,6 +21,12 @@ const ORDER: [usize; 64] = [
     50, 1, 9, 17, 25, 33, 41, 49, 0, 8, 16, 24, 32, 40, 48,
 ];
 
+// Two vectors of sixteen lanes in turns.
+const TURNS: [usize; 32] = [
+    0, 16, 1, 17, 2, 18, 3, 19, 4, 20, 5, 21, 6, 22, 7, 23, 8, 24, 9, 25, 10, 26, 11, 27, 12, 28,
+    13, 29, 14, 30, 15, 31,
+];
+
 impl Columns {
     /// The columns of coded bits that stand eight to an octet. The last seven octets count for nothing.
     pub fn new(packed: &[u8; 64]) -> Columns
@@ -31,17 +37,42 @@ impl Columns {
         }
     }
 
-    /// The 114 coded bits of burst `b`, and fourteen bits that count for nothing.
-    pub fn burst(&self, b: usize) -> [u8; 128]
-        requires { b < 4 }
-        ensures part { (coded : List ℕ) (bursts : List (List ℕ)) → AreColumns coded self.now.octets → IsInterleaved coded bursts →
-            take 114 result ≡ slice_index_or bursts b [] }
-        ensures bits { AllBits result }
-        ensures count { length result ≡ 128 }
+    /// Writes one half of burst `b`: the places 0 to 56 where `half` is 0, and 57 to 113 where it is 1.
+    pub fn write_half(&self, b: usize, half: usize, out: &mut [u8])
+        requires burst { b < 4 }
+        requires half { half ≤ 1 }
+        requires count { length out.old ≡ 57 }
+        ensures { (coded : List ℕ) (bursts : List (List ℕ)) → AreColumns coded self.now.octets → IsInterleaved coded bursts →
+            out.new ≡ slice_range (slice_index_or bursts b []) (57 * half) (57 * half + 57) }
     {
-        let low = &self.octets[8 * b..8 * b + 64];
-        let high = &self.octets[8 * b + 32..8 * b + 96];
-        in_turns(low, high, row_mask(b), row_mask(b + 4))
+        // Both times 32 places: those from 25 to 31 come twice.
+        self.write_places(b, 57 * half, &mut out[..32]);
+        self.write_places(b, 57 * half + 25, &mut out[25..]);
+    }
+
+    /// Writes the 32 places of burst `b` from one on.
+    fn write_places(&self, b: usize, from: usize, out: &mut [u8])
+        requires burst { b < 4 }
+        requires from { from ≤ 82 }
+        requires count { length out.old ≡ 32 }
+        ensures { (coded : List ℕ) (i : ℕ) → AreColumns coded self.now.octets → i < 32 →
+            slice_index out.new i ≡ slice_index coded (bit_at b (from + i)) }
+    {
+        in_turns(self.row_part(b, from), self.row_part(b, from + 1)).copy_to_slice(out);
+    }
+
+    /// The bits of burst `b` at every other place from this one on, which are one bit each of sixteen columns.
+    fn row_part(&self, b: usize, place: usize) -> u8x16
+        requires burst { b < 4 }
+        requires place { place ≤ 83 }
+        ensures count { length result ≡ 16 }
+        ensures each { (coded : List ℕ) (p : ℕ) → AreColumns coded self.now.octets → p < 16 →
+            slice_index result p ≡ slice_index coded (bit_at b (place + 2 * p)) }
+    {
+        let row = b + 4 * (place % 2);
+        let column = 8 * row + place / 2;
+        let bit = row / 2 + 4 * (row % 2);
+        bit_of_each(&self.octets[column..column + 16], bit)
     }
 }
 
@@ -64,27 +95,22 @@ fn twice(columns: &[u8; 64]) -> [u8; 128]
     octets
 }
 
-/// One bit of each octet of two lists, in turns.
-fn in_turns(low: &[u8], high: &[u8], low_mask: u8, high_mask: u8) -> [u8; 128]
-    requires low { length low.now ≡ 64 }
-    requires high { length high.now ≡ 64 }
-    ensures low { (p i : ℕ) → p < 64 → i < 8 → low_mask ≡ 2 ^ i → slice_index result (2 * p) ≡ bit_of (slice_index low.now p) i }
-    ensures high { (p i : ℕ) → p < 64 → i < 8 → high_mask ≡ 2 ^ i → slice_index result (2 * p + 1) ≡ bit_of (slice_index high.now p) i }
-    ensures bits { AllBits result }
-    ensures count { length result ≡ 128 }
+/// Bit `i` of sixteen octets.
+fn bit_of_each(octets: &[u8], i: usize) -> u8x16
+    requires count { length octets.now ≡ 16 }
+    requires bit { i < 8 }
+    ensures count { length result ≡ 16 }
+    ensures each { (p : ℕ) → p < 16 → slice_index result p ≡ bit_of (slice_index octets.now p) i }
 {
-    let mut bits = [0; 128];
-    for p in 0..64 {
-        bits[2 * p] = (low[p] & low_mask).min(1);
-        bits[2 * p + 1] = (high[p] & high_mask).min(1);
-    }
-    bits
+    (u8x16::from_slice(octets) >> u8x16::splat(i as u8)) & u8x16::splat(1)
 }
 
-/// Where coded bit `row` of eight stands in their octet, as a number of this bit alone.
-fn row_mask(row: usize) -> u8
-    requires { row < 8 }
-    ensures { result ≡ 2 ^ packed_place row }
+/// The lanes of both in turns.
+fn in_turns(first: u8x16, second: u8x16) -> u8x32
+    requires first { length first ≡ 16 }
+    requires second { length second ≡ 16 }
+    ensures count { length result ≡ 32 }
+    ensures each { (i : ℕ) → i < 32 → slice_index result i ≡ slice_index (first ++ second) (i / 2 + 16 * (i % 2)) }
 {
-    1 << (row / 2 + 4 * (row % 2))
+    first.shuffle::<32>(second, TURNS)
 }

@@ -9,7 +9,7 @@ ghost use Rattle.interleave.specs.Columns.{AreColumns};
 ghost use Rattle.um_block.specs.Sent.{with_tail, IsCodedBlock, IsSentBlock, IsSentAccess, IsSentSync};
 
 use bit_blocks::Bits;
-use burst_map::{access, normal, sync};
+use burst_map::{NormalParts, access, sync};
 use conv_code::{encode, encode_octets};
 use fire_code::{rach_parity, sch_parity, xcch_parity_of_octets};
 use interleave::Columns;
@@ -47,16 +47,18 @@ fn with_parity(octets: &[u8; 23]) -> [u8; 32]
     word
 }
 
-/// Burst `b` of a block's coded bits.
+/// Burst `b` of a block's coded bits, both halves of which are written in place.
 fn send_burst(columns: &Columns, b: usize, tsc: u8) -> [u8; 148]
     requires which { b < 4 }
     requires known { tsc ≤ 7 }
     ensures { (coded : List ℕ) (parts : List (List ℕ)) → AreColumns coded columns.now.octets → IsInterleaved coded parts →
         result ≡ normal_burst (take 57 (slice_index_or parts b [])) (drop 57 (slice_index_or parts b [])) tsc }
 {
-    let part = columns.burst(b);
-    let (first, second) = part[..114].split_at(57);
-    normal(first, second, tsc)
+    let mut burst = [0; 148];
+    let mut parts = NormalParts::new(&mut burst, tsc);
+    columns.write_half(b, 0, parts.first_mut());
+    columns.write_half(b, 1, parts.second_mut());
+    burst
 }
 
 /// The access burst of eight bits of information under the six bits of a base station's colour

@@ -1,35 +1,15 @@
-use Rattle.std.proofs.Common.{take, drop, sym, subst, ap, ap₂, ◌∙◌, arith}
-use Rattle.std.proofs.lemmas.List.{length-take}
-use Rattle.std.proofs.lemmas.List.Elements.{All-take, All-drop}
-use Rattle.bit_blocks.specs.Bits.{IsBit, AllBits}
-use Rattle.burst_map.specs.NormalBurst.{normal_burst}
+use Rattle.std.proofs.Common.{◌≡◌, ◌+◌, ◌-◌, List, [], length, get_or, take, drop, ◌∙◌, arith, rules}
+use Rattle.std.specs.Prelude.{slice_range}
+use Rattle.std.proofs.lemmas.List.{length-drop, length-take, take_all}
+use Rattle.burst_map.proofs.Lemmas.{both_written}
 use Rattle.um_block.proofs.sending.send_burst.Goals as goal
-
-pub slice_bounds-split_at-end : goal.slice_bounds-split_at-end
-slice_bounds-split_at-end c = omega (arith, length-take 114 c.burst-part.result, c.burst-part.ensures.count)
-
-pub split_at-requires : goal.split_at-requires
-split_at-requires c = omega (arith, length-take 114 c.burst-part.result, c.burst-part.ensures.count)
-
-pub normal-requires-clause-first_bits : goal.normal-requires-clause-first_bits
-normal-requires-clause-first_bits c =
-    let part = take 114 c.burst-part.result in
-    subst AllBits (sym c.split_at.ensures.front)
-    (All-take IsBit 57 part (All-take IsBit 114 c.burst-part.result c.burst-part.ensures.bits))
-
-pub normal-requires-clause-second : goal.normal-requires-clause-second
-normal-requires-clause-second c =
-    omega (arith, c.split_at.ensures.back_len, length-take 114 c.burst-part.result, c.burst-part.ensures.count)
-
-pub normal-requires-clause-second_bits : goal.normal-requires-clause-second_bits
-normal-requires-clause-second_bits c =
-    let part = take 114 c.burst-part.result in
-    subst AllBits (sym c.split_at.ensures.back)
-    (All-drop IsBit 57 part (All-take IsBit 114 c.burst-part.result c.burst-part.ensures.bits))
 
 pub returns : goal.returns
 returns c coded parts are whole =
-    let is = c.burst-part.ensures.part coded parts are whole in
-    c.normal.ensures.value
-    ∙ ap₂ (λ first second. normal_burst first second c.args.tsc)
-    (c.split_at.ensures.front ∙ ap (take 57) is) (c.split_at.ensures.back ∙ ap (drop 57) is)
+    let part = get_or parts c.args.b [] in
+    let full : length part ≡ 114 = whole.each_count c.args.b [] (omega (arith, whole.burst_count)) in
+    both_written _ _ _ _ (take 57 part) (drop 57 part) _ (omega (arith, length-take 57 part)) (omega (arith, length-drop 57 part))
+    c.requires.known c.new-parts.ensures.value
+    (c.write_half.ensures coded parts are whole)
+    (c.write_half-2.ensures coded parts are whole ∙ take_all 57 (drop 57 part) (omega (arith, length-drop 57 part)))
+    (search rules)
