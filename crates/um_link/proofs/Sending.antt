@@ -38,3 +38,13 @@ one_more tsc octets i old mid new sent sent' sent'' heard heard' heard'' b h wit
 
 pub first_gone : (old new : Buffer Block) → IsWay old → new ≡ buffer (drop 1 old.items) old.capacity → IsWay new
 first_gone old new h e = subst IsWay (sym e) (record { capacity = h.capacity; bits = All-drop (All AllBits) 1 old.items h.bits })
+
+-- what goes is the first block
+pub gone_first : (old new : List Block) → 0 < length old → new ≡ drop 1 old → (block : Block) × (old ≡ block ∷ new)
+gone_first [] new some e = absurd (omega (arith, some))
+gone_first (b ∷ bs) new some e = (b, ap (λ xs. b ∷ xs) (sym e))
+
+pub gone_last : (old new : List Block) → length old ≡ 1 → new ≡ [] → (block : Block) × (old ≡ block ∷ new)
+gone_last [] new one e = absurd (omega (arith, one))
+gone_last (b ∷ []) new one e = (b, ap (λ xs. b ∷ xs) (sym e))
+gone_last (b ∷ c ∷ bs) new one e = absurd (omega (arith, one))

@@ -35,6 +35,7 @@ use Rattle.um_link.specs.Hearing as H
 use Rattle.um_link.proofs.BySapi.{by_sapi}
 use Rattle.um_link.specs.Standing.{IsSound, Stands, blocks_from}
 use Rattle.um_link.specs.Moves.{Sends, IsSameBut, ReceivesFrom, LosesFrom}
+use Rattle.um_link.specs.Ways.{Receives}
 
 coded-sent : (channel : Channel) (tsc : ℕ) (fs : List Frame) (bs : List Block) → AreCoded tsc (map (octets_of channel) fs) bs →
     AreSent channel tsc fs bs
@@ -271,14 +272,14 @@ who-takes role None es = refl
 who-takes role (Some f) es = by_sapi role f es (λ d. E.End role ≡ d.who) (λ q. refl) (λ q. refl) (λ q r. refl)
 
 arrived-at : (sender : Role) (places : List ℕ) (w m w' : Links) (ends' : Ends) (report : Received) (sapi : Sapi) (effects : Effects)
-    (step : A.Step) → ReceivesFrom sender places w report m →
+    (step : A.Step) → Receives places (blocks_from sender w) report (blocks_from sender m) → IsSameBut sender w m →
     Hears (E.other sender) m.channel report.accepted m.ends sapi effects ends' → E.is_empty (length (blocks_from sender w)) ≡ false →
     E.is_full (length (blocks_from (E.other sender) w)) ≡ false →
     Sends (E.other sender) effects.frames (record m { ends = ends' }) w' → step ≡ step_by (E.End (E.other sender)) sapi
     (Some report) effects → (a : AirState) → Stands w a →
     (b : AirState) × Stands w' b × AirStep a (E.Deliver sender places) b (A.Does step)
-arrived-at sender places w m w' ends' report sapi effects step h hears some room sends is a st =
-    let i : IsBetween a (without_first sender a.ways) m = is-between sender w m a h.received.block h.received.first h.same st in
+arrived-at sender places w m w' ends' report sapi effects step h same hears some room sends is a st =
+    let i : IsBetween a (without_first sender a.ways) m = is-between sender w m a h.block h.first same st in
     let t : H.Takes (E.other sender) m.channel report.accepted a.ends sapi effects ends' = hears a.ends i.ends in
     let f = finish (E.Deliver sender places) a (record m { ends = ends' }) w' t.read effects (E.End (E.other sender)) sapi (Some report)
     (E.other sender)
@@ -293,11 +294,11 @@ arrived-at sender places w m w' ends' report sapi effects step h hears some room
     })
     sends
     (record {
-      block = h.received.block;
+      block = h.block;
       others = blocks_from sender m;
       first = sym (same-way sender w a st)
-          ∙ h.received.first;
-      received = h.received.received;
+          ∙ h.first;
+      received = h.received;
       reads = subst
           (λ (c : Channel). Reads c report.accepted t.read) i.channel t.reads;
     })
@@ -312,18 +313,22 @@ arrived-at sender places w m w' ends' report sapi effects step h hears some room
       ),
     )
 
-pub arrived : (sender end : Role) (places : List ℕ) (w m w' : Links) (ends' : Ends) (report : Received) (sapi : Sapi)
-    (effects : Effects) (step : A.Step) → end ≡ E.other sender → ReceivesFrom sender places w report m →
-    Hears end m.channel report.accepted m.ends sapi effects ends' → E.is_empty (length (blocks_from sender w)) ≡ false →
+pub arrived : (sender end : Role) (places : List ℕ) (w m w' : Links) (ends' : Ends) (received : Option Received) (sapi : Sapi)
+    (effects : Effects) (step : A.Step) → end ≡ E.other sender → ReceivesFrom sender places w received m →
+    Hears end m.channel (H.accepted_in received) m.ends sapi effects ends' → E.is_empty (length (blocks_from sender w)) ≡ false →
     E.is_full (length (blocks_from end w)) ≡ false →
-    Sends end effects.frames (record m { ends = ends' }) w' → step ≡ step_by (E.End end) sapi (Some report) effects →
+    Sends end effects.frames (record m { ends = ends' }) w' → step ≡ step_by (E.End end) sapi received effects →
     (a : AirState) → Stands w a → (b : AirState) × Stands w' b × AirStep a (E.Deliver sender places) b (A.Does step)
-arrived sender end places w m w' ends' report sapi effects step e h hears some room sends is =
-    arrived-at sender places w m w' ends' report sapi effects step h (subst
-    (λ (r : Role). Hears r m.channel report.accepted m.ends sapi effects ends') e hears) some
+arrived sender end places w m w' ends' received sapi effects step e h hears some room sends is =
+    let heard : Hears end m.channel h.report.accepted m.ends sapi effects ends' =
+    subst (λ (o : Option Received). Hears end m.channel (H.accepted_in o) m.ends sapi effects ends') h.is hears in
+    let stepped : step ≡ step_by (E.End end) sapi (Some h.report) effects =
+    subst (λ (o : Option Received). step ≡ step_by (E.End end) sapi o effects) h.is is in
+    arrived-at sender places w m w' ends' h.report sapi effects step h.received h.same (subst
+    (λ (r : Role). Hears r m.channel h.report.accepted m.ends sapi effects ends') e heard) some
     (subst (λ (r : Role). E.is_full (length (blocks_from r w)) ≡ false) e room)
     (subst (λ (r : Role). Sends r effects.frames (record m { ends = ends' }) w') e sends)
-    (subst (λ (r : Role). step ≡ step_by (E.End r) sapi (Some report) effects) e is)
+    (subst (λ (r : Role). step ≡ step_by (E.End r) sapi (Some h.report) effects) e stepped)
 
 -- a block that may not arrive yet
 pub arrives-full : (sender end : Role) (places : List ℕ) (w : Links) → end ≡ E.other sender →

@@ -1,14 +1,20 @@
 -- What an end does at what is received.
-use Rattle.std.specs.Prelude.{◌≡◌, Option}
+use Rattle.std.specs.Prelude.{◌≡◌, Option, Some, None}
 use Rattle.lapdm_frame.specs.declared.Channel.{Channel}
 use Rattle.lapdm_frame.specs.Content.{Frame}
 use Rattle.lapdm_window.specs.declared.Sapi.{Sapi}
 use Rattle.lapdm_window.specs.declared.effects.Effects.{Effects}
 use Rattle.lapdm_window.specs.Ends.{Role}
+use Rattle.um_block.specs.declared.received.Received.{Received}
 use Rattle.lapdm_link.specs.Events as E
 use Rattle.um_air.specs.Air.{Octets, Reads}
 use Rattle.um_link.specs.declared.ends.Ends.{Ends}
 use Rattle.um_link.specs.FourEnds as F
+
+-- the octets that were accepted, where something was received and its parity holds
+abbrev pub accepted_in : Option Received → Option Octets
+accepted_in None = None
+accepted_in (Some report) = report.accepted
 
 pub record Takes (role : Role) (channel : Channel) (accepted : Option Octets) (es : E.Ends) (link : Sapi) (effects : Effects)
     (new : Ends) : Type 0 where

@@ -1,5 +1,5 @@
 -- What a body does with the blocks of one way; all else stays.
-use Rattle.std.specs.Prelude.{◌≡◌, ℕ, List, ◌∷◌}
+use Rattle.std.specs.Prelude.{◌≡◌, ℕ, List, ◌∷◌, Option, Some}
 use Rattle.lapdm_window.specs.Ends.{Role}
 use Rattle.um_block.specs.declared.received.Received.{Received}
 use Rattle.lapdm_link.specs.Events.{other}
@@ -22,7 +22,9 @@ pub record Sends (sender : Role) (octets : List Octets) (old new : Links) : Type
   pub same : IsSameBut sender old new
 
 -- the first block of an end arrived
-pub record ReceivesFrom (sender : Role) (places : List ℕ) (old : Links) (report : Received) (new : Links) : Type 0 where
+pub record ReceivesFrom (sender : Role) (places : List ℕ) (old : Links) (arrived : Option Received) (new : Links) : Type 0 where
+  pub report : Received
+  pub is : arrived ≡ Some report
   pub received : Receives places (blocks_from sender old) report (blocks_from sender new)
   pub same : IsSameBut sender old new
 

@@ -15,7 +15,7 @@ ghost use Rattle.um_link.specs.Ways.{ArePlaces};
 use crate::ends::Ends;
 use crate::events::{Air, Call, End, Event, No, Step, Way, Who};
 use crate::hearing::hear;
-use crate::queue::{receive_first, send_all, take_first};
+use crate::queue::{drop_first, receive_first, send_all};
 use circular_buffer::HeapCircularBuffer;
 use lapdm_frame::{Body, Channel, FrameView, write_on};
 use lapdm_window::{Effects, Refused, Sapi};
@@ -90,18 +90,24 @@ impl Links {
     }
 
     /// Receives the first block that an end sent.
-    fn receive<R: Radio>(&mut self, radio: &mut R, sender: End, places: &[u16]) -> Received
+    fn receive<R: Radio>(
+        &mut self,
+        radio: &mut R,
+        sender: End,
+        places: &[u16],
+        received: &mut Option<Received>,
+    )
         requires sound { IsSound self.old }
         requires some { 0 < length (blocks_from (role_of sender) self.old) }
         requires places { ArePlaces places.now }
-        ensures receives { ReceivesFrom (role_of sender) places.now self.old result self.new }
+        ensures receives { ReceivesFrom (role_of sender) places.now self.old received.new self.new }
         ensures sound { IsSound self.new }
         ensures heard { R.heard radio.new ≡ raised (R.heard radio.old) }
         ensures sent { R.sent radio.new ≡ R.sent radio.old }
     {
         match sender {
-            End::Mobile => receive_first(radio, &mut self.up, places),
-            End::Network => receive_first(radio, &mut self.down, places),
+            End::Mobile => receive_first(radio, &mut self.up, places, received),
+            End::Network => receive_first(radio, &mut self.down, places, received),
         }
     }
 
@@ -242,15 +248,14 @@ impl Links {
         if self.is_full(end) {
             return Err(No::AirFull);
         }
-        let report = self.receive(radio, sender, places);
+        self.receive(radio, sender, places, &mut step.received);
         step.sapi = hear(
             &mut self.ends,
             self.channel,
             end,
-            &report.accepted,
+            &step.received,
             &mut step.effects,
         );
-        step.received = Some(report);
         self.goes_out(radio, end, step);
         Ok(())
     }
@@ -263,9 +268,9 @@ impl Links {
         ensures sound { IsSound self.new }
     {
         match sender {
-            End::Mobile => take_first(&mut self.up),
-            End::Network => take_first(&mut self.down),
-        };
+            End::Mobile => drop_first(&mut self.up),
+            End::Network => drop_first(&mut self.down),
+        }
     }
 
     /// The first block that an end sent is lost.

@@ -1,5 +1,5 @@
 //! Blocks go into a queue and come out of it.
-ghost use Rattle.std.specs.Prelude.{◌≡◌, ◌+◌, ◌<◌, ◌≤◌, List, All, map, length, ◌∷◌};
+ghost use Rattle.std.specs.Prelude.{◌≡◌, ◌+◌, ◌<◌, ◌≤◌, List, All, Some, map, length, ◌∷◌};
 ghost use Rattle.bit_blocks.specs.Bits.{AllBits};
 ghost use Rattle.conv_code.specs.Likelihood.{AllSoft};
 ghost use Rattle.um_block.specs.Received.{softened};
@@ -31,26 +31,25 @@ pub(crate) fn send_all<R: Radio>(
     }
 }
 
-/// Receives the first block, with the bits at these places turned over.
-// What is received has 264 octets, and each call in between would copy it once more.
-#[inline(always)]
+/// Receives the first block, with the bits at these places turned over, into the caller's room: what is received has 264 octets.
 pub(crate) fn receive_first<R: Radio>(
     radio: &mut R,
     way: &mut HeapCircularBuffer<[[u8; 148]; 4]>,
     places: &[u16],
-) -> Received
+    received: &mut Option<Received>,
+)
     requires way { IsWay way.old }
     requires some { 0 < length way.old.items }
     requires places { ArePlaces places.now }
-    ensures received { Receives places.now way.old.items result way.new.items }
+    ensures received { (report : Received) × (received.new ≡ Some report) × Receives places.now way.old.items report way.new.items }
     ensures way { IsWay way.new }
     ensures heard { R.heard radio.new ≡ raised (R.heard radio.old) }
     ensures sent { R.sent radio.new ≡ R.sent radio.old }
 {
     let mut soft = [[0; 148]; 4];
     soften_first(way, places, &mut soft);
-    take_first(way);
-    radio.receive(&soft)
+    drop_first(way);
+    *received = Some(radio.receive(&soft));
 }
 
 /// The first block as sure soft values, with the bits at these places turned over.
@@ -71,15 +70,19 @@ fn soften_first(way: &HeapCircularBuffer<[[u8; 148]; 4]>, places: &[u16], soft: 
     }
 }
 
-/// Takes the first block.
-pub(crate) fn take_first(way: &mut HeapCircularBuffer<[[u8; 148]; 4]>) -> [[u8; 148]; 4]
+/// Drops the first block.
+// A queue that this leaves empty begins again where it began, so that the next block goes into room that was used just now.
+pub(crate) fn drop_first(way: &mut HeapCircularBuffer<[[u8; 148]; 4]>)
     requires way { IsWay way.old }
     requires some { 0 < length way.old.items }
-    ensures first { way.old.items ≡ result ∷ way.new.items }
-    ensures bits { All AllBits result }
+    ensures first { (block : Block) × (way.old.items ≡ block ∷ way.new.items) }
     ensures way { IsWay way.new }
 {
-    way.pop_front().unwrap()
+    if way.len() == 1 {
+        way.clear();
+    } else {
+        way.pop_front();
+    }
 }
 
 /// Turns the bits at these places over.

@@ -6,14 +6,14 @@ use Rattle.um_link.proofs.links.Links.deliver.Goals as goal
 
 pub goes_out-requires-clause-room : goal.goes_out-requires-clause-room
 goes_out-requires-clause-room g c =
-    room-other (role_of c.args.sender) (role_of c.other_end-end.result) c.args.self.now c.receive-report.new.self c.hear-step.new.ends
-    c.other_end-end.ensures c.receive-report.ensures.receives.same (sym c.is_full.ensures ∙ c.if-is_full.false)
+    room-other (role_of c.args.sender) (role_of c.other_end-end.result) c.args.self.now c.receive.new.self c.hear-step.new.ends
+    c.other_end-end.ensures c.receive.ensures.receives.same (sym c.is_full.ensures ∙ c.if-is_full.false)
 
 pub returns-clause-follows : goal.returns-clause-follows
 returns-clause-follows g c =
-    arrived (role_of c.args.sender) (role_of c.other_end-end.result) c.args.places.now c.args.self.now c.receive-report.new.self
-    c.goes_out.new.self c.hear-step.new.ends c.receive-report.result _ _ (step_of c.goes_out.new.step)
-    c.other_end-end.ensures c.receive-report.ensures.receives c.hear-step.ensures.hears (sym c.has_none.ensures ∙ c.if-has_none.false)
+    arrived (role_of c.args.sender) (role_of c.other_end-end.result) c.args.places.now c.args.self.now c.receive.new.self
+    c.goes_out.new.self c.hear-step.new.ends c.receive.new.received _ _ (step_of c.goes_out.new.step)
+    c.other_end-end.ensures c.receive.ensures.receives c.hear-step.ensures.hears (sym c.has_none.ensures ∙ c.if-has_none.false)
     (sym c.is_full.ensures ∙ c.if-is_full.false) c.goes_out.ensures.sends c.goes_out.ensures.step
 
 pub returns-then-is_full-clause-follows : goal.returns-then-is_full-clause-follows
