@@ -1,10 +1,9 @@
 -- An input whose output is that of a good one, line by line.
-use Rattle.std.proofs.Common.{◌≡◌, ℕ, ◌≤◌, ◌+◌, Bool, true, false, List, [], ◌∷◌, ◌++◌, length, None, ◌⊎◌, inl, inr, sym, refl, ap, ◌∙◌, subst, append-nil}
+use Rattle.std.proofs.Common.{◌≡◌, ℕ, ◌≤◌, ◌+◌, Bool, true, false, List, [], ◌∷◌, ◌++◌, length, None, inl, inr, sym, refl, ap, ◌∙◌, subst, append-nil}
 use Rattle.um_io.specs.Lines.{IsDivided, text_of}
 use Rattle.um_io.specs.Reading.{input_limit}
 use Rattle.um_driver.specs.Rules.{Rules, Runs, joined}
 use Rattle.um_driver.specs.Outputs.{Judges, Gives, IsOutput}
-use Rattle.um_driver.specs.declared.status.Status.{Status}
 use Rattle.um_driver.specs.declared.status.Status.TheVariants.{Done}
 use Rattle.um_driver.proofs.Judging.{judged_of}
 use Rattle.um_driver.proofs.OutputExists.{plain_judged}
