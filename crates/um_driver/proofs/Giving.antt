@@ -1,5 +1,5 @@
 -- What comes of judged lines, one after another.
-use Rattle.std.proofs.Common.{◌≡◌, ℕ, ◌+◌, Bool, true, false, List, [], ◌∷◌, ◌++◌, length, inl, inr, sym, refl, ap, ◌∙◌, subst, append_assoc, arith}
+use Rattle.std.proofs.Common.{◌≡◌, ℕ, ◌+◌, Bool, true, false, List, [], ◌∷◌, ◌++◌, length, inl, inr, sym, refl, ap, ◌∙◌, append_assoc, arith}
 use Rattle.um_lines.specs.declared.fault.LineFault.{LineFault}
 use Rattle.um_lines.specs.Refusals.{refused_text}
 use Rattle.um_driver.specs.Rules.{Rules, IsGood, IsBad, Runs, IsDetermined, joined}
@@ -19,14 +19,6 @@ IsBad-unique r a line f f' (inl (l, _)) (inr (l', _)) = absurd (omega arith)
 IsBad-unique r a line f f' (inr (l, _)) (inl (l', _)) = absurd (omega arith)
 IsBad-unique r a line f f' (inr (_, e)) (inr (_, e')) = cc (e, e')
 
-pub Gives-from : {State : Type 0} (r : Rules State) (a a' : State) (n n' : ℕ) (judged : List (List ℕ)) (ended : Bool) (s : Status)
-    (z : List ℕ) →
-    a ≡ a' → n ≡ n' → Gives r a n judged ended s z → Gives r a' n' judged ended s z
-Gives-from {State} r a a' n n' judged ended s z e f h =
-    let P : State → Type 0 = λ b. Gives r b n judged ended s z in
-    let Q : ℕ → Type 0 = λ m. Gives r a' m judged ended s z in
-    subst Q f (subst P e h)
-
 pub Gives-unique : {State : Type 0} (r : Rules State) → IsDetermined r
     → (a : State) (n : ℕ) (judged : List (List ℕ)) (ended : Bool) (s s' : Status) (z z' : List ℕ) →
     Gives r a n judged ended s z → Gives r a n judged ended s' z' → (s ≡ s') × (z ≡ z')
@@ -40,8 +32,7 @@ Gives-unique r det a n [] true s s' z z' (inr stop) (inr stop') =
 Gives-unique r det a n [] false s s' z z' (si, zi) (si', zi') = (si ∙ sym si', zi ∙ sym zi')
 Gives-unique r det a n (line ∷ judged) ended s s' z z' (inl g) (inl g') =
     let same = det a line g.answer g'.answer g.mid g'.mid g.step g'.step in
-    let then = Gives-unique r det g'.mid (n + 1) judged ended s s' g.rest g'.rest
-    (Gives-from r g.mid g'.mid (n + 1) (n + 1) judged ended s g.rest same.1 refl g.then_) g'.then_ in
+    let then = Gives-unique r det g'.mid (n + 1) judged ended s s' g.rest g'.rest (rw same.1 at g.then_) g'.then_ in
     (then.0, g.output ∙ (let p = same.0 in let q = then.1 in cc) ∙ sym g'.output)
 Gives-unique r det a n (line ∷ judged) ended s s' z z' (inl g) (inr stop) = absurd (good_or_bad r a line stop.fault g.good stop.bad)
 Gives-unique r det a n (line ∷ judged) ended s s' z z' (inr stop) (inl g) = absurd (good_or_bad r a line stop.fault g.good stop.bad)
@@ -53,9 +44,7 @@ Gives-unique r det a n (line ∷ judged) ended s s' z z' (inr stop) (inr stop') 
 pub Gives-after : {State : Type 0} (r : Rules State) (a b : State) (n m : ℕ) (ls ys judged : List (List ℕ)) (ended : Bool) (s : Status)
     (z : List ℕ) →
     m ≡ length ls + n → Runs r a ls ys b → Gives r b m judged ended s z → Gives r a n (ls ++ judged) ended s (joined ys ++ z)
-Gives-after r a b n m [] [] judged ended s z e same h = Gives-from r b a m n judged ended s z same (omega arith) h
-Gives-after r a b n m [] (y ∷ ys) judged ended s z e none h = absurd none
-Gives-after r a b n m (line ∷ ls) [] judged ended s z e none h = absurd none
+Gives-after r a b n m [] [] judged ended s z e same h = let here : m ≡ n = omega arith in rw (same, here) at h
 Gives-after r a b n m (line ∷ ls) (y ∷ ys) judged ended s z e (mid, good, step, runs) h =
     inl (record {
       answer = y;
@@ -66,27 +55,17 @@ Gives-after r a b n m (line ∷ ls) (y ∷ ys) judged ended s z e (mid, good, st
       then_ = Gives-after r mid b (n + 1) m ls ys judged ended s z (omega arith) runs h;
       output = append_assoc y (joined ys) z;
     })
+Gives-after r a b n m _ _ judged ended s z e none h = absurd none
 
 -- the answers to first lines begin what comes of all
 pub Gives-front : {State : Type 0} (r : Rules State) → IsDetermined r
     → (a b : State) (n : ℕ) (ls ys judged : List (List ℕ)) (ended : Bool) (s : Status) (z : List ℕ) →
     Runs r a ls ys b → Gives r a n (ls ++ judged) ended s z → IsFront (joined ys) z
 Gives-front r det a b n [] [] judged ended s z same g = (z, refl)
-Gives-front r det a b n [] (y ∷ ys) judged ended s z none g = absurd none
-Gives-front r det a b n (line ∷ ls) [] judged ended s z none g = absurd none
 Gives-front r det a b n (line ∷ ls) (y ∷ ys) judged ended s z (mid, good, step, runs) (inl g) =
     let same = det a line g.answer y g.mid mid g.step step in
-    let then = Gives-front r det mid b (n + 1) ls ys judged ended s g.rest runs
-    (Gives-from r g.mid mid (n + 1) (n + 1) (ls ++ judged) ended s g.rest same.1 refl g.then_) in
+    let then = Gives-front r det mid b (n + 1) ls ys judged ended s g.rest runs (rw same.1 at g.then_) in
     (then.0, g.output ∙ (let p = same.0 in let q = then.1 in cc (p, q)) ∙ sym (append_assoc y (joined ys) then.0))
 Gives-front r det a b n (line ∷ ls) (y ∷ ys) judged ended s z (mid, good, step, runs) (inr stop) =
     absurd (good_or_bad r a line stop.fault good stop.bad)
-
-pub Gives-at : {State : Type 0} (r : Rules State) (a : State) (n : ℕ) (judged judged' : List (List ℕ)) (ended ended' : Bool) (s : Status)
-    (z z' : List ℕ) →
-    judged' ≡ judged → ended' ≡ ended → z' ≡ z → Gives r a n judged ended s z → Gives r a n judged' ended' s z'
-Gives-at r a n judged judged' ended ended' s z z' j e o h =
-    let P : List (List ℕ) → Type 0 = λ k. Gives r a n k ended s z in
-    let Q : Bool → Type 0 = λ k. Gives r a n judged' k s z in
-    let R : List ℕ → Type 0 = λ k. Gives r a n judged' ended' s k in
-    subst R (sym o) (subst Q (sym e) (subst P (sym j) h))
+Gives-front r det a b n _ _ judged ended s z none g = absurd none

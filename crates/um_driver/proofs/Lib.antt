@@ -5,8 +5,8 @@ pub mod OutputLemmas
 pub mod OutputExists
 pub mod GoodInputs
 pub mod TableLemmas
+pub mod ReadLemmas
 pub mod Turns
 pub mod Reaching
-pub mod Comings
 pub mod Settling
 pub mod Weaker

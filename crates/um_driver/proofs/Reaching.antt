@@ -8,8 +8,8 @@ use Rattle.um_driver.proofs.Judging.{front_of}
 -- a front of two lists ends in the first, or in the second
 pub front_ends : (u more c p : List ℕ) → u ++ more ≡ c ++ p → IsFront u c ⊎ ((w : List ℕ) × IsFront w p × (u ≡ c ++ w))
 front_ends u more c p e = elim (cases_lt (length c) (length u)) [
-  | inl longer ↦ let f = front_of c p u more (sym e) (omega (arith, longer)) in inr (f.part, (more, f.rest_is), f.front_is)
-  | inr h ↦ let f = front_of u more c p e h in inl (f.part, f.front_is)
+  | inl longer ↦ let (part, u_is, p_is) = front_of c p u more (sym e) (omega (arith, longer)) in inr (part, (more, p_is), u_is)
+  | inr h ↦ let (part, c_is, _) = front_of u more c p e h in inl (part, c_is)
 ]
 
 -- these of the answers are reached, and y ends with them
@@ -66,16 +66,9 @@ reach_after answer answers y part e then = record {
   );
 }
 
-none_behind : (u v : List ℕ) → [] ≡ u ++ v → u ≡ []
-none_behind [] v e = refl
-none_behind (o ∷ u) v e = absurd (cc e)
-
 pub reach : (answers : List (List ℕ)) (y more : List ℕ) → joined answers ≡ y ++ more → Reach answers y
 reach [] y more e = record { first = []; second = []; answers_are = refl; reached = inl (y, refl); front = (more, e) }
-reach (answer ∷ answers) y more e = elim (cases_lt (length y) (length answer)) [
-  | inl shorter ↦ let f = front_of y more answer (joined answers) (sym e) (omega (arith, shorter)) in reach_within answer answers y f.part
-      f.front_is
-  | inr h ↦
-      let f = front_of answer (joined answers) y more e h in
-      reach_after answer answers y f.part f.front_is (reach answers f.part more f.rest_is)
+reach (answer ∷ answers) y more e = elim (front_ends y more answer (joined answers) (sym e)) [
+  | inl (part, answer_is) ↦ reach_within answer answers y part answer_is
+  | inr (part, (more', rest_is), y_is) ↦ reach_after answer answers y part y_is (reach answers part more' rest_is)
 ]

@@ -1,18 +1,14 @@
 -- Runs of good lines, one after another.
-use Rattle.std.proofs.Common.{◌≡◌, ℕ, List, [], ◌∷◌, ◌++◌, length, sym, refl, ap, ◌∙◌, subst, append_assoc}
+use Rattle.std.proofs.Common.{◌≡◌, ℕ, List, [], ◌∷◌, ◌++◌, length, sym, refl, ap, ◌∙◌, append_assoc}
 use Rattle.um_driver.specs.Rules.{Rules, IsGood, Runs, joined}
 
--- the run begins in an equal state
-pub Runs-from : {State : Type 0} (r : Rules State) (a a' b : State) (ls ys : List (List ℕ)) → a ≡ a' → Runs r a ls ys b → Runs r a' ls ys b
-Runs-from {State} r a a' b ls ys e h = let P : State → Type 0 = λ s. Runs r s ls ys b in subst P e h
-
+-- one run after another
 pub Runs-append : {State : Type 0} (r : Rules State) (a b c : State) (ls ls' ys ys' : List (List ℕ)) →
     Runs r a ls ys b → Runs r b ls' ys' c → Runs r a (ls ++ ls') (ys ++ ys') c
-Runs-append r a b c [] ls' [] ys' same then = Runs-from r b a c ls' ys' same then
-Runs-append r a b c [] ls' (y ∷ ys) ys' none then = absurd none
-Runs-append r a b c (line ∷ ls) ls' [] ys' none then = absurd none
+Runs-append r a b c [] ls' [] ys' same then = rw same at then
 Runs-append r a b c (line ∷ ls) ls' (y ∷ ys) ys' (mid, good, step, runs) then =
     (mid, good, step, Runs-append r mid b c ls ls' ys ys' runs then)
+Runs-append r a b c _ ls' _ ys' none then = absurd none
 
 -- one line more
 pub Runs-push : {State : Type 0} (r : Rules State) (a b c : State) (ls ys : List (List ℕ)) (line answer : List ℕ) →
@@ -23,9 +19,8 @@ Runs-push r a b c ls ys line answer runs good step =
 -- each line has one answer
 pub Runs-length : {State : Type 0} (r : Rules State) (a b : State) (ls ys : List (List ℕ)) → Runs r a ls ys b → length ls ≡ length ys
 Runs-length r a b [] [] runs = refl
-Runs-length r a b [] (y ∷ ys) none = absurd none
-Runs-length r a b (line ∷ ls) [] none = absurd none
 Runs-length r a b (line ∷ ls) (y ∷ ys) (mid, good, step, runs) = let e = Runs-length r mid b ls ys runs in cc e
+Runs-length r a b _ _ none = absurd none
 
 -- the first answers of a run are those of a run
 pub record RunsInTwo {State : Type 0} (r : Rules State) (a c : State) (ls ys ys' : List (List ℕ)) : Type 0 where
@@ -60,7 +55,6 @@ joined-append (y ∷ ys) ys' = ap (λ w. y ++ w) (joined-append ys ys') ∙ sym 
 pub Runs-keep : {State : Type 0} (r : Rules State) (P : State → Type 0)
     → ((a b : State) (line answer : List ℕ) → P a → r.Step a line answer b → P b) →
     (a b : State) (ls ys : List (List ℕ)) → P a → Runs r a ls ys b → P b
-Runs-keep {State} r P keeps a b [] [] h same = subst P (sym same) h
-Runs-keep r P keeps a b [] (y ∷ ys) h none = absurd none
-Runs-keep r P keeps a b (line ∷ ls) [] h none = absurd none
+Runs-keep r P keeps a b [] [] h same = rw same h
 Runs-keep r P keeps a b (line ∷ ls) (y ∷ ys) h (mid, good, step, runs) = Runs-keep r P keeps mid b ls ys (keeps a mid line y h step) runs
+Runs-keep r P keeps a b _ _ h none = absurd none

@@ -1,328 +1,190 @@
--- One turn of a run: what the next answer of the reader of lines makes of it.
-use Rattle.std.proofs.Common.{◌≡◌, ℕ, ◌<◌, ◌≤◌, ◌+◌, Bool, true, false, List, [], ◌∷◌, ◌++◌, length, length-append, Option, Some, None, ◌⊎◌, inl, inr, sym, refl, ap, ◌∙◌, subst, append_assoc, append-nil, arith}
-use Rattle.std.specs.Io.KnownBytes.{Consumes, IsAtEnd}
-use Rattle.std.proofs.lemmas.Bool.{cases_Bool}
-use Rattle.um_io.specs.Lines.{IsLine, IsDivided, text_of}
-use Rattle.um_io.specs.Reading.{Reading, IsReading, NeedsMore, IsReady, input_limit, line_limit, held_limit}
-use Rattle.um_io.specs.Next.{IsAnswered, IsHeld, IsStep}
+-- One turn of a run: what the next answer of the reader of lines makes of it, before it writes.
+use Rattle.std.proofs.Common.{◌≡◌, ℕ, ◌+◌, List, [], ◌∷◌, ◌++◌, length-append, Option, Some, None, ◌⊎◌, inl, inr, sym, refl, ap, ◌∙◌, append_assoc, append-nil, arith}
+use Rattle.std.specs.Borrow.{Bor}
+use Rattle.um_io.specs.Lines.{text_of}
+use Rattle.um_io.specs.Next.{IsNext, IsStep}
+use Rattle.um_io.specs.Reading.{Reading, IsReady}
 use Rattle.um_io.specs.declared.lines.Next.{Next}
-use Rattle.um_driver.specs.Rules.{Rules}
-use Rattle.um_driver.specs.Table.{Reads, IsWhole, IsNear}
-use Rattle.um_driver.specs.Course.{EndsAt, IsAt, IsUnderway}
-use Rattle.um_io.proofs.KnownOctets.{Consumes-append}
-use Rattle.um_driver.proofs.RunLemmas.{Runs-length}
+use Rattle.um_io.specs.declared.lines.Next.TheVariants as next
+use Rattle.um_lines.specs.declared.fault.LineFault.{LineFault}
+use Rattle.um_lines.specs.declared.fault.LineFault.TheVariants.{Long}
+use Rattle.um_lines.specs.Refusals.{refused_text}
+use Rattle.um_driver.specs.Rules.{Rules, joined}
+use Rattle.um_driver.specs.Table.{IsNear, Ends}
+use Rattle.um_driver.specs.Course.{EndsAt, IsAt, IsUnderway, IsEnding}
+use Rattle.um_driver.specs.declared.status.Status.{Status}
+use Rattle.um_driver.specs.declared.status.Status.TheVariants.{Done, BadInput, TooLong, ReadFault}
+use Rattle.um_driver.proofs.ReadLemmas.{arrive, whole_of, answered_of, next_line, line_judged, long_judged, goes_past, unfinished, no_came, failed_unready}
+use Rattle.um_driver.proofs.RunLemmas.{Runs-push, Runs-length, joined-append}
 
--- what a source that lost q has left, or nothing where it does not tell
-pub record Rest (left left' : Option (List ℕ)) (q : List ℕ) : Type 0 where
-  pub rest : List ℕ
-  pub reads : Reads left left' q rest
-  pub at_end : EndsAt left left' → rest ≡ []
+-- more was written, and more lines were answered
+pub IsNear-more : {q y : List ℕ} {lines answers : List (List ℕ)} → IsNear q y lines answers →
+    (w : List ℕ) (lines' answers' : List (List ℕ)) → IsNear q (y ++ w) (lines ++ lines') (answers ++ answers')
+IsNear-more {q} {y} {lines} {answers} n w lines' answers' = record {
+  before = n.before;
+  after = n.after ++ lines';
+  written = n.written;
+  others = n.others ++ answers';
+  rest = n.rest;
+  lines_are = ap (λ l. l ++ lines') n.lines_are ∙ append_assoc n.before n.after lines';
+  answers_are = ap (λ l. l ++ answers') n.answers_are ∙ append_assoc n.written n.others answers';
+  count = n.count;
+  begins = n.begins;
+  front = (n.front.0 ++ w, ap (λ o. o ++ w) n.front.1 ∙ append_assoc (joined n.written) n.front.0 w);
+  near = n.near;
+}
 
-pub rest_of : (left left' : Option (List ℕ)) (q : List ℕ) → Consumes left left' q → Rest left left' q
-rest_of None left' q h = record { rest = []; reads = tt; at_end = λ _. refl }
-rest_of (Some x) None q h = absurd h
-rest_of (Some x) (Some rest) q h = record { rest = rest; reads = (h, refl); at_end = λ e. e }
-
-EndsAt-now : (left left' : Option (List ℕ)) → IsAtEnd left' → EndsAt left left'
-EndsAt-now None left' e = tt
-EndsAt-now (Some x) left' e = e
-
-EndsAt-still : (left mid left' : Option (List ℕ)) (q : List ℕ) → Consumes left mid q → Consumes mid left' [] → EndsAt left mid
-    → EndsAt left left'
-EndsAt-still None mid left' q h k e = tt
-EndsAt-still (Some x) None left' q h k e = absurd h
-EndsAt-still (Some x) (Some y) None q h k e = absurd k
-EndsAt-still (Some x) (Some y) (Some z) q h k e = sym k ∙ e
-
-Consumes-at : (mid left' : Option (List ℕ)) (came came' : List ℕ) → came ≡ came' → Consumes mid left' came → Consumes mid left' came'
-Consumes-at mid left' came came' e h = let P : List ℕ → Type 0 = λ c. Consumes mid left' c in subst P e h
-
--- a line came after good lines, whose answers are written or gathered
-pub record HasLine {State : Type 0} (r : Rules State) (a : State) (Stands : State → Type 0) (reading' : Reading)
-    (left left' taken taken' : Option (List ℕ)) (gathered line : List ℕ) : Type 0 where
-  pub at : IsAt r a Stands left left' taken taken' gathered
-  pub valid : IsReading reading'
-  pub number : reading'.number ≡ length at.lines + 1
-  pub goes_on : reading'.over ≡ false
-  pub at_end : reading'.ended ≡ true → EndsAt left left'
-  pub within : length (text_of at.lines) ≤ input_limit
-  pub line_plain : IsLine line
-  pub short : length line ≤ line_limit
-  pub there :
-      ((at.q ≡ text_of at.lines ++ (line ++ 10 ∷ (reading'.held ++ reading'.past)))
-      × (reading'.answered ≡ length (text_of at.lines ++ line) + 1))
-      ⊎ ((at.q ≡ text_of at.lines ++ line) × (0 < length line) × (reading'.held ++ reading'.past ≡ []) × (reading'.ended ≡ true)
-      × (reading'.answered ≡ length at.q))
-
--- no line came after good lines, whose answers are written or gathered
-pub record HasNone {State : Type 0} (r : Rules State) (a : State) (Stands : State → Type 0) (reading' : Reading)
-    (left left' taken taken' : Option (List ℕ)) (gathered : List ℕ) : Type 0 where
-  pub at : IsAt r a Stands left left' taken taken' gathered
-  pub number : reading'.number ≡ length at.lines
-  pub within : length (text_of at.lines) ≤ input_limit
-  pub held_plain : IsLine reading'.held
-  pub whole : at.q ≡ text_of at.lines ++ (reading'.held ++ reading'.past)
-  pub answered : reading'.answered ≡ length (text_of at.lines)
-
--- the input ended after good lines, whose answers are written or gathered
-pub record HasEnd {State : Type 0} (r : Rules State) (a : State) (Stands : State → Type 0) (reading' : Reading)
-    (left left' taken taken' : Option (List ℕ)) (gathered : List ℕ) : Type 0 where
-  pub at : IsAt r a Stands left left' taken taken' gathered
-  pub rest : List ℕ
-  pub reads : Reads left left' at.q rest
-  pub whole : IsWhole at.q rest at.lines
-  pub number : reading'.number ≡ length at.lines
-
-nil_behind : (u v : List ℕ) → u ++ v ≡ [] → (u ≡ []) × (v ≡ [])
-nil_behind [] v e = (refl, e)
-nil_behind (o ∷ u) v e = cc e
-
-module _ {State : Type 0} (r : Rules State) (a : State) (Stands : State → Type 0) (reading reading' : Reading)
-    (left mid left' taken taken' : Option (List ℕ)) (gathered : List ℕ) (u : IsUnderway r a Stands reading left mid taken taken' gathered)
-    (ready : IsReady reading ⊎ (gathered ≡ [])) (answer : Next) (came : List ℕ) (step : IsStep reading reading' mid left' answer came)
-    (valid : IsReading reading') where
-  abbrev pub all : List ℕ
-  all = reading.held ++ reading.past ++ came
-
-  abbrev at : IsAt r a Stands left mid taken taken' gathered
-  at = u.at
-
-  -- the source is at its end where the reader says so
-  ends_at : reading'.ended ≡ true → EndsAt left left'
-  ends_at e = elim (cases_Bool reading.ended) [
-    | inl before ↦ EndsAt-still left mid left' at.q at.read
-        (Consumes-at mid left' came [] (step.still before).0 step.bytes) (u.at_end before)
-    | inr open_ ↦ EndsAt-now left left' (step.ended e open_)
+module _ {State : Type 0} {r : Rules State} {a : State} {Stands : State → Type 0} {reading reading' : Reading}
+    {left mid left' taken taken' : Option (List ℕ)} {gathered : List ℕ}
+    (u : IsUnderway r a Stands reading left mid taken taken' gathered) (ready : IsReady reading ⊎ (gathered ≡ [])) where
+  -- what was read before the answers to all its lines were written
+  near_now : {next : Next} {came : List ℕ} → IsStep reading reading' mid left' next came →
+      IsNear (u.at.q ++ came) u.at.y u.at.lines u.at.answers
+  near_now {came = came} step = elim ready [
+    | inl answer ↦ stays (no_came step u.goes_on answer)
+    | inr none ↦ elim u.at.reads.holds [
+      | inl (q_is, _) ↦ record {
+        before = u.at.lines;
+        after = [];
+        written = u.at.answers;
+        others = [];
+        rest = reading.held ++ reading.past ++ came;
+        lines_are = sym (append-nil u.at.lines);
+        answers_are = sym (append-nil u.at.answers);
+        count = Runs-length r a u.at.state u.at.lines u.at.answers u.at.runs;
+        begins = record {
+          plain = u.at.reads.plain;
+          whole = ap (λ o. o ++ came) q_is ∙ append_assoc (text_of u.at.lines) (reading.held ++ reading.past) came;
+        };
+        front = ([], rw (u.at.output, none, append-nil, append-nil));
+        near = step.room;
+      }
+      | inr (_, _, ended, _) ↦ stays (step.still ended).0
+    ]
   ]
+    where
+      stays : came ≡ [] → IsNear (u.at.q ++ came) u.at.y u.at.lines u.at.answers
+      stays none = rw (none, append-nil) u.at.near
 
-  read : Consumes left left' (at.q ++ came)
-  read = Consumes-append left mid left' at.q came at.read step.bytes
-
-  -- where something is held or was not at its end, all that was read is whole lines and what is held
-  whole : (reading.held ++ reading.past ≡ [] → reading.ended ≡ true → ⊥) →
-      (at.q ++ came ≡ text_of at.lines ++ (reading.held ++ reading.past ++ came)) × (reading.answered ≡ length (text_of at.lines))
-  whole open_ = elim u.holds [
-    | inl (q_is, answered) ↦ (ap (λ q. q ++ came) q_is ∙ append_assoc (text_of at.lines) (reading.held ++ reading.past) came, answered)
-    | inr (cut, none, ended, _) ↦ absurd (open_ none ended)
-  ]
-
-  -- so it is where there is something to answer
-  pub not_cut : 0 < length all → reading.held ++ reading.past ≡ [] → reading.ended ≡ true → ⊥
-  not_cut some none ended =
-      let no_came = (step.still ended).0 in
-      omega (arith, some, ap length none, ap length no_came, length-append (reading.held ++ reading.past) came)
-
-  -- where an answer was ready nothing came
-  no_came : IsReady reading → came ≡ []
-  no_came (inl over) = let open_ = u.goes_on in absurd (cc (over, open_))
-  no_came (inr answer_) = elim step.needed [ inl needs ↦ absurd (answer_ needs) | inr none ↦ none ]
-
-  near_at : came ≡ [] → IsNear (at.q ++ came) at.y at.lines at.answers
-  near_at none =
-      let P : List ℕ → Type 0 = λ q. IsNear q at.y at.lines at.answers in
-      subst P (sym (ap (λ c. at.q ++ c) none ∙ append-nil at.q)) at.near
-
-  near : at.q ++ came ≡ text_of at.lines ++ (reading.held ++ reading.past ++ came) → IsNear (at.q ++ came) at.y at.lines at.answers
-  near q_is = elim ready [
-    | inl answer_ ↦ near_at (no_came answer_)
-    | inr none ↦ record {
-      before = at.lines;
-      after = [];
-      written = at.answers;
-      others = [];
-      rest = reading.held ++ reading.past ++ came;
-      lines_are = sym (append-nil at.lines);
-      answers_are = sym (append-nil at.answers);
-      count = Runs-length r a at.state at.lines at.answers at.runs;
-      begins = record { plain = at.plain; whole = q_is };
-      front = ([], sym (ap (λ w. w ++ []) at.output ∙ append-nil (at.y ++ gathered) ∙ ap (λ g. at.y ++ g) none ∙ append-nil at.y));
-      near = step.room;
-    }
-  ]
-
-  bound : at.q ++ came ≡ text_of at.lines ++ (reading.held ++ reading.past ++ came) → reading.answered ≡ length (text_of at.lines) →
-      length (at.q ++ came) ≤ input_limit + held_limit
-  bound q_is answered = omega (
-    arith,
-    ap length q_is,
-    answered,
-    step.room,
-    u.valid.limit,
-    length-append (text_of at.lines)
-        (reading.held ++ reading.past ++ came),
-  )
-
-  -- the same lines, once these octets came
-  abbrev now : length (at.q ++ came) ≤ input_limit + held_limit → IsNear (at.q ++ came) at.y at.lines at.answers
-      → IsAt r a Stands left left' taken taken' gathered
-  now within close = record {
-    q = at.q ++ came;
-    y = at.y;
-    lines = at.lines;
-    answers = at.answers;
-    state = at.state;
-    read = read;
-    written = at.written;
-    bound = within;
-    plain = at.plain;
-    runs = at.runs;
-    stands = at.stands;
-    output = at.output;
-    near = close;
+  -- octets came
+  abbrev now : {next : Next} {came : List ℕ} → IsStep reading reading' mid left' next came →
+      IsAt r a (reading.held ++ reading.past ++ came) reading.answered reading.number reading'.ended left left' taken taken' gathered
+  now {came = came} step = record {
+    q = u.at.q ++ came;
+    y = u.at.y;
+    lines = u.at.lines;
+    answers = u.at.answers;
+    state = u.at.state;
+    reads = arrive u.at.reads step;
+    number_is = u.at.number_is;
+    written = u.at.written;
+    output = u.at.output;
+    runs = u.at.runs;
+    near = near_now step;
   }
 
-  -- a line came
-  pub has_line : (line : List ℕ) →
-      (IsAnswered reading reading' all line (10 ∷ []) ⊎ (IsAnswered reading reading' all line [] × (reading'.held ++ reading'.past ≡ [])
-      × (reading'.ended ≡ true))) →
-      HasLine r a Stands reading' left left' taken taken' gathered line
-  has_line line (inl l) =
-      let w = whole (not_cut (omega (
-        arith,
-        ap length l.octets,
-        l.some,
-        length-append (line ++ 10 ∷ [])
-            (reading'.held ++ reading'.past),
-      ))) in
+  -- the command answered the line
+  pub line_answered : {Stands' : State → Type 0} {line : Bor (List ℕ)} {text : List ℕ}
+      → IsNext reading mid left' (next.Line line) reading' →
+      ((b : State) → Stands b → (c : State) × (r.fault b line.now ≡ None) × r.Step b line.now text c × Stands' c) →
+      IsUnderway r a Stands' reading' left left' taken taken' (gathered ++ text)
+  line_answered {line = line} {text = text} n answers =
+      let (came, step) = n.goes_on u.goes_on in
+      let at = now step in
+      let l = (answered_of reading reading' (reading.held ++ reading.past ++ came) line.now step.gives).1 in
+      let (state, none, answer, stands) = answers u.at.state u.stands in
       record {
-        at = now (bound w.0 w.1) (near w.0);
-        valid = valid;
-        number = omega (arith, l.number, u.number);
+        at = record {
+          q = at.q;
+          y = at.y;
+          lines = at.lines ++ line.now ∷ [];
+          answers = at.answers ++ text ∷ [];
+          state = state;
+          reads = next_line at.reads n.valid line.now step.gives;
+          number_is = omega (arith, l.number, at.number_is, length-append at.lines (line.now ∷ []));
+          written = at.written;
+          output = joined-append at.answers (text ∷ []) ∙ rw (at.output, append-nil, append_assoc);
+          runs = Runs-push r a at.state state at.lines at.answers line.now text at.runs (record { short = l.short; no_fault = none }) answer;
+          near = rw append-nil at (IsNear-more at.near [] (line.now ∷ []) (text ∷ []));
+        };
+        stands = stands;
+        valid = n.valid;
         goes_on = l.over;
-        at_end = ends_at;
-        within = omega (arith, w.1, u.valid.limit);
-        line_plain = l.plain;
-        short = l.short;
-        there = inl (
-          w.0 ∙ ap (λ o. text_of at.lines ++ o) (l.octets ∙ append_assoc line (10 ∷ []) (reading'.held ++ reading'.past)),
-          omega (arith, l.answered, w.1, length-append line (10 ∷ []), length-append (text_of at.lines) line),
-        );
-      }
-  has_line line (inr (l, none, ended)) =
-      let w = whole (not_cut (omega (arith, ap length l.octets, l.some, length-append (line ++ []) (reading'.held ++ reading'.past)))) in
-      let q_is : at.q ++ came ≡ text_of at.lines ++ line =
-      w.0 ∙ ap (λ o. text_of at.lines ++ o) (l.octets ∙ ap (λ o. line ++ [] ++ o) none ∙ append-nil (line ++ []) ∙ append-nil line) in
-      record {
-        at = now (bound w.0 w.1) (near w.0);
-        valid = valid;
-        number = omega (arith, l.number, u.number);
-        goes_on = l.over;
-        at_end = ends_at;
-        within = omega (arith, w.1, u.valid.limit);
-        line_plain = l.plain;
-        short = l.short;
-        there = inr (
-          q_is,
-          omega (arith, l.some, length-append line []),
-          none,
-          ended,
-          omega (arith, l.answered, w.1, length-append line [], length-append (text_of at.lines) line, ap length q_is),
-        );
       }
 
-  -- no line came, and there is something, or the source was not at its end
-  pub has_none : (stops : Bool) → IsHeld reading reading' all stops → (reading.held ++ reading.past ≡ [] → reading.ended ≡ true → ⊥) →
-      HasNone r a Stands reading' left left' taken taken' gathered
-  has_none stops h open_ =
-      let w = whole open_ in
-      record {
-        at = now (bound w.0 w.1) (near w.0);
-        number = h.number ∙ u.number;
-        within = omega (arith, w.1, u.valid.limit);
-        held_plain = h.plain;
-        whole = w.0 ∙ ap (λ o. text_of at.lines ++ o) h.octets;
-        answered = h.answered ∙ w.1;
-      }
+  -- the run ends so
+  ending : {Stands' : State → Type 0} {next : Next} {came : List ℕ} (status : Status) (text : List ℕ)
+      → IsStep reading reading' mid left' next came → Stands' u.at.state →
+      ((rest : List ℕ) → (EndsAt left left' → rest ≡ []) → Ends r status (u.at.q ++ came) rest u.at.lines u.at.state text) →
+      IsEnding r a Stands' status left left' taken taken' gathered text
+  ending {came = came} status text step stands ends = record {
+    held = reading.held ++ reading.past ++ came;
+    answered = reading.answered;
+    number = reading.number;
+    ended = reading'.ended;
+    at = now step;
+    stands = stands;
+    ends = ends;
+  }
 
-  divided : at.q ≡ at.q ++ came → reading.held ++ reading.past ≡ [] → IsDivided (at.q ++ came) at.lines
-  divided same none =
-      let P : List ℕ → Type 0 = λ q. IsDivided q at.lines in
-      subst P same (record {
-        plain = at.plain;
-        whole = elim u.holds [
-          | inl (q_is, _) ↦ inl (q_is ∙ ap (λ o. text_of at.lines ++ o) none ∙ append-nil (text_of at.lines))
-          | inr (cut, _, _, _) ↦ inr cut
-        ];
-      })
+  pub line_refused : {Stands' : State → Type 0} {line : Bor (List ℕ)} {text text' : List ℕ} {number : ℕ} {fault : LineFault}
+      → IsNext reading mid left' (next.Line line) reading' → number ≡ reading'.number → text ≡ refused_text number fault →
+      ((b : State) → Stands b → (r.fault b line.now ≡ Some fault) × (text' ≡ []) × Stands' b) →
+      IsEnding r a Stands' BadInput left left' taken taken' gathered text
+  line_refused {line = line} {text = text} {fault = fault} n number_is text_is answers =
+      let (came, step) = n.goes_on u.goes_on in
+      let l = (answered_of reading reading' (reading.held ++ reading.past ++ came) line.now step.gives).1 in
+      let (reason, _, stands) = answers u.at.state u.stands in
+      ending BadInput text step stands (λ rest at_end. (
+        fault,
+        inl (line.now, line_judged (arrive u.at.reads step) n.valid line.now step.gives rest at_end, inr (l.short, reason)),
+        text_is ∙ rw (number_is, l.number, u.at.number_is),
+      ))
 
-  limit : at.q ≡ at.q ++ came → reading.held ++ reading.past ≡ [] → length (at.q ++ came) ≤ input_limit
-  limit same none =
-      let P : List ℕ → Type 0 = λ q. length q ≤ input_limit in
-      subst P same (elim u.holds [
-        | inl (q_is, answered) ↦ omega (
-          arith,
-          ap length q_is,
-          answered,
-          u.valid.limit,
-          ap length none,
-          length-append (text_of at.lines)
-              (reading.held ++ reading.past),
-        )
-        | inr (_, _, _, answered) ↦ omega (arith, answered, u.valid.limit)
-      ])
+  pub end_good : {reason : Option LineFault} {text : List ℕ} → IsNext reading mid left' next.End reading' → reason ≡ None → text ≡ [] →
+      ((b : State) → Stands b → reason ≡ r.end_fault b) → IsEnding r a Stands Done left left' taken taken' gathered text
+  end_good {text = text} n none text_is says =
+      let (came, step) = n.goes_on u.goes_on in
+      let (h, none_held, ended) = step.gives in
+      ending Done text step u.stands (λ rest at_end.
+      (whole_of (arrive u.at.reads step) none_held ended rest at_end, sym (says u.at.state u.stands) ∙ none, text_is))
 
-  -- the input ended
-  pub has_end : IsHeld reading reading' all false → all ≡ [] → reading'.ended ≡ true
-      → HasEnd r a Stands reading' left left' taken taken' gathered
-  has_end h none ended =
-      let parts = nil_behind (reading.held ++ reading.past) came none in
-      let same : at.q ≡ at.q ++ came = sym (ap (λ c. at.q ++ c) parts.1 ∙ append-nil at.q) in
-      let rest = rest_of left left' (at.q ++ came) read in
-      let within = limit same parts.0 in
-      record {
-        at = now (omega (arith, within)) (near_at parts.1);
-        rest = rest.rest;
-        reads = rest.reads;
-        whole = record { none_left = rest.at_end (ends_at ended); all = divided same parts.0; limit = within };
-        number = h.number ∙ u.number;
-      }
+  pub end_refused : {reason : Option LineFault} {text : List ℕ} {number : ℕ} {fault : LineFault} → IsNext reading mid left' next.End reading'
+      → number ≡ reading'.number → text ≡ refused_text (number + 1) fault → reason ≡ Some fault →
+      ((b : State) → Stands b → reason ≡ r.end_fault b) → IsEnding r a Stands BadInput left left' taken taken' gathered text
+  end_refused {text = text} {fault = fault} n number_is text_is some says =
+      let (came, step) = n.goes_on u.goes_on in
+      let (h, none_held, ended) = step.gives in
+      ending BadInput text step u.stands (λ rest at_end. (
+        fault,
+        inr (whole_of (arrive u.at.reads step) none_held ended rest at_end, sym (says u.at.state u.stands) ∙ some),
+        text_is ∙ rw (number_is, h.number, u.at.number_is),
+      ))
 
-  some_or_none : (xs : List ℕ) → (xs ≡ []) ⊎ (0 < length xs)
-  some_or_none [] = inl refl
-  some_or_none (x ∷ xs) = inr (omega arith)
+  pub long_refused : {text : List ℕ} {number : ℕ} → IsNext reading mid left' next.Long reading' → number ≡ reading'.number →
+      text ≡ refused_text (number + 1) Long → IsEnding r a Stands BadInput left left' taken taken' gathered text
+  long_refused {text = text} n number_is text_is =
+      let (came, step) = n.goes_on u.goes_on in
+      let (h, long) = step.gives in
+      ending BadInput text step u.stands (λ rest at_end. (
+        Long,
+        inl (reading'.held, long_judged (arrive u.at.reads step) n.valid h rest long, inl (long, refl)),
+        text_is ∙ rw (number_is, h.number, u.at.number_is),
+      ))
 
-  -- where nothing came, and no octet is past the limit now, none was before
-  none_past : (stops : Bool) → IsHeld reading reading' all stops → reading.held ++ reading.past ≡ reading'.held → reading.past ≡ []
-  none_past stops h same = elim (some_or_none reading.past) [
-    | inl none ↦ none
-    | inr some ↦ absurd (omega (
-      arith,
-      some,
-      u.valid.past some,
-      valid.limit,
-      h.answered,
-      ap length same,
-      length-append reading.held
-          reading.past,
-    ))
-  ]
+  pub ends_too_long : {text : List ℕ} → IsNext reading mid left' next.TooMany reading' → text ≡ [] →
+      IsEnding r a Stands TooLong left left' taken taken' gathered text
+  ends_too_long {text = text} n text_is =
+      let (came, step) = n.goes_on u.goes_on in
+      let (h, short, some) = step.gives in
+      ending TooLong text step u.stands (λ rest at_end. (goes_past (arrive u.at.reads step) n.valid h short some, text_is))
 
-  still_open : reading'.ended ≡ false → reading.ended ≡ false
-  still_open open_ = elim (cases_Bool reading.ended) [
-    | inl before ↦ let still = (step.still before).1 in absurd (cc (still, open_))
-    | inr before ↦ before
-  ]
-
-  -- a reader that needs more now, and to which nothing came, needed more before
-  needed_more : (stops : Bool) → IsHeld reading reading' all stops → NeedsMore reading' → came ≡ [] → NeedsMore reading
-  needed_more stops h needs none =
-      let same : reading.held ++ reading.past ≡ reading'.held =
-      sym (append-nil (reading.held ++ reading.past)) ∙ ap (λ c. reading.held ++ reading.past ++ c) (sym none) ∙ h.octets
-      ∙ ap (λ p. reading'.held ++ p) needs.past ∙ append-nil reading'.held in
-      let past = none_past stops h same in
-      let held : reading.held ≡ reading'.held = sym (append-nil reading.held) ∙ ap (λ p. reading.held ++ p) (sym past) ∙ same in
-      record {
-        plain = subst IsLine (sym held) needs.plain;
-        short = omega (arith, needs.short, ap length held);
-        past = past;
-        ended =
-            still_open needs.ended;
-      }
-
-  not_ready : (stops : Bool) → IsHeld reading reading' all stops → NeedsMore reading' → IsReady reading → ⊥
-  not_ready stops h needs (inl over) = let open_ = u.goes_on in cc (over, open_)
-  not_ready stops h needs (inr none) = none (needed_more stops h needs (no_came (inr none)))
-
-  -- where a reading failed nothing is gathered
-  pub none_gathered : (stops : Bool) → IsHeld reading reading' all stops → NeedsMore reading' → gathered ≡ []
-  none_gathered stops h needs = elim ready [ inl answer_ ↦ absurd (not_ready stops h needs answer_) | inr none ↦ none ]
+  pub ends_failed : IsNext reading mid left' next.Failed reading' → IsEnding r a Stands ReadFault left left' taken taken' gathered []
+      × (gathered ≡ [])
+  ends_failed n =
+      let (came, step) = n.goes_on u.goes_on in
+      let (h, needs) = step.gives in
+      let (bound, part) = unfinished (arrive u.at.reads step) n.valid h needs in (
+        ending ReadFault [] step u.stands (λ rest at_end. (bound, part, refl)),
+        elim ready [ inl answer ↦ absurd (failed_unready u.valid n.valid step u.goes_on answer) | inr none ↦ none ],
+      )

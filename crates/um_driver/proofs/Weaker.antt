@@ -4,7 +4,7 @@ use Rattle.um_lines.specs.declared.fault.LineFault.{LineFault}
 use Rattle.um_driver.specs.Rules.{Rules, IsGood, IsBad, Runs}
 use Rattle.um_driver.specs.Table.{IsRefused, Ends, Row, IsRun}
 use Rattle.um_driver.specs.declared.status.Status.{Status}
-use Rattle.um_driver.specs.declared.status.Status.TheVariants.{Done, BadWords, BadInput, ReadFault, WriteFault, NoMemory, TooLong}
+use Rattle.um_driver.specs.declared.status.Status.TheVariants.{Done, BadWords, BadInput, WriteFault, NoMemory}
 
 -- of each state r' sees what f shows: the same lines and ends have the same reasons, and each answer by r is one by r'
 pub record IsWeakerBy {S T : Type 0} (f : S → T) (r : Rules S) (r' : Rules T) : Type 0 where
@@ -22,9 +22,8 @@ module _ {S T : Type 0} (f : S → T) (r : Rules S) (r' : Rules T) (w : IsWeaker
 
   pub runs_by : (a b : S) (lines answers : List (List ℕ)) → Runs r a lines answers b → Runs r' (f a) lines answers (f b)
   runs_by a b [] [] h = ap f h
-  runs_by a b [] (y ∷ ys) none = absurd none
-  runs_by a b (line ∷ lines) [] none = absurd none
   runs_by a b (line ∷ lines) (y ∷ ys) (mid, g, step, h) = (f mid, good a line g, w.step a mid line y step, runs_by mid b lines ys h)
+  runs_by a b _ _ none = absurd none
 
   refused : (q rest : List ℕ) (lines : List (List ℕ)) (b : S) (fault : LineFault) → IsRefused r q rest lines b fault
       → IsRefused r' q rest lines (f b) fault
@@ -35,24 +34,17 @@ module _ {S T : Type 0} (f : S → T) (r : Rules S) (r' : Rules T) (w : IsWeaker
       → Ends r' status q rest lines (f b) text
   ends Done q rest lines b text (whole, none, e) = (whole, w.end_fault b ∙ none, e)
   ends BadInput q rest lines b text (fault, reason, e) = (fault, refused q rest lines b fault reason, e)
-  ends ReadFault q rest lines b text h = h
-  ends TooLong q rest lines b text h = h
-  ends WriteFault q rest lines b text none = absurd none
-  ends NoMemory q rest lines b text none = absurd none
-  ends BadWords q rest lines b text none = absurd none
+  ends _ q rest lines b text h = h
 
   row : (status : Status) (q rest y : List ℕ) (lines answers further : List (List ℕ)) (b : S)
       → Row r status q rest y lines answers further b →
       Row r' status q rest y lines answers further (f b)
-  row Done q rest y lines answers further b (text, h, none, e) = (text, ends Done q rest lines b text h, none, e)
-  row BadInput q rest y lines answers further b (text, h, none, e) = (text, ends BadInput q rest lines b text h, none, e)
-  row ReadFault q rest y lines answers further b (text, h, none, e) = (text, ends ReadFault q rest lines b text h, none, e)
-  row TooLong q rest y lines answers further b (text, h, none, e) = (text, ends TooLong q rest lines b text h, none, e)
   row WriteFault q rest y lines answers further b (inl front) = inl front
   row WriteFault q rest y lines answers further b (inr (due, text, part, h, none, front, e)) =
       inr (due, text, part, ends due q rest lines b text h, none, front, e)
   row NoMemory q rest y lines answers further b h = h
   row BadWords q rest y lines answers further b none = absurd none
+  row s q rest y lines answers further b h = (h.0, ends s q rest lines b h.0 h.1, h.2, h.3)
 
   -- what the command stands for may be said in another way
   pub weaker_run_by : (a : S) (Stands : S → Type 0) (Stands' : T → Type 0) → ((b : S) → Stands b → Stands' (f b))

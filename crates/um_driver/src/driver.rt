@@ -5,7 +5,7 @@ ghost use Rattle.um_lines.specs.Refusals.{refused_text};
 ghost use Rattle.um_driver.specs.Rules.{IsDetermined};
 ghost use Rattle.um_driver.specs.Table.{IsRun, HasCause, EndsAsDue};
 ghost use Rattle.um_driver.specs.Taking.{GathersAll, Counted};
-ghost use Rattle.um_driver.specs.Course.{IsUnderway, Comes, Concludes, Settles, WriteCause, ReadCause};
+ghost use Rattle.um_driver.specs.Course.{IsUnderway, Comes, Concludes, ReadCause};
 
 use crate::command::Command;
 use crate::gathered::Gathered;
@@ -14,120 +14,64 @@ use std::alloc::Global;
 use um_io::{Failed, Lines, Next, Sink, Source};
 use um_lines::{LineFault, Text, refused_line};
 
-/// What the next line of the input comes to.
-enum Turn {
-    /// It was answered.
-    Answered,
-    /// It has a number and a reason, or the end of the input has.
-    Refused(u64, LineFault),
-    /// There is none, and the input may end here.
-    Done,
-    /// It does not end within the octets that count.
-    TooLong,
-    /// The source failed. Nothing is gathered, since all is written before a reading.
-    ReadFault,
-}
-
-/// Has the command answer the next line of the input.
+/// Has the command answer the next line of the input, or says how the run ends.
 fn ask<C: Command, S: Source>(
     command: &mut C,
     lines: &mut Lines,
     input: &mut S,
     out: &mut Text,
-) -> Turn
+) -> Option<Status>
     requires { out.old ≡ [] }
     ensures comes { (a : C.State) (left taken taken' : Option (List ℕ)) (gathered : List ℕ) →
         IsUnderway C.rules a (C.stands command.old) lines.old left (S.left input.old) taken taken' gathered →
         IsReady lines.old ⊎ (gathered ≡ []) →
         Comes C.rules a (C.stands command.new) lines.new left (S.left input.new) taken taken' gathered out.new result }
-    ensures goes_on { result ≡ Turn.Answered → lines.old.answered < lines.new.answered }
+    ensures goes_on { result ≡ None → lines.old.answered < lines.new.answered }
     ensures cause { ReadCause result (S.faults input.old) (S.faults input.new) }
     ensures keeps { C.kept command.new ≡ C.kept command.old }
 {
     match lines.next(input) {
         Next::Line(line) => match command.answer(line, out) {
-            Ok(()) => Turn::Answered,
-            Err(fault) => Turn::Refused(lines.number(), fault),
+            Ok(()) => None,
+            Err(fault) => Some(refuse(lines.number(), fault, out)),
         },
         Next::End => match command.finish() {
-            None => Turn::Done,
-            Some(fault) => Turn::Refused(lines.number() + 1, fault),
+            None => Some(Status::Done),
+            Some(fault) => Some(refuse(lines.number() + 1, fault, out)),
         },
-        Next::Long => Turn::Refused(lines.number() + 1, LineFault::Long),
-        Next::TooMany => Turn::TooLong,
-        Next::Failed => Turn::ReadFault,
+        Next::Long => Some(refuse(lines.number() + 1, LineFault::Long, out)),
+        Next::TooMany => Some(Status::TooLong),
+        Next::Failed => Some(Status::ReadFault),
     }
 }
 
-/// Writes what is gathered, and says how the run ends.
+/// Refuses the input by its line `number`, or by its end.
 #[cold]
 #[inline(never)]
-fn conclude<K: Sink>(status: Status, gathered: &mut Gathered, output: &mut K) -> Status
-    requires { status ≢ Status.WriteFault }
-    ensures concludes { Concludes status gathered.old (K.taken output.old) (K.taken output.new) result }
-    ensures cause { WriteCause (Some result) (K.faults output.old) (K.faults output.new) }
-{
-    match gathered.flush(output) {
-        Ok(()) => status,
-        Err(_) => Status::WriteFault,
-    }
-}
-
-/// Writes what is gathered, and the line that refuses the input.
-#[cold]
-#[inline(never)]
-fn refuse<K: Sink>(
-    number: u64,
-    fault: LineFault,
-    out: &mut Text,
-    gathered: &mut Gathered,
-    output: &mut K,
-) -> Status
-    ensures concludes { Concludes Status.BadInput (gathered.old ++ refused_text number fault) (K.taken output.old) (K.taken output.new) result }
-    ensures cause { WriteCause (Some result) (K.faults output.old) (K.faults output.new) }
+fn refuse(number: u64, fault: LineFault, out: &mut Text) -> Status
+    ensures text { out.new ≡ refused_text number fault }
+    ensures status { result ≡ Status.BadInput }
 {
     out.clear();
     refused_line(out, number, fault);
-    match gathered.add(out.octets(), output) {
-        Ok(()) => conclude(Status::BadInput, gathered, output),
-        Err(_) => Status::WriteFault,
-    }
+    Status::BadInput
 }
 
-/// Gathers the answer to a line.
-#[inline(always)]
-fn tell<K: Sink>(out: &mut Text, gathered: &mut Gathered, output: &mut K) -> Option<Status>
-    ensures settles { Settles Turn.Answered gathered.old out.old gathered.new (K.taken output.old) (K.taken output.new) result }
-    ensures empty { result ≡ None → out.new ≡ [] }
-    ensures cause { WriteCause result (K.faults output.old) (K.faults output.new) }
+/// Writes what is gathered and then `out`, and says how the run ends. After a fault of the source nothing is gathered,
+/// since all is written before a reading.
+#[cold]
+#[inline(never)]
+fn conclude<K: Sink>(status: Status, out: &Text, gathered: &mut Gathered, output: &mut K) -> Status
+    ensures concludes { Concludes status (gathered.old ++ out.now) (K.taken output.old) (K.taken output.new) result }
+    ensures cause { (before now : ℕ) → ReadCause (Some status) before now →
+        HasCause result before now (K.faults output.old) (K.faults output.new) × (result ≢ Status.NoMemory) }
 {
-    match gathered.add(out.octets(), output) {
-        Ok(()) => {
-            out.clear();
-            None
-        }
-        Err(_) => Some(Status::WriteFault),
-    }
-}
-
-/// Gathers or writes what a turn came to, and says how the run ends, if it does.
-#[inline(always)]
-fn settle<K: Sink>(
-    turn: Turn,
-    out: &mut Text,
-    gathered: &mut Gathered,
-    output: &mut K,
-) -> Option<Status>
-    ensures settles { Settles turn gathered.old out.old gathered.new (K.taken output.old) (K.taken output.new) result }
-    ensures empty { result ≡ None → out.new ≡ [] }
-    ensures cause { WriteCause result (K.faults output.old) (K.faults output.new) }
-{
-    match turn {
-        Turn::Answered => tell(out, gathered, output),
-        Turn::Refused(number, fault) => Some(refuse(number, fault, out, gathered, output)),
-        Turn::Done => Some(conclude(Status::Done, gathered, output)),
-        Turn::TooLong => Some(conclude(Status::TooLong, gathered, output)),
-        Turn::ReadFault => Some(Status::ReadFault),
+    match status {
+        Status::ReadFault => status,
+        _ => match gathered.give(out.octets(), output) {
+            Ok(()) => status,
+            Err(_) => Status::WriteFault,
+        },
     }
 }
 
@@ -176,10 +120,13 @@ fn serve<C: Command, S: Source, K: Sink>(
             Ok(()) => {}
             Err(_) => return Status::WriteFault,
         }
-        let turn = ask(command, lines, input, &mut out);
-        match settle(turn, &mut out, &mut gathered, output) {
-            Some(status) => return status,
+        match ask(command, lines, input, &mut out) {
+            Some(status) => return conclude(status, &out, &mut gathered, output),
             None => {}
+        }
+        match gathered.add(out.octets(), output) {
+            Ok(()) => out.clear(),
+            Err(_) => return Status::WriteFault,
         }
     }
 }

@@ -93,4 +93,14 @@ impl Gathered {
         self.push(octets);
         Ok(())
     }
+
+    /// Writes what is gathered and then `octets`.
+    pub(crate) fn give<K: Sink>(&mut self, octets: &[u8], output: &mut K) -> Result<(), Failed>
+        requires { length octets.now ≤ 4096 }
+        ensures taken { TakesAll (K.taken output.old) (K.taken output.new) result (self.old ++ octets.now) }
+        ensures counted { Counted result (K.faults output.old) (K.faults output.new) }
+    {
+        self.add(octets, output)?;
+        self.flush(output)
+    }
 }

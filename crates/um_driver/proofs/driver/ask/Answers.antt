@@ -1,32 +1,33 @@
-use Rattle.um_driver.proofs.Comings.{line_answered, line_refused, end_good, end_refused, long_refused, ends_too_long, ends_failed}
+use Rattle.um_driver.proofs.Turns.{line_answered, line_refused, end_good, end_refused, long_refused, ends_too_long, ends_failed}
 use Rattle.um_driver.proofs.driver.ask.Goals as goal
 
 pub returns-in-Ok-clause-comes : goal.returns-in-Ok-clause-comes
 returns-in-Ok-clause-comes g c = λ a left taken taken' gathered before ready.
-    line_answered _ _ _ _ _ _ _ _ _ _ _ before ready _ _ _ (rw c.in-Line.is at c.next.follows.holds-at-none) c.in-Ok.ensures.answered
+    line_answered before ready (rw c.in-Line.is at c.next.follows.holds-at-none) c.in-Ok.ensures.answered
 
 pub returns-in-Err-clause-comes : goal.returns-in-Err-clause-comes
-returns-in-Err-clause-comes g c = λ a left taken taken' gathered before ready.
-    line_refused _ _ _ _ _ _ _ _ _ _ _ before ready _ _ _ _ _ (rw c.in-Line.is at c.next.follows.holds-at-none) c.number.ensures
-    c.in-Err.ensures.answered
+returns-in-Err-clause-comes g c = λ a left taken taken' gathered before ready. rw c.refuse.ensures.status
+    (line_refused before ready (rw c.in-Line.is at c.next.follows.holds-at-none) c.number.ensures c.refuse.ensures.text
+    c.in-Err.ensures.answered)
 
 pub returns-in-None-clause-comes : goal.returns-in-None-clause-comes
 returns-in-None-clause-comes g c = λ a left taken taken' gathered before ready.
-    end_good _ _ _ _ _ _ _ _ _ _ _ before ready _ (rw c.in-End.is at c.next.follows.holds-at-none) c.in-None.is c.finish.ensures
+    end_good before ready (rw c.in-End.is at c.next.follows.holds-at-none) c.in-None.is c.requires c.finish.ensures
 
 pub returns-in-Some-clause-comes : goal.returns-in-Some-clause-comes
-returns-in-Some-clause-comes g c = λ a left taken taken' gathered before ready.
-    end_refused _ _ _ _ _ _ _ _ _ _ _ before ready _ _ _ (rw c.in-End.is at c.next.follows.holds-at-none) c.number-in-Some.ensures
-    c.in-Some.is c.finish.ensures
+returns-in-Some-clause-comes g c = λ a left taken taken' gathered before ready. rw c.refuse-in-Some.ensures.status
+    (end_refused before ready (rw c.in-End.is at c.next.follows.holds-at-none) c.number-in-Some.ensures c.refuse-in-Some.ensures.text
+    c.in-Some.is c.finish.ensures)
 
 pub returns-in-Long-clause-comes : goal.returns-in-Long-clause-comes
-returns-in-Long-clause-comes g c = λ a left taken taken' gathered before ready.
-    long_refused _ _ _ _ _ _ _ _ _ _ _ before ready _ (rw c.in-Long.is at c.next.follows.holds-at-none) c.number-in-Long.ensures
+returns-in-Long-clause-comes g c = λ a left taken taken' gathered before ready. rw c.refuse-in-Long.ensures.status
+    (long_refused before ready (rw c.in-Long.is at c.next.follows.holds-at-none) c.number-in-Long.ensures
+    c.refuse-in-Long.ensures.text)
 
 pub returns-in-TooMany-clause-comes : goal.returns-in-TooMany-clause-comes
 returns-in-TooMany-clause-comes g c = λ a left taken taken' gathered before ready.
-    ends_too_long _ _ _ _ _ _ _ _ _ _ _ before ready (rw c.in-TooMany.is at c.next.follows.holds-at-none)
+    ends_too_long before ready (rw c.in-TooMany.is at c.next.follows.holds-at-none) c.requires
 
 pub returns-in-Failed-clause-comes : goal.returns-in-Failed-clause-comes
 returns-in-Failed-clause-comes g c = λ a left taken taken' gathered before ready.
-    ends_failed _ _ _ _ _ _ _ _ _ _ _ before ready (rw c.in-Failed.is at c.next.follows.holds-at-none)
+    ends_failed before ready (rw c.in-Failed.is at c.next.follows.holds-at-none)

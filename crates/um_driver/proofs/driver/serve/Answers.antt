@@ -1,10 +1,10 @@
 use Rattle.std.proofs.Common.{arith, refl, ◌<◌, ◌∙◌}
-use Rattle.um_driver.proofs.Settling.{underway_cut, way_made, run_ends, run_goes_on, is_answered, kept_by, at_first}
+use Rattle.um_driver.proofs.Settling.{at_first, underway_gathers, underway_cut, run_ends}
 use Rattle.um_driver.proofs.driver.serve.Goals as goal
 
 pub loop-command-init : goal.loop-command-init
 loop-command-init g c = record {
-  underway = rw c.new-gathered.ensures (at_first _ _ _ _ _ _ c.requires.first c.requires.stands);
+  underway = rw c.new-gathered.ensures (at_first c.requires.first c.requires.stands);
   empty = c.new-out.ensures;
   source_kept = refl;
   sink_kept = refl;
@@ -12,37 +12,41 @@ loop-command-init g c = record {
 }
 
 pub returns-in-Err-clause-table : goal.returns-in-Err-clause-table
-returns-in-Err-clause-table g c =
-    underway_cut _ _ _ _ _ _ _ _ _ _ c.loop-command.invariant.underway c.in-Err.ensures.gathers
+returns-in-Err-clause-table g c = underway_cut c.loop-command.invariant.underway c.in-Err.ensures.gathers
 
 pub returns-in-Some-clause-table : goal.returns-in-Some-clause-table
 returns-in-Some-clause-table g c =
-    let way = way_made _ _ _ _ _ _ _ _ _ _ _ _ c.make_way.ensures.kept c.loop-command.invariant.underway c.in-Ok.ensures.gathers in
-    run_ends _ _ _ _ _ _ _ _ _ c.ask-turn.result _ c.ask-turn.new.out c.settle.new.gathered c.in-Some.status
-    (c.ask-turn.ensures.comes _ _ _ _ _ way c.in-Ok.ensures.ready) c.in-Some.ensures.settles
+    let way = underway_gathers c.loop-command.invariant.underway c.in-Ok.ensures.gathers c.make_way.ensures.kept in
+    run_ends _ _ _ c.ask.new.lines _ _ _ _ _ _ c.ask.new.out c.in-Some.status _ (c.in-Some.ensures.comes _ _ _ _ _ way c.in-Ok.ensures.ready)
+    c.conclude.ensures.concludes
+
+pub returns-in-Some-clause-cause : goal.returns-in-Some-clause-cause
+returns-in-Some-clause-cause g c =
+    rw (c.loop-command.invariant.source_kept, c.in-Ok.ensures.counted, c.loop-command.invariant.sink_kept)
+    at (c.conclude.ensures.cause _ _ c.in-Some.ensures.cause).0
+
+pub returns-in-Err-add-clause-table : goal.returns-in-Err-add-clause-table
+returns-in-Err-add-clause-table g c =
+    let way = underway_gathers c.loop-command.invariant.underway c.in-Ok.ensures.gathers c.make_way.ensures.kept in
+    underway_cut (c.in-None.ensures.comes _ _ _ _ _ way c.in-Ok.ensures.ready)
+    (rw c.octets.ensures.value at c.in-Err-add.ensures.gathers)
 
 pub loop-command-preserved : goal.loop-command-preserved
 loop-command-preserved g c =
-    let way = way_made _ _ _ _ _ _ _ _ _ _ _ _ c.make_way.ensures.kept c.loop-command.invariant.underway c.in-Ok.ensures.gathers in
-    let answered = is_answered c.ask-turn.result _ c.ask-turn.new.out c.settle.new.gathered _ _ c.in-None.ensures.settles in
-    let keeps = c.ask-turn.ensures.keeps in
+    let way = underway_gathers c.loop-command.invariant.underway c.in-Ok.ensures.gathers c.make_way.ensures.kept in
     record {
-      underway = run_goes_on _ _ _ _ _ _ _ _ _ c.ask-turn.result _ c.ask-turn.new.out c.settle.new.gathered
-          (c.ask-turn.ensures.comes _ _ _ _ _ way c.in-Ok.ensures.ready) c.in-None.ensures.settles;
-      empty = c.in-None.ensures.empty refl;
-      source_kept = kept_by c.ask-turn.result _ _ answered c.ask-turn.ensures.cause ∙ c.loop-command.invariant.source_kept;
-      sink_kept = c.in-None.ensures.cause ∙ c.in-Ok.ensures.counted ∙ c.loop-command.invariant.sink_kept;
-      keeps = keeps ∙ c.loop-command.invariant.keeps;
+      underway = underway_gathers (c.in-None.ensures.comes _ _ _ _ _ way c.in-Ok.ensures.ready)
+          (rw c.octets.ensures.value at c.in-Ok-add.ensures.gathers) refl;
+      empty = c.clear.ensures;
+      source_kept = c.in-None.ensures.cause ∙ c.loop-command.invariant.source_kept;
+      sink_kept = c.in-Ok-add.ensures.counted ∙ c.in-Ok.ensures.counted ∙ c.loop-command.invariant.sink_kept;
+      keeps = c.in-None.ensures.keeps ∙ c.loop-command.invariant.keeps;
     }
 
 pub loop-command-smaller : goal.loop-command-smaller
 loop-command-smaller g c =
-    let way = way_made _ _ _ _ _ _ _ _ _ _ _ _ c.make_way.ensures.kept c.loop-command.invariant.underway c.in-Ok.ensures.gathers in
-    let rises = c.ask-turn.ensures.goes_on (is_answered c.ask-turn.result _ c.ask-turn.new.out c.settle.new.gathered _ _
-    c.in-None.ensures.settles) in
-    let then = run_goes_on _ _ _ _ _ _ _ _ _ c.ask-turn.result _ c.ask-turn.new.out c.settle.new.gathered
-    (c.ask-turn.ensures.comes _ _ _ _ _ way c.in-Ok.ensures.ready) c.in-None.ensures.settles in
-    let limit = then.valid.limit in
+    let way = underway_gathers c.loop-command.invariant.underway c.in-Ok.ensures.gathers c.make_way.ensures.kept in
+    let limit = (c.in-None.ensures.comes _ _ _ _ _ way c.in-Ok.ensures.ready).valid.limit in
     let kept = c.make_way.ensures.kept in
-    let rises_from : c.loop-command.lines.answered < c.ask-turn.new.lines.answered = rw kept at rises in
-    omega (arith, rises_from, limit)
+    let rises : c.loop-command.lines.answered < c.ask.new.lines.answered = rw kept at (c.in-None.ensures.goes_on refl) in
+    omega (arith, rises, limit)
