@@ -1,11 +1,11 @@
 -- What is known of the values of a line that has a form.
-use Rattle.std.proofs.Common.{◌≡◌, ◌≢◌, ℕ, ◌*◌, ◌/◌, ◌<◌, ◌≤◌, Bool, true, false, ◌&&◌, ◌==◌, not, List, [], ◌∷◌, length, Option, Some, None, refl, sym, ap, ◌∙◌, subst, inl, inr, arith}
-use Rattle.std.specs.List.{All, list_all, AllByRecursion}
+use Rattle.std.proofs.Common.{◌≡◌, ◌≢◌, ℕ, ◌<◌, ◌≤◌, Bool, true, false, List, [], ◌∷◌, length, Option, Some, None, sym, subst, inl, inr, arith}
+use Rattle.std.specs.List.{All, AllByRecursion}
 use Rattle.std.proofs.lemmas.Bool.{and_parts, leb-true}
 use Rattle.std.proofs.lemmas.List.Elements.{All-nil, All-cons}
 use Rattle.bit_blocks.specs.Bits.{AllBits}
-use Rattle.um_lines.specs.Fields.{Field, Fixed, DigitTo, BitDigits, HexOctets, SoftOctets, AnyOctets, BlockPlace, Value, Number, Several, Place, hex_octets, is_within, octet_count, are_octets, Says}
-use Rattle.um_lines.specs.Forms.{Form, Table, fields_for, Fill, IsOf, WordsMean, LineMeans}
+use Rattle.um_lines.specs.Fields.{Field, Fixed, DigitTo, BitDigits, HexOctets, SoftOctets, AnyOctets, BlockPlace, Value, Number, Several, Place, hex_octets, is_within, octet_count, are_octets}
+use Rattle.um_lines.specs.Forms.{Form, Table, fields_for, Fill, IsOf, LineMeans}
 use Rattle.um_lines.specs.Reading.{LineIs}
 use Rattle.um_lines.proofs.HexLists.{hex_octets-small, length-hex_octets}
 

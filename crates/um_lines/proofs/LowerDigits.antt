@@ -1,7 +1,9 @@
 -- The digits of octets, more of them at a time.
-use Rattle.std.proofs.Common.{◌≡◌, ℕ, ◌+◌, ◌*◌, ◌<◌, ◌≤◌, ◌-◌, ◌/◌, ◌%◌, List, [], ◌∷◌, ◌++◌, length, take, set, get_or, zero, suc, refl, ap, ◌∙◌, sym, append_assoc, arith}
+use Rattle.std.proofs.Common.{◌≡◌, ℕ, true, ◌==◌, ◌+◌, ◌*◌, ◌<◌, ◌≤◌, ◌-◌, ◌/◌, ◌%◌, List, [], ◌∷◌, ◌++◌, length, take, set, get_or, zero, suc, refl, ap, ◌∙◌, sym, append_assoc, arith}
 use Rattle.std.proofs.Math.Seq.{take-suc, take-suc-set}
 use Rattle.std.proofs.lemmas.List.{length-set, take-take}
+use Rattle.std.proofs.lemmas.Bool.{eqb-true}
+use Rattle.bit_blocks.proofs.Lemmas.{passes_below, at_passes_below}
 use Rattle.hex.specs.Hex.{encode_with, encode_lower, lower_digits}
 
 pub digits_none : [] ≡ encode_lower []
@@ -63,30 +65,23 @@ digits_before m n octets digits less is =
     ∙ digits_front m lower_digits (take n octets)
     ∙ ap encode_lower (take-take m n octets less)
 
-pub small_digit : (v : ℕ) → v < 10 → 48 + v ≡ get_or lower_digits v 0
-small_digit zero small = refl
-small_digit (suc zero) small = refl
-small_digit (suc (suc zero)) small = refl
-small_digit (suc (suc (suc zero))) small = refl
-small_digit (suc (suc (suc (suc zero)))) small = refl
-small_digit (suc (suc (suc (suc (suc zero))))) small = refl
-small_digit (suc (suc (suc (suc (suc (suc zero)))))) small = refl
-small_digit (suc (suc (suc (suc (suc (suc (suc zero))))))) small = refl
-small_digit (suc (suc (suc (suc (suc (suc (suc (suc zero)))))))) small = refl
-small_digit (suc (suc (suc (suc (suc (suc (suc (suc (suc zero))))))))) small = refl
-small_digit (suc (suc (suc (suc (suc (suc (suc (suc (suc (suc n)))))))))) small = absurd (omega arith)
+-- ---- one digit
 
-letter : (k : ℕ) → k < 6 → 97 + k ≡ get_or lower_digits (10 + k) 0
-letter zero small = refl
-letter (suc zero) small = refl
-letter (suc (suc zero)) small = refl
-letter (suc (suc (suc zero))) small = refl
-letter (suc (suc (suc (suc zero)))) small = refl
-letter (suc (suc (suc (suc (suc zero))))) small = refl
-letter (suc (suc (suc (suc (suc (suc n)))))) small = absurd (omega arith)
+are_small : passes_below (λ v. 48 + v == get_or lower_digits v 0) 10 ≡ true
+unfolding passes_below
+are_small = refl
+
+pub small_digit : (v : ℕ) → v < 10 → 48 + v ≡ get_or lower_digits v 0
+small_digit v small = eqb-true _ _ (at_passes_below (λ v. 48 + v == get_or lower_digits v 0) 10 are_small v small)
+
+are_letters : passes_below (λ k. 97 + k == get_or lower_digits (10 + k) 0) 6 ≡ true
+unfolding passes_below
+are_letters = refl
 
 pub large_digit : (v : ℕ) → 10 ≤ v → v < 16 → 87 + v ≡ get_or lower_digits v 0
 large_digit v least small =
     let whole : 10 + (v - 10) ≡ v = omega arith in
     let sum : 87 + v ≡ 97 + (v - 10) = omega arith in
-    sum ∙ letter (v - 10) (omega arith) ∙ ap (λ k. get_or lower_digits k 0) whole
+    sum
+    ∙ eqb-true _ _ (at_passes_below (λ k. 97 + k == get_or lower_digits (10 + k) 0) 6 are_letters (v - 10) (omega arith))
+    ∙ ap (λ k. get_or lower_digits k 0) whole

@@ -1,21 +1,19 @@
 -- A line that is written of values means these values.
-use Rattle.std.proofs.Common.{append-nil, ◌≡◌, ◌≢◌, ℕ, zero, suc, ◌+◌, ◌-◌, ◌*◌, ◌/◌, ◌%◌, ◌<◌, ◌≤◌, ◌==◌, Bool, true, false, ◌&&◌, ◌||◌, not, List, [], ◌∷◌, ◌++◌, length, slice_index, Option, Some, None, unwrap_or, codes, cond, refl, sym, ap, ◌∙◌, subst, inl, inr, arith, ◌^◌}
+use Rattle.std.proofs.Common.{append-nil, ◌≡◌, ◌≢◌, ℕ, ◌+◌, ◌*◌, ◌/◌, ◌%◌, ◌<◌, ◌≤◌, ◌==◌, Bool, true, false, ◌&&◌, ◌||◌, not, List, [], ◌∷◌, length, slice_index, Option, Some, None, codes, refl, sym, ap, ◌∙◌, subst, arith}
 use Rattle.std.specs.Fmt.{decimal}
 use Rattle.std.specs.List.{All, list_all, AllByRecursion, join_with_byte}
 use Rattle.std.specs.Str.{bytes_eq, all_ascii_digits}
-use Rattle.std.proofs.lemmas.Bool.{and_parts, eq-eqb, eqb-true, le-leb}
+use Rattle.std.proofs.lemmas.Bool.{and_parts, eq-eqb, le-leb}
 use Rattle.std.proofs.lemmas.Bool.Decides.{nat_tests}
-use Rattle.std.proofs.lemmas.List.{length-map}
 use Rattle.std.proofs.lemmas.List.Elements.{All-nil, All-cons, All-head, All-tail, All-append}
 use Rattle.hex.specs.Hex.{encode_with, encode_lower, lower_digits, hex_digit_value, is_hex_digit}
 use Rattle.hex.proofs.HexLemmas.{IsDigits-lower_digits, length-encode_with}
-use Rattle.bit_blocks.specs.Bits.{AllBits}
-use Rattle.um_lines.specs.Words.{IsNoSpace, is_skipped, words}
-use Rattle.um_lines.specs.Fields.{Field, Fixed, DigitTo, BitDigits, HexOctets, SoftOctets, AnyOctets, BlockPlace, Value, Number, Several, Place, bit_digits, hex_octets, digit_value, is_within, octet_count, are_octets, are_octet_digits}
-use Rattle.um_lines.specs.Forms.{Form, Just, Table, fields_for, Fill, IsOf, WordsMean, LineMeans, AreDistinct, places}
+use Rattle.um_lines.specs.Words.{is_skipped, words}
+use Rattle.um_lines.specs.Fields.{Field, Fixed, DigitTo, BitDigits, HexOctets, SoftOctets, AnyOctets, BlockPlace, Value, Number, Several, Place, bit_digits, hex_octets, is_within, octet_count, are_octets, are_octet_digits}
+use Rattle.um_lines.specs.Forms.{Just, Table, Fill, IsOf, LineMeans, AreDistinct, places}
 use Rattle.um_lines.specs.Spelled.{octets_word, spelled, spelled_line}
 use Rattle.um_lines.proofs.FieldLaws.{decimal_digits}
-use Rattle.um_lines.proofs.KnownValues.{Fitting, AreOctets, AreWithin}
+use Rattle.um_lines.proofs.KnownValues.{Fitting, AreWithin}
 use Rattle.um_lines.proofs.WordLists.{words-join}
 
 by_recursion : (P : ℕ → Type 0) (ns : List ℕ) → All P ns → AllByRecursion P ns

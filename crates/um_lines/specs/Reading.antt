@@ -1,6 +1,6 @@
 -- What a command makes of its lines (this project's own rule): of a line that is passed over, and of the name and the values of any
 -- other.
-use Rattle.std.specs.Prelude.{ℕ, ◌≡◌, Bool, List, Option, Result}
+use Rattle.std.specs.Prelude.{ℕ, Bool, List, Option, Result}
 use Rattle.um_lines.specs.declared.fault.LineFault.{LineFault}
 use Rattle.um_lines.specs.Fields.{Value}
 use Rattle.um_lines.specs.Forms.{Table, LineMeans, form_of, form_fault, entry_says, unless}

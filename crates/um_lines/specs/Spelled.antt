@@ -3,7 +3,7 @@ use Rattle.std.specs.Prelude.{ℕ, ◌+◌, List, [], ◌∷◌, codes}
 use Rattle.std.specs.Fmt.{decimal}
 use Rattle.std.specs.List.{join_with_byte}
 use Rattle.hex.specs.Hex.{encode_lower}
-use Rattle.um_lines.specs.Fields.{Field, Fixed, DigitTo, BitDigits, HexOctets, SoftOctets, AnyOctets, BlockPlace, Value, Number, Several, Place, bit_digits}
+use Rattle.um_lines.specs.Fields.{Field, Fixed, BitDigits, AnyOctets, Value, Number, Several, Place, bit_digits}
 
 -- octets as a word: `-` for none, or two hexadecimal digits for each, in lower case
 abbrev pub octets_word : List ℕ → List ℕ

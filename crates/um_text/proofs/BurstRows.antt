@@ -1,19 +1,5 @@
 -- The bursts that are held in a row of four.
-use Rattle.std.proofs.Common.{◌≡◌, ℕ, ℤ, pos, ◌≤◌, List, [], ◌∷◌, ◌++◌, length, take, replicate, set, refl, sym, subst, arith}
-use Rattle.std.specs.List.{All}
-use Rattle.std.proofs.lemmas.Int.{ints}
-use Rattle.std.proofs.lemmas.List.Elements.{All-nil, All-cons, All-replicate}
-use Rattle.bit_blocks.specs.SoftValues.{IsSoft, AllSoft}
-
--- values of 0 are soft values
-pub AllSoft-zeros : (n : ℕ) → AllSoft (replicate n (pos 0))
-AllSoft-zeros n = All-replicate IsSoft n (pos 0) (omega (arith, ints), omega (arith, ints))
-
-pub four_of_zeros : (zeros : List ℤ) → AllSoft zeros → All AllSoft (zeros ∷ zeros ∷ zeros ∷ zeros ∷ [])
-four_of_zeros zeros soft =
-    All-cons AllSoft zeros (zeros ∷ zeros ∷ zeros ∷ []) soft
-    (All-cons AllSoft zeros (zeros ∷ zeros ∷ []) soft
-    (All-cons AllSoft zeros (zeros ∷ []) soft (All-cons AllSoft zeros [] soft (All-nil AllSoft))))
+use Rattle.std.proofs.Common.{◌≡◌, ℕ, ℤ, ◌≤◌, List, [], ◌∷◌, ◌++◌, length, take, set, refl, sym, subst, arith}
 
 -- the fourth of four is put behind the first three
 pub fourth_set : (bursts : List (List ℤ)) (burst : List ℤ) (held : ℕ) → length bursts ≡ 4 → held ≤ 3 → 3 ≤ held →

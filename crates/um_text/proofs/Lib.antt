@@ -3,14 +3,11 @@ pub mod BurstRows
 pub mod CodeLaws
 pub mod DigitWords
 pub mod OtherBursts
-pub mod PackedOctets
 pub mod ReportLaws
 pub mod ShowLaws
 pub mod ShowWords
 pub mod SoftLists
-pub mod WorkedBursts
 pub mod WorkedLines
-pub mod WorkedShow
 pub mod WrittenBursts
 pub mod ShowFaults
 pub mod ShowFields

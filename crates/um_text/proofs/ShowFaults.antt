@@ -12,7 +12,7 @@ use Rattle.um_lines.specs.ShowForms.{numbered, frame_form}
 use Rattle.um_lines.specs.Forms.{fields_of}
 use Rattle.um_text.specs.declared.frame_words.FrameWords.{FrameWords}
 use Rattle.um_text.specs.declared.frame_words.Fields.{Fields}
-use Rattle.um_text.specs.declared.frame_words.Fields.TheVariants.{I, Rr, Rnr, Rej, Sabm, Dm, Ui, Disc, Ua}
+use Rattle.um_text.specs.declared.frame_words.Fields.TheVariants.{I}
 use Rattle.um_text.specs.declared.show.ShowLine.TheVariants as S
 use Rattle.um_text.specs.ShowLines.{said_frame, shown, read_show}
 use Rattle.um_text.specs.ShowReading.{has_fields, begins_named, is_named, kind_word, kind_form, kind_of, name_of, field_words, line_words, line_fields}
@@ -47,53 +47,18 @@ parts_of sapi cr fields = codes "frame" ∷ codes "sapi" ∷ sapi ∷ codes "cr"
 abbrev places_of : Fields → List Field
 places_of fields = fields_of (frame_form (kind_word (kind_of fields)) (kind_form (kind_of fields)))
 
--- the words of fields have the form of their kind
-read_parts : (sapi cr : List ℕ) (fields : Fields) → read_show (parts_of sapi cr fields)
-    ≡ unless (fields_fault (places_of fields) (parts_of sapi cr fields))
-    (shown (said_frame (name_of (kind_of fields)) (values_of (places_of fields) (parts_of sapi cr fields))))
-read_parts sapi cr (I ns nr p m info) = refl
-read_parts sapi cr (Rr nr pf) = refl
-read_parts sapi cr (Rnr nr pf) = refl
-read_parts sapi cr (Rej nr pf) = refl
-read_parts sapi cr (Sabm p info) = refl
-read_parts sapi cr (Dm f) = refl
-read_parts sapi cr (Ui p info) = refl
-read_parts sapi cr (Disc p) = refl
-read_parts sapi cr (Ua f info) = refl
+-- the words of fields have the form of their kind, and none is a soft value or a place
+record AreRead (sapi cr : List ℕ) (fields : Fields) : Type 0 where
+  pub read : read_show (parts_of sapi cr fields)
+      ≡ unless (fields_fault (places_of fields) (parts_of sapi cr fields))
+      (shown (said_frame (name_of (kind_of fields)) (values_of (places_of fields) (parts_of sapi cr fields))))
+  pub soft : some_word has_wrong_soft (places_of fields) (parts_of sapi cr fields) ≡ false
+  pub place : some_word has_wrong_place (places_of fields) (parts_of sapi cr fields) ≡ false
+  pub once : places (values_of (places_of fields) (parts_of sapi cr fields)) ≡ []
 
--- no word of a frame is a soft value or a place
-no_soft : (sapi cr : List ℕ) (fields : Fields) → some_word has_wrong_soft (places_of fields) (parts_of sapi cr fields) ≡ false
-no_soft sapi cr (I ns nr p m info) = refl
-no_soft sapi cr (Rr nr pf) = refl
-no_soft sapi cr (Rnr nr pf) = refl
-no_soft sapi cr (Rej nr pf) = refl
-no_soft sapi cr (Sabm p info) = refl
-no_soft sapi cr (Dm f) = refl
-no_soft sapi cr (Ui p info) = refl
-no_soft sapi cr (Disc p) = refl
-no_soft sapi cr (Ua f info) = refl
-
-no_place : (sapi cr : List ℕ) (fields : Fields) → some_word has_wrong_place (places_of fields) (parts_of sapi cr fields) ≡ false
-no_place sapi cr (I ns nr p m info) = refl
-no_place sapi cr (Rr nr pf) = refl
-no_place sapi cr (Rnr nr pf) = refl
-no_place sapi cr (Rej nr pf) = refl
-no_place sapi cr (Sabm p info) = refl
-no_place sapi cr (Dm f) = refl
-no_place sapi cr (Ui p info) = refl
-no_place sapi cr (Disc p) = refl
-no_place sapi cr (Ua f info) = refl
-
-no_places : (sapi cr : List ℕ) (fields : Fields) → places (values_of (places_of fields) (parts_of sapi cr fields)) ≡ []
-no_places sapi cr (I ns nr p m info) = refl
-no_places sapi cr (Rr nr pf) = refl
-no_places sapi cr (Rnr nr pf) = refl
-no_places sapi cr (Rej nr pf) = refl
-no_places sapi cr (Sabm p info) = refl
-no_places sapi cr (Dm f) = refl
-no_places sapi cr (Ui p info) = refl
-no_places sapi cr (Disc p) = refl
-no_places sapi cr (Ua f info) = refl
+are_read : (sapi cr : List ℕ) (fields : Fields) → AreRead sapi cr fields
+are_read sapi cr (I ns nr p m info) = record { read = refl; soft = refl; place = refl; once = refl }
+are_read sapi cr fields = record { read = refl; soft = refl; place = refl; once = refl }
 
 module _ (parts : List (List ℕ)) (w : FrameWords) (e : parts ≡ line_words w) where
   abbrev read_as : Option LineFault → Type 0
@@ -103,7 +68,7 @@ module _ (parts : List (List ℕ)) (w : FrameWords) (e : parts ≡ line_words w)
   reason : (fault : Option LineFault) → fields_fault (line_fields w) (line_words w) ≡ fault → read_as fault
   reason fault is =
       ap read_show e
-      ∙ read_parts w.sapi.now w.cr.now w.fields
+      ∙ (are_read w.sapi.now w.cr.now w.fields).read
       ∙ ap (λ f. unless f (shown (said_frame (name_of (kind_of w.fields)) (values_of (line_fields w) (line_words w))))) is
 
   pub refused_for_digits : some_word has_wrong_digits (line_fields w) (line_words w) ≡ true → Err Digits ≡ read_show parts
@@ -118,15 +83,8 @@ module _ (parts : List (List ℕ)) (w : FrameWords) (e : parts ≡ line_words w)
       → said_frame (name_of (kind_of w.fields)) (values_of (line_fields w) (line_words w)) ≡ Some f
       → Ok (S.Frame (octets_of Sdcch f)) ≡ read_show parts
   read_frame f right many said =
-      let good : fields_fault (line_fields w) (line_words w) ≡ None =
-      rw (
-        right,
-        many,
-        no_soft w.sapi.now w.cr.now w.fields,
-        no_place w.sapi.now w.cr.now w.fields,
-        no_places w.sapi.now w.cr.now
-            w.fields,
-      ) refl in
+      let plain = are_read w.sapi.now w.cr.now w.fields in
+      let good : fields_fault (line_fields w) (line_words w) ≡ None = rw (right, many, plain.soft, plain.place, plain.once) refl in
       sym (reason None good ∙ ap (λ o. Ok (shown o)) said)
 
 -- words behind `i` in which `m`, or `info`, does not stand where it is to stand

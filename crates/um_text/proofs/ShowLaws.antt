@@ -103,15 +103,7 @@ said_fits line name values f means is = go name values is (known line (Some (nam
     go : (name : ShowName) (values : List Value) → said_frame name values ≡ Some f → IsKnown (show_of name values, said_frame name values)
         → Fits Sdcch f
     go F.Octets values is k = absurd cc
-    go F.I values is k = frames (show_of F.I values) (said_frame F.I values) is refl k
-    go F.Rr values is k = frames (show_of F.Rr values) (said_frame F.Rr values) is refl k
-    go F.Rnr values is k = frames (show_of F.Rnr values) (said_frame F.Rnr values) is refl k
-    go F.Rej values is k = frames (show_of F.Rej values) (said_frame F.Rej values) is refl k
-    go F.Sabm values is k = frames (show_of F.Sabm values) (said_frame F.Sabm values) is refl k
-    go F.Dm values is k = frames (show_of F.Dm values) (said_frame F.Dm values) is refl k
-    go F.Ui values is k = frames (show_of F.Ui values) (said_frame F.Ui values) is refl k
-    go F.Disc values is k = frames (show_of F.Disc values) (said_frame F.Disc values) is refl k
-    go F.Ua values is k = frames (show_of F.Ua values) (said_frame F.Ua values) is refl k
+    go name values is k = frames (show_of name values) (said_frame name values) is refl k
 
 -- and the octets that a line asks for are 23
 pub shown_octets : (line octets : List ℕ) → ShowMeans line (S.Octets octets) → length octets ≡ 23

@@ -1,93 +1,94 @@
--- Lines that were judged by hand, and what the definitions say of them.
-use Rattle.std.proofs.Common.{◌≡◌, ◌∷◌, [], Some, None, refl, codes, replicate}
-use Rattle.um_lines.specs.declared.fault.LineFault.TheVariants.{Long, Word, Digits, Length}
-use Rattle.um_lines.specs.Words.{words}
-use Rattle.um_lines.specs.Fields.{hex_octets}
-use Rattle.um_text.specs.CodeLines.{code_fault}
+-- Frames, octets and soft values that were read by hand, and what the definitions say of them.
+use Rattle.std.proofs.Common.{◌≡◌, ◌<◌, pos, negsuc, true, false, List, [], ◌∷◌, ◌++◌, Some, refl, codes, replicate, take, drop, inl, inr, arith}
+use Rattle.hex.specs.Hex.{encode_with, encode_lower}
+use Rattle.lapdm_frame.specs.declared.Channel.TheVariants.{Sdcch}
+use Rattle.lapdm_frame.specs.declared.Refusal.{Refusal}
+use Rattle.lapdm_frame.specs.declared.Refusal.TheVariants.{Lpd, Ea}
+use Rattle.lapdm_frame.specs.Content.{I, Rnr, Ui, Frame}
+use Rattle.lapdm_frame.specs.Refusals.{AppliesTo, place, IsRefused}
+use Rattle.bit_blocks.specs.Octets.{octets_of}
+use Rattle.um_block.specs.Received.{softened}
+use Rattle.um_lines.specs.Fields.{hex_octets, Value, Number, Several}
+use Rattle.um_lines.specs.Forms.{line_says}
+use Rattle.um_lines.specs.ShowForms as N
+use Rattle.um_lines.specs.ShowForms.{show_forms}
+use Rattle.um_text.specs.FrameTexts.{frame_text, IsFrameText}
+use Rattle.um_text.specs.ShowLines.{said_frame}
+use Rattle.um_text.specs.SoftOctets.{signed_octets}
 
-too_few_digits : code_fault (codes "rach 0000000 000000") ≡ Some Length
-too_few_digits = refl
+-- a frame with information, both ways
+asked : Frame
+asked = record { sapi = 0; cr = false; content = I 5 2 true false (6 ∷ 1 ∷ []) }
 
-other_character_before_length : code_fault (codes "rach 0000000x 000000") ≡ Some Digits
-other_character_before_length = refl
+asked_text : frame_text asked ≡ codes "frame sapi 0 cr 0 i ns 5 nr 2 p 1 m 0 info 0601\n"
+unfolding asked encode_with
+asked_text = refl
 
-other_character_in_the_second_word : code_fault (codes "rach 0000000 00000x") ≡ Some Digits
-other_character_in_the_second_word = refl
+abbrev asked_values : List Value
+asked_values = Number 0 ∷ Number 0 ∷ Number 5 ∷ Number 2 ∷ Number 1 ∷ Number 0 ∷ Several (6 ∷ 1 ∷ []) ∷ []
 
-digit_two : code_fault (codes "rach 2 0") ≡ Some Digits
-digit_two = refl
+asked_says : line_says show_forms (codes "frame sapi 0 cr 0 i ns 5 nr 2 p 1 m 0 info 0601") ≡ Some (N.I, asked_values)
+asked_says = refl
 
-number_above_seven : code_fault (codes "block 8 0000000000000000000000000000000000000000000000") ≡ Some Digits
-number_above_seven = refl
+asked_said : said_frame N.I asked_values ≡ Some asked
+unfolding asked
+asked_said = refl
 
-number_before_length : code_fault (codes "block 8 00") ≡ Some Digits
-number_before_length = refl
+asked_octets : hex_octets (codes "0601") ≡ 6 ∷ 1 ∷ []
+asked_octets = refl
 
-number_of_two_digits : code_fault (codes "block 07 0000000000000000000000000000000000000000000000") ≡ Some Digits
-number_of_two_digits = refl
+-- 23 octets with other fill are written as their frame
+other_fill : IsFrameText (3 ∷ 3 ∷ 1 ∷ replicate 20 255) (codes "frame sapi 0 cr 1 ui p 0 info -\n")
+other_fill = inl (
+  record { sapi = 0; cr = true; content = Ui false [] },
+  record {
+    count = refl;
+    fits = record { sapi = omega arith; numbers = tt; information = omega arith };
+    at_address = refl;
+    at_control = refl;
+    at_length = refl;
+    at_information = refl;
+  },
+  refl,
+)
 
-empty_number : code_fault (codes "block  0000000000000000000000000000000000000000000000") ≡ Some Digits
-empty_number = refl
+not_ready : IsFrameText (3 ∷ 0x75 ∷ 1 ∷ replicate 20 0x2b) (codes "frame sapi 0 cr 1 rnr nr 3 pf 1\n")
+not_ready = inl (
+  record { sapi = 0; cr = true; content = Rnr 3 true },
+  record {
+    count = refl;
+    fits = record { sapi = omega arith; numbers = omega arith; information = omega arith };
+    at_address = refl;
+    at_control = refl;
+    at_length = refl;
+    at_information = refl;
+  },
+  refl,
+)
 
-other_hexadecimal_digit : code_fault (codes "block 7 aGaGaGaGaGaGaGaGaGaGaGaGaGaGaGaGaGaGaGaGaGaGaG") ≡ Some Digits
-other_hexadecimal_digit = refl
+-- zeros are no frame, since the address field goes on
+zeros_refused : IsRefused Sdcch (replicate 23 0) Ea
+zeros_refused = record { applies = refl; first = earlier }
+  where
+    earlier : (reason : Refusal) → place reason < 1 → ¬ AppliesTo Sdcch (replicate 23 0) reason
+    earlier Lpd before applies = omega arith
+    earlier reason before applies = omega arith
 
-minus_for_octets : code_fault (codes "block 7 -") ≡ Some Digits
-minus_for_octets = refl
+zeros_text : IsFrameText (replicate 23 0) (codes "unread ea\n")
+zeros_text = inr (Ea, zeros_refused, refl)
 
-empty_bits : code_fault (codes "rach  000000") ≡ Some Length
-empty_bits = refl
+-- the words of the data and of the check of a block of zeros, whose parity is 40 ones
+zeros_data : encode_lower (octets_of (take 184 (replicate 184 0 ++ replicate 40 1 ++ replicate 4 0)))
+    ≡ codes "0000000000000000000000000000000000000000000000"
+unfolding encode_with
+zeros_data = refl
 
-odd_number_of_digits : code_fault (codes "block 7 000000000000000000000000000000000000000000000") ≡ Some Length
-odd_number_of_digits = refl
+zeros_check : encode_lower (octets_of (take 40 (drop 184 (replicate 184 0 ++ replicate 40 1 ++ replicate 4 0)))) ≡ codes "ffffffffff"
+unfolding encode_with
+zeros_check = refl
 
-too_many_digits : code_fault (codes "sch 00000000000000000000000000") ≡ Some Length
-too_many_digits = refl
+signed : signed_octets (hex_octets (codes "007F81ff80")) ≡ pos 0 ∷ pos 127 ∷ negsuc 126 ∷ negsuc 0 ∷ negsuc 127 ∷ []
+signed = refl
 
-no_command : code_fault (codes "foo") ≡ Some Word
-no_command = refl
-
-other_case : code_fault (codes "Block 7 0000000000000000000000000000000000000000000000") ≡ Some Word
-other_case = refl
-
-word_too_few : code_fault (codes "rach 00000000") ≡ Some Word
-word_too_few = refl
-
-doubled_space : code_fault (codes "block 0  0000000000000000000000000000000000000000000000") ≡ Some Word
-doubled_space = refl
-
-space_at_the_end : code_fault (codes "sch 0000000000000000000000000 ") ≡ Some Word
-space_at_the_end = refl
-
-space_before_comment : code_fault (codes " #") ≡ Some Word
-space_before_comment = refl
-
-empty_line : code_fault (codes "") ≡ None
-empty_line = refl
-
-comment : code_fault (codes "# a") ≡ None
-comment = refl
-
-block : code_fault (codes "block 7 aAaAaAaAaAaAaAaAaAaAaAaAaAaAaAaAaAaAaAaAaAaAaA") ≡ None
-block = refl
-
-rach : code_fault (codes "rach 00000000 000000") ≡ None
-rach = refl
-
-sch : code_fault (codes "sch 0000000000000000000000000") ≡ None
-sch = refl
-
-carriage_return : code_fault (codes "rach 00000000 00000\r") ≡ Some Digits
-carriage_return = refl
-
-long_comment : code_fault (replicate 4097 35) ≡ Some Long
-long_comment = refl
-
-longest_comment : code_fault (replicate 4096 35) ≡ None
-longest_comment = refl
-
-empty_words : words (codes " a  b") ≡ [] ∷ codes "a" ∷ [] ∷ codes "b" ∷ []
-empty_words = refl
-
-both_cases : hex_octets (codes "2b0FfA") ≡ 43 ∷ 15 ∷ 250 ∷ []
-both_cases = refl
+sure : softened (0 ∷ 1 ∷ []) ≡ pos 127 ∷ negsuc 126 ∷ []
+sure = refl

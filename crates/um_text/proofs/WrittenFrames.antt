@@ -1,5 +1,5 @@
 -- What `show` writes of frames and of octets, and that each is read back.
-use Rattle.std.proofs.Common.{◌≡◌, ℕ, ◌<◌, ◌≤◌, Bool, true, false, List, [], ◌∷◌, ◌++◌, length, Option, Some, None, codes, refl, sym, ◌∙◌, subst, inl, inr, arith}
+use Rattle.std.proofs.Common.{◌≡◌, ℕ, ◌<◌, ◌≤◌, Bool, true, false, List, [], ◌∷◌, ◌++◌, length, Option, Some, None, codes, refl, ap, rules, sym, ◌∙◌, subst, inl, arith}
 use Rattle.std.specs.List.{All}
 use Rattle.std.proofs.lemmas.List.{append_cancel_right}
 use Rattle.hex.specs.Hex.{encode_lower}
@@ -7,7 +7,6 @@ use Rattle.lapdm_frame.specs.declared.Channel.TheVariants.{Sdcch}
 use Rattle.lapdm_frame.specs.Content.{Content, I, Rr, Rnr, Rej, Sabm, Dm, Ui, Disc, Ua, Frame, information}
 use Rattle.lapdm_frame.specs.Frames.{bit, NumbersFit, InformationFits, Fits, IsFrame, IsCanonical, octets_of}
 use Rattle.lapdm_frame.proofs.Canonical.{same_canonical, octets_canonical}
-use Rattle.um_lines.specs.Words.{is_skipped}
 use Rattle.um_lines.specs.Fields.{Field, Fixed, HexOctets, Value, Number, Several}
 use Rattle.um_lines.specs.Forms.{Just, IsOf, LineMeans, AreDistinct, places, anywhere}
 use Rattle.um_lines.specs.ShowForms as F
@@ -18,6 +17,9 @@ use Rattle.um_lines.proofs.SpelledLaws.{length-encode_lower, spelled_uncut, spel
 use Rattle.um_text.specs.declared.show.ShowLine.TheVariants as S
 use Rattle.um_text.specs.FrameTexts.{frame_text, octets_text, IsFrameText}
 use Rattle.um_text.specs.ShowLines.{is_set, said_frame, shown, show_of, ShowMeans}
+use Rattle.um_text.specs.declared.frame_words.Kind.{Kind}
+use Rattle.um_text.specs.declared.frame_words.Kind.TheVariants as K
+use Rattle.um_text.specs.ShowReading.{kind_word, kind_form, name_of}
 use Rattle.um_text.specs.WrittenBursts.{IsWholeLine}
 use Rattle.um_text.proofs.ReportLaws.{one_frame_text}
 use Rattle.um_text.proofs.ShowLaws.{said_fits}
@@ -35,260 +37,90 @@ length-octets_word (octet ∷ octets) few = omega (arith, length-encode_lower (o
 
 -- ---- the words of a frame are those of its values
 
-abbrev fields : List ℕ → List Field → List Field
-fields kind rest = F.named (codes "sapi") 7 (F.named (codes "cr") 1 (Fixed kind ∷ rest))
+-- the kind of what a frame says, and its values behind those of the address
+abbrev row : Content → Kind × List Value
+row (I ns nr p more info) = (K.I, Number ns ∷ Number nr ∷ Number (bit p) ∷ Number (bit more) ∷ Several info ∷ [])
+row (Rr nr pf) = (K.Rr, Number nr ∷ Number (bit pf) ∷ [])
+row (Rnr nr pf) = (K.Rnr, Number nr ∷ Number (bit pf) ∷ [])
+row (Rej nr pf) = (K.Rej, Number nr ∷ Number (bit pf) ∷ [])
+row (Sabm p info) = (K.Sabm, Number (bit p) ∷ Several info ∷ [])
+row (Dm f) = (K.Dm, Number (bit f) ∷ [])
+row (Ui p info) = (K.Ui, Number (bit p) ∷ Several info ∷ [])
+row (Disc p) = (K.Disc, Number (bit p) ∷ [])
+row (Ua f info) = (K.Ua, Number (bit f) ∷ Several info ∷ [])
 
--- a frame's text is the line of a form and of its values, which say the frame
-record IsWritten (f : Frame) : Type 0 where
-  pub name : ShowName
-  pub rest : List Field
-  pub values : List Value
-  pub of_table : IsOf show_forms (name, Just (Fixed (codes "frame") ∷ rest))
-  pub says : said_frame name values ≡ Some f
-  pub shows : S.Frame (octets_of Sdcch f) ≡ show_of name values
-  pub text : frame_text f ≡ spelled_line (Fixed (codes "frame") ∷ rest) values ++ codes "\n"
-  pub fits : Fitting (Fixed (codes "frame") ∷ rest) values
-  pub once : AreDistinct (places values)
-  pub spaceless : lack 32 (omega arith) (Fixed (codes "frame") ∷ rest) ≡ true
-  pub uncut : lack 10 (omega arith) (Fixed (codes "frame") ∷ rest) ≡ true
-  pub few : length (spelled_line (Fixed (codes "frame") ∷ rest) values) ≤ 100
-  pub stays : is_skipped (spelled_line (Fixed (codes "frame") ∷ rest) values) ≡ false
+-- its form and its values
+abbrev name : Content → ShowName
+name content = name_of (row content).0
+
+abbrev fields : Content → List Field
+fields content = F.named (codes "sapi") 7 (F.named (codes "cr") 1 (Fixed (kind_word (row content).0) ∷ kind_form (row content).0))
+
+abbrev values : ℕ → Bool → Content → List Value
+values s cr content = Number s ∷ Number (bit cr) ∷ (row content).1
+
+abbrev written : ℕ → Bool → Content → List ℕ
+written s cr content = spelled_line (Fixed (codes "frame") ∷ fields content) (values s cr content)
 
 set_bit : (b : Bool) → is_set (bit b) ≡ b
 set_bit false = refl
 set_bit true = refl
 
-is_written : (s : ℕ) (cr : Bool) (content : Content) → s ≤ 7 → NumbersFit content → InformationFits Sdcch content
-    → Small (information content)
-    → IsWritten (record { sapi = s; cr = cr; content = content })
-is_written s cr (I ns nr p more info) small numbers many octets = record {
-  name = F.I;
-  rest = fields (codes "i") F.numbered;
-  values = Number s ∷ Number (bit cr) ∷ Number ns ∷ Number nr ∷ Number (bit p) ∷ Number (bit more) ∷ Several info ∷ [];
-  of_table = inr (inl refl);
-  says = rw (set_bit cr, set_bit p, set_bit more) refl;
-  shows = rw (set_bit cr, set_bit p, set_bit more) refl;
-  text = refl;
-  fits = (
-    s,
-    _,
-    refl,
-    small,
-    (
-      bit cr,
-      _,
-      refl,
-      bit_small cr,
-      (
-        ns,
-        _,
-        refl,
-        numbers.0,
-        (
-          nr,
-          _,
-          refl,
-          numbers.1,
-          (bit p, _, refl, bit_small p, (bit more, _, refl, bit_small more, (info, _, refl, (many.0, many.1, octets), refl))),
-        ),
-      ),
-    ),
-  );
-  once = tt;
-  spaceless = refl;
-  uncut = refl;
-  few = omega (arith, length-octets_word info many.1);
-  stays = refl;
-}
-is_written s cr (Rr nr pf) small numbers many octets = record {
-  name = F.Rr;
-  rest = fields (codes "rr") F.supervisory;
-  values = Number s ∷ Number (bit cr) ∷ Number nr ∷ Number (bit pf) ∷ [];
-  of_table = inr (inr (inl refl));
-  says = rw (set_bit cr, set_bit pf) refl;
-  shows = rw (set_bit cr, set_bit pf) refl;
-  text = refl;
-  fits = (s, _, refl, small, (bit cr, _, refl, bit_small cr, (nr, _, refl, numbers, (bit pf, _, refl, bit_small pf, refl))));
-  once = tt;
-  spaceless = refl;
-  uncut = refl;
-  few = omega arith;
-  stays = refl;
-}
-is_written s cr (Rnr nr pf) small numbers many octets = record {
-  name = F.Rnr;
-  rest = fields (codes "rnr") F.supervisory;
-  values = Number s ∷ Number (bit cr) ∷ Number nr ∷ Number (bit pf) ∷ [];
-  of_table = inr (inr (inr (inl refl)));
-  says = rw (set_bit cr, set_bit pf) refl;
-  shows = rw (set_bit cr, set_bit pf) refl;
-  text = refl;
-  fits = (s, _, refl, small, (bit cr, _, refl, bit_small cr, (nr, _, refl, numbers, (bit pf, _, refl, bit_small pf, refl))));
-  once = tt;
-  spaceless = refl;
-  uncut = refl;
-  few = omega arith;
-  stays = refl;
-}
-is_written s cr (Rej nr pf) small numbers many octets = record {
-  name = F.Rej;
-  rest = fields (codes "rej") F.supervisory;
-  values = Number s ∷ Number (bit cr) ∷ Number nr ∷ Number (bit pf) ∷ [];
-  of_table = inr (inr (inr (inr (inl refl))));
-  says = rw (set_bit cr, set_bit pf) refl;
-  shows = rw (set_bit cr, set_bit pf) refl;
-  text = refl;
-  fits = (s, _, refl, small, (bit cr, _, refl, bit_small cr, (nr, _, refl, numbers, (bit pf, _, refl, bit_small pf, refl))));
-  once = tt;
-  spaceless = refl;
-  uncut = refl;
-  few = omega arith;
-  stays = refl;
-}
-is_written s cr (Sabm p info) small numbers many octets = record {
-  name = F.Sabm;
-  rest = fields (codes "sabm") (F.informed (codes "p"));
-  values = Number s ∷ Number (bit cr) ∷ Number (bit p) ∷ Several info ∷ [];
-  of_table = inr (inr (inr (inr (inr (inl refl)))));
-  says = rw (set_bit cr, set_bit p) refl;
-  shows = rw (set_bit cr, set_bit p) refl;
-  text = refl;
-  fits = (
-    s,
-    _,
-    refl,
-    small,
-    (
-      bit cr,
-      _,
-      refl,
-      bit_small cr,
-      (
-        bit p,
-        _,
-        refl,
-        bit_small p,
-        (info, _, refl, (omega arith, many, octets), refl),
-      ),
-    ),
-  );
-  once = tt;
-  spaceless = refl;
-  uncut = refl;
-  few = omega (arith, length-octets_word info many);
-  stays = refl;
-}
-is_written s cr (Ui p info) small numbers many octets = record {
-  name = F.Ui;
-  rest = fields (codes "ui") (F.informed (codes "p"));
-  values = Number s ∷ Number (bit cr) ∷ Number (bit p) ∷ Several info ∷ [];
-  of_table = inr (inr (inr (inr (inr (inr (inr (inl refl)))))));
-  says = rw (set_bit cr, set_bit p) refl;
-  shows = rw (set_bit cr, set_bit p) refl;
-  text = refl;
-  fits = (
-    s,
-    _,
-    refl,
-    small,
-    (
-      bit cr,
-      _,
-      refl,
-      bit_small cr,
-      (
-        bit p,
-        _,
-        refl,
-        bit_small p,
-        (info, _, refl, (omega arith, many, octets), refl),
-      ),
-    ),
-  );
-  once = tt;
-  spaceless = refl;
-  uncut = refl;
-  few = omega (arith, length-octets_word info many);
-  stays = refl;
-}
-is_written s cr (Ua f info) small numbers many octets = record {
-  name = F.Ua;
-  rest = fields (codes "ua") (F.informed (codes "f"));
-  values = Number s ∷ Number (bit cr) ∷ Number (bit f) ∷ Several info ∷ [];
-  of_table = inr (inr (inr (inr (inr (inr (inr (inr (inr (inl refl)))))))));
-  says = rw (set_bit cr, set_bit f) refl;
-  shows = rw (set_bit cr, set_bit f) refl;
-  text = refl;
-  fits = (
-    s,
-    _,
-    refl,
-    small,
-    (
-      bit cr,
-      _,
-      refl,
-      bit_small cr,
-      (
-        bit f,
-        _,
-        refl,
-        bit_small f,
-        (info, _, refl, (omega arith, many, octets), refl),
-      ),
-    ),
-  );
-  once = tt;
-  spaceless = refl;
-  uncut = refl;
-  few = omega (arith, length-octets_word info many);
-  stays = refl;
-}
-is_written s cr (Dm f) small numbers many octets = record {
-  name = F.Dm;
-  rest = fields (codes "dm") (F.plain (codes "f"));
-  values = Number s ∷ Number (bit cr) ∷ Number (bit f) ∷ [];
-  of_table = inr (inr (inr (inr (inr (inr (inl refl))))));
-  says = rw (set_bit cr, set_bit f) refl;
-  shows = rw (set_bit cr, set_bit f) refl;
-  text = refl;
-  fits = (s, _, refl, small, (bit cr, _, refl, bit_small cr, (bit f, _, refl, bit_small f, refl)));
-  once = tt;
-  spaceless = refl;
-  uncut = refl;
-  few = omega arith;
-  stays = refl;
-}
-is_written s cr (Disc p) small numbers many octets = record {
-  name = F.Disc;
-  rest = fields (codes "disc") (F.plain (codes "p"));
-  values = Number s ∷ Number (bit cr) ∷ Number (bit p) ∷ [];
-  of_table = inr (inr (inr (inr (inr (inr (inr (inr (inl refl))))))));
-  says = rw (set_bit cr, set_bit p) refl;
-  shows = rw (set_bit cr, set_bit p) refl;
-  text = refl;
-  fits = (s, _, refl, small, (bit cr, _, refl, bit_small cr, (bit p, _, refl, bit_small p, refl)));
-  once = tt;
-  spaceless = refl;
-  uncut = refl;
-  few = omega arith;
-  stays = refl;
-}
+-- a frame's text is the line of its form and its values, which say the frame
+record IsWritten (s : ℕ) (cr : Bool) (content : Content) : Type 0 where
+  pub of_table : IsOf show_forms (name content, Just (Fixed (codes "frame") ∷ fields content))
+  pub says : said_frame (name content) (values s cr content) ≡ Some (record { sapi = s; cr = cr; content = content })
+  pub shows : show_of (name content) (values s cr content) ≡ shown (said_frame (name content) (values s cr content))
+  pub text : frame_text (record { sapi = s; cr = cr; content = content }) ≡ written s cr content ++ codes "\n"
+  pub once : AreDistinct (places (values s cr content))
+  pub spaceless : lack 32 (omega arith) (Fixed (codes "frame") ∷ fields content) ≡ true
+  pub uncut : lack 10 (omega arith) (Fixed (codes "frame") ∷ fields content) ≡ true
+
+is_written : (s : ℕ) (cr : Bool) (content : Content) → IsWritten s cr content
+is_written s cr (I ns nr p more info) =
+    record { of_table = search rules; says = simp set_bit; shows = refl; text = refl; once = tt; spaceless = refl; uncut = refl }
+is_written s cr content =
+    record { of_table = search rules; says = simp set_bit; shows = refl; text = refl; once = tt; spaceless = refl; uncut = refl }
+
+few : (s : ℕ) (cr : Bool) (content : Content) → InformationFits Sdcch content → length (written s cr content) ≤ 100
+few s cr (I ns nr p more info) many = omega (arith, length-octets_word info many.1)
+few s cr (Sabm p info) many = omega (arith, length-octets_word info many)
+few s cr (Ui p info) many = omega (arith, length-octets_word info many)
+few s cr (Ua f info) many = omega (arith, length-octets_word info many)
+few s cr content many = omega arith
+
+fitting : (content : Content) → NumbersFit content → InformationFits Sdcch content → Small (information content)
+    → Fitting (kind_form (row content).0) (row content).1
+fitting (I ns nr p more info) numbers many octets =
+    let last : Fitting (F.named (codes "m") 1 (F.information 1)) (Number (bit more) ∷ Several info ∷ []) =
+    (bit more, _, refl, bit_small more, (info, _, refl, (many.0, many.1, octets), refl)) in
+    (ns, _, refl, numbers.0, (nr, _, refl, numbers.1, (bit p, _, refl, bit_small p, last)))
+fitting (Rr nr pf) numbers many octets = (nr, _, refl, numbers, (bit pf, _, refl, bit_small pf, refl))
+fitting (Rnr nr pf) numbers many octets = (nr, _, refl, numbers, (bit pf, _, refl, bit_small pf, refl))
+fitting (Rej nr pf) numbers many octets = (nr, _, refl, numbers, (bit pf, _, refl, bit_small pf, refl))
+fitting (Sabm p info) numbers many octets = (bit p, _, refl, bit_small p, (info, _, refl, (omega arith, many, octets), refl))
+fitting (Dm f) numbers many octets = (bit f, _, refl, bit_small f, refl)
+fitting (Ui p info) numbers many octets = (bit p, _, refl, bit_small p, (info, _, refl, (omega arith, many, octets), refl))
+fitting (Disc p) numbers many octets = (bit p, _, refl, bit_small p, refl)
+fitting (Ua f info) numbers many octets = (bit f, _, refl, bit_small f, (info, _, refl, (omega arith, many, octets), refl))
 
 -- the text of a frame that fits means its canonical octets
 frame_back : (f : Frame) (line : List ℕ) → Fits Sdcch f → Small (information f.content) → frame_text f ≡ line ++ codes "\n"
     → IsWholeLine line × ShowMeans line (S.Frame (octets_of Sdcch f))
 frame_back f line fits small text =
-    let w = is_written f.sapi f.cr f.content fits.sapi fits.numbers fits.information small in
-    let written = spelled_line (Fixed (codes "frame") ∷ w.rest) w.values in
-    let same : written ≡ line = append_cancel_right written line (codes "\n") (sym w.text ∙ text) in
-    let short : length written ≤ 4096 = omega (arith, w.few) in
+    let w = is_written f.sapi f.cr f.content in
+    let vs = values f.sapi f.cr f.content in
+    let fitted : Fitting (Fixed (codes "frame") ∷ fields f.content) vs =
+    (f.sapi, _, refl, fits.sapi, (bit f.cr, _, refl, bit_small f.cr, fitting f.content fits.numbers fits.information small)) in
+    let same : written f.sapi f.cr f.content ≡ line = append_cancel_right _ line (codes "\n") (sym w.text ∙ text) in
+    let short : length (written f.sapi f.cr f.content) ≤ 4096 = omega (arith, few f.sapi f.cr f.content fits.information) in
     subst (λ l. IsWholeLine l × ShowMeans l (S.Frame (octets_of Sdcch f))) same (
-      record { uncut = spelled_uncut (Fixed (codes "frame") ∷ w.rest) w.values w.uncut w.fits; stays = w.stays },
+      record { uncut = spelled_uncut (Fixed (codes "frame") ∷ fields f.content) vs w.uncut fitted; stays = refl },
       (
-        Some (w.name, w.values),
-        spelled_means show_forms anywhere w.name (codes "frame") w.rest w.values w.of_table refl w.spaceless w.fits w.once short w.stays,
-        w.shows,
+        Some (name f.content, vs),
+        spelled_means show_forms anywhere (name f.content) (codes "frame") (fields f.content) vs w.of_table refl w.spaceless fitted w.once
+            short refl,
+        sym (w.shows ∙ ap shown w.says),
       ),
     )
 
@@ -336,15 +168,7 @@ says_frame : (name : ShowName) (values : List Value) (octets : List ℕ) → S.F
     → (f : Frame) × (said_frame name values ≡ Some f) × (octets ≡ octets_of Sdcch f)
 says_frame F.Octets (Several o ∷ []) octets e = absurd cc
 says_frame F.Octets values octets e = absurd cc
-says_frame F.I values octets e = from_shown octets (said_frame F.I values) e
-says_frame F.Rr values octets e = from_shown octets (said_frame F.Rr values) e
-says_frame F.Rnr values octets e = from_shown octets (said_frame F.Rnr values) e
-says_frame F.Rej values octets e = from_shown octets (said_frame F.Rej values) e
-says_frame F.Sabm values octets e = from_shown octets (said_frame F.Sabm values) e
-says_frame F.Dm values octets e = from_shown octets (said_frame F.Dm values) e
-says_frame F.Ui values octets e = from_shown octets (said_frame F.Ui values) e
-says_frame F.Disc values octets e = from_shown octets (said_frame F.Disc values) e
-says_frame F.Ua values octets e = from_shown octets (said_frame F.Ua values) e
+says_frame name values octets e = from_shown octets (said_frame name values) e
 
 pub frame_again : (written octets : List ℕ) → ShowMeans written (S.Frame octets) → (name : ShowName) × (values : List Value) × (f : Frame)
     × LineMeans show_forms anywhere written (Some (name, values)) × (said_frame name values ≡ Some f)

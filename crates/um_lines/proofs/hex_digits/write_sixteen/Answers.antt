@@ -1,4 +1,4 @@
-use Rattle.std.proofs.Common.{◌≡◌, ◌+◌, ◌*◌, ◌<◌, length, sym, ap, ◌∙◌, get_or, rules, arith}
+use Rattle.std.proofs.Common.{◌≡◌, ◌+◌, ◌*◌, ◌<◌, ap, ◌∙◌, get_or, arith}
 use Rattle.std.proofs.lemmas.List.{length-set}
 use Rattle.um_lines.specs.Fields.{digit_value}
 use Rattle.um_lines.proofs.HexLists.{octets_more}

@@ -4,12 +4,8 @@ use Rattle.um_lines.proofs.FormLaws.{read_of_words}
 use Rattle.um_text.specs.BurstLines.{burst_line}
 use Rattle.um_text.proofs.burst_lines.parse_burst.Goals as goal
 
-pub returns-clause-means : goal.returns-clause-means
-returns-clause-means c =
-    (read_of_words burst_forms (burst_elsewhere c.args.held) burst_line _ _ c.if-line-gt-LINE_LIMIT.false
-    (sym c.is_skipped.ensures ∙ c.if-is_skipped.false) c.parse_words.ensures).0
-
-pub returns-clause-refused : goal.returns-clause-refused
-returns-clause-refused c =
-    (read_of_words burst_forms (burst_elsewhere c.args.held) burst_line _ _ c.if-line-gt-LINE_LIMIT.false
-    (sym c.is_skipped.ensures ∙ c.if-is_skipped.false) c.parse_words.ensures).1
+pub returns : goal.returns
+returns c =
+    let stays = sym c.is_skipped.ensures ∙ c.if-is_skipped.false in
+    let read = read_of_words burst_forms (burst_elsewhere c.args.held) burst_line _ _ c.if-line-gt-LINE_LIMIT.false stays c.parse_words.ensures in
+    record { means = read.0; refused = read.1 }

@@ -5,12 +5,8 @@ use Rattle.um_lines.proofs.FormLaws.{read_of_words}
 use Rattle.um_text.specs.ShowLines.{show_line}
 use Rattle.um_text.proofs.show.parse_show.Goals as goal
 
-pub returns-clause-means : goal.returns-clause-means
-returns-clause-means c =
+pub returns : goal.returns
+returns c =
     let stays = sym c.is_skipped.ensures ∙ c.if-is_skipped.false in
-    (read_of_words show_forms anywhere show_line _ _ c.if-line-gt-LINE_LIMIT.false stays c.parse_words.ensures).0
-
-pub returns-clause-refused : goal.returns-clause-refused
-returns-clause-refused c =
-    let stays = sym c.is_skipped.ensures ∙ c.if-is_skipped.false in
-    (read_of_words show_forms anywhere show_line _ _ c.if-line-gt-LINE_LIMIT.false stays c.parse_words.ensures).1
+    let read = read_of_words show_forms anywhere show_line _ _ c.if-line-gt-LINE_LIMIT.false stays c.parse_words.ensures in
+    record { means = read.0; refused = read.1 }
