@@ -120,7 +120,7 @@ module _ (channel : Channel) (w : World) (ls : List Line) (e : E.Event) (reporte
       let g : WorldOctets (W.next d (record w { ways = taken e w.ways })) =
       subst (λ (q : Option Why). WorldOctets (W.after_by q e w)) none h in
       say-later (way (sender_of d.who) (taken e w.ways)) d.frames
-      (subst AllSay (way_more (sender_of d.who) d.frames (taken e w.ways)) (g.ways (sender_of d.who)))
+      (subst AllSay (way_more (sender_of d.who) d.frames (taken e w.ways)) (g.1.ways (sender_of d.who)))
 
   -- what a deed sends carries octets
   pub deed-octets : W.refusal e w ≡ None → AllSay (deed e w.ends).frames
