@@ -48,7 +48,7 @@ pub record EndOctets (e : EndState) : Type 0 where
   pub kept : AreOctets e.kept
   pub taken : AllMessages e.taken
 
-abbrev SaysOctets : Frame → Type 0
+abbrev pub SaysOctets : Frame → Type 0
 SaysOctets f = AreOctets (information f.content)
 
 abbrev pub AllSay : List Frame → Type 0

@@ -35,11 +35,7 @@ kind_takes a octets fs ls (Deliver sender places) (Some report) read h kind t =
     subst (λ (os : List Octets). IsAsSent report.accepted os) (sym (h.carries.written sender))
     (kind_block a.channel a.tsc (way sender fs) (way sender a.ways) t.others places report t.block t.first (h.carries.blocks sender) kind t.received)
 kind_takes a octets fs ls (Deliver sender places) None read h kind t = absurd t
-kind_takes a octets fs ls (Open info) report read h kind t = tt
-kind_takes a octets fs ls (OpenBare r) report read h kind t = tt
-kind_takes a octets fs ls (Ask r q request) report read h kind t = tt
-kind_takes a octets fs ls (Lose sender) report read h kind t = tt
-kind_takes a octets fs ls (Rival info) report read h kind t = tt
+kind_takes a octets fs ls event report read h kind t = tt
 
 kind_step : (a b : AirState) (octets : Ways Octets) (fs : Ways Frame) (ls : List Line) (event : Event) (answer : Answer) →
     IsSeenAt a octets fs ls → IsKindEvent event →
