@@ -49,7 +49,8 @@ IsOpening other k = ⊥
 
 -- the end opens its link, stays in its state, has no link any more, or closes it
 abbrev pub LeftBy : Call → EndState → EndState → Type 0
-LeftBy call x z = ((z.state ≡ S.Opening) × IsOpening call z.kept) ⊎ ((z.kept ≡ x.kept) × ((z.state ≡ x.state) ⊎ ((z.state ≡ S.Closed) ⊎ ((x.state ≡ S.Open) × (z.state ≡ S.Closing)))))
+LeftBy call x z = ((z.state ≡ S.Opening) × IsOpening call z.kept) ⊎ ((z.kept ≡ x.kept) × ((z.state ≡ x.state) ⊎ ((z.state ≡ S.Closed) ⊎
+    ((x.state ≡ S.Open) × (z.state ≡ S.Closing)))))
 
 pub record IsCalled (x : EndState) (call : Call) (o : Outcome) : Type 0 where
   pub step : IsStep x (call ∷ []) o
@@ -88,7 +89,8 @@ begins-phase s e o c k h = let g : Phase S.Idle o c k = subst (λ (t : State). P
 ends-phase : (s : State) → s ≡ S.Open → (o c k : ℕ) → Phase s o c k → Phase S.Closing o c (k + 1)
 ends-phase s e o c k h = let g : Phase S.Open o c k = subst (λ (t : State). Phase t o c k) e h in (g.0, g.1)
 
-here-unit : (s : Sapi) (i : ℕ) (is : Message) → cons_option (unit_of (nat_eq (sapi_number s) (sapi_number s)) (Ui false (i ∷ is))) [] ≡ (i ∷ is) ∷ []
+here-unit : (s : Sapi) (i : ℕ) (is : Message) → cons_option (unit_of (nat_eq (sapi_number s) (sapi_number s)) (Ui false (i ∷ is))) [] ≡
+    (i ∷ is) ∷ []
 here-unit Zero i is = refl
 here-unit Three i is = refl
 
@@ -131,12 +133,15 @@ module _ (x : EndState) (w : KeepsWindow x) where
       }
 
   -- the timer has run out
-  again : (s : State) → x.state ≡ s → awaits_in s (waits x) ≡ true → IsCalled x Ticks (sends_frame (repeated s x) (record x { retries = x.retries + 1 }))
+  again : (s : State) → x.state ≡ s → awaits_in s (waits x) ≡ true →
+      IsCalled x Ticks (sends_frame (repeated s x) (record x { retries = x.retries + 1 }))
   again S.Idle e due = absurd (false≢true due)
   again S.Closed e due = absurd (false≢true due)
-  again S.Opening e due = one_frame Ticks x.state x.kept (x.retries + 1) (repeated S.Opening x) refl (no_more x.state) (inr (refl, inl refl))
+  again S.Opening e due = one_frame Ticks x.state x.kept (x.retries + 1) (repeated S.Opening x) refl (no_more x.state) (inr
+      (refl, inl refl))
       (inl refl, (e, refl), tt) tt refl
-  again S.Closing e due = one_frame Ticks x.state x.kept (x.retries + 1) (repeated S.Closing x) refl (no_more x.state) (inr (refl, inl refl))
+  again S.Closing e due = one_frame Ticks x.state x.kept (x.retries + 1) (repeated S.Closing x) refl (no_more x.state) (inr
+      (refl, inl refl))
       (inl refl, tt, tt) tt refl
   again S.Open e due =
       let z : EndState = record x { retries = x.retries + 1 } in
@@ -183,7 +188,8 @@ module _ (x : EndState) (w : KeepsWindow x) where
       let mid : EndState = with_taken m x in
       let i : InOpen mid (sends_next mid) = in-sends_next mid (KeepsWindow-taken x m w good) in
       record {
-        step = step-by x mid (Sends m ∷ []) (sends_next mid) (record { role = i.link.role; sapi = i.link.sapi; channel = i.link.channel }) i.end
+        step = step-by x mid (Sends m ∷ []) (sends_next mid)
+            (record { role = i.link.role; sapi = i.link.sapi; channel = i.link.channel }) i.end
             i.tells (asked-told x mid (Sends m) refl refl (wholly_acked-taken x m w) (no_more x.state));
         taken = i.tells.taken;
         left = inr (i.kept, inl i.state);
@@ -205,14 +211,20 @@ module _ (x : EndState) (w : KeepsWindow x) where
       one_frame (Opens info) S.Opening info 0 _ refl (begins-phase x.state is_now) (inl (refl, (refl, grind (arith, nat_tests))))
       (inl refl, (refl, refl), tt) tt refl
   is_called OpensBare ok =
-      let is_now : x.state ≡ S.Idle = is_idle-is x.state (not_false (is_idle x.state) (passes (not (is_idle x.state)) No.NotIdle [] ok).no) in
+      let is_now : x.state ≡ S.Idle = is_idle-is x.state (not_false (is_idle x.state) (passes (not
+      (is_idle x.state)) No.NotIdle [] ok).no) in
       one_frame OpensBare S.Opening [] 0 _ refl (begins-phase x.state is_now) (inl (refl, refl)) (inl refl, (refl, refl), tt) tt refl
   is_called (Sends m) ok = takes m (is_message m x (passes (not (is_open x.state)) No.NotOpen (put_refusals m x) ok).rest)
   is_called (SendsUnit []) ok = absurd (false≢true (sym (passes true No.Empty ((nat_lt (n201 x.channel) 0, No.TooLong) ∷ []) ok).no))
-  is_called (SendsUnit (i ∷ is)) ok = one_frame (SendsUnit (i ∷ is)) x.state x.kept x.retries _ refl (no_more x.state) (inr (refl, inl refl))
+  is_called (SendsUnit (i ∷ is)) ok = one_frame (SendsUnit (i ∷ is)) x.state x.kept x.retries _ refl (no_more x.state) (inr
+      (refl, inl refl))
       (inl refl, inl refl, tt) tt (here-unit x.sapi i is)
   is_called Closes ok =
-      let is_now : x.state ≡ S.Open = is_open-is x.state (not_false (is_open x.state) (passes (not (is_open x.state)) No.NotOpen [] ok).no) in
-      one_frame Closes S.Closing x.kept 0 _ refl (ends-phase x.state is_now) (inr (refl, inr (inr (is_now, refl)))) (inl refl, tt, tt) tt refl
-  is_called Ticks ok = ticks (nat_lt x.retries (n200 x.channel x.state)) (not_false (awaits x) (passes (not (awaits x)) No.NotRunning [] ok).no)
-  is_called Idles ok = one_frame Idles x.state x.kept x.retries _ refl (no_more x.state) (inr (refl, inl refl)) (inr refl, inr refl, tt) tt refl
+      let is_now : x.state ≡ S.Open = is_open-is x.state (not_false (is_open x.state) (passes (not
+      (is_open x.state)) No.NotOpen [] ok).no) in
+      one_frame Closes S.Closing x.kept 0 _ refl (ends-phase x.state is_now) (inr (refl, inr (inr (is_now, refl))))
+      (inl refl, tt, tt) tt refl
+  is_called Ticks ok = ticks (nat_lt x.retries (n200 x.channel x.state)) (not_false (awaits x) (passes (not
+      (awaits x)) No.NotRunning [] ok).no)
+  is_called Idles ok = one_frame Idles x.state x.kept x.retries _ refl (no_more x.state) (inr (refl, inl refl))
+      (inr refl, inr refl, tt) tt refl

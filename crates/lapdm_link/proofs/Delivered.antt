@@ -82,7 +82,8 @@ more_acked : (r : Role) (s : Sapi) (ls : List Line) (cs : List Call) (ns : List 
 more_acked r s ls cs ns = ap (λ ms. length (filter_map acked_in ms)) (notices-said r s ls cs ns)
     ∙ ap length (filter_map-append acked_in (notices r s ls) ns) ∙ length-append (acked r s ls) (filter_map acked_in ns)
 
-same_got : (r : Role) (s : Sapi) (ls : List Line) (cs : List Call) (ns : List Notice) → got (other r) s (ls ++ said r s cs ns) ≡ got (other r) s ls
+same_got : (r : Role) (s : Sapi) (ls : List Line) (cs : List Call) (ns : List Notice) →
+    got (other r) s (ls ++ said r s cs ns) ≡ got (other r) s ls
 same_got r s ls cs ns = ap (filter_map got_in) (notices-else r s (other r) s (other_is r s) ls cs ns)
 
 after_got : (r : Role) (s : Sapi) (n : Notice) (ns : List Notice) (ls : List Line) →

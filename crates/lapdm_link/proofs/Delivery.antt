@@ -39,10 +39,14 @@ both_links P h g Three = g
 -- an end acts: its link goes on, and to the other link its frames say nothing
 acts : (r : Role) (s : Sapi) (o : Outcome) (w : World) → After s o (end_of (other r) s w) (way r w) (way (other r) w) (way (other r) w) →
     ((s' : Sapi) → is_sapi s' s ≡ false → AllWhere IsPlain s' o.frames) → ((s' : Sapi) → IsCarried r s' w) → AllCarried (acted r s o w)
-acts Mobile Zero o w own foreign h = seen_by Mobile (acted Mobile Zero o w) (both_links _ own (sends_plain o.frames (foreign Three refl) (h Three)))
-acts Mobile Three o w own foreign h = seen_by Mobile (acted Mobile Three o w) (both_links _ (sends_plain o.frames (foreign Zero refl) (h Zero)) own)
-acts Network Zero o w own foreign h = seen_by Network (acted Network Zero o w) (both_links _ own (sends_plain o.frames (foreign Three refl) (h Three)))
-acts Network Three o w own foreign h = seen_by Network (acted Network Three o w) (both_links _ (sends_plain o.frames (foreign Zero refl) (h Zero)) own)
+acts Mobile Zero o w own foreign h = seen_by Mobile (acted Mobile Zero o w) (both_links _ own (sends_plain o.frames (foreign Three refl)
+    (h Three)))
+acts Mobile Three o w own foreign h = seen_by Mobile (acted Mobile Three o w) (both_links _ (sends_plain o.frames (foreign Zero refl)
+    (h Zero)) own)
+acts Network Zero o w own foreign h = seen_by Network (acted Network Zero o w) (both_links _ own (sends_plain o.frames
+    (foreign Three refl) (h Three)))
+acts Network Three o w own foreign h = seen_by Network (acted Network Three o w) (both_links _ (sends_plain o.frames (foreign Zero refl)
+    (h Zero)) own)
 
 foreign : (Says : Content → Type 0) (s : Sapi) (x : EndState) (fs : List Frame) → x.sapi ≡ s → AllFrames Says x.sapi fs → (s' : Sapi) →
     is_sapi s' s ≡ false → AllWhere IsPlain s' fs

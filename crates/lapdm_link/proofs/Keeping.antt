@@ -172,7 +172,8 @@ module _ (f : Frame) (nr : ℕ) {t : Sapi} {x y : EndState} {out comes : List Fr
 
   takes_i-if : (b : Bool) (ns : ℕ) (p : Bool) (piece : Piece) →
       ((k : ℕ) → Carries t (all_pieces y) k f → IsPiece (all_pieces y) k ns piece) → nat_eq ns (vr x) ≡ b →
-      After t (if b then (counts nr x then accepts piece then answers_piece p) else (counts nr x then rejects p then sends_next)) y out comes
+      After t (if b then (counts nr x then accepts piece then answers_piece p) else
+      (counts nr x then rejects p then sends_next)) y out comes
       comes
   takes_i-if true ns p piece carries same =
       let number : ns ≡ vr (counts nr x).after = (let e : ns ≡ vr x = grind (arith, nat_tests) in e) ∙ sym (counts-vr nr x) in

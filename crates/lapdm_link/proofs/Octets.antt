@@ -67,7 +67,8 @@ cut-octets n (suc k) m h = (All-take (λ octet. octet < 256) n m h, cut-octets n
 
 all-octets : (n : ℕ) (ms : List Message) → AllMessages ms → AllPieces (flat_map (pieces n) ms)
 all-octets n [] h = tt
-all-octets n (m ∷ ms) h = of-append (λ (p : Piece). AreOctets p.0) (pieces n m) (flat_map (pieces n) ms) (cut-octets n _ m h.0) (all-octets n ms h.1)
+all-octets n (m ∷ ms) h = of-append (λ (p : Piece). AreOctets p.0) (pieces n m) (flat_map (pieces n) ms) (cut-octets n _ m h.0)
+    (all-octets n ms h.1)
 
 piece-octets : (ps : List Piece) (i : ℕ) → AllPieces ps → i < length ps → AreOctets (get_or ps i ([], false)).0
 piece-octets [] i h l = absurd (omega (arith, l))
@@ -144,7 +145,8 @@ pub call-octets : (call : Call) (x : EndState) → CallOctets call → refusal_o
 call-octets call x said ok e h =
     let o : Outcome = after_call call x in
     let c : IsCalled x call o = is_called x e call ok in
-    let taken : AllMessages o.after.taken = subst AllMessages (sym c.taken) (of-append AreOctets x.taken _ h.taken (sent-octets call said)) in
+    let taken : AllMessages o.after.taken = subst AllMessages (sym c.taken) (of-append AreOctets x.taken _ h.taken
+    (sent-octets call said)) in
     let end : EndOctets o.after = record { kept = left-octets call x o.after said h.kept c.left; taken = taken } in
     record { end = end; frames = frames-octets (Asks call o.after) (asked-octets call o.after said end) x.sapi o.frames c.frames }
 

@@ -309,7 +309,11 @@ openings-rival w ls h info Network s =
     (let g = openings-more w ls (Rivals info ∷ []) h Network s in record { sent = g.sent; reached = g.reached })
 
 pub start-openings : (channel : Channel) → AllOpenings (start_on channel) []
-start-openings channel r s = record { sent = none r; reached = each_start (λ r s e. IsReached r s [] e.state e.kept) channel (λ r s. tt) r s }
+start-openings channel r s = record {
+  sent = none r;
+  reached = each_start (λ r s e. IsReached r s [] e.state e.kept) channel
+      (λ r s. tt) r s;
+}
   where
     none : (r : Role) → AllWhere (IsCaused r s []) s (way r (start_on channel))
     none Mobile = tt

@@ -64,8 +64,11 @@ deed-fits channel w event known h none =
 sendable : (channel : Channel) (w : World) (event : Event) (o : Option Why) → IsFitting channel (after_by o event w) →
     IsSendable channel (answer_by o (deed event w.ends))
 sendable channel w event (Some why) h = tt
-sendable channel w event None h =
-    ((few-deed event w.ends).frames, all-of (Fits channel) _ (deed-holds (FitsEnd channel) (Fits channel) channel w event None refl h), (few-deed event w.ends).notices)
+sendable channel w event None h = (
+  (few-deed event w.ends).frames,
+  all-of (Fits channel) _ (deed-holds (FitsEnd channel) (Fits channel) channel w event None refl h),
+  (few-deed event w.ends).notices,
+)
 
 readable : (channel : Channel) (event : Event) (o : Option Why) → IsReadable channel event → KnowsBy o (λ sender f. Fits channel f) event
 readable channel event (Some why) h = tt

@@ -151,7 +151,8 @@ one_told x s t k n no_got no_acked numbers is may = record {
 module _ (x : EndState) (w : KeepsWindow x) where
   becomes : (c : Content) (s : State) (k : Message) (fs : List Frame) (ns : List Notice) →
       (let z : EndState = record x { state = s; kept = k } in AllFrames (Replies x z) x.sapi fs → Tells x ns z →
-      (let o : Outcome = record { after = z; frames = fs; notices = ns } in Remains x o ⊎ IsOpenedBy c x o → ReportsUnit c ns → IsTaken c x o))
+      (let o : Outcome = record { after = z; frames = fs; notices = ns } in Remains x o ⊎ IsOpenedBy c x o → ReportsUnit c ns →
+      IsTaken c x o))
   becomes c s k fs ns replies tells goes unit =
       let z : EndState = record x { state = s; kept = k } in
       record {

@@ -201,7 +201,8 @@ in-sends_piece x e has =
     let none : x.sent ≡ x.acked = left.0 in
     let within : x.sent < length (all_pieces x) = left.1 in
     openly x x.acked (x.sent + 1) x.accepted x.rejecting 0 _ []
-    (inl refl, (three_bits x.acked, three_bits (length x.accepted), (x.acked, omega arith, refl)), tt) (silent x _ refl refl refl refl) (refl, refl)
+    (inl refl, (three_bits x.acked, three_bits (length x.accepted), (x.acked, omega arith, refl)), tt) (silent x _ refl refl refl refl)
+    (refl, refl)
     (record { messages = e.messages; sent = omega arith; behind = omega arith; window = omega arith })
 
 in-if : (b c : Bool) (f g : EndState → Outcome) (x : EndState) → c ≡ b → (c ≡ true → InOpen x (f x)) → InOpen x (g x) →

@@ -37,7 +37,12 @@ phase-same : (s : State) (o c k o' c' : ℕ) → o' ≡ o → c' ≡ c → Phase
 phase-same s o c k o' c' e f h = subst (λ (i : ℕ). Phase s i c' k) (sym e) (subst (λ (i : ℕ). Phase s o i k) (sym f) h)
 
 phase-opens : (s : State) (u : State) (o c k : ℕ) → IsUnopened s × (u ≡ S.Open) → Phase s o c k → Phase u (o + 1) (c + 0) k
-phase-opens S.Idle u o c k may h = subst (λ (v : State). Phase v (o + 1) (c + 0) k) (sym may.1) (omega (arith, h.0), omega (arith, h.1), h.2)
+phase-opens S.Idle u o c k may h = subst (λ (v : State). Phase v (o + 1) (c + 0) k) (sym may.1) (
+  omega (arith, h.0),
+  omega
+      (arith, h.1),
+  h.2,
+)
 phase-opens S.Opening u o c k may h =
     subst (λ (v : State). Phase v (o + 1) (c + 0) k) (sym may.1) (omega (arith, h.0), omega (arith, h.1), h.2)
 phase-opens s u o c k may h = absurd may.0
@@ -148,7 +153,8 @@ pub record IsStep (x : EndState) (asks : List Call) (o : Outcome) : Type 0 where
   pub said : (cs : List Call) (ns : List Notice) → HasTold x cs ns → AllSaid (cs ++ asks) ns o.notices
 
 -- it is asked, and then acts
-pub step-by : (x mid : EndState) (asks : List Call) (o : Outcome) → IsSameLink x o.after → KeepsWindow o.after → Tells mid o.notices o.after →
+pub step-by : (x mid : EndState) (asks : List Call) (o : Outcome) → IsSameLink x o.after → KeepsWindow o.after →
+    Tells mid o.notices o.after →
     ((cs : List Call) (ns : List Notice) → HasTold x cs ns → HasTold mid (cs ++ asks) ns) → IsStep x asks o
 step-by x mid asks o link end tells asked = record {
   link = link;

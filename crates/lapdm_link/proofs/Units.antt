@@ -56,11 +56,13 @@ module _ (w : World) (ls : List Line) (h : AllUnits w ls) (r : Role) (s : Sapi) 
   acts sent none comes =
       each_way (λ r'. (s' : Sapi) → HasUnits r' s' (acted r s o w) (ls ++ said r s cs o.notices)) r
       (by_link (λ s'. HasUnits r s' (acted r s o w) (ls ++ said r s cs o.notices)) s
-      (units-out _ _ s (way r w) _ o.frames _ _ _ (ap (filter_map unit_got_in) (notices-else r s (other r) s (other_is r s) ls cs o.notices))
+      (units-out _ _ s (way r w) _ o.frames _ _ _ (ap (filter_map unit_got_in) (notices-else r s (other r) s
+      (other_is r s) ls cs o.notices))
       (way_does r s o w) sent
       (ap (filter_map unit_sent_in) (calls-said r s ls cs o.notices) ∙ filter_map-append unit_sent_in (calls r s ls) cs) (h r s))
       (λ s' n. units-out _ _ s' (way r w) _ o.frames [] _ _
-      (ap (filter_map unit_got_in) (notices-else r s (other r) s' (link_else (other r) r s' s n) ls cs o.notices)) (way_does r s o w) (none s' n)
+      (ap (filter_map unit_got_in) (notices-else r s (other r) s' (link_else (other r) r s' s n) ls cs o.notices)) (way_does r s o w)
+      (none s' n)
       (ap (filter_map unit_sent_in) (calls-else r s r s' (link_else r r s' s n) ls cs o.notices) ∙ sym (append-nil (units_sent r s' ls)))
       (h r s')))
       (by_link (λ s'. HasUnits (other r) s' (acted r s o w) (ls ++ said r s cs o.notices)) s

@@ -71,7 +71,8 @@ same_blocks channel tsc (f ∷ fs) (b ∷ bs) [] h k = absurd k
 same_blocks channel tsc (f ∷ fs) (b ∷ bs) (c ∷ cs) h k =
     ap₂ (λ x xs. x ∷ xs) (one_sent_block (octets_of channel f) tsc b c h.0 k.0) (same_blocks channel tsc fs bs cs h.1 k.1)
 
-pub same_step : (s t : Step) → s.who ≡ t.who → s.sapi ≡ t.sapi → s.received ≡ t.received → s.frames ≡ t.frames → s.notices ≡ t.notices → s ≡ t
+pub same_step : (s t : Step) → s.who ≡ t.who → s.sapi ≡ t.sapi → s.received ≡ t.received → s.frames ≡ t.frames → s.notices ≡ t.notices →
+    s ≡ t
 same_step s t who sapi received frames notices =
     let make : Who → Sapi → Option Received → List Octets → List Notice → Step =
     λ a b c d e. record { who = a; sapi = b; received = c; frames = d; notices = e } in

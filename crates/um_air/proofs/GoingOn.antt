@@ -63,7 +63,8 @@ some_report places block h =
     ap length (get_or_default (map softened bursts) k d (softened []) l) ∙ ap length (get_or-map softened bursts k [])
     ∙ length-map (get_or bursts k []) _ ∙ whole.1 k [] within))
 
-pub some_reading : (channel : Channel) (o : Option Octets) → IfSome o (λ octets. length octets ≡ 23) → (f : Option Frame) × Reads channel o f
+pub some_reading : (channel : Channel) (o : Option Octets) → IfSome o (λ octets. length octets ≡ 23) →
+    (f : Option Frame) × Reads channel o f
 some_reading channel None h = (None, tt)
 some_reading channel (Some octets) h = elim (one_reading channel octets h) [
   | inl (f, only) ↦ (Some f, only.frame)

@@ -109,7 +109,8 @@ pub start-spoken : (tsc : ℕ) (channel : Channel) → IsSpoken (start_on tsc ch
 start-spoken tsc channel =
     record { octets = no_ways; frames = no_ways; ls = []; at = start-seen tsc channel; small = start-octets channel }
 
-pub spoken-next : (a b : AirState) (event : Event) (answer : Answer) → IsOctetEvent event → IsSpoken a → AirStep a event b answer → IsSpoken b
+pub spoken-next : (a b : AirState) (event : Event) (answer : Answer) → IsOctetEvent event → IsSpoken a → AirStep a event b answer →
+    IsSpoken b
 spoken-next a b event answer said h step =
     let t : IsSeenStep a h.octets h.frames event answer b = seen-now a h.octets h.frames h.ls event answer b h.at step in
     record {

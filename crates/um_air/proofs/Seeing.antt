@@ -21,7 +21,7 @@ use Rattle.lapdm_link.specs.Worlds as W
 use Rattle.lapdm_link.specs.Claims.{event_lines, notice_lines, answer_lines}
 use Rattle.lapdm_link.proofs.Lemmas.{Knows, KnowsBy, AllFit}
 use Rattle.um_air.specs.Air.{Octets, Block, Event, as_read, AirState, Reads, Arrives, AreSent, Step, Answer, Refuses, Does, Happens, refusal, AirStep, turned}
-use Rattle.um_air.specs.Sessions.{told, after, ArrivesAsSent, IsHarmlessStep, AreOctets}
+use Rattle.um_air.specs.Sessions.{told, after, IsHarmlessStep, AreOctets}
 
 -- ---- two pairs of ways, alike way by way
 
@@ -155,15 +155,21 @@ read_back channel (Some octets) (Some f) (g ∷ gs) h fit s =
     let sent : IsFrame channel g (octets_of channel g) = (octets_canonical channel g fit.0).frame in
     same_frame channel (octets_of channel g) f g (subst (IsFrame channel f) s h) sent
 
-harmless-read : (a : AirState) (octets : Ways Octets) (fs : Ways Frame) (event : Event) (report : Option Received) (read : Option Frame) →
-    AreAlike (AreOctetsOf a.channel) fs octets →
-    ((r : Role) → AllFit a.channel (way r fs)) → Arrives a event report read → ArrivesAsSent event report octets →
-    W.ArrivesAsSent (as_read read event) (world_of a fs)
-harmless-read a octets fs (Deliver sender places) (Some report) read on_way fit t h =
+harmless-read : (a : AirState) (octets : Ways Octets) (fs : Ways Frame) (sender : Role) (places : List ℕ) (report : Option Received)
+    (read : Option Frame) → AreAlike (AreOctetsOf a.channel) fs octets → ((r : Role) → AllFit a.channel (way r fs)) →
+    Arrives a (Deliver sender places) report read → IfSome report (λ r. IsAsSent r.accepted (way sender octets)) →
+    IsAsSent read (way sender fs)
+harmless-read a octets fs sender places (Some report) read on_way fit t h =
     read_back a.channel report.accepted read (way sender fs) t.reads (fit sender)
     (subst (λ (os : List Octets). IsAsSent report.accepted os) (on_way sender) h)
-harmless-read a octets fs (Deliver sender places) None read on_way fit t h = absurd t
-harmless-read a octets fs event report read on_way fit t h = tt
+harmless-read a octets fs sender places None read on_way fit t h = absurd t
+
+harmless-done : (a : AirState) (octets : Ways Octets) (fs : Ways Frame) (event : Event) (step : Step) (read : Option Frame) →
+    AreAlike (AreOctetsOf a.channel) fs octets → ((r : Role) → AllFit a.channel (way r fs)) → Arrives a event step.received read →
+    IsHarmlessStep event (Does step) octets → W.IsHarmlessBy None (as_read read event) (world_of a fs)
+harmless-done a octets fs (Deliver sender places) step read on_way fit t h =
+    harmless-read a octets fs sender places step.received read on_way fit t h
+harmless-done a octets fs event step read on_way fit t h = tt
 
 -- ---- one step
 
@@ -234,7 +240,7 @@ module _ (a : AirState) (octets : Ways Octets) (fs : Ways Frame) (event : Event)
         known = subst (λ (o : Option Why). KnowsBy o (ReadsWell a.channel) e) (sym none)
             (known-read a event step.received t.read t.arrives);
         harmless = λ q. subst (λ (o : Option Why). W.IsHarmlessBy o e w) (sym none)
-            (harmless-read a octets fs event step.received t.read h.written fit t.arrives q);
+            (harmless-done a octets fs event step t.read h.written fit t.arrives q);
       })
 
   pub seen-step : (answer : Answer) (b : AirState) → ((r : Role) → AllFit a.channel (way r fs)) → AirStep a event b answer →
