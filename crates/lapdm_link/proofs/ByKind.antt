@@ -9,7 +9,7 @@ use Rattle.lapdm_window.specs.declared.Refused.{Refused}
 use Rattle.lapdm_window.specs.Ends.{Role, Mobile, Network}
 use Rattle.lapdm_window.specs.Calls.{Call, Opens, OpensBare, refusal_of, after_call}
 use Rattle.lapdm_window.specs.Tables.{after_frame}
-use Rattle.lapdm_link.specs.Events.{Request, Send, SendUnit, Close, Tick, Idle, Event, Open, OpenBare, Ask, Deliver, Lose, Rival, other, rival_frame, Deed, does, does_nothing, deed, End, Why, AirFull, because, unless, rival_refusal, call_of}
+use Rattle.lapdm_link.specs.Events.{Request, Send, Event, Open, OpenBare, Ask, Deliver, Lose, Rival, other, rival_frame, Deed, does, does_nothing, deed, End, Why, AirFull, because, unless, rival_refusal, call_of}
 use Rattle.lapdm_link.specs.Worlds.{World, next, refusal, after_by, answer_by, answer, after}
 use Rattle.lapdm_link.proofs.Views.{end_of, without_first, with_frames}
 use Rattle.lapdm_link.proofs.Views.{acted}
@@ -17,37 +17,13 @@ use Rattle.lapdm_link.specs.Claims.{Line, Asked, Rivals, Told, notice_lines, ans
 
 -- a mobile alone opens the link of SAPI 0, and by some information; that of SAPI 3 is opened bare
 abbrev pub IsPlaced : Role → Sapi → Call → Type 0
-IsPlaced Mobile Zero (Opens info) = Unit {0}
-IsPlaced Network Zero (Opens info) = ⊥
-IsPlaced r Three (Opens info) = ⊥
-IsPlaced r Zero OpensBare = ⊥
+IsPlaced r s (Opens info) = (r ≡ Mobile) × (s ≡ Zero)
+IsPlaced r s OpensBare = s ≡ Three
 IsPlaced r s call = Unit {0}
 
 placed-request : (r : Role) (s : Sapi) (request : Request) → IsPlaced r s (call_of request)
-placed-request Mobile Zero (Send m) = tt
-placed-request Mobile Zero (SendUnit m) = tt
-placed-request Mobile Zero Close = tt
-placed-request Mobile Zero Tick = tt
-placed-request Mobile Zero Idle = tt
-placed-request Mobile Three (Send m) = tt
-placed-request Mobile Three (SendUnit m) = tt
-placed-request Mobile Three Close = tt
-placed-request Mobile Three Tick = tt
-placed-request Mobile Three Idle = tt
-placed-request Network Zero (Send m) = tt
-placed-request Network Zero (SendUnit m) = tt
-placed-request Network Zero Close = tt
-placed-request Network Zero Tick = tt
-placed-request Network Zero Idle = tt
-placed-request Network Three (Send m) = tt
-placed-request Network Three (SendUnit m) = tt
-placed-request Network Three Close = tt
-placed-request Network Three Tick = tt
-placed-request Network Three Idle = tt
-
-placed-bare : (r : Role) → IsPlaced r Three OpensBare
-placed-bare Mobile = tt
-placed-bare Network = tt
+placed-request r s (Send m) = tt
+placed-request r s request = tt
 
 -- what is known of the frames that are read
 abbrev pub Knows : (Role → Frame → Type 0) → Event → Type 0
@@ -80,12 +56,12 @@ module _ (w : World) (P : World → List Line → Type 0) (Known : Role → Fram
     opened : (o : Option Why) (info : Message) → refusal (Open info) w ≡ o →
         P (after_by o (Open info) w) (answer_lines {Manner = Option Frame} (Open info) (answer_by o (deed (Open info) w.ends)))
     opened (Some why) info h = refused
-    opened None info h = called Mobile Zero (Opens info) tt (no_refusal _ _ h)
+    opened None info h = called Mobile Zero (Opens info) (refl, refl) (no_refusal _ _ h)
 
     opened_bare : (o : Option Why) (r : Role) → refusal (OpenBare r) w ≡ o →
         P (after_by o (OpenBare r) w) (answer_lines {Manner = Option Frame} (OpenBare r) (answer_by o (deed (OpenBare r) w.ends)))
     opened_bare (Some why) r h = refused
-    opened_bare None r h = called r Three OpensBare (placed-bare r) (no_refusal _ _ h)
+    opened_bare None r h = called r Three OpensBare refl (no_refusal _ _ h)
 
     asked : (o : Option Why) (r : Role) (s : Sapi) (request : Request) → refusal (Ask r s request) w ≡ o →
         P (after_by o (Ask r s request) w)
@@ -101,12 +77,9 @@ module _ (w : World) (P : World → List Line → Type 0) (Known : Role → Fram
         (let d : Deed = (if zero then does r Zero (after_frame f (end_of r Zero w)) w.ends else
         (if three then does r Three (after_frame f (end_of r Three w)) w.ends else does_nothing (End r) w.ends)) in P
         (next d (without_first (other r) w)) (notice_lines d.who d.sapi d.notices))
-    taken_by Mobile f known true three = taken Mobile Zero f known
-    taken_by Network f known true three = taken Network Zero f known
-    taken_by Mobile f known false true = taken Mobile Three f known
-    taken_by Network f known false true = taken Network Three f known
-    taken_by Mobile f known false false = quietly Network Mobile
-    taken_by Network f known false false = quietly Mobile Network
+    taken_by r f known true three = taken r Zero f known
+    taken_by r f known false true = taken r Three f known
+    taken_by r f known false false = quietly (other r) r
 
     delivered : (o : Option Why) (sender : Role) (read : Option Frame) → KnowsBy o Known (Deliver sender read) →
         P (after_by o (Deliver sender read) w) (answer_lines (Deliver sender read) (answer_by o (deed (Deliver sender read) w.ends)))
@@ -119,8 +92,7 @@ module _ (w : World) (P : World → List Line → Type 0) (Known : Role → Fram
     lost_by : (o : Option Why) (sender : Role) →
         P (after_by o (Lose sender) w) (answer_lines {Manner = Option Frame} (Lose sender) (answer_by o (deed (Lose sender) w.ends)))
     lost_by (Some why) sender = refused
-    lost_by None Mobile = quietly Mobile Mobile
-    lost_by None Network = quietly Network Mobile
+    lost_by None sender = quietly sender Mobile
 
     rival_by : (o : Option Why) (info : Message) → refusal (Rival info) w ≡ o →
         P (after_by o (Rival info) w) (answer_lines {Manner = Option Frame} (Rival info) (answer_by o (deed (Rival info) w.ends)))

@@ -7,74 +7,49 @@
 -- at most one more than its first, since the window is one frame. So of the two pieces that an arriving I frame may
 -- carry, the last accepted and the next, N(S) tells which, and of the two counts that an N(R) may stand for it tells
 -- whether it is that of the piece that waits; then what lies between, the count of accepted pieces, is that count too.
-use Rattle.std.proofs.Common.{◌≡◌, ◌≢◌, refl, sym, ◌∙◌, ap, arith, ℕ, ◌+◌, ◌%◌, false, ◌<◌, ◌≤◌, List, [], ◌∷◌, ◌++◌, length, take, get_or}
+use Rattle.std.proofs.Common.{◌≡◌, ◌≢◌, sym, ◌∙◌, ap, arith, ℕ, ◌+◌, ◌%◌, false, ◌<◌, ◌≤◌, List, [], ◌∷◌, ◌++◌, length, take, get_or}
 use Rattle.std.proofs.lemmas.List.{length-append, take-append-le, take_more}
 use Rattle.std.proofs.Math.ListN.{get_or-append}
+use Rattle.lapdm_frame.specs.Content.{Content, I, Rr, Rej, Frame}
 use Rattle.segmenting.specs.Pieces.{Piece}
-use Rattle.lapdm_link.proofs.Climbs.{Climbs, climbs-le, climbs-lower, climbs-higher, climbs-push, climbs-told, climbs-rest}
+use Rattle.lapdm_window.specs.declared.Sapi.{Sapi}
+use Rattle.lapdm_link.proofs.Queues.{is_on, Where, where-more}
+use Rattle.lapdm_link.proofs.Climbs.{Climbs, AllTell, climbs-le, climbs-lower, climbs-higher, climbs-append, climbs-told, climbs-rest}
 
--- so many pieces are acknowledged
-abbrev pub Counts : ℕ → ℕ → Type 0
-Counts n nr = nr ≡ n % 8
+-- a frame with an N(R) says that so many pieces are accepted
+abbrev pub CountsIn : ℕ → Content → Type 0
+CountsIn n (I ns nr p more info) = nr ≡ n % 8
+CountsIn n (Rr nr pf) = nr ≡ n % 8
+CountsIn n (Rej nr pf) = nr ≡ n % 8
+CountsIn n other = Unit {0}
 
--- the last of so many pieces, with its N(S)
-pub record Carries (ps : List Piece) (n : ℕ) (x : ℕ × Piece) : Type 0 where
+-- this is the last of so many pieces, with its N(S)
+pub record IsPiece (ps : List Piece) (n ns : ℕ) (p : Piece) : Type 0 where
   pub at : ℕ
   pub count : n ≡ at + 1
-  pub number : x.0 ≡ at % 8
+  pub number : ns ≡ at % 8
   pub within : at < length ps
-  pub piece : get_or ps at ([], false) ≡ x.1
+  pub piece : get_or ps at ([], false) ≡ p
 
--- of all pieces so many are acknowledged and so many sent; these are accepted, the first of all; on their way are these
--- pieces, and back these acknowledgements
-pub record IsDirection (ps : List Piece) (acked sent : ℕ) (accepted : List Piece) (there : List (ℕ × Piece)) (back : List ℕ) : Type 0 where
-  pub acknowledged : Climbs Counts acked back (length accepted)
-  pub carried : Climbs (Carries ps) (length accepted) there sent
+abbrev pub CarriesIn : List Piece → ℕ → Content → Type 0
+CarriesIn ps n (I ns nr p more info) = IsPiece ps n ns (info, more)
+CarriesIn ps n other = Unit {0}
+
+-- frames of another SAPI say nothing
+abbrev pub Counts : Sapi → ℕ → Frame → Type 0
+Counts t n f = Where (is_on t f) (CountsIn n f.content)
+
+abbrev pub Carries : Sapi → List Piece → ℕ → Frame → Type 0
+Carries t ps n f = Where (is_on t f) (CarriesIn ps n f.content)
+
+-- of all pieces so many are acknowledged and so many sent; these are accepted, the first of all; these frames are on
+-- their way with pieces, and back with acknowledgements
+pub record IsDirection (t : Sapi) (ps : List Piece) (acked sent : ℕ) (accepted : List Piece) (there back : List Frame) : Type 0 where
+  pub acknowledged : Climbs (Counts t) acked back (length accepted)
+  pub carried : Climbs (Carries t ps) (length accepted) there sent
   pub window : sent ≤ acked + 1
   pub within : sent ≤ length ps
   pub in_order : accepted ≡ take (length accepted) ps
-
-acknowledged-le : (ps : List Piece) (a s : ℕ) (qs : List Piece) (there : List (ℕ × Piece)) (back : List ℕ) →
-    IsDirection ps a s qs there back → a ≤ length qs
-acknowledged-le ps a s qs there back h = climbs-le Counts a back (length qs) h.acknowledged
-
-accepted-le : (ps : List Piece) (a s : ℕ) (qs : List Piece) (there : List (ℕ × Piece)) (back : List ℕ) → IsDirection ps a s qs there back →
-    length qs ≤ s
-accepted-le ps a s qs there back h = climbs-le (Carries ps) (length qs) there s h.carried
-
--- what is sent and not acknowledged is one piece
-pub waits_for_one : (ps : List Piece) (a s : ℕ) (qs : List Piece) (there : List (ℕ × Piece)) (back : List ℕ) → s ≢ a →
-    IsDirection ps a s qs there back → s ≡ a + 1
-waits_for_one ps a s qs there back apart h =
-    let low : a ≤ length qs = acknowledged-le ps a s qs there back h in
-    let high : length qs ≤ s = accepted-le ps a s qs there back h in
-    let most : s ≤ a + 1 = h.window in
-    grind arith
-
--- a new piece is to go out
-pub next_waits : (ps : List Piece) (a s : ℕ) (qs : List Piece) (there : List (ℕ × Piece)) (back : List ℕ) → s ≡ a → s < length ps →
-    IsDirection ps a s qs there back → IsDirection ps a (s + 1) qs there back
-next_waits ps a s qs there back none left h = record {
-  acknowledged = h.acknowledged;
-  carried = climbs-higher (Carries ps) (length qs) there s (s + 1) (omega arith) h.carried;
-  window = omega arith;
-  within = omega arith;
-  in_order = h.in_order;
-}
-
--- the piece that waits goes out, for the first time or again
-pub piece_out : (ps : List Piece) (a s : ℕ) (qs : List Piece) (there : List (ℕ × Piece)) (back : List ℕ) → s ≡ a + 1 →
-    IsDirection ps a s qs there back → IsDirection ps a s qs (there ++ (a % 8, get_or ps a ([], false)) ∷ []) back
-piece_out ps a s qs there back one h =
-    let last : Carries ps s (a % 8, get_or ps a ([], false)) =
-    record { at = a; count = one; number = refl; within = omega (arith, h.within); piece = refl } in
-    record {
-      acknowledged = h.acknowledged;
-      carried = climbs-push (Carries ps) (length qs) there s (a % 8, get_or ps a ([], false)) last h.carried;
-      window = h.window;
-      within = h.within;
-      in_order = h.in_order;
-    }
 
 -- three bits are enough for the number of a piece
 right_piece : (a r s at : ℕ) → a ≤ r → r ≤ at + 1 → at + 1 ≤ s → s ≤ a + 1 → at % 8 ≡ r % 8 → at ≡ r
@@ -84,103 +59,133 @@ right_piece a r s at h1 h2 h3 h4 h5 = grind arith
 right_number : (a r s k : ℕ) → a ≤ k → k ≤ r → r ≤ s → s ≤ a + 1 → s ≢ a → k % 8 ≡ s % 8 → k ≡ s
 right_number a r s k h1 h2 h3 h4 h5 h6 = grind arith
 
--- the pieces so far and the next one
-take-next : (ps qs : List Piece) (n : ℕ) (d : Piece) → n < length ps → qs ≡ take n ps → qs ++ get_or ps n d ∷ [] ≡ take (n + 1) ps
-take-next ps qs n d h e = ap (λ xs. xs ++ get_or ps n d ∷ []) e ∙ sym (take_more ps n d h)
+module _ {t : Sapi} {ps : List Piece} {a s : ℕ} {qs : List Piece} {there back : List Frame} where
+  acknowledged-le : IsDirection t ps a s qs there back → a ≤ length qs
+  acknowledged-le h = climbs-le (Counts t) a back (length qs) h.acknowledged
 
--- a piece is accepted
-pub piece_in : (ps : List Piece) (a s : ℕ) (qs : List Piece) (ns : ℕ) (p : Piece) (there : List (ℕ × Piece)) (back : List ℕ) →
-    ns ≡ length qs % 8 → IsDirection ps a s qs ((ns, p) ∷ there) back → IsDirection ps a s (qs ++ p ∷ []) there back
-piece_in ps a s qs ns p there back number h =
-    let k : ℕ = h.carried.0 in
-    let c : Carries ps k (ns, p) = h.carried.2 in
-    let rest : Climbs (Carries ps) k there s = h.carried.3 in
-    let low : length qs ≤ k = h.carried.1 in
-    let below : a ≤ length qs = acknowledged-le ps a s qs ((ns, p) ∷ there) back h in
-    let above : k ≤ s = climbs-le (Carries ps) k there s rest in
-    let at_is : c.at ≡ length qs = right_piece a (length qs) s c.at below (omega (arith, c.count)) (omega (arith, c.count)) h.window
-    (sym c.number ∙ number) in
-    let longer : length (qs ++ p ∷ []) ≡ length qs + 1 = length-append qs (p ∷ []) in
-    let k_is : k ≡ length (qs ++ p ∷ []) = omega (arith, c.count) in
-    let piece : get_or ps (length qs) ([], false) ≡ p = ap (λ i. get_or ps i ([], false)) (sym at_is) ∙ c.piece in
-    record {
-      acknowledged = climbs-higher Counts a back (length qs) (length (qs ++ p ∷ [])) (omega arith) h.acknowledged;
-      carried = climbs-lower (Carries ps) (length (qs ++ p ∷ [])) k there s (omega arith) rest;
-      window = h.window;
-      within = h.within;
-      in_order = ap (λ q. qs ++ q ∷ []) (sym piece) ∙ take-next ps qs (length qs) ([], false) (omega (arith, c.within)) h.in_order
-          ∙ ap (λ n. take n ps) (sym longer);
-    }
+  accepted-le : IsDirection t ps a s qs there back → length qs ≤ s
+  accepted-le h = climbs-le (Carries t ps) (length qs) there s h.carried
 
--- a piece is lost or ignored
-pub piece_gone : (ps : List Piece) (a s : ℕ) (qs : List Piece) (x : ℕ × Piece) (there : List (ℕ × Piece)) (back : List ℕ) →
-    IsDirection ps a s qs (x ∷ there) back → IsDirection ps a s qs there back
-piece_gone ps a s qs x there back h = record {
-  acknowledged = h.acknowledged;
-  carried = climbs-rest (Carries ps) (length qs) x there s h.carried;
-  window = h.window;
-  within = h.within;
-  in_order = h.in_order;
-}
+  -- what is sent and not acknowledged is one piece
+  pub waits_for_one : s ≢ a → IsDirection t ps a s qs there back → s ≡ a + 1
+  waits_for_one apart h =
+      let low : a ≤ length qs = acknowledged-le h in
+      let high : length qs ≤ s = accepted-le h in
+      let most : s ≤ a + 1 = h.window in
+      grind arith
 
--- an acknowledgement counts
-pub number_in : (ps : List Piece) (a s : ℕ) (qs : List Piece) (there : List (ℕ × Piece)) (nr : ℕ) (back : List ℕ) → s ≢ a → nr ≡ s % 8 →
-    IsDirection ps a s qs there (nr ∷ back) → IsDirection ps s s qs there back
-number_in ps a s qs there nr back waits number h =
-    let k : ℕ = h.acknowledged.0 in
-    let rest : Climbs Counts k back (length qs) = h.acknowledged.3 in
-    let low : a ≤ k = h.acknowledged.1 in
-    let tells : nr ≡ k % 8 = h.acknowledged.2 in
-    let below : k ≤ length qs = climbs-le Counts k back (length qs) rest in
-    let above : length qs ≤ s = accepted-le ps a s qs there (nr ∷ back) h in
-    let k_is : k ≡ s = right_number a (length qs) s k low below above h.window waits (sym tells ∙ number) in
-    record {
-      acknowledged = climbs-lower Counts s k back (length qs) (omega arith) rest;
-      carried = h.carried;
-      window = omega arith;
-      within = h.within;
-      in_order = h.in_order;
-    }
+  -- a new piece is to go out
+  pub next_waits : s ≡ a → s < length ps → IsDirection t ps a s qs there back → IsDirection t ps a (s + 1) qs there back
+  next_waits none left h = record {
+    acknowledged = h.acknowledged;
+    carried = climbs-higher (Carries t ps) (length qs) there s (s + 1) (omega arith) h.carried;
+    window = omega arith;
+    within = omega arith;
+    in_order = h.in_order;
+  }
 
--- an acknowledgement is lost or ignored, or says nothing new
-pub number_gone : (ps : List Piece) (a s : ℕ) (qs : List Piece) (there : List (ℕ × Piece)) (nr : ℕ) (back : List ℕ) →
-    IsDirection ps a s qs there (nr ∷ back) → IsDirection ps a s qs there back
-number_gone ps a s qs there nr back h = record {
-  acknowledged = climbs-rest Counts a nr back (length qs) h.acknowledged;
-  carried = h.carried;
-  window = h.window;
-  within = h.within;
-  in_order = h.in_order;
-}
+  -- frames go out that carry the last piece sent, for the first time or again
+  pub pieces_out : (fs : List Frame) → AllTell (Carries t ps) s fs → IsDirection t ps a s qs there back →
+      IsDirection t ps a s qs (there ++ fs) back
+  pieces_out fs tell h = record {
+    acknowledged = h.acknowledged;
+    carried = climbs-append (Carries t ps) (length qs) there fs s tell h.carried;
+    window = h.window;
+    within = h.within;
+    in_order = h.in_order;
+  }
 
--- an acknowledgement goes out
-pub number_out : (ps : List Piece) (a s : ℕ) (qs : List Piece) (there : List (ℕ × Piece)) (back : List ℕ) →
-    IsDirection ps a s qs there back → IsDirection ps a s qs there (back ++ length qs % 8 ∷ [])
-number_out ps a s qs there back h = record {
-  acknowledged = climbs-push Counts a back (length qs) (length qs % 8) refl h.acknowledged;
-  carried = h.carried;
-  window = h.window;
-  within = h.within;
-  in_order = h.in_order;
-}
+  -- frames go back that count the accepted pieces
+  pub numbers_out : (fs : List Frame) → AllTell (Counts t) (length qs) fs → IsDirection t ps a s qs there back →
+      IsDirection t ps a s qs there (back ++ fs)
+  numbers_out fs tell h = record {
+    acknowledged = climbs-append (Counts t) a back fs (length qs) tell h.acknowledged;
+    carried = h.carried;
+    window = h.window;
+    within = h.within;
+    in_order = h.in_order;
+  }
+
+  -- a piece is accepted
+  pub piece_in : (f : Frame) (ns : ℕ) (p : Piece) → ((k : ℕ) → Carries t ps k f → IsPiece ps k ns p) → ns ≡ length qs % 8 →
+      IsDirection t ps a s qs (f ∷ there) back → IsDirection t ps a s (qs ++ p ∷ []) there back
+  piece_in f ns p carries number h =
+      let k : ℕ = h.carried.0 in
+      let c : IsPiece ps k ns p = carries k h.carried.2 in
+      let rest : Climbs (Carries t ps) k there s = h.carried.3 in
+      let low : length qs ≤ k = h.carried.1 in
+      let below : a ≤ length qs = climbs-le (Counts t) a back (length qs) h.acknowledged in
+      let above : k ≤ s = climbs-le (Carries t ps) k there s rest in
+      let at_is : c.at ≡ length qs = right_piece a (length qs) s c.at below (omega (arith, c.count)) (omega (arith, c.count)) h.window
+      (sym c.number ∙ number) in
+      let longer : length (qs ++ p ∷ []) ≡ length qs + 1 = length-append qs (p ∷ []) in
+      let k_is : k ≡ length (qs ++ p ∷ []) = omega (arith, c.count) in
+      let piece : get_or ps (length qs) ([], false) ≡ p = ap (λ i. get_or ps i ([], false)) (sym at_is) ∙ c.piece in
+      record {
+        acknowledged = climbs-higher (Counts t) a back (length qs) (length (qs ++ p ∷ [])) (omega arith) h.acknowledged;
+        carried = climbs-lower (Carries t ps) (length (qs ++ p ∷ [])) k there s (omega arith) rest;
+        window = h.window;
+        within = h.within;
+        in_order = ap (λ q. qs ++ q ∷ []) (sym piece) ∙ ap (λ xs. xs ++ get_or ps (length qs) ([], false) ∷ []) h.in_order
+            ∙ sym (take_more ps (length qs) ([], false) (omega (arith, c.within))) ∙ ap (λ n. take n ps) (sym longer);
+      }
+
+  -- a frame is lost or ignored
+  pub piece_gone : {f : Frame} → IsDirection t ps a s qs (f ∷ there) back → IsDirection t ps a s qs there back
+  piece_gone {f} h = record {
+    acknowledged = h.acknowledged;
+    carried = climbs-rest (Carries t ps) (length qs) f there s h.carried;
+    window = h.window;
+    within = h.within;
+    in_order = h.in_order;
+  }
+
+  pub number_gone : {f : Frame} → IsDirection t ps a s qs there (f ∷ back) → IsDirection t ps a s qs there back
+  number_gone {f} h = record {
+    acknowledged = climbs-rest (Counts t) a f back (length qs) h.acknowledged;
+    carried = h.carried;
+    window = h.window;
+    within = h.within;
+    in_order = h.in_order;
+  }
+
+  -- an acknowledgement counts
+  pub number_in : (f : Frame) (nr : ℕ) → ((k : ℕ) → Counts t k f → nr ≡ k % 8) → s ≢ a → nr ≡ s % 8 →
+      IsDirection t ps a s qs there (f ∷ back) → IsDirection t ps s s qs there back
+  number_in f nr counts waits number h =
+      let k : ℕ = h.acknowledged.0 in
+      let rest : Climbs (Counts t) k back (length qs) = h.acknowledged.3 in
+      let below : k ≤ length qs = climbs-le (Counts t) k back (length qs) rest in
+      let above : length qs ≤ s = climbs-le (Carries t ps) (length qs) there s h.carried in
+      let k_is : k ≡ s = right_number a (length qs) s k h.acknowledged.1 below above h.window waits
+      (sym (counts k h.acknowledged.2) ∙ number) in
+      record {
+        acknowledged = climbs-lower (Counts t) s k back (length qs) (omega arith) rest;
+        carried = h.carried;
+        window = omega arith;
+        within = h.within;
+        in_order = h.in_order;
+      }
 
 -- there are more pieces
-carries-more : (ps more : List Piece) (n : ℕ) (x : ℕ × Piece) → Carries ps n x → Carries (ps ++ more) n x
-carries-more ps more n x c = record {
+carries-more : (ps more : List Piece) (n : ℕ) (c : Content) → CarriesIn ps n c → CarriesIn (ps ++ more) n c
+carries-more ps more n (I ns nr p m info) c = record {
   at = c.at;
   count = c.count;
   number = c.number;
   within = omega (arith, c.within, length-append ps more);
   piece = get_or-append ps more ([], false) c.at c.within ∙ c.piece;
 }
+carries-more ps more n other c = tt
 
-pub more_pieces : (ps more : List Piece) (a s : ℕ) (qs : List Piece) (there : List (ℕ × Piece)) (back : List ℕ) →
-    IsDirection ps a s qs there back → IsDirection (ps ++ more) a s qs there back
-more_pieces ps more a s qs there back h =
-    let r_le : length qs ≤ s = accepted-le ps a s qs there back h in
+pub more_pieces : (more : List Piece) {t : Sapi} {ps : List Piece} {a s : ℕ} {qs : List Piece} {there back : List Frame} →
+    IsDirection t ps a s qs there back → IsDirection t (ps ++ more) a s qs there back
+more_pieces more {t} {ps} {a} {s} {qs} {there} {back} h =
+    let r_le : length qs ≤ s = climbs-le (Carries t ps) (length qs) there s h.carried in
     record {
       acknowledged = h.acknowledged;
-      carried = climbs-told (Carries ps) (Carries (ps ++ more)) (carries-more ps more) (length qs) there s h.carried;
+      carried = climbs-told (Carries t ps) (Carries t (ps ++ more))
+          (λ k f. where-more (is_on t f) _ _ (carries-more ps more k f.content)) (length qs) there s h.carried;
       window = h.window;
       within = omega (arith, h.within, length-append ps more);
       in_order = h.in_order ∙ sym (take-append-le (length qs) ps more (omega (arith, h.within)));

@@ -6,25 +6,22 @@ use Rattle.lapdm_frame.specs.Content.{Frame}
 use Rattle.std.proofs.lemmas.List.Elements.{All-nil}
 use Rattle.segmenting.specs.Pieces.{Message, IsMessage}
 use Rattle.lapdm_window.specs.declared.Sapi.{Sapi}
-use Rattle.lapdm_window.specs.declared.Sapi.TheVariants.{Zero, Three}
 use Rattle.lapdm_window.specs.declared.State.{State}
 use Rattle.lapdm_window.specs.declared.State.TheVariants as S
 use Rattle.lapdm_window.specs.declared.Notice.{Notice}
 use Rattle.lapdm_window.specs.declared.Notice.TheVariants as N
-use Rattle.lapdm_window.specs.Ends.{Role, Mobile, Network, EndState, Outcome, KeepsWindow, start}
-use Rattle.lapdm_window.specs.Calls.{Call, refusal_of, after_call}
+use Rattle.lapdm_window.specs.Ends.{Role, Mobile, EndState, Outcome, KeepsWindow}
+use Rattle.lapdm_window.specs.Calls.{Call}
 use Rattle.lapdm_window.specs.Tables.{after_frame}
 use Rattle.lapdm_link.specs.Events.{Event, Deliver, Why, other, rival_frame}
 use Rattle.lapdm_link.specs.Worlds.{World, start_on, refusal, answer, after, answers}
-use Rattle.lapdm_link.proofs.Views.{end_of, way, rest, with_way, without_first, with_frames}
-use Rattle.lapdm_link.proofs.Views.{acted}
 use Rattle.lapdm_link.specs.Claims.{Line, Asked, Rivals, Told, answer_lines, lines, calls, notices, IsOfOpenEnd, IsOpenEnd, OrderClaims}
-use Rattle.lapdm_link.proofs.Reports.{IsStep, step-frame}
-use Rattle.lapdm_link.proofs.Told.{Phase, HasTold, has_told-more, MaySay, AllSaid, all_said}
-use Rattle.lapdm_link.proofs.Asked.{IsCalled, is_called}
-use Rattle.lapdm_link.proofs.Views.{each_end, end_does, end_does-else, notices-told, notices-else, calls-told, calls-asked, notices-asked, calls-called, notices-called, calls-called_else, notices-called_else, calls-rival, notices-rival}
-use Rattle.lapdm_link.proofs.ByKind.{IsPlaced, KnowsBy, by_kind}
-use Rattle.lapdm_link.proofs.Standing.{AllStand, stand-append, stands}
+use Rattle.lapdm_link.proofs.Told.{Phase, HasTold, MaySay, AllSaid, IsStep, step-unasked}
+use Rattle.lapdm_link.proofs.Taking.{IsTaken, taken-frame}
+use Rattle.lapdm_link.proofs.Asked.{is_called}
+use Rattle.lapdm_link.proofs.Views.{end_of, without_first, with_frames, acted, said, each_end, each_start, end_does, end_does-else, calls-said, notices-said, calls-else, notices-else, calls-rival, notices-rival}
+use Rattle.lapdm_link.proofs.ByKind.{KnowsBy, by_kind}
+use Rattle.lapdm_link.proofs.Standing.{AllStand, stand-append, stand-asked, stands}
 
 -- an end, and what its lines tell of it
 pub record IsReported (r : Role) (s : Sapi) (e : EndState) (cs : List Call) (ns : List Notice) : Type 0 where
@@ -44,14 +41,13 @@ MayStand before other = Unit {0}
 said-stands : (r : Role) (s : Sapi) (before : List Line) (ns : List Notice) → AllSaid (calls r s before) (notices r s before) ns →
     AllStand MayStand before (map (Told r s) ns)
 said-stands r s before [] h = tt
-said-stands r s before (n ∷ ns) h =
-    let same_calls : calls r s before ≡ calls r s (before ++ Told r s n ∷ []) = sym (calls-told r s before (n ∷ []) r s) in
-    let more_notices : notices r s before ++ n ∷ [] ≡ notices r s (before ++ Told r s n ∷ []) = sym (notices-told r s before (n ∷ [])) in (
-      h.0,
-      said-stands r s (before ++ Told r s n ∷ []) ns
-          (subst (λ (cs : List Call). AllSaid cs (notices r s (before ++ Told r s n ∷ [])) ns) same_calls
-          (subst (λ (ms : List Notice). AllSaid (calls r s before) ms ns) more_notices h.1)),
-    )
+said-stands r s before (n ∷ ns) h = (
+  h.0,
+  said-stands r s (before ++ Told r s n ∷ []) ns
+      (subst (λ (cs : List Call). AllSaid cs (notices r s (before ++ Told r s n ∷ [])) ns)
+      (sym (calls-said r s before [] (n ∷ []) ∙ append-nil (calls r s before)))
+      (subst (λ (ms : List Notice). AllSaid (calls r s before) ms ns) (sym (notices-said r s before [] (n ∷ []))) h.1)),
+)
 
 reported-as : (r : Role) (s : Sapi) (e e' : EndState) (cs cs' : List Call) (ns ns' : List Notice) → e' ≡ e → cs' ≡ cs → ns' ≡ ns →
     IsReported r s e cs ns → IsReported r s e' cs' ns'
@@ -66,55 +62,35 @@ module _ (w : World) (ls : List Line) (h : AllReported w ls) where
   refused : Follows ls w []
   refused = (λ r s. reported-as r s _ _ _ _ _ _ refl (ap (calls r s) (append-nil ls)) (ap (notices r s) (append-nil ls)) (h r s), tt)
 
-  moved_way : (sender : Role) (fs : List Frame) → AllReported (with_way sender fs w) ls
-  moved_way sender fs r s = reported-as r s _ _ _ _ _ _ refl refl refl (h r s)
+  -- an end acts
+  acts : (r : Role) (s : Sapi) (cs : List Call) (o : Outcome) → IsStep (end_of r s w) cs o →
+      Follows ls (acted r s o w) (said r s cs o.notices)
+  acts r s cs o c =
+      let here : IsReported r s o.after (calls r s ls ++ cs) (notices r s ls ++ o.notices) =
+      record {
+        role = c.link.role ∙ (h r s).role;
+        sapi = c.link.sapi ∙ (h r s).sapi;
+        end = c.end;
+        told = c.told (calls r s ls) (notices r s ls) (h r s).told;
+      } in
+      let asked : List Line = ls ++ map (Asked r s) cs in
+      let is_asked : asked ≡ ls ++ said r s cs [] = ap (λ xs. ls ++ xs) (sym (append-nil (map (Asked r s) cs))) in
+      let told : AllSaid (calls r s asked) (notices r s asked) o.notices =
+      subst (λ (xs : List Call). AllSaid xs (notices r s asked) o.notices) (sym (ap (calls r s) is_asked ∙ calls-said r s ls cs []))
+      (subst (λ (ns : List Notice). AllSaid (calls r s ls ++ cs) ns o.notices)
+      (sym (ap (notices r s) is_asked ∙ notices-said r s ls cs [] ∙ append-nil (notices r s ls)))
+      (c.said (calls r s ls) (notices r s ls) (h r s).told)) in (
+        each_end (λ r' s'. IsReported r' s' (end_of r' s' (acted r s o w)) (calls r' s' (ls ++ said r s cs o.notices))
+            (notices r' s' (ls ++ said r s cs o.notices))) r s
+            (reported-as r s _ _ _ _ _ _ (end_does r s o w) (calls-said r s ls cs o.notices) (notices-said r s ls cs o.notices) here)
+            (λ r' s' n. reported-as r' s' _ _ _ _ _ _ (end_does-else r s o w r' s' n) (calls-else r s r' s' n ls cs o.notices)
+            (notices-else r s r' s' n ls cs o.notices) (h r' s')),
+        stand-asked MayStand (λ b q t call. tt) r s ls cs _ (said-stands r s asked o.notices told),
+      )
 
-called : (w : World) (ls : List Line) → AllReported w ls → (r : Role) (s : Sapi) (call : Call) → IsPlaced r s call →
-    refusal_of call (end_of r s w) ≡ None → Follows ls (acted r s (after_call call (end_of r s w)) w)
-    (Asked r s call ∷ map (Told r s) (after_call call (end_of r s w)).notices)
-called w ls h r s call placed ok =
-    let e : EndState = end_of r s w in
-    let o : Outcome = after_call call e in
-    let c : IsCalled e call o = is_called call e ok (h r s).end in
-    let here : IsReported r s o.after (calls r s ls ++ call ∷ []) (notices r s ls ++ o.notices) =
-    record {
-      role = c.role ∙ (h r s).role;
-      sapi = c.sapi ∙ (h r s).sapi;
-      end = c.end;
-      told = c.told (calls r s ls) (notices r s ls) (h r s).told;
-    } in
-    let said : AllSaid (calls r s (ls ++ Asked r s call ∷ [])) (notices r s (ls ++ Asked r s call ∷ [])) o.notices =
-    (let a : AllSaid (calls r s ls ++ call ∷ []) (notices r s ls) o.notices = c.said (calls r s ls) (notices r s ls) (h r s).told in
-    subst (λ (cs : List Call). AllSaid cs (notices r s (ls ++ Asked r s call ∷ [])) o.notices) (sym (calls-asked r s ls call))
-    (subst (λ (ns : List Notice). AllSaid (calls r s ls ++ call ∷ []) ns o.notices) (sym (notices-asked r s ls call r s)) a)) in (
-      each_end (λ r' s'. IsReported r' s' (end_of r' s' (acted r s o w)) (calls r' s' (ls ++ Asked r s call ∷ map (Told r s) o.notices))
-          (notices r' s' (ls ++ Asked r s call ∷ map (Told r s) o.notices))) r s
-          (reported-as r s _ _ _ _ _ _ (end_does r s o w) (calls-called r s ls call o.notices) (notices-called r s ls call o.notices) here)
-          (λ r' s' n. reported-as r' s' _ _ _ _ _ _ (end_does-else r s o w r' s' n) (calls-called_else r s ls call o.notices r' s' n)
-          (notices-called_else r s ls call o.notices r' s' n) (h r' s')),
-      (tt, said-stands r s (ls ++ Asked r s call ∷ []) o.notices said),
-    )
-
-taken : (w : World) (ls : List Line) → AllReported w ls → (r : Role) (s : Sapi) (f : Frame) →
-    Follows ls (acted r s (after_frame f (end_of r s w)) w) (map (Told r s) (after_frame f (end_of r s w)).notices)
-taken w ls h r s f =
-    let e : EndState = end_of r s w in
-    let o : Outcome = after_frame f e in
-    let c : IsStep e o = step-frame f e (h r s).end in
-    let here : IsReported r s o.after (calls r s ls) (notices r s ls ++ o.notices) =
-    record {
-      role = c.role ∙ (h r s).role;
-      sapi = c.sapi ∙ (h r s).sapi;
-      end = c.end (h r s).end;
-      told = has_told-more e o.after (calls r s ls) (notices r s ls) o.notices c.tells (h r s).told;
-    } in (
-      each_end (λ r' s'. IsReported r' s' (end_of r' s' (acted r s o w)) (calls r' s' (ls ++ map (Told r s) o.notices))
-          (notices r' s' (ls ++ map (Told r s) o.notices))) r s
-          (reported-as r s _ _ _ _ _ _ (end_does r s o w) (calls-told r s ls o.notices r s) (notices-told r s ls o.notices) here)
-          (λ r' s' n. reported-as r' s' _ _ _ _ _ _ (end_does-else r s o w r' s' n) (calls-told r s ls o.notices r' s')
-          (notices-else r s ls o.notices r' s' n) (h r' s')),
-      said-stands r s ls o.notices (all_said e o.after (calls r s ls) (notices r s ls) o.notices (c.end (h r s).end) c.tells (h r s).told),
-    )
+pub taken-step : (f : Frame) (x : EndState) → KeepsWindow x → IsStep x [] (after_frame f x)
+taken-step f x end =
+    let t : IsTaken f.content x (after_frame f x) = taken-frame x end f in step-unasked x (after_frame f x) t.link t.end t.tells
 
 rival : (w : World) (ls : List Line) → AllReported w ls → (info : Message) → Follows ls (with_frames Mobile (rival_frame info ∷ []) w)
     (Rivals info ∷ [])
@@ -133,9 +109,10 @@ any_frame None other = tt
 pub in_order-step : (w : World) (ls : List Line) (event : Event) → AllReported w ls →
     Follows ls (after event w) (answer_lines event (answer event w))
 in_order-step w ls event h =
-    by_kind w (Follows ls) (λ r f. Unit {0}) (refused w ls h) (called w ls h)
-    (λ r s f known. taken (without_first (other r) w) ls (moved_way w ls h (other r) (rest (way (other r) w))) r s f)
-    (λ sender. refused (without_first sender w) ls (moved_way w ls h sender (rest (way sender w))))
+    by_kind w (Follows ls) (λ r f. Unit {0}) (refused w ls h)
+    (λ r s call placed ok. acts w ls h r s (call ∷ []) _ (is_called (end_of r s w) (h r s).end call ok).step)
+    (λ r s f known. acts (without_first (other r) w) ls h r s [] _ (taken-step f (end_of r s w) (h r s).end))
+    (λ sender. refused (without_first sender w) ls h)
     (λ info ok. rival w ls h info) event (any_frame (refusal event w) event)
 
 pub in_order-run : (events : List Event) (w : World) (ls : List Line) → AllReported w ls →
@@ -148,35 +125,21 @@ in_order-run (event ∷ events) w ls h =
     let run = in_order-run events (after event w) (ls ++ new) step.0 in
     (run.0, subst (AllReported run.0) (append_assoc ls new more) run.1, stand-append MayStand ls new more step.1 run.2)
 
-started : (r : Role) (s : Sapi) (channel : Channel) → KeepsWindow (start r s channel)
-started r s channel = record { messages = All-nil IsMessage; sent = omega arith; behind = omega arith; window = omega arith }
-
-told_nothing : (r : Role) (s : Sapi) (channel : Channel) → HasTold (start r s channel) [] []
-told_nothing r s channel = record { taken = refl; got = refl; acked = refl; phase = (refl, refl, refl) }
-
 pub start-reported : (channel : Channel) → AllReported (start_on channel) []
-start-reported channel Mobile Zero =
-    record { role = refl; sapi = refl; end = started Mobile Zero channel; told = told_nothing Mobile Zero channel }
-start-reported channel Mobile Three =
-    record { role = refl; sapi = refl; end = started Mobile Three channel; told = told_nothing Mobile Three channel }
-start-reported channel Network Zero =
-    record { role = refl; sapi = refl; end = started Network Zero channel; told = told_nothing Network Zero channel }
-start-reported channel Network Three =
-    record { role = refl; sapi = refl; end = started Network Three channel; told = told_nothing Network Three channel }
+start-reported channel = each_start (λ r s e. IsReported r s e [] []) channel (λ r s. record {
+  role = refl;
+  sapi = refl;
+  end = record { messages = All-nil IsMessage; sent = omega arith; behind = omega arith; window = omega arith };
+  told = record { taken = refl; got = refl; acked = refl; phase = (refl, refl, refl) };
+})
 
 pub opened-most : (s : State) (o c k : ℕ) → Phase s o c k → o ≤ 1
-opened-most S.Idle o c k h = omega (arith, h.0)
-opened-most S.Opening o c k h = omega (arith, h.0)
-opened-most S.Open o c k h = omega (arith, h.0)
-opened-most S.Closing o c k h = omega (arith, h.0)
 opened-most S.Closed o c k h = h.0
+opened-most s o c k h = omega (arith, h.0)
 
 closed-most : (s : State) (o c k : ℕ) → Phase s o c k → c ≤ 1
-closed-most S.Idle o c k h = omega (arith, h.1)
-closed-most S.Opening o c k h = omega (arith, h.1)
-closed-most S.Open o c k h = omega (arith, h.1)
-closed-most S.Closing o c k h = omega (arith, h.1)
 closed-most S.Closed o c k h = omega (arith, h.1)
+closed-most s o c k h = omega (arith, h.1)
 
 is_open_end : (r : Role) (s : Sapi) (n : Notice) (before : List Line) → IsOfOpenEnd n → MaySay (calls r s before) (notices r s before) n →
     IsOpenEnd r s before

@@ -1,27 +1,25 @@
 -- Every harmless session: one event after another.
-use Rattle.std.proofs.Common.{◌≡◌, refl, sym, subst, List, [], ◌∷◌, ◌++◌, map, Some, None, append_assoc, ◌≤◌, length}
+use Rattle.std.proofs.Common.{◌≡◌, sym, subst, List, [], ◌∷◌, ◌++◌, Some, append_assoc, ◌≤◌, length}
 use Rattle.std.proofs.lemmas.List.{append-nil}
 use Rattle.lapdm_frame.specs.declared.Channel.{Channel}
-use Rattle.lapdm_frame.specs.Content.{Frame}
 use Rattle.lapdm_window.specs.declared.Sapi.{Sapi}
 use Rattle.lapdm_window.specs.declared.Notice.TheVariants as N
-use Rattle.lapdm_window.specs.Ends.{Role, Mobile, Network}
-use Rattle.lapdm_window.specs.Calls.{Call, refusal_of, after_call}
-use Rattle.lapdm_window.specs.Tables.{after_frame}
+use Rattle.lapdm_window.specs.Ends.{Role}
 use Rattle.lapdm_link.specs.Events.{Event, other}
 use Rattle.lapdm_link.specs.Worlds.{World, start_on, refusal, answer, after, answers, IsHarmlessBy, IsHarmless}
 use Rattle.lapdm_link.specs.Ways.{IsAsSent}
-use Rattle.lapdm_link.proofs.Views.{end_of, way, without_first}
-use Rattle.lapdm_link.proofs.Views.{acted}
-use Rattle.lapdm_link.specs.Claims.{Line, Asked, Told, answer_lines, lines, calls, notices, units_got, Claims, acked, got}
+use Rattle.lapdm_link.proofs.Views.{end_of, way, without_first, other_twice}
+use Rattle.lapdm_link.proofs.Asked.{is_called}
+use Rattle.lapdm_link.specs.Claims.{Line, Told, answer_lines, lines, calls, notices, units_got, Claims, acked, got}
 use Rattle.lapdm_link.proofs.Told.{MaySay}
 use Rattle.lapdm_link.proofs.Standing.{AllStand, stand-append, stands}
-use Rattle.lapdm_link.proofs.ByKind.{IsPlaced, by_kind}
+use Rattle.lapdm_link.proofs.ByKind.{by_kind}
 use Rattle.lapdm_link.proofs.Order.{AllReported, MayStand, Follows, in_order-step, start-reported, opened-most}
 use Rattle.lapdm_link.proofs.Delivery.{AllCarried, start-carried}
 use Rattle.lapdm_link.proofs.Delivered.{got_in_order, none_oversize, IsAfterGot, delivers-step, as_sent, acked_most}
 use Rattle.lapdm_link.proofs.Subsequences.{sub-front}
-use Rattle.lapdm_link.proofs.Units.{AllUnits, units_on, units-call, units-frame, units-lost, units-rival, start-units}
+use Rattle.lapdm_link.proofs.Taking.{units_on}
+use Rattle.lapdm_link.proofs.Units.{AllUnits, units-call, units-frame, units-lost, units-rival, start-units}
 use Rattle.lapdm_link.proofs.Openings.{AllOpenings, IsOpenedAfter, openings-call, openings-frame, openings-lost, openings-rival, start-openings}
 
 -- what holds of the ends, the frames on their way and the lines
@@ -46,28 +44,20 @@ next_quiet w ls u o = record {
   after_cause = tt;
 }
 
-next_call : (w : World) (ls : List Line) → IsSession w ls → (r : Role) (s : Sapi) (call : Call) → IsPlaced r s call →
-    refusal_of call (end_of r s w) ≡ None → IsNext ls (acted r s (after_call call (end_of r s w)) w)
-    (Asked r s call ∷ map (Told r s) (after_call call (end_of r s w)).notices)
-next_call w ls h r s call placed ok =
-    let o = openings-call w ls h.openings r s call placed (h.reported r s).sapi ok in
-    record { units = units-call w ls h.units r s call (h.reported r s).sapi ok; openings = o.0; after_cause = o.1 }
-
-next_frame : (w : World) (ls : List Line) → IsSession w ls → (r : Role) (s : Sapi) (f : Frame) → IsAsSent (Some f) (way (other r) w) →
-    IsNext ls (acted r s (after_frame f (end_of r s (without_first (other r) w))) (without_first (other r) w))
-    (map (Told r s) (after_frame f (end_of r s (without_first (other r) w))).notices)
-next_frame w ls h r s f known =
-    let e = h.reported r s in
-    let o = openings-frame w ls h.openings r s f e.end e.role e.sapi known in
-    record { units = units-frame w ls h.units r s f e.end e.sapi known; openings = o.0; after_cause = o.1 }
-
 next : (w : World) (ls : List Line) (event : Event) → IsHarmlessBy (refusal event w) event w → IsSession w ls →
     IsNext ls (after event w) (answer_lines event (answer event w))
 next w ls event harmless h =
     by_kind w (IsNext ls) (λ sender f. IsAsSent (Some f) (way sender w))
     (next_quiet w ls h.units h.openings)
-    (next_call w ls h)
-    (next_frame w ls h)
+    (λ r s call placed ok.
+    (let e = h.reported r s in
+    let c = is_called (end_of r s w) e.end call ok in
+    let o = openings-call w ls h.openings r s call placed e.sapi c in
+    record { units = units-call w ls h.units r s call e.sapi c; openings = o.0; after_cause = o.1 }))
+    (λ r s f known.
+    (let e = h.reported r s in
+    let o = openings-frame w ls h.openings r s f e.end e.role e.sapi known in
+    record { units = units-frame w ls h.units r s f e.end e.sapi known; openings = o.0; after_cause = o.1 }))
     (λ sender. next_quiet (without_first sender w) ls (units-lost w ls h.units sender) (openings-lost w ls h.openings sender))
     (λ info ok. record { units = units-rival w ls h.units info; openings = openings-rival w ls h.openings info; after_cause = (tt, tt) })
     event (as_sent (refusal event w) event w harmless)
@@ -107,10 +97,6 @@ start-session channel = record {
   after_got = tt;
   after_cause = tt;
 }
-
-other_twice : (r : Role) → other (other r) ≡ r
-other_twice Mobile = refl
-other_twice Network = refl
 
 -- the claims hold in every state that a harmless session leads to
 pub session-claims : (w : World) (ls : List Line) → IsSession w ls → Claims ls

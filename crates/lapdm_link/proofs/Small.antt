@@ -14,7 +14,8 @@ use Rattle.lapdm_link.specs.Ways.{Ways, way, with_more}
 use Rattle.lapdm_link.specs.Events.{Event, Open, OpenBare, Ask, Deliver, Lose, Rival, Ends, end_in, sender_of, Deed, does, does_nothing, deed, call_of, End, other, taken, Why}
 use Rattle.lapdm_link.specs.Worlds.{World, start_on, refusal, answer_by, answer, next, after_by, after, answers, IsReadable, IsSendable}
 use Rattle.lapdm_link.proofs.ByKind.{KnowsBy}
-use Rattle.lapdm_link.proofs.Fitting.{AllFit, IsFitting, fits-step, start-fits}
+use Rattle.lapdm_link.proofs.Holding.{AllOf, of-later, all-of, Holds}
+use Rattle.lapdm_link.proofs.Fitting.{FitsEnd, AllFit, IsFitting, fits-step, start-fits}
 
 record IsFew (d : Deed) : Type 0 where
   frames : length d.frames ≤ 2
@@ -39,49 +40,41 @@ few-deed (Deliver sender None) es = record { frames = omega arith; notices = ome
 few-deed (Lose sender) es = record { frames = omega arith; notices = omega arith }
 few-deed (Rival info) es = record { frames = omega arith; notices = omega arith }
 
--- what went out fits, since all that is on its way does
-fit-later : (channel : Channel) (fs gs : List Frame) → AllFit channel (fs ++ gs) → AllFit channel gs
-fit-later channel [] gs h = h
-fit-later channel (f ∷ fs) gs h = fit-later channel fs gs h.1
-
+-- what holds of all frames on their way holds of those that went out
 way_more : (r : Role) (fs : List Frame) (ws : Ways Frame) → way r (with_more r fs ws) ≡ way r ws ++ fs
 way_more Mobile fs ws = refl
 way_more Network fs ws = refl
 
-deed-fits_by : (channel : Channel) (w : World) (event : Event) (o : Option Why) → o ≡ None → IsFitting channel (after_by o event w) →
-    AllFit channel (deed event w.ends).frames
-deed-fits_by channel w event o none h =
+pub deed-holds : (E : Sapi → EndState → Type 0) (F : Frame → Type 0) (channel : Channel) (w : World) (event : Event) (o : Option Why) →
+    o ≡ None → Holds E F channel (after_by o event w) → AllOf F (deed event w.ends).frames
+deed-holds E F channel w event o none h =
     let d : Deed = deed event w.ends in
-    let g : IsFitting channel (next d (record w { ways = taken event w.ways })) =
-    subst (λ (q : Option Why). IsFitting channel (after_by q event w)) none h in
-    fit-later channel (way (sender_of d.who) (taken event w.ways)) d.frames
-    (subst (AllFit channel) (way_more (sender_of d.who) d.frames (taken event w.ways)) (g.ways (sender_of d.who)))
+    let g : Holds E F channel (next d (record w { ways = taken event w.ways })) =
+    subst (λ (q : Option Why). Holds E F channel (after_by q event w)) none h in
+    of-later F (way (sender_of d.who) (taken event w.ways)) d.frames
+    (subst (AllOf F) (way_more (sender_of d.who) d.frames (taken event w.ways)) (g.ways (sender_of d.who)))
 
 -- the frames of a deed fit, where what is read does
 pub deed-fits : (channel : Channel) (w : World) (event : Event) → KnowsBy (refusal event w)
     (λ sender f. Fits channel f) event → IsFitting channel w → refusal event w ≡ None →
     AllFit channel (deed event w.ends).frames
-deed-fits channel w event known h none = deed-fits_by channel w event (refusal event w) none (fits-step channel w event known h)
-
-all-fit : (channel : Channel) (fs : List Frame) → AllFit channel fs → All (Fits channel) fs
-all-fit channel [] h = All-nil (Fits channel)
-all-fit channel (f ∷ fs) h = All-cons (Fits channel) f fs h.0 (all-fit channel fs h.1)
+deed-fits channel w event known h none =
+    deed-holds (FitsEnd channel) (Fits channel) channel w event (refusal event w) none (fits-step channel w event known h)
 
 sendable : (channel : Channel) (w : World) (event : Event) (o : Option Why) → IsFitting channel (after_by o event w) →
     IsSendable channel (answer_by o (deed event w.ends))
 sendable channel w event (Some why) h = tt
-sendable channel w event None h =
-    ((few-deed event w.ends).frames, all-fit channel _ (deed-fits_by channel w event None refl h), (few-deed event w.ends).notices)
+sendable channel w event None h = (
+  (few-deed event w.ends).frames,
+  all-of (Fits channel) _ (deed-holds (FitsEnd channel) (Fits channel) channel w event None refl h),
+  (few-deed event w.ends).notices,
+)
 
 readable : (channel : Channel) (event : Event) (o : Option Why) → IsReadable channel event → KnowsBy o (λ sender f. Fits channel f) event
 readable channel event (Some why) h = tt
 readable channel (Deliver sender (Some f)) None h = h
 readable channel (Deliver sender None) None h = tt
-readable channel (Open info) None h = tt
-readable channel (OpenBare r) None h = tt
-readable channel (Ask r s request) None h = tt
-readable channel (Lose sender) None h = tt
-readable channel (Rival info) None h = tt
+readable channel event None h = tt
 
 small-run : (channel : Channel) (events : List Event) (w : World) → All (IsReadable channel) events → IsFitting channel w →
     All (IsSendable channel) (answers events w)

@@ -1,7 +1,10 @@
 -- What holds of each line by the lines before it.
-use Rattle.std.proofs.Common.{sym, subst, List, [], ◌∷◌, ◌++◌, append_assoc}
+use Rattle.std.proofs.Common.{sym, subst, List, [], ◌∷◌, ◌++◌, map, append_assoc}
 use Rattle.std.proofs.lemmas.List.{append-nil}
-use Rattle.lapdm_link.specs.Claims.{Line, StandsAfter}
+use Rattle.lapdm_window.specs.declared.Sapi.{Sapi}
+use Rattle.lapdm_window.specs.Ends.{Role}
+use Rattle.lapdm_window.specs.Calls.{Call}
+use Rattle.lapdm_link.specs.Claims.{Line, Asked, StandsAfter}
 
 -- each of these lines may stand behind those before it
 abbrev pub AllStand : (List Line → Line → Type 0) → List Line → List Line → Type 0
@@ -15,6 +18,17 @@ stand-append May before (x ∷ xs) ys h g = (
   h.0,
   stand-append May (before ++ x ∷ []) xs ys h.1
       (subst (λ (b : List Line). AllStand May b ys) (sym (append_assoc before (x ∷ []) xs)) g),
+)
+
+-- what an end is asked may stand anywhere
+pub stand-asked : (May : List Line → Line → Type 0) → ((b : List Line) (r : Role) (s : Sapi) (c : Call) → May b (Asked r s c)) → (r : Role)
+    (s : Sapi) (ls : List Line) (cs : List Call) (xs : List Line) → AllStand May (ls ++ map (Asked r s) cs) xs →
+    AllStand May ls (map (Asked r s) cs ++ xs)
+stand-asked May free r s ls [] xs h = subst (λ (b : List Line). AllStand May b xs) (append-nil ls) h
+stand-asked May free r s ls (c ∷ cs) xs h = (
+  free ls r s c,
+  stand-asked May free r s (ls ++ Asked r s c ∷ []) cs xs
+      (subst (λ (b : List Line). AllStand May b xs) (sym (append_assoc ls (Asked r s c ∷ []) (map (Asked r s) cs))) h),
 )
 
 at_place : (May : List Line → Line → Type 0) (first before : List Line) (l : Line) (more : List Line) →

@@ -1,12 +1,13 @@
--- What an end sends at any frame, and what opens it.
-use Rattle.std.proofs.Common.{◌≡◌, refl, sym, ◌∙◌, ap, subst, ◌≤◌, Bool, true, false, ◌&&◌, if◌then◌else◌, List, [], ◌∷◌, ◌++◌, Option, Some, None, inl, inr}
+-- What an end does at any frame: what it tells and sends, what opens it, and that both directions are kept.
+use Rattle.std.proofs.Common.{◌≡◌, refl, sym, ◌∙◌, ap, subst, arith, ℕ, ◌≤◌, Bool, true, false, ◌&&◌, if◌then◌else◌, List, [], ◌∷◌, ◌++◌, length, Option, Some, None, inl, inr}
 use Rattle.std.specs.Prelude.{◌⊎◌}
 use Rattle.std.specs.Str.{bytes_eq}
-use Rattle.std.specs.List.{filter_map}
-use Rattle.std.proofs.lemmas.List.Elements.{filter_map-append}
+use Rattle.std.specs.List.{filter_map, cons_option}
+use Rattle.std.proofs.lemmas.List.{append-nil}
 use Rattle.std.proofs.lemmas.Slice.Eq.{bytes_eq-Decides}
-use Rattle.lapdm_frame.specs.Content.{Content, I, Rr, Rnr, Rej, Sabm, Dm, Ui, Disc, Ua, Frame}
+use Rattle.lapdm_frame.specs.Content.{Content, I, Rr, Rej, Sabm, Dm, Ui, Disc, Ua, Frame}
 use Rattle.segmenting.specs.Pieces.{Message}
+use Rattle.segmenting.specs.Joining.{endings}
 use Rattle.lapdm_window.specs.declared.Sapi.{Sapi}
 use Rattle.lapdm_window.specs.declared.Sapi.TheVariants.{Zero, Three}
 use Rattle.lapdm_window.specs.declared.State.{State}
@@ -15,11 +16,13 @@ use Rattle.lapdm_window.specs.declared.Reason.{Reason}
 use Rattle.lapdm_window.specs.declared.Reason.TheVariants as R
 use Rattle.lapdm_window.specs.declared.Notice.{Notice}
 use Rattle.lapdm_window.specs.declared.Notice.TheVariants as N
-use Rattle.lapdm_window.specs.Ends.{Role, Mobile, Network, EndState, Outcome, KeepsWindow, all_pieces, stays, ◌then◌}
+use Rattle.lapdm_window.specs.Ends.{Role, Mobile, Network, EndState, Outcome, KeepsWindow, all_pieces, wholly_acked, stays, ◌then◌}
+use Rattle.lapdm_window.specs.Steps.{IsSameLink}
 use Rattle.lapdm_window.specs.Tables.{is_command, is_poll, says_ua, becomes_open, sabm_in_idle, dm_to_poll, in_idle, other_ua, sabm_in_opening, in_opening, answers_sabm, in_open, in_closing, in_closed, in_state, after_content, after_frame}
-use Rattle.lapdm_link.specs.Claims.{opened_in, unit_got_in}
-use Rattle.lapdm_link.proofs.Queues.{is_on}
-use Rattle.lapdm_link.proofs.Telling.{MayTell, Walks, AllFrames, IsNumbered, SaysWell, InOpen, in-takes_i, in-takes_rr, in-takes_rej}
+use Rattle.lapdm_link.specs.Claims.{acked_in, opened_in, unit_got_in}
+use Rattle.lapdm_link.proofs.Queues.{is_on, Where, where-in, IsPlain, AllWhere, AllFrames, frames-as, all-where}
+use Rattle.lapdm_link.proofs.Telling.{ending_in, Numbers, MayTell, Tells, silent, SaysWell, InOpen, in-takes_i, in-takes_rr, in-takes_rej}
+use Rattle.lapdm_link.proofs.Keeping.{IsBoth, After, sends_plain, quiet, moved, gone, after-takes_i, after-takes_rr, after-takes_rej}
 
 -- the end asked for the link or has it
 abbrev pub HasBegun : State → Type 0
@@ -28,14 +31,18 @@ HasBegun Open = Unit {0}
 HasBegun Closing = Unit {0}
 HasBegun other = ⊥
 
--- what an end may answer: a UA with the information of the open link, or one without, once it began
+-- what an end may answer without numbers: DM, and UA with the information of the open link, or with none, once it began
+abbrev pub Replies : EndState → EndState → Content → Type 0
+Replies x z (Dm f) = Unit {0}
+Replies x z (Ua f info) = ((z.state ≡ Open) × (z.kept ≡ info)) ⊎ ((info ≡ []) × HasBegun x.state)
+Replies x z other = ⊥
+
+-- and what it may answer at all
 abbrev pub Answers : EndState → EndState → Content → Type 0
 Answers x z (I ns nr p more info) = SaysWell (all_pieces x) (I ns nr p more info)
 Answers x z (Rr nr pf) = nr ≤ 7
 Answers x z (Rej nr pf) = nr ≤ 7
-Answers x z (Dm f) = Unit {0}
-Answers x z (Ua f info) = ((z.state ≡ Open) × (z.kept ≡ info)) ⊎ ((info ≡ []) × HasBegun x.state)
-Answers x z other = ⊥
+Answers x z other = Replies x z other
 
 -- an end that a SABM may open
 abbrev pub MayOpen : Sapi → Role → Message → Type 0
@@ -48,13 +55,9 @@ OpensBy (Sabm p i) x info = (i ≡ info) × (x.state ≡ Idle) × MayOpen x.sapi
 OpensBy (Ua f i) x info = (i ≡ info) × (x.state ≡ Opening) × (info ≡ x.kept)
 OpensBy other x info = ⊥
 
+-- it stays in its state, or the link is over
 pub record Remains (x : EndState) (o : Outcome) : Type 0 where
-  pub state : o.after.state ≡ x.state
-  pub kept : o.after.kept ≡ x.kept
-  pub none : filter_map opened_in o.notices ≡ []
-
-pub record IsOver (x : EndState) (o : Outcome) : Type 0 where
-  pub state : o.after.state ≡ Closed
+  pub state : (o.after.state ≡ x.state) ⊎ (o.after.state ≡ Closed)
   pub kept : o.after.kept ≡ x.kept
   pub none : filter_map opened_in o.notices ≡ []
 
@@ -71,190 +74,217 @@ unit_of here (Ui p []) = None
 unit_of here (Ui p (i ∷ is)) = if here then Some (i ∷ is) else None
 unit_of here other = None
 
+abbrev pub units_on : Sapi → List Frame → List Message
+units_on s fs = filter_map (λ f. unit_of (is_on s f) f.content) fs
+
+unit-none : (here : Bool) (c : Content) → Where here (unit_of true c ≡ None) → unit_of here c ≡ None
+unit-none true c h = h
+unit-none false (Ui p []) h = refl
+unit-none false (Ui p (i ∷ is)) h = refl
+unit-none false other h = refl
+
+pub no-units : (s : Sapi) (fs : List Frame) → AllWhere (λ c. unit_of true c ≡ None) s fs → units_on s fs ≡ []
+no-units s [] h = refl
+no-units s (f ∷ fs) h = ap (λ o. cons_option o (units_on s fs)) (unit-none (is_on s f) f.content h.0) ∙ no-units s fs h.1
+
 -- no unit is reported, or the one of the frame
 abbrev pub ReportsUnit : Content → List Notice → Type 0
 ReportsUnit c ns = (filter_map unit_got_in ns ≡ []) ⊎ ((m : Message) × (unit_of true c ≡ Some m) × (filter_map unit_got_in ns ≡ m ∷ []))
 
+-- the first frame that comes in is taken, and both directions go on
+abbrev pub Arrives : Frame → EndState → Outcome → Type 0
+Arrives f x o = (t : Sapi) (y : EndState) (out comes : List Frame) → is_on t f ≡ true → IsBoth t x y out (f ∷ comes) (f ∷ comes) →
+    After t o y out comes comes
+
 pub record IsTaken (c : Content) (x : EndState) (o : Outcome) : Type 0 where
+  pub link : IsSameLink x o.after
+  pub end : KeepsWindow o.after
+  pub tells : Tells x o.notices o.after
   pub frames : AllFrames (Answers x o.after) x.sapi o.frames
-  pub goes : (Remains x o ⊎ IsOver x o) ⊎ IsOpenedBy c x o
+  pub goes : Remains x o ⊎ IsOpenedBy c x o
   pub unit : ReportsUnit c o.notices
+  pub arrives : (n : ℕ) (cr : Bool) → Arrives (record { sapi = n; cr = cr; content = c }) x o
 
 -- in Open
-numbered-answers : (x z : EndState) (c : Content) → IsNumbered c → SaysWell (all_pieces x) c → Answers x z c
-numbered-answers x z (I ns nr p more info) h g = g
-numbered-answers x z (Rr nr pf) h g = g
-numbered-answers x z (Rej nr pf) h g = g
-numbered-answers x z other h g = absurd h
+well-answers : (x z : EndState) (c : Content) → SaysWell (all_pieces x) c → Answers x z c
+well-answers x z (I ns nr p more info) h = h
+well-answers x z (Rr nr pf) h = h
+well-answers x z (Rej nr pf) h = h
+well-answers x z other h = absurd h
 
-all-answers : (x z : EndState) (s : Sapi) (fs : List Frame) → AllFrames IsNumbered s fs → AllFrames (SaysWell (all_pieces x)) s fs →
-    AllFrames (Answers x z) s fs
-all-answers x z s [] h g = tt
-all-answers x z s (f ∷ fs) h g = (h.0, numbered-answers x z f.content h.1 g.1, all-answers x z s fs h.2 g.2)
-
--- an end that is or was open is opened no more
-abbrev pub IsLate : State → Type 0
-IsLate Open = Unit {0}
-IsLate Closing = Unit {0}
-IsLate Closed = Unit {0}
-IsLate other = ⊥
-
-late : (s t : State) → t ≡ s → IsLate s → IsLate t
-late s t e h = subst IsLate (sym e) h
-
-may_not : (s : State) (n : Notice) (u : State) → IsLate s → MayTell s n u → (filter_map opened_in (n ∷ []) ≡ []) × IsLate u
-may_not Idle n u h may = absurd h
-may_not Opening n u h may = absurd h
-may_not Open (N.Unit m) u h may = (refl, late Open u may tt)
-may_not Open (N.Got m) u h may = (refl, late Open u may tt)
-may_not Open (N.Acked n) u h may = (refl, late Open u may tt)
-may_not Open N.Oversize u h may = (refl, late Open u may tt)
-may_not Open (N.Closed r) u h may = (refl, late Closed u may tt)
-may_not Open (N.Opened m) u h may = absurd may
-may_not Closing (N.Unit m) u h may = (refl, late Closing u may tt)
-may_not Closing (N.Closed r) u h may = (refl, late Closed u may tt)
-may_not Closing n u h may = absurd may
-may_not Closed (N.Unit m) u h may = (refl, late Closed u may tt)
-may_not Closed n u h may = absurd may
-
-no_opened : (s : State) (ns : List Notice) (t : State) → IsLate s → Walks s ns t → filter_map opened_in ns ≡ []
-no_opened s [] t h w = refl
-no_opened s (n ∷ ns) t h w =
-    let first : (filter_map opened_in (n ∷ []) ≡ []) × IsLate w.0 = may_not s n w.0 h w.1 in
-    filter_map-append opened_in (n ∷ []) ns ∙ ap (λ ms. ms ++ filter_map opened_in ns) first.0 ∙ no_opened w.0 ns t first.1 w.2
-
-taken-open : (c : Content) (x : EndState) (o : Outcome) → x.state ≡ Open → KeepsWindow x → InOpen x o → IsTaken c x o
-taken-open c x o is_now e h = record {
-  frames = all-answers x o.after x.sapi o.frames h.frames (h.well e);
-  goes = inl (inl (record {
-    state = h.state;
-    kept = h.kept;
-    none = no_opened x.state o.notices o.after.state
-        (late Open x.state is_now tt) h.tells.walks;
-  }));
-  unit = inl h.no_units;
+openly : (c : Content) (x : EndState) (o : Outcome) → InOpen x o →
+    ((n : ℕ) (cr : Bool) → Arrives (record { sapi = n; cr = cr; content = c }) x o) → IsTaken c x o
+openly c x o h arrives = record {
+  link = h.link;
+  end = h.end;
+  tells = h.tells;
+  frames = frames-as (SaysWell (all_pieces x)) (Answers x o.after) (well-answers x o.after) x.sapi o.frames h.frames;
+  goes = inl (record { state = inl h.state; kept = h.kept; none = h.of_open.1 });
+  unit = inl h.of_open.0;
+  arrives = arrives;
 }
 
--- the tables
-taken-quiet : (c : Content) (x : EndState) (fs : List Frame) → AllFrames (Answers x x) x.sapi fs →
-    IsTaken c x (record { after = x; frames = fs; notices = [] })
-taken-quiet c x fs h = record { frames = h; goes = inl (inl (record { state = refl; kept = refl; none = refl })); unit = inl refl }
+-- elsewhere no numbers are sent
+reply-answers : (x z : EndState) (c : Content) → Replies x z c → Answers x z c
+reply-answers x z (I ns nr p more info) h = absurd h
+reply-answers x z (Rr nr pf) h = absurd h
+reply-answers x z (Rej nr pf) h = absurd h
+reply-answers x z other h = h
 
-taken-over : (c : Content) (x : EndState) (reason : Reason) (fs : List Frame) →
-    AllFrames (Answers x (record x { state = Closed })) x.sapi fs →
-    IsTaken c x (record { after = record x { state = Closed }; frames = fs; notices = N.Closed reason ∷ [] })
-taken-over c x reason fs h = record { frames = h; goes = inl (inr (record { state = refl; kept = refl; none = refl })); unit = inl refl }
+reply-plain : (x z : EndState) (c : Content) → Replies x z c → IsPlain c
+reply-plain x z (Dm f) h = tt
+reply-plain x z (Ua f info) h = tt
+reply-plain x z other h = absurd h
 
-taken-opened : (c : Content) (x : EndState) (k : Message) (info : Message) (fs : List Frame) → k ≡ info →
-    AllFrames (Answers x (record x { state = Open; kept = k })) x.sapi fs → OpensBy c x info →
-    IsTaken c x (record { after = record x { state = Open; kept = k }; frames = fs; notices = N.Opened info ∷ [] })
-taken-opened c x k info fs e h cause =
-    record { frames = h; goes = inr (record { info = info; notices = refl; state = refl; kept = e; cause = cause }); unit = inl refl }
+-- one notice that leads to another state
+pub one_told : (x : EndState) (s t : State) (k : Message) (n : Notice) → filter_map ending_in (n ∷ []) ≡ [] →
+    filter_map acked_in (n ∷ []) ≡ [] → Numbers (wholly_acked x) (n ∷ []) → x.state ≡ s → MayTell s n t →
+    Tells x (n ∷ []) (record x { state = t; kept = k })
+one_told x s t k n no_got no_acked numbers is may = record {
+  taken = refl;
+  got = sym (append-nil (endings [] x.accepted)) ∙ ap (λ ms. endings [] x.accepted ++ ms) (sym no_got);
+  acked = omega (arith, ap length no_acked);
+  numbers = numbers;
+  walks = (t, subst (λ (u : State). MayTell u n t) (sym is) may, refl);
+}
 
-begun : (x : EndState) (s : State) → x.state ≡ s → HasBegun s → HasBegun x.state
-begun x s e h = subst HasBegun (sym e) h
+module _ (x : EndState) (w : KeepsWindow x) where
+  becomes : (c : Content) (s : State) (k : Message) (fs : List Frame) (ns : List Notice) →
+      (let z : EndState = record x { state = s; kept = k } in AllFrames (Replies x z) x.sapi fs → Tells x ns z →
+      (let o : Outcome = record { after = z; frames = fs; notices = ns } in Remains x o ⊎ IsOpenedBy c x o → ReportsUnit c ns →
+      IsTaken c x o))
+  becomes c s k fs ns replies tells goes unit =
+      let z : EndState = record x { state = s; kept = k } in
+      record {
+        link = record { role = refl; sapi = refl; channel = refl };
+        end = record { messages = w.messages; sent = w.sent; behind = w.behind; window = w.window };
+        tells = tells;
+        frames = frames-as (Replies x z) (Answers x z) (reply-answers x z) x.sapi fs replies;
+        goes = goes;
+        unit = unit;
+        arrives = λ n cr t y out comes here h.
+            sends_plain fs (all-where (Replies x z) IsPlain (reply-plain x z) t x.sapi fs replies)
+            (moved s k x.rejecting x.retries (gone h));
+      }
 
-taken-sabm_in_idle : (p : Bool) (s : Sapi) (r : Role) (info : Message) (x : EndState) → x.state ≡ Idle → x.sapi ≡ s → x.role ≡ r →
-    IsTaken (Sabm p info) x (sabm_in_idle s r info x)
-taken-sabm_in_idle p Zero Mobile info x e a b = taken-quiet _ x _ (refl, tt, tt)
-taken-sabm_in_idle p Zero Network [] x e a b = taken-quiet _ x _ tt
-taken-sabm_in_idle p Zero Network (i ∷ is) x e a b =
-    taken-opened _ x (i ∷ is) (i ∷ is) _ refl (refl, inl (refl, refl), tt)
-    (refl, e, subst (λ (s : Sapi). MayOpen s x.role (i ∷ is)) (sym a) (subst (λ (r : Role). MayOpen Zero r (i ∷ is)) (sym b) tt))
-taken-sabm_in_idle p Three r [] x e a b =
-    taken-opened _ x [] [] _ refl (refl, inl (refl, refl), tt) (refl, e, subst (λ (s : Sapi). MayOpen s x.role []) (sym a) (three x.role))
-  where
-    three : (r : Role) → MayOpen Three r []
-    three Mobile = tt
-    three Network = tt
-taken-sabm_in_idle p Three r (i ∷ is) x e a b = taken-quiet _ x _ tt
+  quietly : (c : Content) (fs : List Frame) → AllFrames (Replies x x) x.sapi fs →
+      IsTaken c x (record { after = x; frames = fs; notices = [] })
+  quietly c fs h = becomes c x.state x.kept fs [] h (silent x x refl refl refl refl)
+      (inl (record { state = inl refl; kept = refl; none = refl })) (inl refl)
 
-taken-dm_to_poll : (poll : Bool) (c : Content) (x : EndState) → IsTaken c x (dm_to_poll poll x)
-taken-dm_to_poll true c x = taken-quiet c x _ (refl, tt, tt)
-taken-dm_to_poll false c x = taken-quiet c x _ tt
+  over : (c : Content) (s : State) (reason : Reason) (fs : List Frame) → x.state ≡ s → MayTell s (N.Closed reason) Closed →
+      AllFrames (Replies x (record x { state = Closed })) x.sapi fs →
+      IsTaken c x (record { after = record x { state = Closed }; frames = fs; notices = N.Closed reason ∷ [] })
+  over c s reason fs is may h = becomes c Closed x.kept fs _ h (one_told x s Closed x.kept _ refl refl tt is may)
+      (inl (record { state = inr refl; kept = refl; none = refl })) (inl refl)
 
-taken-in_idle : (poll : Bool) (c : Content) (x : EndState) → x.state ≡ Idle → IsTaken c x (in_idle poll c x)
-taken-in_idle poll (Sabm p info) x e = taken-sabm_in_idle p x.sapi x.role info x e refl refl
-taken-in_idle poll (Disc p) x e = taken-quiet _ x _ (refl, tt, tt)
-taken-in_idle poll other x e = taken-dm_to_poll poll other x
+  opened : (c : Content) (s : State) (k info : Message) (fs : List Frame) → x.state ≡ s → MayTell s (N.Opened info) Open → k ≡ info →
+      AllFrames (Replies x (record x { state = Open; kept = k })) x.sapi fs → OpensBy c x info →
+      IsTaken c x (record { after = record x { state = Open; kept = k }; frames = fs; notices = N.Opened info ∷ [] })
+  opened c s k info fs is may e h cause = becomes c Open k fs _ h (one_told x s Open k _ refl refl tt is may)
+      (inr (record { info = info; notices = refl; state = refl; kept = e; cause = cause })) (inl refl)
 
-taken-sabm_in_opening : (p : Bool) (s : Sapi) (info : Message) (x : EndState) → x.state ≡ Opening →
-    IsTaken (Sabm p info) x (sabm_in_opening s info x)
-taken-sabm_in_opening p Zero info x e = taken-quiet _ x _ tt
-taken-sabm_in_opening p Three [] x e = taken-quiet _ x _ (refl, inr (refl, begun x Opening e tt), tt)
-taken-sabm_in_opening p Three (i ∷ is) x e = taken-quiet _ x _ tt
+  -- the tables
+  begun : (s : State) → x.state ≡ s → HasBegun s → HasBegun x.state
+  begun s e h = subst HasBegun (sym e) h
 
-taken-other_ua : (c : Content) (s : Sapi) (x : EndState) → IsTaken c x (other_ua s x)
-taken-other_ua c Zero x = taken-over c x R.Contention [] tt
-taken-other_ua c Three x = taken-quiet c x _ tt
+  taken-sabm_in_idle : (p : Bool) (s : Sapi) (r : Role) (info : Message) → x.state ≡ Idle → x.sapi ≡ s → x.role ≡ r →
+      IsTaken (Sabm p info) x (sabm_in_idle s r info x)
+  taken-sabm_in_idle p Zero Mobile info e a b = quietly _ _ (inl refl, tt, tt)
+  taken-sabm_in_idle p Zero Network [] e a b = quietly _ _ tt
+  taken-sabm_in_idle p Zero Network (i ∷ is) e a b = opened _ Idle (i ∷ is) (i ∷ is) _ e (tt, refl) refl (inl refl, inl (refl, refl), tt)
+      (refl, e, subst (λ (s : Sapi). MayOpen s x.role (i ∷ is)) (sym a) (subst (λ (r : Role). MayOpen Zero r (i ∷ is)) (sym b) tt))
+  taken-sabm_in_idle p Three r [] e a b = opened _ Idle [] [] _ e (tt, refl) refl (inl refl, inl (refl, refl), tt)
+      (refl, e, subst (λ (s : Sapi). MayOpen s x.role []) (sym a) tt)
+  taken-sabm_in_idle p Three r (i ∷ is) e a b = quietly _ _ tt
 
-taken-ua_in_opening : (same : Bool) (info : Message) (x : EndState) → x.state ≡ Opening → bytes_eq info x.kept ≡ same →
-    IsTaken (Ua true info) x (if same then becomes_open info x else other_ua x.sapi x)
-taken-ua_in_opening true info x e same =
-    let as_kept : info ≡ x.kept = (bytes_eq-Decides info x.kept).0 same in
-    taken-opened _ x x.kept info [] (sym as_kept) tt (refl, e, as_kept)
-taken-ua_in_opening false info x e same = taken-other_ua _ x.sapi x
+  taken-dm_to_poll : (poll : Bool) (c : Content) → IsTaken c x (dm_to_poll poll x)
+  taken-dm_to_poll true c = quietly c _ (inl refl, tt, tt)
+  taken-dm_to_poll false c = quietly c _ tt
 
-taken-in_opening : (c : Content) (x : EndState) → x.state ≡ Opening → IsTaken c x (in_opening c x)
-taken-in_opening (Sabm p info) x e = taken-sabm_in_opening p x.sapi info x e
-taken-in_opening (Ua true info) x e = taken-ua_in_opening (bytes_eq info x.kept) info x e refl
-taken-in_opening (Ua false info) x e = taken-quiet _ x _ tt
-taken-in_opening (Dm true) x e = taken-over _ x R.Refused [] tt
-taken-in_opening (Dm false) x e = taken-quiet _ x _ tt
-taken-in_opening (Disc p) x e = taken-quiet _ x _ (refl, tt, tt)
-taken-in_opening other x e = taken-quiet other x _ tt
+  taken-in_idle : (poll : Bool) (c : Content) → x.state ≡ Idle → IsTaken c x (in_idle poll c x)
+  taken-in_idle poll (Sabm p info) e = taken-sabm_in_idle p x.sapi x.role info e refl refl
+  taken-in_idle poll (Disc p) e = quietly _ _ (inl refl, tt, tt)
+  taken-in_idle poll other e = taken-dm_to_poll poll other
 
-taken-ua_if : (p : Bool) (answers same : Bool) (info : Message) (x : EndState) → x.state ≡ Open → bytes_eq info x.kept ≡ same →
-    IsTaken (Sabm p info) x (if answers && same then says_ua info x else stays x)
-taken-ua_if p true true info x e same = taken-quiet _ x _ (refl, inl (e, sym ((bytes_eq-Decides info x.kept).0 same)), tt)
-taken-ua_if p true false info x e same = taken-quiet _ x _ tt
-taken-ua_if p false s info x e same = taken-quiet _ x _ tt
+  taken-sabm_in_opening : (p : Bool) (s : Sapi) (info : Message) → x.state ≡ Opening → IsTaken (Sabm p info) x (sabm_in_opening s info x)
+  taken-sabm_in_opening p Three [] e = quietly _ _ (inl refl, inr (refl, begun Opening e tt), tt)
+  taken-sabm_in_opening p s info e = quietly _ _ tt
 
-taken-in_open : (cmd : Bool) (c : Content) (x : EndState) → x.state ≡ Open → KeepsWindow x → IsTaken c x (in_open cmd c x)
-taken-in_open cmd (I ns nr p more info) x e h = taken-open _ x _ e h (in-takes_i ns nr p (info, more) x e h)
-taken-in_open cmd (Rr nr pf) x e h = taken-open _ x _ e h (in-takes_rr nr (cmd && pf) x e h)
-taken-in_open cmd (Rej nr pf) x e h = taken-open _ x _ e h (in-takes_rej nr (cmd && pf) x e h)
-taken-in_open cmd (Sabm p info) x e h = taken-ua_if p (answers_sabm x.sapi x.role) (bytes_eq info x.kept) info x e refl
-taken-in_open cmd (Disc p) x e h = taken-over _ x R.Released _ (refl, inr (refl, begun x Open e tt), tt)
-taken-in_open cmd (Dm f) x e h = taken-over _ x R.Failed [] tt
-taken-in_open cmd (Rnr nr pf) x e h = taken-quiet _ x _ tt
-taken-in_open cmd (Ui p info) x e h = taken-quiet _ x _ tt
-taken-in_open cmd (Ua f info) x e h = taken-quiet _ x _ tt
+  taken-ua_in_opening : (s : Sapi) (same : Bool) (info : Message) → x.state ≡ Opening → bytes_eq info x.kept ≡ same →
+      IsTaken (Ua true info) x (if same then becomes_open info x else other_ua s x)
+  taken-ua_in_opening s true info e same =
+      let as_kept : info ≡ x.kept = (bytes_eq-Decides info x.kept).0 same in
+      opened _ Opening x.kept info [] e (tt, refl) (sym as_kept) tt (refl, e, as_kept)
+  taken-ua_in_opening Zero false info e same = over _ Opening R.Contention [] e (tt, refl) tt
+  taken-ua_in_opening Three false info e same = quietly _ _ tt
 
-taken-in_closing : (c : Content) (x : EndState) → x.state ≡ Closing → IsTaken c x (in_closing c x)
-taken-in_closing (Ua true []) x e = taken-over _ x R.Released [] tt
-taken-in_closing (Ua true (i ∷ is)) x e = taken-quiet _ x _ tt
-taken-in_closing (Ua false info) x e = taken-quiet _ x _ tt
-taken-in_closing (Dm true) x e = taken-over _ x R.Released [] tt
-taken-in_closing (Dm false) x e = taken-quiet _ x _ tt
-taken-in_closing (Disc p) x e = taken-quiet _ x _ (refl, inr (refl, begun x Closing e tt), tt)
-taken-in_closing other x e = taken-quiet other x _ tt
+  taken-in_opening : (c : Content) → x.state ≡ Opening → IsTaken c x (in_opening c x)
+  taken-in_opening (Sabm p info) e = taken-sabm_in_opening p x.sapi info e
+  taken-in_opening (Ua true info) e = taken-ua_in_opening x.sapi (bytes_eq info x.kept) info e refl
+  taken-in_opening (Dm true) e = over _ Opening R.Refused [] e (tt, refl) tt
+  taken-in_opening (Disc p) e = quietly _ _ (inl refl, tt, tt)
+  taken-in_opening other e = quietly other _ tt
 
-taken-in_closed : (poll : Bool) (c : Content) (x : EndState) → IsTaken c x (in_closed poll c x)
-taken-in_closed poll (Sabm p info) x = taken-quiet _ x _ (refl, tt, tt)
-taken-in_closed poll (Disc p) x = taken-quiet _ x _ (refl, tt, tt)
-taken-in_closed poll other x = taken-dm_to_poll poll other x
+  taken-ua_if : (p : Bool) (answers same : Bool) (info : Message) → x.state ≡ Open → bytes_eq info x.kept ≡ same →
+      IsTaken (Sabm p info) x (if answers && same then says_ua info x else stays x)
+  taken-ua_if p true true info e same = quietly _ _ (inl refl, inl (e, sym ((bytes_eq-Decides info x.kept).0 same)), tt)
+  taken-ua_if p answers same info e h = quietly _ _ tt
 
-taken-in_state : (s : State) (cmd : Bool) (c : Content) (x : EndState) → x.state ≡ s → KeepsWindow x → IsTaken c x (in_state s cmd c x)
-taken-in_state Idle cmd c x e h = taken-in_idle (is_poll cmd c) c x e
-taken-in_state Opening cmd c x e h = taken-in_opening c x e
-taken-in_state Open cmd c x e h = taken-in_open cmd c x e h
-taken-in_state Closing cmd c x e h = taken-in_closing c x e
-taken-in_state Closed cmd c x e h = taken-in_closed (is_poll cmd c) c x
+  taken-in_open : (cmd : Bool) (c : Content) → x.state ≡ Open → IsTaken c x (in_open cmd c x)
+  taken-in_open cmd (I ns nr p more info) e = openly _ x _ (in-takes_i nr x e w ns p (info, more))
+      (λ n cr t y out comes here h. after-takes_i _ nr (λ k. where-in _ _ here) h ns p (info, more) (λ k. where-in _ _ here))
+  taken-in_open cmd (Rr nr pf) e = openly _ x _ (in-takes_rr nr x e w (cmd && pf))
+      (λ n cr t y out comes here h. after-takes_rr _ nr (λ k. where-in _ _ here) h (cmd && pf))
+  taken-in_open cmd (Rej nr pf) e = openly _ x _ (in-takes_rej nr x e w (cmd && pf))
+      (λ n cr t y out comes here h. after-takes_rej _ nr (λ k. where-in _ _ here) h (cmd && pf))
+  taken-in_open cmd (Sabm p info) e = taken-ua_if p (answers_sabm x.sapi x.role) (bytes_eq info x.kept) info e refl
+  taken-in_open cmd (Disc p) e = over _ Open R.Released _ e (tt, refl) (inl refl, inr (refl, begun Open e tt), tt)
+  taken-in_open cmd (Dm f) e = over _ Open R.Failed [] e (tt, refl) tt
+  taken-in_open cmd other e = quietly other _ tt
 
-taken-content : (cmd : Bool) (c : Content) (x : EndState) → KeepsWindow x → IsTaken c x (after_content cmd c x)
-taken-content cmd (Ui p []) x h = taken-quiet _ x _ tt
-taken-content cmd (Ui p (i ∷ is)) x h =
-    record { frames = tt; goes = inl (inl (record { state = refl; kept = refl; none = refl })); unit = inr (i ∷ is, refl, refl) }
-taken-content cmd other x h = taken-in_state x.state cmd other x refl h
+  taken-in_closing : (c : Content) → x.state ≡ Closing → IsTaken c x (in_closing c x)
+  taken-in_closing (Ua true []) e = over _ Closing R.Released [] e (tt, refl) tt
+  taken-in_closing (Dm true) e = over _ Closing R.Released [] e (tt, refl) tt
+  taken-in_closing (Disc p) e = quietly _ _ (inl refl, inr (refl, begun Closing e tt), tt)
+  taken-in_closing other e = quietly other _ tt
 
-taken-if : (b cmd : Bool) (c : Content) (x : EndState) → KeepsWindow x → IsTaken c x (if b then after_content cmd c x else stays x)
-taken-if true cmd c x h = taken-content cmd c x h
-taken-if false cmd c x h = taken-quiet c x [] tt
+  taken-in_closed : (poll : Bool) (c : Content) → IsTaken c x (in_closed poll c x)
+  taken-in_closed poll (Sabm p info) = quietly _ _ (inl refl, tt, tt)
+  taken-in_closed poll (Disc p) = quietly _ _ (inl refl, tt, tt)
+  taken-in_closed poll other = taken-dm_to_poll poll other
 
-pub taken-frame : (f : Frame) (x : EndState) → KeepsWindow x → IsTaken f.content x (after_frame f x)
-taken-frame f x h = taken-if _ (is_command x f) f.content x h
+  taken-in_state : (s : State) (cmd : Bool) (c : Content) → x.state ≡ s → IsTaken c x (in_state s cmd c x)
+  taken-in_state Idle cmd c e = taken-in_idle (is_poll cmd c) c e
+  taken-in_state Opening cmd c e = taken-in_opening c e
+  taken-in_state Open cmd c e = taken-in_open cmd c e
+  taken-in_state Closing cmd c e = taken-in_closing c e
+  taken-in_state Closed cmd c e = taken-in_closed (is_poll cmd c) c
+
+  taken-content : (cmd : Bool) (c : Content) → IsTaken c x (after_content cmd c x)
+  taken-content cmd (Ui p []) = quietly _ _ tt
+  taken-content cmd (Ui p (i ∷ is)) =
+      becomes _ x.state x.kept [] _ tt (one_told x x.state x.state x.kept (N.Unit (i ∷ is)) refl refl tt refl refl)
+      (inl (record { state = inl refl; kept = refl; none = refl })) (inr (i ∷ is, refl, refl))
+  taken-content cmd other = taken-in_state x.state cmd other refl
+
+  taken-if : (b cmd : Bool) (c : Content) → IsTaken c x (if b then after_content cmd c x else stays x)
+  taken-if true cmd c = taken-content cmd c
+  taken-if false cmd c = quietly c [] tt
+
+  pub taken-frame : (f : Frame) → IsTaken f.content x (after_frame f x)
+  taken-frame f = taken-if _ (is_command x f) f.content
 
 -- a frame of another SAPI is ignored
 pub elsewhere : (f : Frame) (x : EndState) → is_on x.sapi f ≡ false → after_frame f x ≡ stays x
 elsewhere f x h = rw h refl
+
+-- the first frame that comes in, of either SAPI
+pub arrived : (f : Frame) (t : Sapi) (x y : EndState) (out comes : List Frame) → KeepsWindow x → x.sapi ≡ t →
+    IsBoth t x y out (f ∷ comes) (f ∷ comes) → After t (after_frame f x) y out comes comes
+arrived f t x y out comes w same h = by_sapi (is_on t f) refl
+  where
+    by_sapi : (b : Bool) → is_on t f ≡ b → After t (after_frame f x) y out comes comes
+    by_sapi true e = (taken-frame x w f).arrives f.sapi f.cr t y out comes e h
+    by_sapi false e = subst (λ (o : Outcome). After t o y out comes comes)
+        (sym (elsewhere f x (ap (λ (s : Sapi). is_on s f) same ∙ e))) (quiet (gone h))

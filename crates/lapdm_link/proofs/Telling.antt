@@ -1,5 +1,5 @@
 -- What an end tells, and the frames that it sends, in Open: with whatever frames arrive.
-use Rattle.std.proofs.Common.{◌≡◌, refl, sym, ◌∙◌, ap, subst, arith, ℕ, ◌+◌, ◌<◌, ◌≤◌, Bool, true, false, if◌then◌else◌, nat_eq, nat_lt, List, [], ◌∷◌, ◌++◌, length, get_or, Option, Some, None, append_assoc}
+use Rattle.std.proofs.Common.{◌≡◌, refl, sym, ◌∙◌, ap, subst, arith, ℕ, ◌+◌, ◌<◌, ◌≤◌, Bool, true, false, if◌then◌else◌, nat_eq, nat_lt, List, [], ◌∷◌, ◌++◌, length, get_or, Option, Some, None, inl, append_assoc}
 use Rattle.std.specs.List.{filter_map, flat_map}
 use Rattle.std.proofs.lemmas.List.{append-nil, length-append}
 use Rattle.std.proofs.lemmas.List.Elements.{filter_map-append}
@@ -13,13 +13,15 @@ use Rattle.segmenting.specs.Joining.{within, endings, open_part, answer_to}
 use Rattle.segmenting.proofs.Lemmas.{endings-more, endings-last}
 use Rattle.lapdm_window.specs.declared.Sapi.{Sapi}
 use Rattle.lapdm_window.specs.declared.State.{State}
-use Rattle.lapdm_window.specs.declared.State.TheVariants.{Idle, Opening, Open, Closed}
+use Rattle.lapdm_window.specs.declared.State.TheVariants.{Open, Closed}
 use Rattle.lapdm_window.specs.declared.Notice.{Notice}
 use Rattle.lapdm_window.specs.declared.Notice.TheVariants as N
-use Rattle.lapdm_window.specs.Ends.{EndState, Outcome, KeepsWindow, stays, sends_frame, ◌then◌, response, all_pieces, next_piece, waits, wholly_acked, vr, capped, sapi_number}
+use Rattle.lapdm_window.specs.Ends.{EndState, Outcome, KeepsWindow, IsUnopened, stays, sends_frame, ◌then◌, response, all_pieces, next_piece, waits, wholly_acked, vr, capped}
 use Rattle.lapdm_window.specs.Rules.{waiting_frame, has_next, sends_piece, sends_next, acknowledges, with_acked, acked_number, reports_acked, counts, notices_of, accepts, says_rr, answers_piece, with_reject, reject_is_due, rejects, takes_i, answers_poll, takes_rr, sends_again, takes_rej}
 use Rattle.lapdm_window.proofs.Lemmas.{wholly_acked-more, wholly_acked-last, KeepsWindow-acked, three_bits, waits_within}
-use Rattle.lapdm_link.specs.Claims.{acked_in, unit_got_in}
+use Rattle.lapdm_window.specs.Steps.{IsSameLink}
+use Rattle.lapdm_link.specs.Claims.{acked_in, unit_got_in, opened_in}
+use Rattle.lapdm_link.proofs.Queues.{AllFrames, frames-append}
 
 -- what a notice says that accepted pieces end: a message, or none where it is oversize
 abbrev pub ending_in : Notice → Option (Option Message)
@@ -33,17 +35,17 @@ Numbers k [] = Unit {0}
 Numbers k (N.Acked n ∷ ns) = (n ≡ capped (k + 1)) × Numbers (k + 1) ns
 Numbers k (other ∷ ns) = Numbers k ns
 
+-- the link is not over
+abbrev pub IsLive : State → Type 0
+IsLive Closed = ⊥
+IsLive other = Unit {0}
+
 -- a notice may come in this state, and leads to that one
 abbrev pub MayTell : State → Notice → State → Type 0
 MayTell s (N.Unit m) t = t ≡ s
-MayTell Open (N.Got m) t = t ≡ Open
-MayTell Open (N.Acked n) t = t ≡ Open
-MayTell Open N.Oversize t = t ≡ Open
-MayTell Idle (N.Opened info) t = t ≡ Open
-MayTell Opening (N.Opened info) t = t ≡ Open
-MayTell Closed (N.Closed reason) t = ⊥
-MayTell s (N.Closed reason) t = t ≡ Closed
-MayTell s n t = ⊥
+MayTell s (N.Opened info) t = IsUnopened s × (t ≡ Open)
+MayTell s (N.Closed reason) t = IsLive s × (t ≡ Closed)
+MayTell s other t = (s ≡ Open) × (t ≡ Open)
 
 abbrev pub Walks : State → List Notice → State → Type 0
 Walks s [] t = t ≡ s
@@ -100,116 +102,108 @@ silent x z taken got acked state =
       walks = state;
     }
 
--- all frames are of this SAPI, and so is what they say
-abbrev pub AllFrames : (Content → Type 0) → Sapi → List Frame → Type 0
-AllFrames Says s [] = Unit {0}
-AllFrames Says s (f ∷ fs) = (f.sapi ≡ sapi_number s) × Says f.content × AllFrames Says s fs
-
-pub frames-append : (Says : Content → Type 0) (s : Sapi) (fs gs : List Frame) → AllFrames Says s fs → AllFrames Says s gs →
-    AllFrames Says s (fs ++ gs)
-frames-append Says s [] gs h g = g
-frames-append Says s (f ∷ fs) gs h g = (h.0, h.1, frames-append Says s fs gs h.2 g)
-
-abbrev pub IsNumbered : Content → Type 0
-IsNumbered (I ns nr p more info) = Unit {0}
-IsNumbered (Rr nr pf) = Unit {0}
-IsNumbered (Rej nr pf) = Unit {0}
-IsNumbered other = ⊥
-
 -- numbers have three bits, and an I frame carries one of these pieces
 abbrev pub SaysWell : List Piece → Content → Type 0
 SaysWell ps (I ns nr p more info) = (ns ≤ 7) × (nr ≤ 7) × ((i : ℕ) × (i < length ps) × (get_or ps i ([], false) ≡ (info, more)))
 SaysWell ps (Rr nr pf) = nr ≤ 7
 SaysWell ps (Rej nr pf) = nr ≤ 7
-SaysWell ps other = Unit {0}
+SaysWell ps other = ⊥
+
+-- no unit, and no opening
+abbrev TellsOfOpen : List Notice → Type 0
+TellsOfOpen ns = (filter_map unit_got_in ns ≡ []) × (filter_map opened_in ns ≡ [])
 
 -- what the rules of Open do but for DISC, DM and SABM
 pub record InOpen (x : EndState) (o : Outcome) : Type 0 where
-  pub role : o.after.role ≡ x.role
-  pub sapi : o.after.sapi ≡ x.sapi
-  pub channel : o.after.channel ≡ x.channel
+  pub link : IsSameLink x o.after
   pub kept : o.after.kept ≡ x.kept
   pub state : o.after.state ≡ x.state
-  pub frames : AllFrames IsNumbered x.sapi o.frames
+  pub frames : AllFrames (SaysWell (all_pieces x)) x.sapi o.frames
   pub tells : Tells x o.notices o.after
-  pub end : KeepsWindow x → KeepsWindow o.after
-  pub no_units : filter_map unit_got_in o.notices ≡ []
-  pub well : KeepsWindow x → AllFrames (SaysWell (all_pieces x)) x.sapi o.frames
+  pub of_open : TellsOfOpen o.notices
+  pub end : KeepsWindow o.after
 
 abbrev Stays : (EndState → Outcome) → Type 0
-Stays rule = (x : EndState) → InOpen x (rule x)
+Stays rule = (x : EndState) → KeepsWindow x → InOpen x (rule x)
 
-same_pieces : (x : EndState) (o : Outcome) → o.after.channel ≡ x.channel → o.after.taken ≡ x.taken → all_pieces o.after ≡ all_pieces x
+pub same_pieces : (x : EndState) (o : Outcome) → o.after.channel ≡ x.channel → o.after.taken ≡ x.taken → all_pieces o.after ≡ all_pieces x
 same_pieces x o e f = ap (λ c. flat_map (pieces (n201 c)) o.after.taken) e ∙ ap (λ ms. flat_map (pieces (n201 x.channel)) ms) f
 
-in-then : (x : EndState) (o : Outcome) (rule : EndState → Outcome) → InOpen x o → InOpen o.after (rule o.after) → InOpen x (o then rule)
-in-then x o rule h g = record {
-  role = g.role ∙ h.role;
-  sapi = g.sapi ∙ h.sapi;
-  channel = g.channel ∙ h.channel;
-  kept = g.kept ∙ h.kept;
-  state = g.state ∙ h.state;
-  frames = frames-append IsNumbered x.sapi o.frames (rule o.after).frames h.frames
-      (subst (λ (s : Sapi). AllFrames IsNumbered s (rule o.after).frames) h.sapi g.frames);
-  tells = tells-then x o.after (rule o.after).after o.notices (rule o.after).notices h.tells g.tells;
-  end = λ e. g.end (h.end e);
-  no_units = filter_map-append unit_got_in o.notices (rule o.after).notices
-      ∙ ap (λ ms. ms ++ filter_map unit_got_in (rule o.after).notices) h.no_units ∙ g.no_units;
-  well = λ e. frames-append (SaysWell (all_pieces x)) x.sapi o.frames (rule o.after).frames (h.well e)
-      (subst (λ (ps : List Piece). AllFrames (SaysWell ps) x.sapi (rule o.after).frames) (same_pieces x o h.channel h.tells.taken)
-      (subst (λ (s : Sapi). AllFrames (SaysWell (all_pieces o.after)) s (rule o.after).frames) h.sapi (g.well (h.end e))));
+none-then : {T : Type 0} (pick : Notice → Option T) (ns ms : List Notice) → filter_map pick ns ≡ [] → filter_map pick ms ≡ [] →
+    filter_map pick (ns ++ ms) ≡ []
+none-then pick ns ms h g = filter_map-append pick ns ms ∙ ap (λ xs. xs ++ filter_map pick ms) h ∙ g
+
+in-joined : (x : EndState) (o : Outcome) (rule : EndState → Outcome) → InOpen x o → InOpen o.after (rule o.after) → InOpen x (o then rule)
+in-joined x o rule h g =
+    let p : Outcome = rule o.after in
+    record {
+      link = record {
+        role = g.link.role ∙ h.link.role;
+        sapi = g.link.sapi ∙ h.link.sapi;
+        channel = g.link.channel ∙ h.link.channel;
+      };
+      kept = g.kept ∙ h.kept;
+      state = g.state ∙ h.state;
+      frames = frames-append (SaysWell (all_pieces x)) x.sapi o.frames p.frames h.frames
+          (subst (λ (ps : List Piece). AllFrames (SaysWell ps) x.sapi p.frames) (same_pieces x o h.link.channel h.tells.taken)
+          (subst (λ (s : Sapi). AllFrames (SaysWell (all_pieces o.after)) s p.frames) h.link.sapi g.frames));
+      tells = tells-then x o.after p.after o.notices p.notices h.tells g.tells;
+      of_open = (
+        none-then unit_got_in o.notices p.notices h.of_open.0 g.of_open.0,
+        none-then opened_in o.notices p.notices h.of_open.1 g.of_open.1,
+      );
+      end = g.end;
+    }
+
+in-then : (x : EndState) (o : Outcome) (rule : EndState → Outcome) → InOpen x o → Stays rule → InOpen x (o then rule)
+in-then x o rule h stays = in-joined x o rule h (stays o.after h.end)
+
+-- the counts and what is accepted change, and the reject condition
+openly : (x : EndState) (a s : ℕ) (ps : List Piece) (b : Bool) (r : ℕ) (fs : List Frame) (ns : List Notice) →
+    AllFrames (SaysWell (all_pieces x)) x.sapi fs →
+    (let z : EndState = record x { acked = a; sent = s; accepted = ps; rejecting = b; retries = r } in Tells x ns z → TellsOfOpen ns →
+    KeepsWindow z → InOpen x (record { after = z; frames = fs; notices = ns }))
+openly x a s ps b r fs ns frames tells of_open end = record {
+  link = record { role = refl; sapi = refl; channel = refl };
+  kept = refl;
+  state = refl;
+  frames = frames;
+  tells = tells;
+  of_open = of_open;
+  end = end;
 }
 
 -- only the reject condition and the retry count change
-plainly : (x : EndState) (b : Bool) (r : ℕ) (fs : List Frame) → AllFrames IsNumbered x.sapi fs →
-    (KeepsWindow x → AllFrames (SaysWell (all_pieces x)) x.sapi fs) →
+plainly : (x : EndState) (b : Bool) (r : ℕ) (fs : List Frame) → KeepsWindow x → AllFrames (SaysWell (all_pieces x)) x.sapi fs →
     InOpen x (record { after = record x { rejecting = b; retries = r }; frames = fs; notices = [] })
-plainly x b r fs h g = record {
-  role = refl;
-  sapi = refl;
-  channel = refl;
-  kept = refl;
-  state = refl;
-  frames = h;
-  tells = silent x _ refl refl refl refl;
-  end = λ e. record { messages = e.messages; sent = e.sent; behind = e.behind; window = e.window };
-  no_units = refl;
-  well = g;
-}
+plainly x b r fs e h = openly x x.acked x.sent x.accepted b r fs [] h (silent x _ refl refl refl refl) (refl, refl)
+    (record { messages = e.messages; sent = e.sent; behind = e.behind; window = e.window })
 
 in-stays : Stays stays
-in-stays x = plainly x x.rejecting x.retries [] tt (λ e. tt)
+in-stays x e = plainly x x.rejecting x.retries [] e tt
 
 in-says_rr : (f : Bool) → Stays (says_rr f)
-in-says_rr f x = plainly x x.rejecting x.retries (says_rr f x).frames (refl, tt, tt) (λ e. (refl, three_bits (length x.accepted), tt))
+in-says_rr f x e = plainly x x.rejecting x.retries (says_rr f x).frames e (inl refl, three_bits (length x.accepted), tt)
 
 in-rejects-if : (p due : Bool) → Stays (λ x. if due then sends_frame (response x (Rej (vr x) p)) (with_reject x) else stays x)
-in-rejects-if p true x = plainly x true x.retries _ (refl, tt, tt) (λ e. (refl, three_bits (length x.accepted), tt))
-in-rejects-if p false x = in-stays x
+in-rejects-if p true x e = plainly x true x.retries _ e (inl refl, three_bits (length x.accepted), tt)
+in-rejects-if p false x e = in-stays x e
 
 in-rejects : (p : Bool) → Stays (rejects p)
 in-rejects p x = in-rejects-if p (reject_is_due p x) x
 
-has_left : (x : EndState) → has_next x ≡ true → (x.sent ≡ x.acked) × (x.sent < length (all_pieces x))
+pub has_left : (x : EndState) → has_next x ≡ true → (x.sent ≡ x.acked) × (x.sent < length (all_pieces x))
 has_left x h = (grind (arith, nat_tests), grind (arith, nat_tests))
 
-in-sends_piece : (x : EndState) → has_next x ≡ true → InOpen x (sends_piece x)
-in-sends_piece x has =
+in-sends_piece : (x : EndState) → KeepsWindow x → has_next x ≡ true → InOpen x (sends_piece x)
+in-sends_piece x e has =
     let left : (x.sent ≡ x.acked) × (x.sent < length (all_pieces x)) = has_left x has in
     let none : x.sent ≡ x.acked = left.0 in
     let within : x.sent < length (all_pieces x) = left.1 in
-    record {
-      role = refl;
-      sapi = refl;
-      channel = refl;
-      kept = refl;
-      state = refl;
-      frames = (refl, tt, tt);
-      tells = silent x _ refl refl refl refl;
-      end = λ e. record { messages = e.messages; sent = omega arith; behind = omega arith; window = omega arith };
-      no_units = refl;
-      well = λ e. (refl, (three_bits x.acked, three_bits (length x.accepted), (x.acked, omega arith, refl)), tt);
-    }
+    openly x x.acked (x.sent + 1) x.accepted x.rejecting 0 _ []
+    (inl refl, (three_bits x.acked, three_bits (length x.accepted), (x.acked, omega arith, refl)), tt) (silent x _ refl refl refl refl)
+    (refl, refl)
+    (record { messages = e.messages; sent = omega arith; behind = omega arith; window = omega arith })
 
 in-if : (b c : Bool) (f g : EndState → Outcome) (x : EndState) → c ≡ b → (c ≡ true → InOpen x (f x)) → InOpen x (g x) →
     InOpen x (if b then f x else g x)
@@ -217,57 +211,36 @@ in-if true c f g x e h k = h e
 in-if false c f g x e h k = k
 
 pub in-sends_next : Stays sends_next
-in-sends_next x = in-if (has_next x) (has_next x) sends_piece stays x refl (in-sends_piece x) (in-stays x)
+in-sends_next x e = in-if (has_next x) (has_next x) sends_piece stays x refl (in-sends_piece x e) (in-stays x e)
 
 in-sends_again : Stays sends_again
-in-sends_again x = in-if (waits x) (waits x) (λ e. sends_frame (waiting_frame false e) e) sends_next x refl
-    (λ w. plainly x x.rejecting x.retries _ (refl, tt, tt)
-    (λ e. (refl, (three_bits x.acked, three_bits (length x.accepted), (x.acked, waits_within x e w, refl)), tt))) (in-sends_next x)
+in-sends_again x e = in-if (waits x) (waits x) (λ z. sends_frame (waiting_frame false z) z) sends_next x refl
+    (λ w. plainly x x.rejecting x.retries _ e
+    (inl refl, (three_bits x.acked, three_bits (length x.accepted), (x.acked, waits_within x e w, refl)), tt)) (in-sends_next x e)
 
 in-answers_poll : (poll : Bool) → Stays (answers_poll poll)
-in-answers_poll poll x = in-if poll poll (says_rr true) stays x refl (λ e. in-says_rr true x) (in-stays x)
+in-answers_poll poll x e = in-if poll poll (says_rr true) stays x refl (λ p. in-says_rr true x e) (in-stays x e)
 
 in-answers_piece : (p : Bool) → Stays (answers_piece p)
-in-answers_piece true x = in-then x (says_rr true x) sends_next (in-says_rr true x) (in-sends_next (says_rr true x).after)
-in-answers_piece false x = in-if (has_next x) (has_next x) sends_piece (says_rr false) x refl (in-sends_piece x) (in-says_rr false x)
+in-answers_piece true x e = in-then x (says_rr true x) sends_next (in-says_rr true x e) in-sends_next
+in-answers_piece false x e =
+    in-if (has_next x) (has_next x) sends_piece (says_rr false) x refl (in-sends_piece x e) (in-says_rr false x e)
 
 -- an N(R) is counted
-reports-acked : (more : Bool) (x : EndState) → x.state ≡ Open → (next_piece x).1 ≡ more → x.sent ≡ x.acked + 1 →
-    x.acked < length (all_pieces x) → InOpen x (reports_acked more x)
-reports-acked true x is_now is one within =
-    record {
-      role = refl;
-      sapi = refl;
-      channel = refl;
-      kept = refl;
-      state = refl;
-      frames = tt;
-      tells = silent x (with_acked x) refl refl (wholly_acked-more x one within is) refl;
-      end = KeepsWindow-acked x;
-      no_units = refl;
-      well =
-          λ e. tt;
-    }
-reports-acked false x is_now is one within =
-    let last : wholly_acked (with_acked x) ≡ wholly_acked x + 1 = wholly_acked-last x one within is in
-    record {
-      role = refl;
-      sapi = refl;
-      channel = refl;
-      kept = refl;
-      state = refl;
-      frames = tt;
-      tells = record {
-        taken = refl;
-        got = sym (append-nil (endings [] x.accepted));
-        acked = last;
-        numbers = (ap capped last, tt);
-        walks = subst (λ (s : State). Walks s (N.Acked (acked_number x) ∷ []) s) (sym is_now) (Open, refl, refl);
-      };
-      end = KeepsWindow-acked x;
-      no_units = refl;
-      well = λ e. tt;
-    }
+reports-acked : (more : Bool) (x : EndState) → KeepsWindow x → x.state ≡ Open → (next_piece x).1 ≡ more → x.sent ≡ x.acked + 1 →
+    InOpen x (reports_acked more x)
+reports-acked true x e is_now is one = openly x x.sent x.sent x.accepted x.rejecting 0 [] [] tt
+    (silent x (with_acked x) refl refl (wholly_acked-more x one (omega (arith, e.sent)) is) refl) (refl, refl) (KeepsWindow-acked x e)
+reports-acked false x e is_now is one =
+    let last : wholly_acked (with_acked x) ≡ wholly_acked x + 1 = wholly_acked-last x one (omega (arith, e.sent)) is in
+    openly x x.sent x.sent x.accepted x.rejecting 0 [] _ tt
+    (record {
+      taken = refl;
+      got = sym (append-nil (endings [] x.accepted));
+      acked = last;
+      numbers = (ap capped last, tt);
+      walks = subst (λ (s : State). Walks s (N.Acked (acked_number x) ∷ []) s) (sym is_now) (Open, (refl, refl), refl);
+    }) (refl, refl) (KeepsWindow-acked x e)
 
 acknowledges_next : (x : EndState) (nr : ℕ) → KeepsWindow x → acknowledges nr x ≡ true → x.sent ≡ x.acked + 1
 acknowledges_next x nr h acks =
@@ -275,15 +248,9 @@ acknowledges_next x nr h acks =
     let high : x.sent ≤ x.acked + 1 = h.window in
     grind (arith, nat_tests)
 
-counts_if : (b : Bool) (nr : ℕ) (x : EndState) → x.state ≡ Open → KeepsWindow x → acknowledges nr x ≡ b →
-    InOpen x (if b then reports_acked (next_piece x).1 x else stays x)
-counts_if true nr x is_now h acks =
-    let one : x.sent ≡ x.acked + 1 = acknowledges_next x nr h acks in
-    reports-acked (next_piece x).1 x is_now refl one (omega (arith, h.sent))
-counts_if false nr x is_now h acks = in-stays x
-
 in-counts : (nr : ℕ) (x : EndState) → x.state ≡ Open → KeepsWindow x → InOpen x (counts nr x)
-in-counts nr x is_now h = counts_if (acknowledges nr x) nr x is_now h refl
+in-counts nr x is_now h = in-if (acknowledges nr x) (acknowledges nr x) (λ z. reports_acked (next_piece z).1 z) stays x refl
+    (λ acks. reports-acked (next_piece x).1 x h is_now refl (acknowledges_next x nr h acks)) (in-stays x h)
 
 -- a piece is accepted
 ended-by : (over : Bool) (more : Bool) (m : Message) →
@@ -300,73 +267,58 @@ one_more ps (octets, true) = endings-more [] ps octets ∙ sym (append-nil (endi
 one_more ps (octets, false) = endings-last [] ps octets
 
 no-acked : (j : Joined) (more : Bool) (m : Message) → filter_map acked_in (notices_of j more m) ≡ []
-no-acked J.Whole more m = refl
 no-acked J.Oversize true m = refl
-no-acked J.Oversize false m = refl
-no-acked J.More more m = refl
+no-acked j more m = refl
 
-no-units : (j : Joined) (more : Bool) (m : Message) → filter_map unit_got_in (notices_of j more m) ≡ []
-no-units J.Whole more m = refl
-no-units J.Oversize true m = refl
-no-units J.Oversize false m = refl
-no-units J.More more m = refl
+no-units : (j : Joined) (more : Bool) (m : Message) → TellsOfOpen (notices_of j more m)
+no-units J.Oversize true m = (refl, refl)
+no-units j more m = (refl, refl)
 
 no-numbers : (k : ℕ) (j : Joined) (more : Bool) (m : Message) → Numbers k (notices_of j more m)
-no-numbers k J.Whole more m = tt
 no-numbers k J.Oversize true m = tt
-no-numbers k J.Oversize false m = tt
-no-numbers k J.More more m = tt
+no-numbers k j more m = tt
 
 open-notices : (j : Joined) (more : Bool) (m : Message) → Walks Open (notices_of j more m) Open
-open-notices J.Whole more m = (Open, refl, refl)
+open-notices J.Whole more m = (Open, (refl, refl), refl)
 open-notices J.Oversize true m = refl
-open-notices J.Oversize false m = (Open, refl, refl)
+open-notices J.Oversize false m = (Open, (refl, refl), refl)
 open-notices J.More more m = refl
 
-in-accepts : (p : Piece) (x : EndState) → x.state ≡ Open → InOpen x (accepts p x)
-in-accepts p x is_now =
+in-accepts : (p : Piece) (x : EndState) → x.state ≡ Open → KeepsWindow x → InOpen x (accepts p x)
+in-accepts p x is_now e =
     let j : Joined = answer_to x.accepted p in
     let m : Message = open_part x.accepted ++ p.0 in
-    record {
-      role = refl;
-      sapi = refl;
-      channel = refl;
-      kept = refl;
-      state = refl;
-      frames = tt;
-      tells = record {
-        taken = refl;
-        got = one_more x.accepted p ∙ ap (λ ms. endings [] x.accepted ++ ms) (sym (ended-by (nat_lt longest (length m)) p.1 m));
-        acked = omega (arith, ap length (no-acked j p.1 m));
-        numbers = no-numbers (wholly_acked x) j p.1 m;
-        walks = subst (λ (s : State). Walks s (notices_of j p.1 m) s) (sym is_now) (open-notices j p.1 m);
-      };
-      end = λ e. record { messages = e.messages; sent = e.sent; behind = e.behind; window = e.window };
-      no_units = no-units j p.1 m;
-      well = λ e. tt;
-    }
+    openly x x.acked x.sent (x.accepted ++ p ∷ []) false x.retries [] _ tt
+    (record {
+      taken = refl;
+      got = one_more x.accepted p ∙ ap (λ ms. endings [] x.accepted ++ ms) (sym (ended-by (nat_lt longest (length m)) p.1 m));
+      acked = omega (arith, ap length (no-acked j p.1 m));
+      numbers = no-numbers (wholly_acked x) j p.1 m;
+      walks = subst (λ (s : State). Walks s (notices_of j p.1 m) s) (sym is_now) (open-notices j p.1 m);
+    }) (no-units j p.1 m) (record { messages = e.messages; sent = e.sent; behind = e.behind; window = e.window })
 
 -- the rules as a whole
-in-takes_i-if : (b : Bool) (nr : ℕ) (p : Bool) (piece : Piece) (x : EndState) → x.state ≡ Open → KeepsWindow x →
-    InOpen x (if b then (counts nr x then accepts piece then answers_piece p) else (counts nr x then rejects p then sends_next))
-in-takes_i-if true nr p piece x is_now h =
-    let counted = in-counts nr x is_now h in
-    let accepted = in-then x (counts nr x) (accepts piece) counted (in-accepts piece (counts nr x).after (counted.state ∙ is_now)) in
-    in-then x (counts nr x then accepts piece) (answers_piece p) accepted (in-answers_piece p (counts nr x then accepts piece).after)
-in-takes_i-if false nr p piece x is_now h =
-    let counted = in-counts nr x is_now h in
-    let rejected = in-then x (counts nr x) (rejects p) counted (in-rejects p (counts nr x).after) in
-    in-then x (counts nr x then rejects p) sends_next rejected (in-sends_next (counts nr x then rejects p).after)
+module _ (nr : ℕ) (x : EndState) (is_now : x.state ≡ Open) (e : KeepsWindow x) where
+  counted : InOpen x (counts nr x)
+  counted = in-counts nr x is_now e
 
-pub in-takes_i : (ns nr : ℕ) (p : Bool) (piece : Piece) (x : EndState) → x.state ≡ Open → KeepsWindow x → InOpen x (takes_i ns nr p piece x)
-in-takes_i ns nr p piece x is_now h = in-takes_i-if (nat_eq ns (vr x)) nr p piece x is_now h
+  takes_i-if : (b p : Bool) (piece : Piece) →
+      InOpen x (if b then (counts nr x then accepts piece then answers_piece p) else (counts nr x then rejects p then sends_next))
+  takes_i-if true p piece =
+      let y : EndState = (counts nr x).after in
+      in-then x (counts nr x then accepts piece) (answers_piece p)
+      (in-joined x (counts nr x) (accepts piece) counted (in-accepts piece y (counted.state ∙ is_now) counted.end)) (in-answers_piece p)
+  takes_i-if false p piece =
+      in-then x (counts nr x then rejects p) sends_next (in-then x (counts nr x) (rejects p) counted (in-rejects p)) in-sends_next
 
-pub in-takes_rr : (nr : ℕ) (poll : Bool) (x : EndState) → x.state ≡ Open → KeepsWindow x → InOpen x (takes_rr nr poll x)
-in-takes_rr nr poll x is_now h =
-    let polled = in-then x (counts nr x) (answers_poll poll) (in-counts nr x is_now h) (in-answers_poll poll (counts nr x).after) in
-    in-then x (counts nr x then answers_poll poll) sends_next polled (in-sends_next (counts nr x then answers_poll poll).after)
+  pub in-takes_i : (ns : ℕ) (p : Bool) (piece : Piece) → InOpen x (takes_i ns nr p piece x)
+  in-takes_i ns p piece = takes_i-if (nat_eq ns (vr x)) p piece
 
-pub in-takes_rej : (nr : ℕ) (poll : Bool) (x : EndState) → x.state ≡ Open → KeepsWindow x → InOpen x (takes_rej nr poll x)
-in-takes_rej nr poll x is_now h =
-    let polled = in-then x (counts nr x) (answers_poll poll) (in-counts nr x is_now h) (in-answers_poll poll (counts nr x).after) in
-    in-then x (counts nr x then answers_poll poll) sends_again polled (in-sends_again (counts nr x then answers_poll poll).after)
+  polled : (poll : Bool) → InOpen x (counts nr x then answers_poll poll)
+  polled poll = in-then x (counts nr x) (answers_poll poll) counted (in-answers_poll poll)
+
+  pub in-takes_rr : (poll : Bool) → InOpen x (takes_rr nr poll x)
+  in-takes_rr poll = in-then x (counts nr x then answers_poll poll) sends_next (polled poll) in-sends_next
+
+  pub in-takes_rej : (poll : Bool) → InOpen x (takes_rej nr poll x)
+  in-takes_rej poll = in-then x (counts nr x then answers_poll poll) sends_again (polled poll) in-sends_again

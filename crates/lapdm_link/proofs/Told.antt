@@ -8,11 +8,12 @@ use Rattle.lapdm_window.specs.declared.State.{State}
 use Rattle.lapdm_window.specs.declared.State.TheVariants as S
 use Rattle.lapdm_window.specs.declared.Notice.{Notice}
 use Rattle.lapdm_window.specs.declared.Notice.TheVariants as N
-use Rattle.lapdm_window.specs.Ends.{EndState, KeepsWindow, wholly_acked, capped}
+use Rattle.lapdm_window.specs.Ends.{EndState, Outcome, KeepsWindow, IsUnopened, wholly_acked, capped}
+use Rattle.lapdm_window.specs.Steps.{IsSameLink}
 use Rattle.lapdm_window.specs.Calls.{Call}
 use Rattle.lapdm_window.proofs.Lemmas.{wholly_acked-most}
 use Rattle.lapdm_link.specs.Claims.{sent_in, closes_in, acked_in, opened_in, closed_in}
-use Rattle.lapdm_link.proofs.Telling.{ending_in, Numbers, MayTell, Walks, Tells}
+use Rattle.lapdm_link.proofs.Telling.{ending_in, Numbers, IsLive, MayTell, Walks, Tells}
 
 -- opened so often, closed so often, and so often asked to close
 abbrev pub Phase : State → ℕ → ℕ → ℕ → Type 0
@@ -35,30 +36,30 @@ pub record HasTold (x : EndState) (cs : List Call) (ns : List Notice) : Type 0 w
 phase-same : (s : State) (o c k o' c' : ℕ) → o' ≡ o → c' ≡ c → Phase s o c k → Phase s o' c' k
 phase-same s o c k o' c' e f h = subst (λ (i : ℕ). Phase s i c' k) (sym e) (subst (λ (i : ℕ). Phase s o i k) (sym f) h)
 
+phase-opens : (s : State) (u : State) (o c k : ℕ) → IsUnopened s × (u ≡ S.Open) → Phase s o c k → Phase u (o + 1) (c + 0) k
+phase-opens S.Idle u o c k may h = subst (λ (v : State). Phase v (o + 1) (c + 0) k) (sym may.1) (
+  omega (arith, h.0),
+  omega
+      (arith, h.1),
+  h.2,
+)
+phase-opens S.Opening u o c k may h =
+    subst (λ (v : State). Phase v (o + 1) (c + 0) k) (sym may.1) (omega (arith, h.0), omega (arith, h.1), h.2)
+phase-opens s u o c k may h = absurd may.0
+
+phase-closes : (s : State) (u : State) (o c k : ℕ) → IsLive s × (u ≡ S.Closed) → Phase s o c k → Phase u (o + 0) (c + 1) k
+phase-closes S.Closed u o c k may h = absurd may.0
+phase-closes s u o c k may h =
+    subst (λ (v : State). Phase v (o + 0) (c + 1) k) (sym may.1) (omega (arith, h.0), omega (arith, h.1))
+
 phase-may : (s : State) (n : Notice) (u : State) (o c k : ℕ) → MayTell s n u → Phase s o c k →
     Phase u (o + length (filter_map opened_in (n ∷ []))) (c + length (filter_map closed_in (n ∷ []))) k
+phase-may s (N.Opened info) u o c k may h = phase-opens s u o c k may h
+phase-may s (N.Closed reason) u o c k may h = phase-closes s u o c k may h
 phase-may s (N.Unit m) u o c k may h =
-    subst (λ (v : State). Phase v (o + 0) (c + 0) k) (sym may) (phase-same s o c k (o + 0) (c + 0) (omega arith) (omega arith) h)
-phase-may S.Open (N.Got m) u o c k may h =
-    subst (λ (v : State). Phase v (o + 0) (c + 0) k) (sym may) (phase-same S.Open o c k (o + 0) (c + 0) (omega arith) (omega arith) h)
-phase-may S.Open (N.Acked n) u o c k may h =
-    subst (λ (v : State). Phase v (o + 0) (c + 0) k) (sym may) (phase-same S.Open o c k (o + 0) (c + 0) (omega arith) (omega arith) h)
-phase-may S.Open N.Oversize u o c k may h =
-    subst (λ (v : State). Phase v (o + 0) (c + 0) k) (sym may) (phase-same S.Open o c k (o + 0) (c + 0) (omega arith) (omega arith) h)
-phase-may S.Idle (N.Opened info) u o c k may h =
-    subst (λ (v : State). Phase v (o + 1) (c + 0) k) (sym may) (omega (arith, h.0), omega (arith, h.1), h.2)
-phase-may S.Opening (N.Opened info) u o c k may h =
-    subst (λ (v : State). Phase v (o + 1) (c + 0) k) (sym may) (omega (arith, h.0), omega (arith, h.1), h.2)
-phase-may S.Closed (N.Closed reason) u o c k may h = absurd may
-phase-may S.Idle (N.Closed reason) u o c k may h =
-    subst (λ (v : State). Phase v (o + 0) (c + 1) k) (sym may) (omega (arith, h.0), omega (arith, h.1))
-phase-may S.Opening (N.Closed reason) u o c k may h =
-    subst (λ (v : State). Phase v (o + 0) (c + 1) k) (sym may) (omega (arith, h.0), omega (arith, h.1))
-phase-may S.Open (N.Closed reason) u o c k may h =
-    subst (λ (v : State). Phase v (o + 0) (c + 1) k) (sym may) (omega (arith, h.0), omega (arith, h.1))
-phase-may S.Closing (N.Closed reason) u o c k may h =
-    subst (λ (v : State). Phase v (o + 0) (c + 1) k) (sym may) (omega (arith, h.0), omega (arith, h.1))
-phase-may s n u o c k may h = absurd may
+    phase-same u o c k (o + 0) (c + 0) (omega arith) (omega arith) (subst (λ (v : State). Phase v o c k) (sym may) h)
+phase-may s other u o c k may h =
+    phase-same u o c k (o + 0) (c + 0) (omega arith) (omega arith) (subst (λ (v : State). Phase v o c k) (may.0 ∙ sym may.1) h)
 
 phase-one : (s : State) (n : Notice) (u : State) (cs : List Call) (ns : List Notice) → MayTell s n u → PhaseIn s cs ns →
     PhaseIn u cs (ns ++ n ∷ [])
@@ -106,32 +107,18 @@ acked-push ns n = ap length (filter_map-append acked_in ns (n ∷ [])) ∙ lengt
 may_say : (s : State) (n : Notice) (u : State) (ms : List Notice) (cs : List Call) (ns : List Notice) → MayTell s n u →
     Numbers (length (filter_map acked_in ns)) (n ∷ ms) → length (filter_map acked_in ns) + length (filter_map acked_in (n ∷ ms)) ≤ length
     (filter_map sent_in cs) → PhaseIn s cs ns → MaySay cs ns n
-may_say S.Open (N.Acked n) u ms cs ns may numbers room h = (numbers.0, omega (arith, room), h)
-may_say S.Open (N.Got m) u ms cs ns may numbers room h = h
-may_say S.Open N.Oversize u ms cs ns may numbers room h = h
-may_say s (N.Unit m) u ms cs ns may numbers room h = tt
-may_say s (N.Opened info) u ms cs ns may numbers room h = tt
-may_say s (N.Closed reason) u ms cs ns may numbers room h = tt
-may_say s n u ms cs ns may numbers room h = absurd may
+may_say s (N.Acked n) u ms cs ns may numbers room h =
+    (numbers.0, omega (arith, room), subst (λ (v : State). PhaseIn v cs ns) may.0 h)
+may_say s (N.Got m) u ms cs ns may numbers room h = subst (λ (v : State). PhaseIn v cs ns) may.0 h
+may_say s N.Oversize u ms cs ns may numbers room h = subst (λ (v : State). PhaseIn v cs ns) may.0 h
+may_say s other u ms cs ns may numbers room h = tt
 
 numbers-rest : (n : Notice) (ms ns : List Notice) → Numbers (length (filter_map acked_in ns)) (n ∷ ms) →
     Numbers (length (filter_map acked_in (ns ++ n ∷ []))) ms
 numbers-rest (N.Acked i) ms ns h = subst (λ (k : ℕ). Numbers k ms) (sym (acked-push ns (N.Acked i))) h.1
-numbers-rest (N.Got m) ms ns h =
-    subst (λ (k : ℕ). Numbers k ms) (let e : length (filter_map acked_in ns) ≡ length (filter_map acked_in (ns ++ N.Got m ∷ [])) = omega
-    (arith, acked-push ns (N.Got m)) in e) h
-numbers-rest (N.Unit m) ms ns h =
-    subst (λ (k : ℕ). Numbers k ms) (let e : length (filter_map acked_in ns) ≡ length (filter_map acked_in (ns ++ N.Unit m ∷ [])) = omega
-    (arith, acked-push ns (N.Unit m)) in e) h
-numbers-rest (N.Opened m) ms ns h =
-    subst (λ (k : ℕ). Numbers k ms) (let e : length (filter_map acked_in ns) ≡ length (filter_map acked_in (ns ++ N.Opened m ∷ [])) = omega
-    (arith, acked-push ns (N.Opened m)) in e) h
-numbers-rest (N.Closed r) ms ns h =
-    subst (λ (k : ℕ). Numbers k ms) (let e : length (filter_map acked_in ns) ≡ length (filter_map acked_in (ns ++ N.Closed r ∷ [])) = omega
-    (arith, acked-push ns (N.Closed r)) in e) h
-numbers-rest N.Oversize ms ns h =
-    subst (λ (k : ℕ). Numbers k ms) (let e : length (filter_map acked_in ns) ≡ length (filter_map acked_in (ns ++ N.Oversize ∷ [])) = omega
-    (arith, acked-push ns N.Oversize) in e) h
+numbers-rest n ms ns h =
+    subst (λ (k : ℕ). Numbers k ms) (let e : length (filter_map acked_in ns) ≡ length (filter_map acked_in (ns ++ n ∷ [])) = omega
+    (arith, acked-push ns n) in e) h
 
 room-rest : (n : Notice) (ms ns : List Notice) (most : ℕ) → length (filter_map acked_in ns) + length (filter_map acked_in (n ∷ ms)) ≤ most →
     length (filter_map acked_in (ns ++ n ∷ [])) + length (filter_map acked_in ms) ≤ most
@@ -157,3 +144,26 @@ pub all_said : (x z : EndState) (cs : List Call) (ns ms : List Notice) → Keeps
 all_said x z cs ns ms end t h =
     all_said-walks x.state ms z.state cs ns t.walks (subst (λ (k : ℕ). Numbers k ms) (sym h.acked) t.numbers)
     (omega (arith, h.acked, t.acked, wholly_acked-most z, ap length h.taken, ap length t.taken)) h.phase
+
+-- after some calls an end goes on, and so do what it was asked and what it told
+pub record IsStep (x : EndState) (asks : List Call) (o : Outcome) : Type 0 where
+  pub link : IsSameLink x o.after
+  pub end : KeepsWindow o.after
+  pub told : (cs : List Call) (ns : List Notice) → HasTold x cs ns → HasTold o.after (cs ++ asks) (ns ++ o.notices)
+  pub said : (cs : List Call) (ns : List Notice) → HasTold x cs ns → AllSaid (cs ++ asks) ns o.notices
+
+-- it is asked, and then acts
+pub step-by : (x mid : EndState) (asks : List Call) (o : Outcome) → IsSameLink x o.after → KeepsWindow o.after →
+    Tells mid o.notices o.after →
+    ((cs : List Call) (ns : List Notice) → HasTold x cs ns → HasTold mid (cs ++ asks) ns) → IsStep x asks o
+step-by x mid asks o link end tells asked = record {
+  link = link;
+  end = end;
+  told = λ cs ns h. has_told-more mid o.after (cs ++ asks) ns o.notices tells (asked cs ns h);
+  said = λ cs ns h. all_said mid o.after (cs ++ asks) ns o.notices end tells (asked cs ns h);
+}
+
+-- or acts unasked
+pub step-unasked : (x : EndState) (o : Outcome) → IsSameLink x o.after → KeepsWindow o.after → Tells x o.notices o.after → IsStep x [] o
+step-unasked x o link end tells =
+    step-by x x [] o link end tells (λ cs ns h. subst (λ (asks : List Call). HasTold x asks ns) (sym (append-nil cs)) h)

@@ -1,12 +1,12 @@
 -- What a session claims, read from its events and their answers alone. One definition serves both ends of both links.
-use Rattle.std.specs.Prelude.{◌≡◌, ℕ, ◌+◌, ◌≤◌, Bool, true, false, ◌&&◌, if◌then◌else◌, List, [], ◌∷◌, ◌++◌, map, length, Option, Some, None, Contains, ◌⊎◌}
+use Rattle.std.specs.Prelude.{◌≡◌, ℕ, ◌+◌, ◌≤◌, Bool, true, false, ◌&&◌, if◌then◌else◌, nat_eq, List, [], ◌∷◌, ◌++◌, map, length, Option, Some, None, Contains, ◌⊎◌}
 use Rattle.std.specs.List.{filter_map}
 use Rattle.segmenting.specs.Pieces.{Message}
 use Rattle.lapdm_window.specs.declared.Sapi.{Sapi}
 use Rattle.lapdm_window.specs.declared.Sapi.TheVariants.{Zero, Three}
 use Rattle.lapdm_window.specs.declared.Notice.{Notice}
 use Rattle.lapdm_window.specs.declared.Notice.TheVariants as N
-use Rattle.lapdm_window.specs.Ends.{Role, Mobile, Network, capped}
+use Rattle.lapdm_window.specs.Ends.{Role, Mobile, Network, sapi_number, capped}
 pub use Rattle.lapdm_window.specs.Steps.{got_in}
 use Rattle.lapdm_window.specs.Calls.{Call, Opens, OpensBare, Sends, SendsUnit, Closes}
 use Rattle.lapdm_link.specs.Events.{EventBy, Open, OpenBare, Ask, Rival, Answer, Refuses, Does, Who, End, call_of, other}
@@ -34,21 +34,16 @@ answer_lines event (Refuses why) = []
 answer_lines event (Does who sapi frames notices) = event_lines event ++ notice_lines who sapi notices
 
 abbrev pub lines : {Manner : Type 0} → List (EventBy Manner) → List Answer → List Line
-lines [] answers = []
-lines (event ∷ events) [] = []
 lines (event ∷ events) (answer ∷ answers) = answer_lines event answer ++ lines events answers
+lines events answers = []
 
 abbrev pub is_role : Role → Role → Bool
 is_role Mobile Mobile = true
 is_role Network Network = true
-is_role Mobile Network = false
-is_role Network Mobile = false
+is_role r r' = false
 
 abbrev pub is_sapi : Sapi → Sapi → Bool
-is_sapi Zero Zero = true
-is_sapi Three Three = true
-is_sapi Zero Three = false
-is_sapi Three Zero = false
+is_sapi s s' = nat_eq (sapi_number s') (sapi_number s)
 
 -- what one end was asked, and what it told
 abbrev pub call_in : Role → Sapi → Line → Option Call

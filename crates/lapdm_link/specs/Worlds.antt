@@ -41,14 +41,10 @@ abbrev pub answers : List Event → World → List Answer
 answers [] w = []
 answers (event ∷ events) w = answer event w ∷ answers events (after event w)
 
--- where a frame arrives, it is the one that was sent, or none is read
-abbrev pub ArrivesAsSent : Event → World → Type 0
-ArrivesAsSent (Deliver sender read) w = IsAsSent read (way sender w.ways)
-ArrivesAsSent event w = Unit {0}
-
+-- where an event is not refused and a frame arrives, it is the one that was sent, or none is read
 abbrev pub IsHarmlessBy : Option Why → Event → World → Type 0
-IsHarmlessBy (Some why) event w = Unit {0}
-IsHarmlessBy None event w = ArrivesAsSent event w
+IsHarmlessBy None (Deliver sender read) w = IsAsSent read (way sender w.ways)
+IsHarmlessBy refused event w = Unit {0}
 
 -- frames arrive in order as they were sent, or not at all
 abbrev pub IsHarmless : List Event → World → Type 0

@@ -44,7 +44,8 @@ module _ (a : AirState) (octets : Ways Octets) (fs : Ways Frame) (ls : List Line
       let w : World = world_of a fs in
       let e : E.Event = as_read seen-now.read event in
       let fit : IsFitting a.channel (world_of b seen-now.ways) =
-      subst (IsFitting a.channel) seen-now.later (fits-step a.channel w e (knows _ _ (λ r f k. k.0) (W.refusal e w) e seen-now.known) h.fit) in
+      subst (IsFitting a.channel) seen-now.later (fits-step a.channel w e (knows _ _ (λ r f k. k.0)
+      (W.refusal e w) e seen-now.known) h.fit) in
       let now : AllReported (world_of b seen-now.ways) (ls ++ answer_lines e (W.answer e w)) =
       subst (λ (z : World). AllReported z (ls ++ answer_lines e (W.answer e w))) seen-now.later (in_order-step w ls e h.reported).0 in
       record {

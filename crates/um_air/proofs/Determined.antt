@@ -49,16 +49,8 @@ IsQuiet event o = o ≡ None
 
 quiet : (a : AirState) (event : Event) (o : Option Received) (f : Option Frame) → Arrives a event o f → IsQuiet event o
 quiet a (Deliver sender places) o f h = tt
-quiet a (Open info) None f h = refl
-quiet a (Open info) (Some r) f h = absurd h
-quiet a (OpenBare role) None f h = refl
-quiet a (OpenBare role) (Some r) f h = absurd h
-quiet a (Ask role s request) None f h = refl
-quiet a (Ask role s request) (Some r) f h = absurd h
-quiet a (Lose sender) None f h = refl
-quiet a (Lose sender) (Some r) f h = absurd h
-quiet a (Rival info) None f h = refl
-quiet a (Rival info) (Some r) f h = absurd h
+quiet a event None f h = refl
+quiet a event (Some r) f h = absurd h
 
 one_arrival : (a : AirState) (event : Event) (o p : Option Received) (f g : Option Frame) → Arrives a event o f → Arrives a event p g →
     (o ≡ p) × (as_read f event ≡ as_read g event)
@@ -67,11 +59,7 @@ one_arrival a (Deliver sender places) (Some r) (Some s) f g h k =
     (ap Some same.0, ap (λ (q : Option Frame). as_read q (Deliver sender places)) same.1)
 one_arrival a (Deliver sender places) None p f g h k = absurd h
 one_arrival a (Deliver sender places) (Some r) None f g h k = absurd k
-one_arrival a (Open info) o p f g h k = (quiet a (Open info) o f h ∙ sym (quiet a (Open info) p g k), refl)
-one_arrival a (OpenBare r) o p f g h k = (quiet a (OpenBare r) o f h ∙ sym (quiet a (OpenBare r) p g k), refl)
-one_arrival a (Ask r s request) o p f g h k = (quiet a (Ask r s request) o f h ∙ sym (quiet a (Ask r s request) p g k), refl)
-one_arrival a (Lose sender) o p f g h k = (quiet a (Lose sender) o f h ∙ sym (quiet a (Lose sender) p g k), refl)
-one_arrival a (Rival info) o p f g h k = (quiet a (Rival info) o f h ∙ sym (quiet a (Rival info) p g k), refl)
+one_arrival a event o p f g h k = (quiet a event o f h ∙ sym (quiet a event p g k), refl)
 
 same_blocks : (channel : Channel) (tsc : ℕ) (fs : List Frame) (bs cs : List Block) → AreSent channel tsc fs bs → AreSent channel tsc fs cs →
     bs ≡ cs
@@ -83,7 +71,8 @@ same_blocks channel tsc (f ∷ fs) (b ∷ bs) [] h k = absurd k
 same_blocks channel tsc (f ∷ fs) (b ∷ bs) (c ∷ cs) h k =
     ap₂ (λ x xs. x ∷ xs) (one_sent_block (octets_of channel f) tsc b c h.0 k.0) (same_blocks channel tsc fs bs cs h.1 k.1)
 
-pub same_step : (s t : Step) → s.who ≡ t.who → s.sapi ≡ t.sapi → s.received ≡ t.received → s.frames ≡ t.frames → s.notices ≡ t.notices → s ≡ t
+pub same_step : (s t : Step) → s.who ≡ t.who → s.sapi ≡ t.sapi → s.received ≡ t.received → s.frames ≡ t.frames → s.notices ≡ t.notices →
+    s ≡ t
 same_step s t who sapi received frames notices =
     let make : Who → Sapi → Option Received → List Octets → List Notice → Step =
     λ a b c d e. record { who = a; sapi = b; received = c; frames = d; notices = e } in
@@ -109,22 +98,11 @@ one_happening a event b c s t h k =
           (h.notices ∙ ap (λ (x : E.Event). (deed x a.ends).notices) same.1 ∙ sym k.notices),
     )
 
-why_or : Option Why → Why
-why_or (Some why) = why
-why_or None = Nothing
-
-same_why : (v w : Why) → Some v ≡ Some w → v ≡ w
-unfolding why_or
-same_why v w e = ap why_or e
-
-not_both : (o : Option Why) (why : Why) → o ≡ Some why → o ≡ None → ⊥
-not_both o why h g = cc (h, g)
-
 pub one_answer : (a : AirState) (event : Event) (b c : AirState) (x y : Answer) → AirStep a event b x → AirStep a event c y →
     (b ≡ c) × (x ≡ y)
-one_answer a event b c (Refuses v) (Refuses w) h k = (h.1 ∙ sym k.1, ap Refuses (same_why v w (sym h.0 ∙ k.0)))
-one_answer a event b c (Refuses v) (Does t) h k = absurd (not_both _ v h.0 k.0)
-one_answer a event b c (Does s) (Refuses w) h k = absurd (not_both _ w k.0 h.0)
+one_answer a event b c (Refuses v) (Refuses w) h k = (h.1 ∙ sym k.1, let same : v ≡ w = cc (h.0, k.0) in ap Refuses same)
+one_answer a event b c (Refuses v) (Does t) h k = absurd (cc (h.0, k.0))
+one_answer a event b c (Does s) (Refuses w) h k = absurd (cc (h.0, k.0))
 one_answer a event b c (Does s) (Does t) h k = (let same = one_happening a event b c s t h.1 k.1 in (same.0, ap Does same.1))
 
 pub one_run : (a : AirState) (events : List Event) (b c : AirState) (xs ys : List Answer) → AirRun a events xs b → AirRun a events ys c →

@@ -21,14 +21,22 @@ use Rattle.um_air.specs.Air.{Block, turned_at, turned}
 abbrev bit_at : Block → ℕ → ℕ
 bit_at block q = get_or (get_or block (q / 148) []) (q % 148) 0
 
-same_burst : (block : Block) (i : ℕ) (burst : List ℕ) (r j : ℕ) → r ≢ j → burst ≡ get_or block i [] → (x : ℕ) → get_or (get_or (set block i (set burst j x)) i []) r 0 ≡ get_or (get_or block i []) r 0
+same_burst : (block : Block) (i : ℕ) (burst : List ℕ) (r j : ℕ) → r ≢ j → burst ≡ get_or block i [] → (x : ℕ) →
+    get_or (get_or (set block i (set burst j x)) i []) r 0 ≡ get_or (get_or block i []) r 0
 same_burst block i burst r j other is x =
     elim (cases_lt i (length block)) [
-      | inl within ↦ ap (λ b. get_or b r 0) (get_or-set_same block i (set burst j x) [] within) ∙ get_or-set_other burst j r x 0 other ∙ ap (λ b. get_or b r 0) is
-      | inr past ↦ ap (λ b. get_or b r 0) (get_or-eq_default (set block i (set burst j x)) [] (omega (arith, past, length-set block i (set burst j x))) ∙ sym (get_or-eq_default block [] past))
+      | inl within ↦ ap (λ b. get_or b r 0) (get_or-set_same block i (set burst j x) [] within) ∙ get_or-set_other burst j r x 0 other
+          ∙ ap (λ b. get_or b r 0) is
+      | inr past ↦ ap (λ b. get_or b r 0) (get_or-eq_default (set block i (set burst j x)) [] (omega (
+        arith,
+        past,
+        length-set block i
+            (set burst j x),
+      )) ∙ sym (get_or-eq_default block [] past))
     ]
 
-other_bit-if : (b : Bool) (place q : ℕ) (block : Block) → nat_eq (q / 148) (place / 148) ≡ b → q ≢ place → bit_at (turned_at place block) q ≡ bit_at block q
+other_bit-if : (b : Bool) (place q : ℕ) (block : Block) → nat_eq (q / 148) (place / 148) ≡ b → q ≢ place →
+    bit_at (turned_at place block) q ≡ bit_at block q
 other_bit-if false place q block h other =
     let apart : q / 148 ≢ place / 148 = grind (arith, nat_tests) in
     ap (λ burst. get_or burst (q % 148) 0) (get_or-set_other block (place / 148) (q / 148) _ [] apart)
@@ -36,7 +44,9 @@ other_bit-if true place q block h other =
     let same : q / 148 ≡ place / 148 = grind (arith, nat_tests) in
     let apart : q % 148 ≢ place % 148 = grind arith in
     let i = place / 148 in
-    ap (λ j. get_or (get_or (turned_at place block) j []) (q % 148) 0) same ∙ same_burst block i (get_or block i []) (q % 148) (place % 148) apart refl _ ∙ ap (λ j. get_or (get_or block j []) (q % 148) 0) (sym same)
+    ap (λ j. get_or (get_or (turned_at place block) j []) (q % 148) 0) same
+    ∙ same_burst block i (get_or block i []) (q % 148) (place % 148) apart refl _
+    ∙ ap (λ j. get_or (get_or block j []) (q % 148) 0) (sym same)
 
 or_false : (a b : Bool) → (a || b) ≡ false → (a ≡ false) × (b ≡ false)
 or_false true b h = absurd (false≢true (sym h))
@@ -74,25 +84,37 @@ module _ (block : Block) (soft : List ℤ) (gathered : IsInterleaved soft (map c
       let burst : List ℕ = get_or block b [] in
       let s : List ℤ = softened burst in
       let within : b < 4 = burst_of-below k in
-      let here : get_or (map coded_places (map softened block)) b [] ≡ coded_places s = get_or-map coded_places (map softened block) b [] ∙ ap coded_places (get_or-map softened block b []) in
-      let long : length (N.first_half s ++ N.second_half s) ≡ 114 = ap length (sym here) ∙ gathered.each_count b [] (omega (arith, within, gathered.burst_count)) in
-      let first : length (N.first_half s) ≡ 57 = omega (arith, long, length-append (N.first_half s) (N.second_half s), length-take 57 (drop 3 s), length-take 57 (drop 88 s)) in
+      let here : get_or (map coded_places (map softened block)) b [] ≡ coded_places s = get_or-map coded_places
+      (map softened block) b [] ∙ ap coded_places (get_or-map softened block b []) in
+      let long : length (N.first_half s ++ N.second_half s) ≡ 114 = ap length (sym here)
+      ∙ gathered.each_count b [] (omega (arith, within, gathered.burst_count)) in
+      let first : length (N.first_half s) ≡ 57 = omega (
+        arith,
+        long,
+        length-append (N.first_half s) (N.second_half s),
+        length-take 57
+            (drop 3 s),
+        length-take 57 (drop 88 s),
+      ) in
       sym (gathered.places k (pos 127) h) ∙ ap (λ xs. get_or xs (place_of k) (pos 127)) here
       ∙ halves-at (N.first_half s) (N.second_half s) k (pos 127) (soft_value (bit_at block (burst_place k))) first
       (λ i l e.
       (let at : burst_place k ≡ 148 * b + place_of k + 3 = burst_place-lower k (omega (arith, e, l)) in
       let q : burst_place k / 148 ≡ b = omega (arith, at, e, l) in
       let r : 3 + i ≡ burst_place k % 148 = omega (arith, at, e, l) in
-      range_at s 3 60 i (pos 127) l ∙ get_or-map soft_value burst (3 + i) 0 ∙ ap (λ j. soft_value (get_or burst j 0)) r ∙ ap (λ j. soft_value (get_or (get_or block j []) (burst_place k % 148) 0)) (sym q)))
+      range_at s 3 60 i (pos 127) l ∙ get_or-map soft_value burst (3 + i) 0 ∙ ap (λ j. soft_value (get_or burst j 0)) r
+      ∙ ap (λ j. soft_value (get_or (get_or block j []) (burst_place k % 148) 0)) (sym q)))
       (λ i l e.
       (let at : burst_place k ≡ 148 * b + place_of k + 31 = burst_place-upper k (omega (arith, e, l)) in
       let q : burst_place k / 148 ≡ b = omega (arith, at, e, l) in
       let r : 88 + i ≡ burst_place k % 148 = omega (arith, at, e, l) in
-      range_at s 88 145 i (pos 127) l ∙ get_or-map soft_value burst (88 + i) 0 ∙ ap (λ j. soft_value (get_or burst j 0)) r ∙ ap (λ j. soft_value (get_or (get_or block j []) (burst_place k % 148) 0)) (sym q)))
+      range_at s 88 145 i (pos 127) l ∙ get_or-map soft_value burst (88 + i) 0 ∙ ap (λ j. soft_value (get_or burst j 0)) r
+      ∙ ap (λ j. soft_value (get_or (get_or block j []) (burst_place k % 148) 0)) (sym q)))
 
 -- ---- the block
 
-module _ (octets : List ℕ) (tsc : ℕ) (block : Block) (places : List ℕ) (r : Received) (s : IsSentBlock octets tsc block) (few : length places ≤ 3) (h : IsReceivedBlock (map softened (turned places block)) r) where
+module _ (octets : List ℕ) (tsc : ℕ) (block : Block) (places : List ℕ) (r : Received) (s : IsSentBlock octets tsc block)
+    (few : length places ≤ 3) (h : IsReceivedBlock (map softened (turned places block)) r) where
   abbrev c : List ℕ
   c = s.coded_bits
 
@@ -116,7 +138,9 @@ module _ (octets : List ℕ) (tsc : ℕ) (block : Block) (places : List ℕ) (r 
   strong : All (λ value. unsigned_abs value ≡ 127) h.soft
   strong k d l =
       let l' : k < 456 = omega (arith, l, count) in
-      ap unsigned_abs (get_or_default h.soft k d (pos 127) l ∙ soft_at (turned places block) h.soft h.gathered k l') ∙ soft_value-strength (bit_at (turned places block) (burst_place k))
+      ap unsigned_abs (get_or_default h.soft k d (pos 127) l ∙ soft_at (turned places block) h.soft h.gathered k l')
+      ∙ soft_value-strength (bit_at (turned places block) (burst_place k))
 
   pub accepted_as_sent : r.accepted ≡ Some octets
-  accepted_as_sent = restored_block (map softened (turned places block)) octets c h.soft r s.code h.gathered (IsLightlyDamaged-equal h.soft c 127 (omega (arith, count)) (omega arith) strong few_wrong) h
+  accepted_as_sent = restored_block (map softened (turned places block)) octets c h.soft r s.code h.gathered
+      (IsLightlyDamaged-equal h.soft c 127 (omega (arith, count)) (omega arith) strong few_wrong) h

@@ -20,12 +20,12 @@ use Rattle.lapdm_link.specs.Events as E
 use Rattle.lapdm_link.specs.Events.{Open, OpenBare, Ask, Deliver, Lose, Rival, sender_of, Deed, deed, taken, Why, Nothing, unless, is_empty}
 use Rattle.lapdm_link.specs.Worlds.{World}
 use Rattle.lapdm_link.specs.Worlds as W
-use Rattle.lapdm_link.proofs.Lemmas.{KnowsBy, AllFit, AllSay, deed-fits}
+use Rattle.lapdm_link.proofs.Lemmas.{KnowsBy, AllFit, AllSay, deed-fits, AllOf, of-all}
 use Rattle.um_air.specs.Air.{Octets, Block, Event, as_read, AirState, start_on, Reads, Arrives, AreSent, Answer, Refuses, Does, refusal, AirStep, AirRun, turned_at, turned}
 use Rattle.um_air.specs.Sessions.{IsOctetEvent}
 use Rattle.um_air.proofs.Seeing.{ReadsWell, knows, world_of, refusal-same, known-read}
 use Rattle.um_air.proofs.Carrying.{seen-now, seen}
-use Rattle.um_air.proofs.OctetFrames.{octets_small, says, deed-octets, IsSpoken, start-spoken, spoken-next, AllOctetEvents, spoken-run}
+use Rattle.um_air.proofs.OctetFrames.{octets_small, says, deed-octets, IsSpoken, start-spoken, spoken-next, spoken-run}
 
 -- ---- a block that was sent is four bursts of 148, whatever bits are turned over
 
@@ -63,7 +63,8 @@ some_report places block h =
     ap length (get_or_default (map softened bursts) k d (softened []) l) ∙ ap length (get_or-map softened bursts k [])
     ∙ length-map (get_or bursts k []) _ ∙ whole.1 k [] within))
 
-pub some_reading : (channel : Channel) (o : Option Octets) → IfSome o (λ octets. length octets ≡ 23) → (f : Option Frame) × Reads channel o f
+pub some_reading : (channel : Channel) (o : Option Octets) → IfSome o (λ octets. length octets ≡ 23) →
+    (f : Option Frame) × Reads channel o f
 some_reading channel None h = (None, tt)
 some_reading channel (Some octets) h = elim (one_reading channel octets h) [
   | inl (f, only) ↦ (Some f, only.frame)
@@ -106,11 +107,7 @@ some_arrival a fs (Deliver sender places) sent none =
       read = f.0;
       arrives = record { block = there.block; others = there.others; first = there.first; received = r.1; reads = f.1 };
     }
-some_arrival a fs (Open info) sent none = record { report = None; read = None; arrives = tt }
-some_arrival a fs (OpenBare r) sent none = record { report = None; read = None; arrives = tt }
-some_arrival a fs (Ask r s request) sent none = record { report = None; read = None; arrives = tt }
-some_arrival a fs (Lose sender) sent none = record { report = None; read = None; arrives = tt }
-some_arrival a fs (Rival info) sent none = record { report = None; read = None; arrives = tt }
+some_arrival a fs event sent none = record { report = None; read = None; arrives = tt }
 
 -- ---- what goes out
 
@@ -169,20 +166,16 @@ answer_at a event None is known said h =
       );
     }
 
-octet_events : (events : List Event) → All IsOctetEvent events → AllOctetEvents events
-octet_events [] h = tt
-octet_events (event ∷ events) h = (All-head IsOctetEvent event events h, octet_events events (All-tail IsOctetEvent event events h))
-
 pub some_answer : (tsc : ℕ) (channel : Channel) (events : List Event) (answers : List Answer) (a : AirState) → tsc ≤ 7 →
     All IsOctetEvent events → AirRun (start_on tsc channel) events answers a →
     (event : Event) → IsOctetEvent event → (b : AirState) × (answer : Answer) × AirStep a event b answer
 some_answer tsc channel events answers a known spoken run event said =
     let same : a.tsc ≡ tsc = (seen tsc channel events answers a run).tsc in
     let s : SomeAnswer a event = answer_at a event (refusal event a) refl (omega (arith, known, same)) said
-    (spoken-run events answers (start_on tsc channel) a (octet_events events spoken) (start-spoken tsc channel) run) in
+    (spoken-run events answers (start_on tsc channel) a (of-all IsOctetEvent events spoken) (start-spoken tsc channel) run) in
     (s.after, s.answer, s.step)
 
-run_from : (events : List Event) (a : AirState) → a.tsc ≤ 7 → AllOctetEvents events → IsSpoken a →
+run_from : (events : List Event) (a : AirState) → a.tsc ≤ 7 → AllOf IsOctetEvent events → IsSpoken a →
     (answers : List Answer) × (b : AirState) × AirRun a events answers b
 run_from [] a known spoken h = ([], a, refl)
 run_from (event ∷ events) a known spoken h =
@@ -194,4 +187,4 @@ run_from (event ∷ events) a known spoken h =
 pub some_run : (tsc : ℕ) (channel : Channel) (events : List Event) → tsc ≤ 7 → All IsOctetEvent events →
     (answers : List Answer) × (b : AirState) × AirRun (start_on tsc channel) events answers b
 some_run tsc channel events known spoken =
-    run_from events (start_on tsc channel) known (octet_events events spoken) (start-spoken tsc channel)
+    run_from events (start_on tsc channel) known (of-all IsOctetEvent events spoken) (start-spoken tsc channel)

@@ -17,7 +17,7 @@ use Rattle.lapdm_link.specs.Events.{Open, OpenBare, Ask, Deliver, Lose, Rival, S
 use Rattle.lapdm_link.specs.Worlds.{World}
 use Rattle.lapdm_link.specs.Worlds as W
 use Rattle.lapdm_link.specs.Claims.{Line, notice_lines, answer_lines}
-use Rattle.lapdm_link.proofs.Lemmas.{KnowsBy, AllReported, LineOctets, AllSay, WorldOctets, octets-step, start-octets}
+use Rattle.lapdm_link.proofs.Lemmas.{KnowsBy, AllReported, LineOctets, AllSay, AllOf, EndOctets, SaysOctets, WorldOctets, octets-step, start-octets, deed-holds}
 use Rattle.um_air.specs.Air.{Octets, Event, as_read, AirState, start_on, Answer, AirStep, AirRun}
 use Rattle.um_air.specs.Sessions.{after, AreOctets, IsOctetEvent}
 use Rattle.um_air.proofs.Seeing.{ReadsWell, knows, world_of, IsSeenStep}
@@ -61,70 +61,39 @@ octets_small channel f h info =
 
 -- ---- the lines of an event
 
-abbrev pub SaysOctets : E.Event → Type 0
-SaysOctets (Open info) = AreOctets info
-SaysOctets (Ask role sapi (Send m)) = AreOctets m
-SaysOctets (Ask role sapi (SendUnit m)) = AreOctets m
-SaysOctets (Rival info) = AreOctets info
-SaysOctets event = Unit {0}
+abbrev pub IsOctetSeen : E.Event → Type 0
+IsOctetSeen (Open info) = AreOctets info
+IsOctetSeen (Ask role sapi (Send m)) = AreOctets m
+IsOctetSeen (Ask role sapi (SendUnit m)) = AreOctets m
+IsOctetSeen (Rival info) = AreOctets info
+IsOctetSeen event = Unit {0}
 
-pub says : (read : Option Frame) (event : Event) → IsOctetEvent event → SaysOctets (as_read read event)
-says read (Open info) h = h
-says read (OpenBare r) h = tt
+pub says : (read : Option Frame) (event : Event) → IsOctetEvent event → IsOctetSeen (as_read read event)
 says read (Ask r s (Send m)) h = h
-says read (Ask r s (SendUnit m)) h = h
-says read (Ask r s Close) h = tt
-says read (Ask r s Tick) h = tt
-says read (Ask r s Idle) h = tt
-says read (Deliver sender places) h = tt
-says read (Lose sender) h = tt
-says read (Rival info) h = h
+says read event h = h
 
 told_octets : (who : Who) (s : Sapi) (ns : List Notice) → LineOctets (notice_lines who s ns)
 told_octets (End r) s [] = tt
 told_octets (End r) s (n ∷ ns) = told_octets (End r) s ns
-told_octets Other s ns = tt
-told_octets Nobody s ns = tt
+told_octets who s ns = tt
 
-line_octets : (event : E.Event) (answer : E.Answer) → SaysOctets event → LineOctets (answer_lines event answer)
+line_octets : (event : E.Event) (answer : E.Answer) → IsOctetSeen event → LineOctets (answer_lines event answer)
 line_octets event (E.Refuses why) h = tt
-line_octets (Open info) (E.Does who s fs ns) h = (h, told_octets who s ns)
-line_octets (OpenBare r) (E.Does who s fs ns) h = (tt, told_octets who s ns)
-line_octets (Ask r q (Send m)) (E.Does who s fs ns) h = (h, told_octets who s ns)
-line_octets (Ask r q (SendUnit m)) (E.Does who s fs ns) h = (h, told_octets who s ns)
-line_octets (Ask r q Close) (E.Does who s fs ns) h = (tt, told_octets who s ns)
-line_octets (Ask r q Tick) (E.Does who s fs ns) h = (tt, told_octets who s ns)
-line_octets (Ask r q Idle) (E.Does who s fs ns) h = (tt, told_octets who s ns)
 line_octets (Deliver sender read) (E.Does who s fs ns) h = told_octets who s ns
 line_octets (Lose sender) (E.Does who s fs ns) h = told_octets who s ns
-line_octets (Rival info) (E.Does who s fs ns) h = (h, told_octets who s ns)
+line_octets (Ask r q (Send m)) (E.Does who s fs ns) h = (h, told_octets who s ns)
+line_octets event (E.Does who s fs ns) h = (h, told_octets who s ns)
 
 -- ---- a step
 
 module _ (channel : Channel) (w : World) (ls : List Line) (e : E.Event) (reported : AllReported w ls)
-    (known : KnowsBy (W.refusal e w) (ReadsWell channel) e) (small : WorldOctets w) (said : SaysOctets e) where
+    (known : KnowsBy (W.refusal e w) (ReadsWell channel) e) (small : WorldOctets w) (said : IsOctetSeen e) where
   pub octets-next : WorldOctets (W.after e w)
   octets-next = octets-step w ls e reported (knows _ _ (λ r f k. k.1) (W.refusal e w) e known) small (line_octets e (W.answer e w) said)
 
-  say-later : (fs gs : List Frame) → AllSay (fs ++ gs) → AllSay gs
-  say-later [] gs h = h
-  say-later (f ∷ fs) gs h = say-later fs gs h.1
-
-  way_more : (r : Role) (fs : List Frame) (ws : Ways Frame) → way r (with_more r fs ws) ≡ way r ws ++ fs
-  way_more Mobile fs ws = refl
-  way_more Network fs ws = refl
-
-  by_refusal : (o : Option Why) → o ≡ None → WorldOctets (W.after_by o e w) → AllSay (deed e w.ends).frames
-  by_refusal o none h =
-      let d : Deed = deed e w.ends in
-      let g : WorldOctets (W.next d (record w { ways = taken e w.ways })) =
-      subst (λ (q : Option Why). WorldOctets (W.after_by q e w)) none h in
-      say-later (way (sender_of d.who) (taken e w.ways)) d.frames
-      (subst AllSay (way_more (sender_of d.who) d.frames (taken e w.ways)) (g.ways (sender_of d.who)))
-
   -- what a deed sends carries octets
   pub deed-octets : W.refusal e w ≡ None → AllSay (deed e w.ends).frames
-  deed-octets none = by_refusal (W.refusal e w) none octets-next
+  deed-octets none = deed-holds (λ s x. EndOctets x) SaysOctets octets-next.0 w e (W.refusal e w) none octets-next.1
 
 -- ---- a session
 
@@ -140,7 +109,8 @@ pub start-spoken : (tsc : ℕ) (channel : Channel) → IsSpoken (start_on tsc ch
 start-spoken tsc channel =
     record { octets = no_ways; frames = no_ways; ls = []; at = start-seen tsc channel; small = start-octets channel }
 
-pub spoken-next : (a b : AirState) (event : Event) (answer : Answer) → IsOctetEvent event → IsSpoken a → AirStep a event b answer → IsSpoken b
+pub spoken-next : (a b : AirState) (event : Event) (answer : Answer) → IsOctetEvent event → IsSpoken a → AirStep a event b answer →
+    IsSpoken b
 spoken-next a b event answer said h step =
     let t : IsSeenStep a h.octets h.frames event answer b = seen-now a h.octets h.frames h.ls event answer b h.at step in
     record {
@@ -152,11 +122,7 @@ spoken-next a b event answer said h step =
           (octets-next a.channel (world_of a h.frames) h.ls (as_read t.read event) h.at.reported t.known h.small (says t.read event said));
     }
 
-abbrev pub AllOctetEvents : List Event → Type 0
-AllOctetEvents [] = Unit {0}
-AllOctetEvents (event ∷ events) = IsOctetEvent event × AllOctetEvents events
-
-pub spoken-run : (events : List Event) (answers : List Answer) (a b : AirState) → AllOctetEvents events → IsSpoken a →
+pub spoken-run : (events : List Event) (answers : List Answer) (a b : AirState) → AllOf IsOctetEvent events → IsSpoken a →
     AirRun a events answers b → IsSpoken b
 spoken-run [] [] a b said h run = subst IsSpoken (sym run) h
 spoken-run [] (answer ∷ answers) a b said h run = absurd run

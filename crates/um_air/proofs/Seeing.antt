@@ -21,7 +21,7 @@ use Rattle.lapdm_link.specs.Worlds as W
 use Rattle.lapdm_link.specs.Claims.{event_lines, notice_lines, answer_lines}
 use Rattle.lapdm_link.proofs.Lemmas.{Knows, KnowsBy, AllFit}
 use Rattle.um_air.specs.Air.{Octets, Block, Event, as_read, AirState, Reads, Arrives, AreSent, Step, Answer, Refuses, Does, Happens, refusal, AirStep, turned}
-use Rattle.um_air.specs.Sessions.{told, after, ArrivesAsSent, IsHarmlessStep, AreOctets}
+use Rattle.um_air.specs.Sessions.{told, after, IsHarmlessStep, AreOctets}
 
 -- ---- two pairs of ways, alike way by way
 
@@ -32,40 +32,33 @@ module _ {X Y : Type 0} (R : List X → List Y → Type 0) where
   alike-with : (sender : Role) (x : List X) (y : List Y) (xs : Ways X) (ys : Ways Y) → R x y → AreAlike R xs ys →
       AreAlike R (with_way sender x xs) (with_way sender y ys)
   alike-with Mobile x y xs ys h g Mobile = h
-  alike-with Mobile x y xs ys h g Network = g Network
-  alike-with Network x y xs ys h g Mobile = g Mobile
   alike-with Network x y xs ys h g Network = h
+  alike-with sender x y xs ys h g r = g r
 
   alike-taken : ((x : List X) (y : List Y) → R x y → R (drop 1 x) (drop 1 y)) → (read : Option Frame) (event : Event) (xs : Ways X)
       (ys : Ways Y) → AreAlike R xs ys →
       AreAlike R (taken (as_read read event) xs) (taken event ys)
   alike-taken shorter read (Deliver sender places) xs ys h = alike-with sender _ _ xs ys (shorter _ _ (h sender)) h
   alike-taken shorter read (Lose sender) xs ys h = alike-with sender _ _ xs ys (shorter _ _ (h sender)) h
-  alike-taken shorter read (Open info) xs ys h = h
-  alike-taken shorter read (OpenBare r) xs ys h = h
-  alike-taken shorter read (Ask r s request) xs ys h = h
-  alike-taken shorter read (Rival info) xs ys h = h
+  alike-taken shorter read event xs ys h = h
 
 -- the blocks are the frames, coded
 sent-drop : (channel : Channel) (tsc : ℕ) (fs : List Frame) (bs : List Block) → AreSent channel tsc fs bs →
     AreSent channel tsc (drop 1 fs) (drop 1 bs)
 sent-drop channel tsc [] [] h = h
-sent-drop channel tsc [] (b ∷ bs) h = absurd h
-sent-drop channel tsc (f ∷ fs) [] h = absurd h
 sent-drop channel tsc (f ∷ fs) (b ∷ bs) h = h.1
+sent-drop channel tsc fs bs h = absurd h
 
 sent-append : (channel : Channel) (tsc : ℕ) (fs gs : List Frame) (bs cs : List Block) → AreSent channel tsc fs bs →
     AreSent channel tsc gs cs → AreSent channel tsc (fs ++ gs) (bs ++ cs)
 sent-append channel tsc [] gs [] cs h g = g
-sent-append channel tsc [] gs (b ∷ bs) cs h g = absurd h
-sent-append channel tsc (f ∷ fs) gs [] cs h g = absurd h
 sent-append channel tsc (f ∷ fs) gs (b ∷ bs) cs h g = (h.0, sent-append channel tsc fs gs bs cs h.1 g)
+sent-append channel tsc fs gs bs cs h g = absurd h
 
 sent-length : (channel : Channel) (tsc : ℕ) (fs : List Frame) (bs : List Block) → AreSent channel tsc fs bs → length bs ≡ length fs
 sent-length channel tsc [] [] h = refl
-sent-length channel tsc [] (b ∷ bs) h = absurd h
-sent-length channel tsc (f ∷ fs) [] h = absurd h
 sent-length channel tsc (f ∷ fs) (b ∷ bs) h = ap suc (sent-length channel tsc fs bs h.1)
+sent-length channel tsc fs bs h = absurd h
 
 -- the octets are those of the frames
 abbrev pub AreOctetsOf : Channel → List Frame → List Octets → Type 0
@@ -93,12 +86,8 @@ pub record Carries (a : AirState) (octets : Ways Octets) (fs : Ways Frame) : Typ
 -- the refusals are the same
 refusal-read : (read : Option Frame) (event : Event) (channel : Channel) (n : Role → ℕ) (es : Ends) →
     refusal_by channel n (as_read read event) es ≡ refusal_by channel n event es
-refusal-read read (Open info) channel n es = refl
-refusal-read read (OpenBare r) channel n es = refl
-refusal-read read (Ask r s request) channel n es = refl
 refusal-read read (Deliver sender places) channel n es = refl
-refusal-read read (Lose sender) channel n es = refl
-refusal-read read (Rival info) channel n es = refl
+refusal-read read event channel n es = refl
 
 full : (k m : ℕ) (o : Option Why) → k ≡ m → unless (is_full k) AirFull o ≡ unless (is_full m) AirFull o
 full k m o e = ap (λ i. unless (is_full i) AirFull o) e
@@ -123,12 +112,8 @@ refusal-same a fs read event h =
 
 -- the lines of an event do not hang on what is read
 same_lines : (read : Option Frame) (event : Event) → event_lines event ≡ event_lines (as_read read event)
-same_lines read (Open info) = refl
-same_lines read (OpenBare r) = refl
-same_lines read (Ask r s request) = refl
 same_lines read (Deliver sender places) = refl
-same_lines read (Lose sender) = refl
-same_lines read (Rival info) = refl
+same_lines read event = refl
 
 -- ---- what is read
 
@@ -148,26 +133,15 @@ reads-well channel None f all h = absurd h
 -- what is known of the frames that are read, from more that is known
 pub knows : (P Q : Role → Frame → Type 0) → ((r : Role) (f : Frame) → P r f → Q r f) → (o : Option Why) (e : E.Event) →
     KnowsBy o P e → KnowsBy o Q e
-knows P Q weaker (Some why) e h = tt
 knows P Q weaker None (Deliver sender (Some f)) h = weaker sender f h
-knows P Q weaker None (Deliver sender None) h = tt
-knows P Q weaker None (Open info) h = tt
-knows P Q weaker None (OpenBare r) h = tt
-knows P Q weaker None (Ask r s request) h = tt
-knows P Q weaker None (Lose sender) h = tt
-knows P Q weaker None (Rival info) h = tt
+knows P Q weaker o e h = tt
 
 pub known-read : (a : AirState) (event : Event) (report : Option Received) (read : Option Frame) → Arrives a event report read →
     Knows (ReadsWell a.channel) (as_read read event)
 known-read a (Deliver sender places) (Some report) (Some f) h =
     reads-well a.channel report.accepted f (accepted_octets (map softened (turned places h.block)) report h.received) h.reads
-known-read a (Deliver sender places) (Some report) None h = tt
 known-read a (Deliver sender places) None read h = absurd h
-known-read a (Open info) report read h = tt
-known-read a (OpenBare r) report read h = tt
-known-read a (Ask r s request) report read h = tt
-known-read a (Lose sender) report read h = tt
-known-read a (Rival info) report read h = tt
+known-read a event report read h = tt
 
 -- a frame that was sent is read as itself
 read_back : (channel : Channel) (accepted : Option Octets) (read : Option Frame) (fs : List Frame) → Reads channel accepted read →
@@ -181,19 +155,21 @@ read_back channel (Some octets) (Some f) (g ∷ gs) h fit s =
     let sent : IsFrame channel g (octets_of channel g) = (octets_canonical channel g fit.0).frame in
     same_frame channel (octets_of channel g) f g (subst (IsFrame channel f) s h) sent
 
-harmless-read : (a : AirState) (octets : Ways Octets) (fs : Ways Frame) (event : Event) (report : Option Received) (read : Option Frame) →
-    AreAlike (AreOctetsOf a.channel) fs octets →
-    ((r : Role) → AllFit a.channel (way r fs)) → Arrives a event report read → ArrivesAsSent event report octets →
-    W.ArrivesAsSent (as_read read event) (world_of a fs)
-harmless-read a octets fs (Deliver sender places) (Some report) read on_way fit t h =
+harmless-read : (a : AirState) (octets : Ways Octets) (fs : Ways Frame) (sender : Role) (places : List ℕ) (report : Option Received)
+    (read : Option Frame) → AreAlike (AreOctetsOf a.channel) fs octets → ((r : Role) → AllFit a.channel (way r fs)) →
+    Arrives a (Deliver sender places) report read → IfSome report (λ r. IsAsSent r.accepted (way sender octets)) →
+    IsAsSent read (way sender fs)
+harmless-read a octets fs sender places (Some report) read on_way fit t h =
     read_back a.channel report.accepted read (way sender fs) t.reads (fit sender)
     (subst (λ (os : List Octets). IsAsSent report.accepted os) (on_way sender) h)
-harmless-read a octets fs (Deliver sender places) None read on_way fit t h = absurd t
-harmless-read a octets fs (Open info) report read on_way fit t h = tt
-harmless-read a octets fs (OpenBare r) report read on_way fit t h = tt
-harmless-read a octets fs (Ask r q request) report read on_way fit t h = tt
-harmless-read a octets fs (Lose sender) report read on_way fit t h = tt
-harmless-read a octets fs (Rival info) report read on_way fit t h = tt
+harmless-read a octets fs sender places None read on_way fit t h = absurd t
+
+harmless-done : (a : AirState) (octets : Ways Octets) (fs : Ways Frame) (event : Event) (step : Step) (read : Option Frame) →
+    AreAlike (AreOctetsOf a.channel) fs octets → ((r : Role) → AllFit a.channel (way r fs)) → Arrives a event step.received read →
+    IsHarmlessStep event (Does step) octets → W.IsHarmlessBy None (as_read read event) (world_of a fs)
+harmless-done a octets fs (Deliver sender places) step read on_way fit t h =
+    harmless-read a octets fs sender places step.received read on_way fit t h
+harmless-done a octets fs event step read on_way fit t h = tt
 
 -- ---- one step
 
@@ -264,7 +240,7 @@ module _ (a : AirState) (octets : Ways Octets) (fs : Ways Frame) (event : Event)
         known = subst (λ (o : Option Why). KnowsBy o (ReadsWell a.channel) e) (sym none)
             (known-read a event step.received t.read t.arrives);
         harmless = λ q. subst (λ (o : Option Why). W.IsHarmlessBy o e w) (sym none)
-            (harmless-read a octets fs event step.received t.read h.written fit t.arrives q);
+            (harmless-done a octets fs event step t.read h.written fit t.arrives q);
       })
 
   pub seen-step : (answer : Answer) (b : AirState) → ((r : Role) → AllFit a.channel (way r fs)) → AirStep a event b answer →

@@ -1,7 +1,6 @@
 -- Sessions over the air: their lines; those in which each block is accepted with the octets that were sent, or not at
 -- all; and those in which at most three bits of a block are turned over.
-use Rattle.std.specs.Prelude.{◌<◌, ◌≤◌, ℕ, All, List, [], ◌∷◌, map, length, Option, Some}
-use Rattle.um_block.specs.declared.received.Received.{Received}
+use Rattle.std.specs.Prelude.{◌<◌, ◌≤◌, ℕ, All, List, [], ◌∷◌, map, length, IfSome}
 use Rattle.lapdm_link.specs.Ways.{Ways, no_ways, way, with_more, IsAsSent}
 use Rattle.lapdm_link.specs.Events.{Open, Ask, Deliver, Rival, Send, SendUnit, sender_of, taken}
 use Rattle.lapdm_link.specs.Events as E
@@ -23,13 +22,9 @@ after event (Refuses why) ws = ws
 after event (Does step) ws = with_more (sender_of step.who) step.frames (taken event ws)
 
 -- where a block arrives, its octets are accepted as they were sent, or none are
-abbrev pub ArrivesAsSent : Event → Option Received → Ways Octets → Type 0
-ArrivesAsSent (Deliver sender places) (Some report) ws = IsAsSent report.accepted (way sender ws)
-ArrivesAsSent event received ws = Unit {0}
-
 abbrev pub IsHarmlessStep : Event → Answer → Ways Octets → Type 0
-IsHarmlessStep event (Refuses why) ws = Unit {0}
-IsHarmlessStep event (Does step) ws = ArrivesAsSent event step.received ws
+IsHarmlessStep (Deliver sender places) (Does step) ws = IfSome step.received (λ report. IsAsSent report.accepted (way sender ws))
+IsHarmlessStep event answer ws = Unit {0}
 
 abbrev pub IsHarmlessAfter : Ways Octets → List Event → List Answer → Type 0
 IsHarmlessAfter ws (event ∷ events) (answer ∷ answers) = IsHarmlessStep event answer ws × IsHarmlessAfter (after event answer ws) events answers
