@@ -111,7 +111,8 @@ not_below_limit loss least (suc (suc bit)) one h = absurd (omega arith)
 
 -- ---- a list that is read out by one place more
 
-module _ (rows : List ℕ) (losses : List (List ℤ)) (u : List ℕ) (k : ℕ) (old : Reading) (reading : IsReading rows losses u k old) (inside : k + 4 < length rows) where
+module _ (rows : List ℕ) (losses : List (List ℤ)) (u : List ℕ) (k : ℕ) (old : Reading) (reading : IsReading rows losses u k old)
+    (inside : k + 4 < length rows) where
   abbrev chosen : List ℕ
   chosen = read_out rows 0
 
@@ -136,7 +137,8 @@ module _ (rows : List ℕ) (losses : List (List ℤ)) (u : List ℕ) (k : ℕ) (
       let best = reading.best in
       let is = lost_is in
       let known = best.limit in
-      let better = below_limit (loss_at 0 chosen losses k) old.best.loss (get_or chosen old.best.place 0) (bit_small rows 0 old.best.place) (omega (arith, ints)) in
+      let small = bit_small rows 0 old.best.place in
+      let better = below_limit (loss_at 0 chosen losses k) old.best.loss (get_or chosen old.best.place 0) small (omega (arith, ints)) in
       leave_at chosen losses k old.state lost new inside_chosen reading.state is
       (least_taken chosen losses k old.best.place old.best.loss best.found best.least better)
       place state loss (limit ∙ ap (λ (bit : ℕ). lost +ℤ pos 1 -ℤ pos bit) bit_is)

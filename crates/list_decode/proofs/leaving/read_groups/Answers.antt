@@ -19,8 +19,9 @@ loop-group-init c =
     let place = c.new.ensures.place in
     let fits : FitsSigned w16 (get_or (get_or losses 0 []) 0 (pos 0)) = search rules in
     let lost = c.new.ensures.loss in
+    let first : get_or rows 0 0 % 2 ≡ get_or rows 0 0 / 2 ^ 0 % 2 = omega arith in
     let bit : bit_and (get_or rows 0 0) 1 ≡ get_or u 0 0 =
-    and_mask (get_or rows 0 0) 1 ∙ (let e : get_or rows 0 0 % 2 ≡ get_or rows 0 0 / 2 ^ 0 % 2 = omega arith in e) ∙ sym (chosen_bit rows 0 0 (let same = c.requires.rows in omega arith)) in
+    and_mask (get_or rows 0 0) 1 ∙ first ∙ sym (chosen_bit rows 0 0 (let same = c.requires.rows in omega arith)) in
     record {
       reading = record {
         small = omega arith;
@@ -45,23 +46,27 @@ loop-group-init c =
 pub more-requires-in-loop-group-2-clause-reading : goal.more-requires-in-loop-group-2-clause-reading
 more-requires-in-loop-group-2-clause-reading c =
     let second : 4 * c.loop-group.group + 1 + 1 ≡ 4 * c.loop-group.group + 2 = omega arith in
-    subst (λ k. IsReading c.args.rows.now c.args.losses.now c.more-in-loop-group.new.u k c.more-in-loop-group.result) second c.more-in-loop-group.ensures.reading
+    subst (λ k. IsReading c.args.rows.now c.args.losses.now c.more-in-loop-group.new.u k c.more-in-loop-group.result) second
+    c.more-in-loop-group.ensures.reading
 
 pub more-reading-requires-clause-reading : goal.more-reading-requires-clause-reading
 more-reading-requires-clause-reading c =
     let third : 4 * c.loop-group.group + 2 + 1 ≡ 4 * c.loop-group.group + 3 = omega arith in
-    subst (λ k. IsReading c.args.rows.now c.args.losses.now c.more-in-loop-group-2.new.u k c.more-in-loop-group-2.result) third c.more-in-loop-group-2.ensures.reading
+    subst (λ k. IsReading c.args.rows.now c.args.losses.now c.more-in-loop-group-2.new.u k c.more-in-loop-group-2.result) third
+    c.more-in-loop-group-2.ensures.reading
 
 pub loop-group-preserved : goal.loop-group-preserved
 loop-group-preserved c =
     let fourth : 4 * c.loop-group.group + 3 + 1 ≡ 4 * (c.loop-group.group + 1) = omega arith in
     record {
-      reading = subst (λ k. IsReading c.args.rows.now c.args.losses.now c.more-reading.new.u k c.more-reading.result) fourth c.more-reading.ensures.reading;
+      reading = subst (λ k. IsReading c.args.rows.now c.args.losses.now c.more-reading.new.u k c.more-reading.result) fourth
+          c.more-reading.ensures.reading;
     }
 
 pub returns : goal.returns
 returns c =
     let end : c.loop-group.group ≡ c.args.groups = omega arith in
     record {
-      reading = subst (λ group. IsReading c.args.rows.now c.args.losses.now c.loop-group.u (4 * group) c.loop-group.reading) end c.loop-group.invariant.reading;
+      reading = subst (λ group. IsReading c.args.rows.now c.args.losses.now c.loop-group.u (4 * group) c.loop-group.reading) end
+          c.loop-group.invariant.reading;
     }

@@ -16,10 +16,12 @@ returns-clause-list c =
     let five = c.requires.at_least in
     let end : c.loop-k.k ≡ free = omega arith in
     let rest : List ℕ = c.read_list.new.u in
-    let behind : drop (length written - free) (drop free written) ≡ [] = drop_all (length written - free) (drop free written) (omega (arith, length-drop free written)) in
+    let behind : drop (length written - free) (drop free written) ≡ [] =
+    drop_all (length written - free) (drop free written) (omega (arith, length-drop free written)) in
     let last : rest ≡ drop free (read_out rows 0) =
     c.read_list.ensures
-    ∙ ap₂ read_out (take_all (length rows - free) (drop free rows) (omega (arith, length-drop free rows))) (old.state ∙ ap (λ k. reached 0 (take k (read_out rows 0))) end)
+    ∙ ap₂ read_out (take_all (length rows - free) (drop free rows) (omega (arith, length-drop free rows)))
+    (old.state ∙ ap (λ k. reached 0 (take k (read_out rows 0))) end)
     ∙ sym (chosen_from rows 0 free (let count = c.requires.rows in omega arith)) in
     ap (λ none. take free written ++ (rest ++ none)) behind
     ∙ ap₂ (λ front rest. front ++ rest) (subst (λ k. take k written ≡ take k (read_out rows 0)) end old.written) (append-nil rest ∙ last)
