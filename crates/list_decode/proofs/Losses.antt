@@ -1,19 +1,15 @@
 -- The place that loses least, one place more at a time.
-use Rattle.std.proofs.Common.{◌≡◌, ◌≢◌, ◌⊎◌, ℕ, zero, suc, ◌+◌, ◌/◌, ◌%◌, ◌^◌, ◌<◌, ◌≤◌, inl, inr, ℤ, pos, ◌+ℤ◌, ◌-ℤ◌, List, [], ◌∷◌, length, get_or, take, drop, refl, ap, ap₂, sym, ◌∙◌, subst, arith, below_more}
+use Rattle.std.proofs.Common.{◌≡◌, ◌≢◌, ◌⊎◌, ℕ, zero, suc, ◌+◌, ◌/◌, ◌%◌, ◌^◌, ◌<◌, ◌≤◌, ◌++◌, slice_set, inl, inr, ℤ, pos, ◌+ℤ◌, ◌-ℤ◌, List, [], ◌∷◌, length, get_or, take, drop, refl, ap, ap₂, sym, ◌∙◌, subst, arith, below_more}
 use Rattle.std.specs.Prelude.{◌<ℤ◌, ◌≤ℤ◌}
 use Rattle.std.proofs.lemmas.Bool.{cases_lt}
 use Rattle.std.proofs.lemmas.Int.{ints, by_lt_z}
 use Rattle.trellis_decode.specs.Trellis.{next, read_out}
 use Rattle.list_decode.specs.Detours.{reached, loss_at, IsLeastLoss}
+use Rattle.list_decode.specs.Readings.{IsBestLeave, IsReading}
 use Rattle.list_decode.specs.declared.leaving.Leave.{Leave}
-
--- the best place to leave u at, of those before place k and of the first
-pub record IsBestLeave (u : List ℕ) (losses : List (List ℤ)) (k : ℕ) (best : Leave) : Type 0 where
-  pub found : best.place ≤ k
-  pub within : best.place + 4 < length u
-  pub state : best.state ≡ reached 0 (take best.place u)
-  pub least : IsLeastLoss u losses k best.place best.loss
-  pub limit : best.limit ≡ best.loss +ℤ pos 1 -ℤ pos (get_or u best.place 0)
+use Rattle.list_decode.specs.declared.leaving.Reading.{Reading}
+use Rattle.trellis_decode.proofs.Lemmas.{length-read_out}
+use Rattle.std.proofs.lemmas.List.{take_more, take_more_set}
 
 pub reached_more : (u : List ℕ) (k state : ℕ) → k < length u → reached state (take (k + 1) u) ≡ next (reached state (take k u)) (get_or u k 0)
 reached_more [] k state within = absurd (omega arith)
@@ -112,3 +108,62 @@ pub not_below_limit : (loss least : ℤ) (bit : ℕ) → bit ≤ 1 → (least +�
 not_below_limit loss least zero one h = inl (omega (arith, ints))
 not_below_limit loss least (suc zero) one h = by_lt_z least loss (λ less. inl less) (λ not_less. inr (omega (arith, ints), (λ e. omega arith)))
 not_below_limit loss least (suc (suc bit)) one h = absurd (omega arith)
+
+-- ---- a list that is read out by one place more
+
+module _ (rows : List ℕ) (losses : List (List ℤ)) (u : List ℕ) (k : ℕ) (old : Reading) (reading : IsReading rows losses u k old)
+    (inside : k + 4 < length rows) where
+  abbrev chosen : List ℕ
+  chosen = read_out rows 0
+
+  abbrev lost : ℤ
+  lost = get_or (get_or losses k []) old.state (pos 0)
+
+  abbrev bit : ℕ
+  bit = get_or rows k 0 / 2 ^ old.state % 2
+
+  inside_chosen : k + 4 < length chosen
+  inside_chosen = rw (length-read_out rows 0) inside
+
+  lost_is : lost ≡ loss_at 0 chosen losses k
+  lost_is = ap (λ s. get_or (get_or losses k []) s (pos 0)) reading.state
+
+  bit_is : bit ≡ get_or chosen k 0
+  bit_is = ap (λ s. get_or rows k 0 / 2 ^ s % 2) reading.state ∙ sym (chosen_bit rows 0 k (omega arith))
+
+  pub best_taken : (new : Leave) → lost <ℤ old.best.limit → new.place ≡ k → new.state ≡ old.state → new.loss ≡ lost →
+      new.limit ≡ lost +ℤ pos 1 -ℤ pos bit → IsBestLeave chosen losses (k + 1) new
+  best_taken new less place state loss limit =
+      let best = reading.best in
+      let is = lost_is in
+      let known = best.limit in
+      let small = bit_small rows 0 old.best.place in
+      let better = below_limit (loss_at 0 chosen losses k) old.best.loss (get_or chosen old.best.place 0) small (omega (arith, ints)) in
+      leave_at chosen losses k old.state lost new inside_chosen reading.state is
+      (least_taken chosen losses k old.best.place old.best.loss best.found best.least better)
+      place state loss (limit ∙ ap (λ (bit : ℕ). lost +ℤ pos 1 -ℤ pos bit) bit_is)
+
+  pub best_kept : old.best.limit ≤ℤ lost → IsBestLeave chosen losses (k + 1) old.best
+  best_kept not_less =
+      let best = reading.best in
+      let is = lost_is in
+      let known = best.limit in
+      let small = bit_small rows 0 old.best.place in
+      let worse = not_below_limit (loss_at 0 chosen losses k) old.best.loss (get_or chosen old.best.place 0) small (omega (arith, ints)) in
+      record {
+        found = let f = best.found in omega arith;
+        within = best.within;
+        state = best.state;
+        least = least_kept chosen losses k old.best.place old.best.loss small best.least worse;
+        limit = best.limit;
+      }
+
+  pub read_more : (new : Reading) (written : ℕ) → k < length u → written ≡ bit → new.state ≡ next old.state written →
+      IsBestLeave chosen losses (k + 1) new.best → IsReading rows losses (slice_set u k written) (k + 1) new
+  read_more new written within is state best = record {
+    small = omega arith;
+    state = state ∙ ap₂ next reading.state (is ∙ bit_is) ∙ sym (reached_more chosen k 0 (let i = inside_chosen in omega arith));
+    written = take_more_set u k written within ∙ ap₂ (λ front bit. front ++ bit ∷ []) reading.written (is ∙ bit_is)
+        ∙ sym (take_more chosen k 0 (let i = inside_chosen in omega arith));
+    best = best;
+  }

@@ -4,6 +4,7 @@ ghost use Rattle.std.specs.Prelude.{◌≡◌, true, false, pos, ◌+ℤ◌, ◌
 ghost use Rattle.std.proofs.Common.{take, drop};
 ghost use Rattle.bit_blocks.specs.Bits.{AllBits};
 ghost use Rattle.list_decode.specs.Detours.{IsLeastLoss, reached};
+ghost use Rattle.list_decode.specs.Readings.{IsReading};
 ghost use Rattle.trellis_decode.specs.Trellis.{next, read_out};
 
 use trellis_decode::read_list;
@@ -44,6 +45,39 @@ impl Leave {
     }
 }
 
+/// A list that is read out up to a place.
+#[derive(Clone, Copy)]
+struct Reading {
+    /// The state before the next place.
+    state: usize,
+    /// Where the list is best left so far.
+    best: Leave,
+}
+
+impl Reading {
+    /// Reads out one place more.
+    fn more(self, k: usize, rows: &[u16], losses: &[[i16; 16]], u: &mut [u8]) -> Reading
+        requires rows { length rows.now ≡ length u.old }
+        requires same { length losses.now ≡ length u.old }
+        requires at_most { length u.old ≤ 228 }
+        requires within { k + 4 < length u.old }
+        requires reading { IsReading rows.now losses.now u.old k self }
+        ensures reading { IsReading rows.now losses.now u.new (k + 1) result }
+    {
+        let bit = ((rows[k] >> self.state) & 1) as u8;
+        let loss = losses[k][self.state];
+        u[k] = bit;
+        Reading {
+            state: (2 * self.state + usize::from(bit)) % 16,
+            best: if self.best.comes_after(i32::from(loss)) {
+                Leave::new(k, self.state, loss, bit)
+            } else {
+                self.best
+            },
+        }
+    }
+}
+
 /// Reads out what the rows choose from the first state on, and finds where the least is lost by the other bit; of equal
 /// places that whose list comes first in the order of words.
 pub(crate) fn read_least(rows: &[u16], losses: &[[i16; 16]], u: &mut [u8]) -> Leave
@@ -57,19 +91,37 @@ pub(crate) fn read_least(rows: &[u16], losses: &[[i16; 16]], u: &mut [u8]) -> Le
     ensures within { result.place + 4 < length u.new }
 {
     let free = u.len() - 4;
-    let mut best = Leave::new(0, 0, losses[0][0], (rows[0] & 1) as u8);
-    let mut state = 0;
-    for k in 0..free {
-        let bit = ((rows[k] >> state) & 1) as u8;
-        let loss = losses[k][state];
-        if best.comes_after(i32::from(loss)) {
-            best = Leave::new(k, state, loss, bit);
-        }
-        u[k] = bit;
-        state = (2 * state + usize::from(bit)) % 16;
+    let groups = free / 4;
+    let mut reading = read_groups(groups, rows, losses, u);
+    for k in 4 * groups..free {
+        reading = reading.more(k, rows, losses, u);
     }
-    read_list(&rows[free..], state as u16, &mut u[free..]);
-    best
+    read_list(&rows[free..], reading.state as u16, &mut u[free..]);
+    reading.best
+}
+
+/// Reads out the first places, four in a turn, so that the loop's own jump is rare.
+fn read_groups(groups: usize, rows: &[u16], losses: &[[i16; 16]], u: &mut [u8]) -> Reading
+    requires rows { length rows.now ≡ length u.old }
+    requires same { length losses.now ≡ length u.old }
+    requires at_least { 5 ≤ length u.old }
+    requires at_most { length u.old ≤ 228 }
+    requires within { 4 * groups + 4 ≤ length u.old }
+    ensures reading { IsReading rows.now losses.now u.new (4 * groups) result }
+{
+    let mut reading = Reading {
+        state: 0,
+        best: Leave::new(0, 0, losses[0][0], (rows[0] & 1) as u8),
+    };
+    for group in 0..groups {
+        let k = 4 * group;
+        reading = reading
+            .more(k, rows, losses, u)
+            .more(k + 1, rows, losses, u)
+            .more(k + 2, rows, losses, u)
+            .more(k + 3, rows, losses, u);
+    }
+    reading
 }
 
 /// Writes `u` up to a place, the other bit there, and then what the rows choose. Behind the place `u` is what they choose too.

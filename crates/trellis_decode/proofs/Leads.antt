@@ -1,21 +1,18 @@
 -- What the bit 0 is worth more than the bit 1: its sign is the choice, and its size the loss.
-use Rattle.std.proofs.Common.{◌≡◌, ℕ, true, false, if◌then◌else◌, ℤ, pos, ◌+ℤ◌, ◌-ℤ◌, ◌-◌, List, ap, ap₂, sym, ◌∙◌, subst, arith, int_lt, inl, inr}
+use Rattle.std.proofs.Common.{◌≡◌, ℕ, true, false, if◌then◌else◌, ℤ, pos, negsuc, ◌+ℤ◌, ◌-ℤ◌, ◌≤ℤ◌, ◌+◌, ◌-◌, ◌<◌, List, ap, ap₂, sym, ◌∙◌, subst, arith, int_lt, inl, inr, lit≤, refl}
 use Rattle.std.proofs.lemmas.Int.{ints, by_lt_z}
 use Rattle.trellis_decode.specs.Lanes.{lane}
 use Rattle.trellis_decode.specs.Trellis.{next, edge, way, Chooses}
-use Rattle.trellis_decode.specs.Turned.{AreClose, AreEdges, AreNarrow, HaveRoom, raised}
-use Rattle.trellis_decode.proofs.TurnedVectors.{passed, passed-lanes, AreNarrow-modest, AreNarrow-edges}
+use Rattle.trellis_decode.specs.Turned.{AreClose, AreEdges, AreGaps, AreNarrow, AreNear, HasEdges, in_order, raised, turned, worths}
+use Rattle.trellis_decode.specs.Ways.{AreWays}
+use Rattle.trellis_decode.specs.declared.turned_step.Ways.{Ways}
+use Rattle.trellis_decode.proofs.EdgeLanes.{each}
+use Rattle.trellis_decode.proofs.TurnedSteps.{even_worth, odd_worth, even_worth_high, odd_worth_high, edge-one, edge-high}
+use Rattle.trellis_decode.proofs.TurnedVectors.{passed, passed-lanes, passed-gaps, AreNarrow-edges, fits_between}
 
-pub AreClose-passed : (a b : List ℤ) → AreNarrow a → AreNarrow b → AreClose a b → AreClose (passed a) (passed b)
-AreClose-passed a b ha hb close =
-    subst (λ a. AreClose a (passed b)) (sym (passed-lanes a ha)) (subst (AreClose a) (sym (passed-lanes b hb)) close)
-
-module _ (a edges result : List ℤ) (ha : HaveRoom a) (he : AreEdges edges) where
-  pub plain_sum : (k : ℕ) → lane result k ≡ lane (passed a) k +ℤ lane (passed edges) k → lane result k ≡ lane a k +ℤ lane edges k
-  plain_sum k is = is ∙ ap₂ (λ l m. lane l k +ℤ lane m k) (passed-lanes a (AreNarrow-modest a ha)) (passed-lanes edges (AreNarrow-edges edges he))
-
-  pub plain_difference : (k : ℕ) → lane result k ≡ lane (passed a) k -ℤ lane (passed edges) k → lane result k ≡ lane a k -ℤ lane edges k
-  plain_difference k is = is ∙ ap₂ (λ l m. lane l k -ℤ lane m k) (passed-lanes a (AreNarrow-modest a ha)) (passed-lanes edges (AreNarrow-edges edges he))
+pub AreNear-passed : (a b : List ℤ) → AreNarrow a → AreNarrow b → AreNear a b → AreNear (passed a) (passed b)
+AreNear-passed a b ha hb near =
+    subst (λ a. AreNear a (passed b)) (sym (passed-lanes a ha)) (subst (AreNear a) (sym (passed-lanes b hb)) near)
 
 -- in one state
 pub lead_is : (after pair : List ℤ) (s : ℕ) (v o e lead : ℤ) → lane after (next s 0) ≡ raised v → lane after (next s 1) ≡ raised o →
@@ -58,3 +55,94 @@ loss_is after pair s bit value lead loss chooses is l =
       | inl h ↦ subst Lost (sym h.0) (omega (arith, ints))
       | inr h ↦ absurd (let order = h.2 in omega (arith, ints))
     ])
+
+-- ---- what the bit 0 is worth more than 1, from what either is worth
+
+module _ (even odd edges : List ℤ) (ways : Ways) (is : AreWays even odd (passed edges) ways) (close : AreClose even odd)
+    (bounded : AreEdges edges) where
+  edge_lane : (k : ℕ) → lane (passed edges) k ≡ lane edges k
+  edge_lane k = ap (λ l. lane l k) (passed-lanes edges (AreNarrow-edges edges bounded))
+
+  low_gap : (k : ℕ) → k < 8 → lane ways.low_zero k -ℤ lane ways.low_one k ≡ lane even k -ℤ lane odd k +ℤ lane edges k +ℤ lane edges k
+  low_gap k lt = let zero = is.low_zero_lane k lt in let one = is.low_one_lane k lt in let edge = edge_lane k in omega (arith, ints)
+
+  high_gap : (k : ℕ) → k < 8 → lane ways.high_zero k -ℤ lane ways.high_one k ≡ lane even k -ℤ lane odd k -ℤ lane edges k -ℤ lane edges k
+  high_gap k lt = let zero = is.high_zero_lane k lt in let one = is.high_one_lane k lt in let edge = edge_lane k in omega (arith, ints)
+
+  abbrev Fits : ℤ → Type 0
+  Fits x = (negsuc 32766 ≤ℤ x) × (x ≤ℤ pos 32767)
+
+  low_fits : (k : ℕ) → k < 8 → Fits (lane ways.low_zero k -ℤ lane ways.low_one k)
+  low_fits k lt =
+      let gap = low_gap k lt in
+      let low = close.low k lt in
+      let high = close.high k lt in
+      let low' = bounded.low k lt in
+      let high' = bounded.high k lt in
+      (omega (arith, ints), omega (arith, ints))
+
+  high_fits : (k : ℕ) → k < 8 → Fits (lane ways.high_zero k -ℤ lane ways.high_one k)
+  high_fits k lt =
+      let gap = high_gap k lt in
+      let low = close.low k lt in
+      let high = close.high k lt in
+      let low' = bounded.low k lt in
+      let high' = bounded.high k lt in
+      (omega (arith, ints), omega (arith, ints))
+
+  pub low_near : AreNear (passed ways.low_zero) (passed ways.low_one)
+  low_near = AreNear-passed ways.low_zero ways.low_one is.low_zero is.low_one
+      (record { fits = λ k lt. let fits = low_fits k lt in fits_between _ (let low = fits.0 in omega (arith, ints)) fits.1 })
+
+  pub high_near : AreNear (passed ways.high_zero) (passed ways.high_one)
+  high_near = AreNear-passed ways.high_zero ways.high_one is.high_zero is.high_one
+      (record { fits = λ k lt. let fits = high_fits k lt in fits_between _ (let low = fits.0 in omega (arith, ints)) fits.1 })
+
+  module _ (low high leads : List ℤ) (narrow_low : AreNarrow low) (narrow_high : AreNarrow high)
+      (low_is : (k : ℕ) → k < 8 → lane low k ≡ lane (passed ways.low_zero) k -ℤ lane (passed ways.low_one) k)
+      (high_is : (k : ℕ) → k < 8 → lane high k ≡ lane (passed ways.high_zero) k -ℤ lane (passed ways.high_one) k)
+      (ordered : leads ≡ in_order (passed low) (passed high)) where
+    low_lane : (k : ℕ) → k < 8 → lane (passed low) k ≡ lane ways.low_zero k -ℤ lane ways.low_one k
+    low_lane k lt = ap (λ l. lane l k) (passed-lanes low narrow_low) ∙ low_is k lt
+        ∙ ap₂ (λ l m. lane l k -ℤ lane m k) (passed-lanes ways.low_zero is.low_zero) (passed-lanes ways.low_one is.low_one)
+
+    high_lane : (k : ℕ) → k < 8 → lane (passed high) k ≡ lane ways.high_zero k -ℤ lane ways.high_one k
+    high_lane k lt = ap (λ l. lane l k) (passed-lanes high narrow_high) ∙ high_is k lt
+        ∙ ap₂ (λ l m. lane l k -ℤ lane m k) (passed-lanes ways.high_zero is.high_zero) (passed-lanes ways.high_one is.high_one)
+
+    leads_fit : AreGaps leads
+    leads_fit =
+        let l = λ (k : ℕ) (lt : k < 8). subst Fits (sym (low_lane k lt)) (low_fits k lt) in
+        let h = λ (k : ℕ) (lt : k < 8). subst Fits (sym (high_lane k lt)) (high_fits k lt) in
+        let fit = each (λ s. Fits (lane (in_order (passed low) (passed high)) s)) 16
+        ((((((((((((((((tt, l 0 (lit≤ tt)), l 4 (lit≤ tt)), l 2 (lit≤ tt)), l 6 (lit≤ tt)), l 1 (lit≤ tt)), l 5 (lit≤ tt)), l 3 (lit≤ tt)), l 7 (lit≤ tt)), h 0 (lit≤ tt)), h 4 (lit≤ tt)), h 2 (lit≤ tt)), h 6 (lit≤ tt)), h 1 (lit≤ tt)), h 5 (lit≤ tt)), h 3 (lit≤ tt)), h 7 (lit≤ tt)) in
+        subst AreGaps (sym ordered) (record { count = refl; low = λ s lt. (fit s lt).0; high = λ s lt. (fit s lt).1 })
+
+    pub leads_passed : AreGaps (passed leads)
+    leads_passed = subst AreGaps (sym (passed-gaps leads leads_fit)) leads_fit
+
+    low_state : (pair : List ℤ) → HasEdges edges pair → (k : ℕ) → k < 8 →
+        lane (passed low) k ≡ way (worths even odd) pair (turned k) 0 -ℤ way (worths even odd) pair (turned k) 1
+    low_state pair has k lt =
+        let counted = sym (has.each k lt) in
+        lead_is (worths even odd) pair (turned k) (lane even k) (lane odd k) (lane edges k) (lane (passed low) k)
+        (even_worth even odd k lt) (odd_worth even odd k lt)
+        counted (edge-one pair has.count (turned k) (omega arith) ∙ ap (λ e. pos 0 -ℤ e) counted) (low_lane k lt ∙ low_gap k lt)
+
+    high_state : (pair : List ℤ) → HasEdges edges pair → (k : ℕ) → k < 8 →
+        lane (passed high) k ≡ way (worths even odd) pair (8 + turned k) 0 -ℤ way (worths even odd) pair (8 + turned k) 1
+    high_state pair has k lt =
+        let counted = edge-high pair has.count (turned k) (omega arith) ∙ ap (λ e. pos 0 -ℤ e) (sym (has.each k lt)) in
+        let lead = high_lane k lt ∙ high_gap k lt in
+        lead_is (worths even odd) pair (8 + turned k) (lane even k) (lane odd k) (pos 0 -ℤ lane edges k) (lane (passed high) k)
+        (even_worth_high even odd k lt) (odd_worth_high even odd k lt)
+        counted (edge-one pair has.count (8 + turned k) (omega arith) ∙ ap (λ e. pos 0 -ℤ e) counted) (omega (arith, ints))
+
+    pub each_lead : (pair : List ℤ) → HasEdges edges pair → (s : ℕ) → s < 16 →
+        lane (passed leads) s ≡ way (worths even odd) pair s 0 -ℤ way (worths even odd) pair s 1
+    each_lead pair has s lt =
+        let l = low_state pair has in
+        let h = high_state pair has in
+        ap (λ l. lane l s) (passed-gaps leads leads_fit ∙ ordered)
+        ∙ each (λ s. lane (in_order (passed low) (passed high)) s ≡ way (worths even odd) pair s 0 -ℤ way (worths even odd) pair s 1) 16
+        ((((((((((((((((tt, l 0 (lit≤ tt)), l 4 (lit≤ tt)), l 2 (lit≤ tt)), l 6 (lit≤ tt)), l 1 (lit≤ tt)), l 5 (lit≤ tt)), l 3 (lit≤ tt)), l 7 (lit≤ tt)), h 0 (lit≤ tt)), h 4 (lit≤ tt)), h 2 (lit≤ tt)), h 6 (lit≤ tt)), h 1 (lit≤ tt)), h 5 (lit≤ tt)), h 3 (lit≤ tt)), h 7 (lit≤ tt)) s lt

@@ -6,7 +6,7 @@ use Rattle.std.proofs.lemmas.List.{length-map}
 use Rattle.std.proofs.lemmas.Simd.{mask_l-lt, mask_l-mod, bit_mask_l}
 use lib.Lanes.{zip2, sel_l, mask_l, top}
 use Rattle.trellis_decode.specs.Lanes.{lane}
-use Rattle.trellis_decode.specs.Turned.{AreClose, AreTaken, AreEdges, AreGaps, AreNarrow, HaveRoom, in_order, in_turns}
+use Rattle.trellis_decode.specs.Turned.{AreTaken, AreEdges, AreGaps, AreNarrow, AreNear, HaveRoom, in_order, in_turns}
 
 lane-zip2 : (f : ℕ → ℕ → ℕ) (a b : List ℤ) (s : ℕ) → s < length a → s < length b →
     lane (map (cast_signed w16) (zip2 f (map (cast_unsigned w16) a) (map (cast_unsigned w16) b))) s
@@ -336,25 +336,19 @@ passed_octets-taken lanes h = passed_octets-each lanes (λ k lt. h.each k (omega
 
 -- ---- what the lanes of one vector are more than those of another, without sign and by their signs
 
-gaps_fit : (a b : List ℤ) → AreClose a b → (k : ℕ) → k < 8 → FitsSigned w16 (lane a k -ℤ lane b k)
-gaps_fit a b close k lt =
-    let low = close.low k lt in
-    let high = close.high k lt in
-    fits_between (lane a k -ℤ lane b k) (omega (arith, ints)) (omega (arith, ints))
-
-pub lane-gaps : (a b : List ℤ) → AreNarrow a → AreNarrow b → AreClose a b → (k : ℕ) → k < 8 →
+pub lane-gaps : (a b : List ℤ) → AreNarrow a → AreNarrow b → AreNear a b → (k : ℕ) → k < 8 →
     lane (map (cast_signed w16) (zip2 (λ x y. (x + (2 ^ 16 - y)) % 2 ^ 16) (map (cast_unsigned w16) a) (map (cast_unsigned w16) b))) k ≡ lane a k -ℤ lane b k
-lane-gaps a b ha hb close k lt =
+lane-gaps a b ha hb near k lt =
     let sa : k < length a = omega (arith, ha.count) in
     let sb : k < length b = omega (arith, hb.count) in
     lane-zip2 (λ x y. (x + (2 ^ 16 - y)) % 2 ^ 16) a b k sa sb
-    ∙ difference-lane (lane a k) (lane b k) (ha.fits k lt) (hb.fits k lt) (gaps_fit a b close k lt)
+    ∙ difference-lane (lane a k) (lane b k) (ha.fits k lt) (hb.fits k lt) (near.fits k lt)
 
-pub AreNarrow-gaps : (a b : List ℤ) → AreNarrow a → AreNarrow b → AreClose a b →
+pub AreNarrow-gaps : (a b : List ℤ) → AreNarrow a → AreNarrow b → AreNear a b →
     AreNarrow (map (cast_signed w16) (zip2 (λ x y. (x + (2 ^ 16 - y)) % 2 ^ 16) (map (cast_unsigned w16) a) (map (cast_unsigned w16) b)))
-AreNarrow-gaps a b ha hb close = record {
+AreNarrow-gaps a b ha hb near = record {
   count = length-lanes-zip2 (λ x y. (x + (2 ^ 16 - y)) % 2 ^ 16) a b (ha.count ∙ sym hb.count) ∙ ha.count;
-  fits = λ k lt. subst (FitsSigned w16) (sym (lane-gaps a b ha hb close k lt)) (gaps_fit a b close k lt);
+  fits = λ k lt. subst (FitsSigned w16) (sym (lane-gaps a b ha hb near k lt)) (near.fits k lt);
 }
 
 AreGaps-fits : (a : List ℤ) → AreGaps a → (s : ℕ) → s < 16 → FitsSigned w16 (lane a s)

@@ -3,4 +3,5 @@ pub mod Lanes
 pub mod Trellis
 pub mod Turned
 pub mod Walks
+pub mod Ways
 pub mod Words

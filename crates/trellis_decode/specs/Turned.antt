@@ -32,6 +32,10 @@ pub record AreClose (a b : List ℤ) : Type 0 where
   pub low : (k : ℕ) → k < 8 → negsuc 4095 ≤ℤ (lane a k -ℤ lane b k)
   pub high : (k : ℕ) → k < 8 → (lane a k -ℤ lane b k) ≤ℤ pos 4096
 
+-- lanes whose differences fit 16 bits
+pub record AreNear (a b : List ℤ) : Type 0 where
+  pub fits : (k : ℕ) → k < 8 → FitsSigned w16 (lane a k -ℤ lane b k)
+
 -- sixteen numbers that have a size of 16 bits
 pub record AreGaps (lanes : List ℤ) : Type 0 where
   pub count : length lanes ≡ 16

@@ -8,7 +8,7 @@ ghost use Rattle.trellis_decode.specs.Trellis.{Chooses, way};
 ghost use Rattle.trellis_decode.specs.Lanes.{lane};
 ghost use Rattle.trellis_decode.specs.Turned.{AreClose, AreEdges, AreGaps, AreNarrow, HasEdges, HaveRoom, worths};
 
-use crate::turned_lanes::{by_state, differences, gaps, signs, sizes, sums};
+use crate::turned_lanes::{by_state, gaps, signs, sizes};
 use crate::turned_step::{Step, Values};
 use std::simd::prelude::*;
 
@@ -40,27 +40,14 @@ impl KeptStep {
         ensures even { AreNarrow result.values.even }
         ensures odd { AreNarrow result.values.odd }
     {
-        let leads = leads(after, edges);
+        let step = Step::new(after, edges);
+        let low = gaps(step.ways.low_zero, step.ways.low_one);
+        let high = gaps(step.ways.high_zero, step.ways.high_one);
+        let leads = by_state(low, high);
         KeptStep {
-            values: Step::new(after, edges).values,
+            values: step.values,
             row: signs(leads),
             losses: sizes(leads),
         }
     }
-}
-
-/// What the bit 0 is worth more than the bit 1 in each state.
-fn leads(after: Values, edges: i16x8) -> i16x16
-    requires even { HaveRoom after.even }
-    requires odd { HaveRoom after.odd }
-    requires close { AreClose after.even after.odd }
-    requires edges { AreEdges edges }
-    ensures each { (pair : List ℤ) → HasEdges edges pair → (s : ℕ) → s < 16 → lane result s ≡
-        way (worths after.even after.odd) pair s 0 -ℤ way (worths after.even after.odd) pair s 1 }
-    ensures lanes { AreGaps result }
-{
-    let gaps = gaps(after.even, after.odd);
-    let low = sums(sums(gaps, edges), edges);
-    let high = differences(differences(gaps, edges), edges);
-    by_state(low, high)
 }

@@ -2,7 +2,7 @@
 
 ghost use Rattle.std.specs.Prelude.{◌≡◌, ℕ, ◌*◌, ◌+◌, ◌/◌, ◌%◌, ◌^◌, ◌<◌, pos, negsuc, ◌+ℤ◌, ◌-ℤ◌, if◌then◌else◌, int_lt, length};
 ghost use Rattle.trellis_decode.specs.Lanes.{lane};
-ghost use Rattle.trellis_decode.specs.Turned.{AreClose, AreEdges, AreGaps, AreNarrow, HaveRoom, in_order, in_turns};
+ghost use Rattle.trellis_decode.specs.Turned.{AreEdges, AreGaps, AreNarrow, AreNear, HaveRoom, in_order, in_turns};
 
 use std::simd::prelude::*;
 
@@ -67,7 +67,7 @@ pub fn greater(a: i16x8, b: i16x8) -> i8x8
 pub fn gaps(a: i16x8, b: i16x8) -> i16x8
     requires a_lanes { AreNarrow a }
     requires b_lanes { AreNarrow b }
-    requires close { AreClose a b }
+    requires near { AreNear a b }
     ensures each { (k : ℕ) → k < 8 → lane result k ≡ lane a k -ℤ lane b k }
     ensures lanes { AreNarrow result }
 {

@@ -8,6 +8,7 @@
 ghost use Rattle.std.specs.Prelude.{◌≡◌, ℕ, ◌<◌, List, ℤ, pos, slice_index};
 ghost use Rattle.trellis_decode.specs.Trellis.{Chooses, way};
 ghost use Rattle.trellis_decode.specs.Lanes.{lane};
+ghost use Rattle.trellis_decode.specs.Ways.{AreWays};
 ghost use Rattle.trellis_decode.specs.Turned.{AreEdges, AreNarrow, AreTaken, choices, HasEdges, HaveRoom, worths};
 
 use crate::turned_lanes::{differences, first_in_turns, greater, larger, last_in_turns, sums};
@@ -44,9 +45,20 @@ impl Values {
     }
 }
 
+/// What the lists are worth that begin in each state with the bit 0, and with 1: the best of each, lowered by 31,000. A
+/// state stands where its bits turned round stand, those from 8 on in the vectors called high.
+#[derive(Clone, Copy)]
+pub struct Ways {
+    pub low_zero: i16x8,
+    pub low_one: i16x8,
+    pub high_zero: i16x8,
+    pub high_one: i16x8,
+}
+
 /// A step of the trellis, from a place to the one before it.
 #[derive(Clone, Copy)]
 pub struct Step {
+    pub ways: Ways,
     /// What the best list is worth that begins in each state.
     pub values: Values,
     /// What the states 0 to 7 take first, each where its bits turned round stand: -1 for the bit 1, and 0 for 0.
@@ -65,6 +77,7 @@ impl Step {
             Chooses (worths after.even after.odd) pair s
             (lane (worths result.values.even result.values.odd) s)
             (slice_index (choices result.low result.high) s) }
+        ensures ways { AreWays after.even after.odd edges result.ways }
         ensures low { AreTaken result.low }
         ensures high { AreTaken result.high }
         ensures even { AreNarrow result.values.even }
@@ -81,6 +94,12 @@ impl Step {
             odd: last_in_turns(low, high),
         };
         Step {
+            ways: Ways {
+                low_zero,
+                low_one,
+                high_zero,
+                high_one,
+            },
             values,
             low: greater(low_zero, low_one),
             high: greater(high_zero, high_one),

@@ -125,6 +125,26 @@ returns-clause-each c pair has =
     (get_or (choices (passed_octets c.greater.result) (passed_octets c.greater-2.result)) s 0)) 16
     ((((((((((((((((tt, low 0 (lit≤ tt)), low 4 (lit≤ tt)), low 2 (lit≤ tt)), low 6 (lit≤ tt)), low 1 (lit≤ tt)), low 5 (lit≤ tt)), low 3 (lit≤ tt)), low 7 (lit≤ tt)), high 0 (lit≤ tt)), high 4 (lit≤ tt)), high 2 (lit≤ tt)), high 6 (lit≤ tt)), high 1 (lit≤ tt)), high 5 (lit≤ tt)), high 3 (lit≤ tt)), high 7 (lit≤ tt))
 
+pub returns-clause-ways : goal.returns-clause-ways
+returns-clause-ways c =
+    let even = c.args.after.even in
+    let odd = c.args.after.odd in
+    let edges = c.args.edges in
+    record {
+      low_zero = AreNarrow-passed c.sums-low_zero.result c.sums-low_zero.ensures.lanes;
+      low_one = AreNarrow-passed c.differences-low_one.result c.differences-low_one.ensures.lanes;
+      high_zero = AreNarrow-passed c.differences-high_zero.result c.differences-high_zero.ensures.lanes;
+      high_one = AreNarrow-passed c.sums-high_one.result c.sums-high_one.ensures.lanes;
+      low_zero_lane = (λ k lt. sum_passed even edges c.sums-low_zero.result c.requires.even c.requires.edges
+          c.sums-low_zero.ensures.lanes k (c.sums-low_zero.ensures.each k lt));
+      low_one_lane = (λ k lt. difference_passed odd edges c.differences-low_one.result c.requires.odd c.requires.edges
+          c.differences-low_one.ensures.lanes k (c.differences-low_one.ensures.each k lt));
+      high_zero_lane = (λ k lt. difference_passed even edges c.differences-high_zero.result c.requires.even c.requires.edges
+          c.differences-high_zero.ensures.lanes k (c.differences-high_zero.ensures.each k lt));
+      high_one_lane = (λ k lt. sum_passed odd edges c.sums-high_one.result c.requires.odd c.requires.edges
+          c.sums-high_one.ensures.lanes k (c.sums-high_one.ensures.each k lt));
+    }
+
 pub returns-clause-low : goal.returns-clause-low
 returns-clause-low c = AreTaken-passed c.greater.result _ c.greater.ensures.count c.greater.ensures.each
 
