@@ -31,6 +31,8 @@ pub(crate) struct Links {
     ends: Ends,
     up: HeapCircularBuffer<[[u8; 148]; 4]>,
     down: HeapCircularBuffer<[[u8; 148]; 4]>,
+    // Room for the soft values of the block that arrives.
+    soft: [[i8; 148]; 4],
 }
 
 impl Links {
@@ -51,6 +53,7 @@ impl Links {
             ends: Ends::new_on(channel),
             up,
             down,
+            soft: [[0; 148]; 4],
         })
     }
 
@@ -106,8 +109,8 @@ impl Links {
         ensures sent { R.sent radio.new ≡ R.sent radio.old }
     {
         match sender {
-            End::Mobile => receive_first(radio, &mut self.up, places, received),
-            End::Network => receive_first(radio, &mut self.down, places, received),
+            End::Mobile => receive_first(radio, &mut self.up, places, &mut self.soft, received),
+            End::Network => receive_first(radio, &mut self.down, places, &mut self.soft, received),
         }
     }
 

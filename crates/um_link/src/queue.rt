@@ -31,11 +31,13 @@ pub(crate) fn send_all<R: Radio>(
     }
 }
 
-/// Receives the first block, with the bits at these places turned over, into the caller's room: what is received has 264 octets.
+/// Receives the first block, with the bits at these places turned over, into the caller's room. Its soft values are
+/// written into room of the caller's too, which need not be cleared for each block.
 pub(crate) fn receive_first<R: Radio>(
     radio: &mut R,
     way: &mut HeapCircularBuffer<[[u8; 148]; 4]>,
     places: &[u16],
+    soft: &mut [[i8; 148]; 4],
     received: &mut Option<Received>,
 )
     requires way { IsWay way.old }
@@ -46,10 +48,9 @@ pub(crate) fn receive_first<R: Radio>(
     ensures heard { R.heard radio.new ≡ raised (R.heard radio.old) }
     ensures sent { R.sent radio.new ≡ R.sent radio.old }
 {
-    let mut soft = [[0; 148]; 4];
-    soften_first(way, places, &mut soft);
+    soften_first(way, places, soft);
     drop_first(way);
-    *received = Some(radio.receive(&soft));
+    *received = Some(radio.receive(soft));
 }
 
 /// The first block as sure soft values, with the bits at these places turned over.
