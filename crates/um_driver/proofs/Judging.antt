@@ -86,14 +86,15 @@ counted_front : (x u v : List ℕ) → x ≡ u ++ v → length u ≤ input_limit
 counted_front x u v e h = elim (cases_lt input_limit (length x)) [
   | inl over ↦
       let n = input_limit in
-      let (part, front_is, _) = front_of u v (take n x) (drop n x) (sym e ∙ sym (take-append-drop n x)) (omega (arith, h, length-take-le n x (omega (arith, over)))) in (
+      let count : length (take n x) ≡ n = length-take-le n x (omega (arith, over)) in
+      let (part, front_is, _) = front_of u v (take n x) (drop n x) (sym e ∙ sym (take-append-drop n x)) (omega (arith, h, count)) in (
         part,
         false,
         (
           drop n x,
           record {
             whole = sym (take-append-drop n x) ∙ ap (λ o. o ++ drop n x) front_is;
-            count = ap length (sym front_is) ∙ length-take-le n x (omega (arith, over));
+            count = ap length (sym front_is) ∙ count;
             some = omega (arith, over, length-drop n x);
           },
         ),
@@ -184,7 +185,8 @@ judges_read w = rw (w.none_left, append-nil, append-nil) (judges_whole w.all w.l
 -- the first lines of an input are judged
 pub judges_first : {q rest : List ℕ} {lines : List (List ℕ)} → AreFirst q rest lines →
     (judged : List (List ℕ)) × (ended : Bool) × Judges (q ++ rest) (lines ++ judged) ended
-judges_first {q} {rest} (inl (more, b, h)) = judges_after {x = q ++ rest} (more ++ rest) (record { plain = b.plain; whole = rw (b.whole, append_assoc) }) h
+judges_first {q} {rest} (inl (more, b, h)) =
+    judges_after {x = q ++ rest} (more ++ rest) (record { plain = b.plain; whole = rw (b.whole, append_assoc) }) h
 judges_first (inr whole) = ([], true, judges_read whole)
 
 -- of a line that is judged after these, the whole is judged, or more of it, where it is long

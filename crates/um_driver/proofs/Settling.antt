@@ -56,7 +56,8 @@ module _ {State : Type 0} {r : Rules State} {a : State} {held : List ℕ} {answe
       read = rest.reads;
       written = at.written;
       bound = bound_of at.reads;
-      first = let P : List (List ℕ) → Type 0 = λ l. AreFirst at.q rest.rest l in subst P two.whole (first_of at.reads rest.rest rest.at_end);
+      first = let P : List (List ℕ) → Type 0 = λ l. AreFirst at.q rest.rest l in
+          subst P two.whole (first_of at.reads rest.rest rest.at_end);
       runs = two.runs_first;
       ahead = two.runs_second;
       stands = stands;

@@ -109,7 +109,8 @@ module _ {State : Type 0} {r : Rules State} {a : State} {Stands : State → Type
           reads = next_line at.reads n.valid line.now step.gives;
           number_is = omega (arith, l.number, at.number_is, length-append at.lines (line.now ∷ []));
           written = at.written;
-          runs = Runs-push r a at.state state at.lines at.answers line.now text at.runs (record { short = l.short; no_fault = none }) answer;
+          runs = Runs-push r a at.state state at.lines at.answers line.now text at.runs
+              (record { short = l.short; no_fault = none }) answer;
           near = rw append-nil at (IsNear-more at.near [] (line.now ∷ []) (text ∷ []));
         };
         stands = stands;
@@ -156,8 +157,8 @@ module _ {State : Type 0} {r : Rules State} {a : State} {Stands : State → Type
       ending Done text step u.stands (λ rest at_end.
       (whole_of (arrive u.at.reads step) none_held ended rest at_end, sym (says u.at.state u.stands) ∙ none, text_is))
 
-  pub end_refused : {reason : Option LineFault} {text : List ℕ} {number : ℕ} {fault : LineFault} → IsNext reading mid left' next.End reading'
-      → number ≡ reading'.number → text ≡ refused_text (number + 1) fault → reason ≡ Some fault →
+  pub end_refused : {reason : Option LineFault} {text : List ℕ} {number : ℕ} {fault : LineFault}
+      → IsNext reading mid left' next.End reading' → number ≡ reading'.number → text ≡ refused_text (number + 1) fault → reason ≡ Some fault →
       ((b : State) → Stands b → reason ≡ r.end_fault b) → IsEnding r a Stands BadInput left left' taken taken' gathered text
   end_refused {text = text} {fault = fault} n number_is text_is some says =
       let (came, step) = n.goes_on u.goes_on in

@@ -21,7 +21,8 @@ Holds q lines held answered ended =
     ⊎ (IsCutOff q lines × (held ≡ []) × (ended ≡ true) × (answered ≡ length q))
 
 -- q was read; of it these lines were answered, so many octets, and these are held, within the limit and past it
-pub record IsRead (q : List ℕ) (lines : List (List ℕ)) (held : List ℕ) (answered : ℕ) (ended : Bool) (left left' : Option (List ℕ)) : Type 0 where
+pub record IsRead (q : List ℕ) (lines : List (List ℕ)) (held : List ℕ) (answered : ℕ) (ended : Bool)
+    (left left' : Option (List ℕ)) : Type 0 where
   pub read : Consumes left left' q
   pub plain : All IsLine lines
   pub holds : Holds q lines held answered ended
