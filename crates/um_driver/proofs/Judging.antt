@@ -3,7 +3,7 @@
 use Rattle.std.proofs.Common.{◌≡◌, ℕ, ◌<◌, ◌≤◌, Bool, true, false, List, [], ◌∷◌, ◌++◌, length, ◌⊎◌, inl, inr, sym, refl, ap, ◌∙◌, append_assoc, append-nil, length-append, take, drop, take-append-drop, length-drop, arith}
 use Rattle.std.specs.List.{All}
 use Rattle.std.proofs.Math.Seq.{take-append_seam}
-use Rattle.std.proofs.lemmas.Bool.{cases_eq, cases_lt}
+use Rattle.std.proofs.lemmas.Bool.{cases_lt}
 use Rattle.std.proofs.lemmas.List.{length-take-le}
 use Rattle.std.proofs.lemmas.List.Elements.{All-nil, All-cons, All-head, All-tail, All-append}
 use Rattle.um_io.specs.Lines.{IsPlain, IsLine, IsDivided, text_of}
@@ -11,6 +11,7 @@ use Rattle.um_io.specs.Reading.{input_limit, line_limit}
 use Rattle.um_driver.specs.Divided.{Begins}
 use Rattle.um_driver.specs.Outputs.{IsOver, Counts, NotJudged, AlsoJudged, Judges}
 use Rattle.um_driver.specs.Table.{IsWhole, AreFirst, IsJudged}
+use Rattle.um_io.proofs.DivisionLemmas.{IsDivided-lines_of}
 use Rattle.um_io.proofs.LineLists.{one_division, text-cons, text-push, length-text-push, All-before, All-behind}
 
 -- a front that is no longer is a front of a front
@@ -31,34 +32,33 @@ record Division (octets : List ℕ) : Type 0 where
   begins : Begins octets lines last
   plain : IsLine last
 
-divide : (octets : List ℕ) → Division octets
-divide [] = record { lines = []; last = []; begins = record { plain = All-nil IsLine; whole = refl }; plain = All-nil IsPlain }
-divide (o ∷ octets) = let d = divide octets in elim (cases_eq o 10) [
-  | inl feed ↦ record {
-    lines = [] ∷ d.lines;
-    last = d.last;
-    begins = record { plain = All-cons IsLine [] d.lines (All-nil IsPlain) d.begins.plain; whole = let w = d.begins.whole in cc (feed, w) };
-    plain = d.plain;
-  }
-  | inr plain ↦ onto_first d.lines d.last plain d.begins d.plain
+-- of the lines of octets only the last may lack its line feed, where it is not empty
+division_of : {x : List ℕ} {lines : List (List ℕ)} → IsDivided x lines → (d : Division x)
+    × (((lines ≡ d.lines) × NotJudged d.last true) ⊎ ((lines ≡ d.lines ++ d.last ∷ []) × AlsoJudged d.last true))
+division_of {lines = lines} h = elim h.whole [
+  | inl x_is ↦ (
+    record {
+      lines = lines;
+      last = [];
+      begins = record { plain = h.plain; whole = x_is ∙ sym (append-nil (text_of lines)) };
+      plain = All-nil IsPlain;
+    },
+    inl (refl, refl),
+  )
+  | inr cut ↦
+      let both : All IsLine (cut.front ++ cut.last ∷ []) = rw (← cut.lines_are) h.plain in (
+        record {
+          lines = cut.front;
+          last = cut.last;
+          begins = record { plain = All-before IsLine cut.front (cut.last ∷ []) both; whole = cut.octets_are };
+          plain = All-head IsLine cut.last [] (All-behind IsLine cut.front (cut.last ∷ []) both);
+        },
+        inr (cut.lines_are, cut.some),
+      )
 ]
-  where
-    onto_first : (lines : List (List ℕ)) (last : List ℕ) → IsPlain o → Begins octets lines last → IsLine last → Division (o ∷ octets)
-    onto_first [] last h b p = record {
-      lines = [];
-      last = o ∷ last;
-      begins = record { plain = All-nil IsLine; whole = ap (λ w. o ∷ w) b.whole };
-      plain = All-cons IsPlain o last h p;
-    }
-    onto_first (l ∷ ls) last h b p = record {
-      lines = (o ∷ l) ∷ ls;
-      last = last;
-      begins = record {
-        plain = All-cons IsLine (o ∷ l) ls (All-cons IsPlain o l h (All-head IsLine l ls b.plain)) (All-tail IsLine l ls b.plain);
-        whole = ap (λ w. o ∷ w) b.whole;
-      };
-      plain = p;
-    }
+
+divide : (octets : List ℕ) → Division octets
+divide octets = (division_of (IsDivided-lines_of octets)).0
 
 -- ---- some lines are judged
 
@@ -86,14 +86,15 @@ counted_front : (x u v : List ℕ) → x ≡ u ++ v → length u ≤ input_limit
 counted_front x u v e h = elim (cases_lt input_limit (length x)) [
   | inl over ↦
       let n = input_limit in
-      let (part, front_is, _) = front_of u v (take n x) (drop n x) (sym e ∙ sym (take-append-drop n x)) (omega (arith, h, length-take-le n x (omega (arith, over)))) in (
+      let count : length (take n x) ≡ n = length-take-le n x (omega (arith, over)) in
+      let (part, front_is, _) = front_of u v (take n x) (drop n x) (sym e ∙ sym (take-append-drop n x)) (omega (arith, h, count)) in (
         part,
         false,
         (
           drop n x,
           record {
             whole = sym (take-append-drop n x) ∙ ap (λ o. o ++ drop n x) front_is;
-            count = ap length (sym front_is) ∙ length-take-le n x (omega (arith, over));
+            count = ap length (sym front_is) ∙ count;
             some = omega (arith, over, length-drop n x);
           },
         ),
@@ -154,28 +155,8 @@ judges_long {x} {lines} line more b p h long =
 
 -- of an input within the limit all lines are judged
 pub judges_whole : {x : List ℕ} {lines : List (List ℕ)} → IsDivided x lines → length x ≤ input_limit → Judges x lines true
-judges_whole {x} {lines} d h = elim d.whole [
-  | inl x_is ↦ record {
-    octets = x;
-    lines = lines;
-    last = [];
-    counts = (refl, h);
-    begins = record { plain = d.plain; whole = x_is ∙ sym (append-nil (text_of lines)) };
-    plain = All-nil IsPlain;
-    tail = inl (refl, refl);
-  }
-  | inr cut ↦
-      let both : All IsLine (cut.front ++ cut.last ∷ []) = rw (← cut.lines_are) d.plain in
-      record {
-        octets = x;
-        lines = cut.front;
-        last = cut.last;
-        counts = (refl, h);
-        begins = record { plain = All-before IsLine cut.front (cut.last ∷ []) both; whole = cut.octets_are };
-        plain = All-head IsLine cut.last [] (All-behind IsLine cut.front (cut.last ∷ []) both);
-        tail = inr (cut.lines_are, cut.some);
-      }
-]
+judges_whole {x} d h = let (v, tail) = division_of d in
+    record { octets = x; lines = v.lines; last = v.last; counts = (refl, h); begins = v.begins; plain = v.plain; tail = tail }
 
 -- the same, where it was read whole
 pub judges_read : {q rest : List ℕ} {lines : List (List ℕ)} → IsWhole q rest lines → Judges (q ++ rest) (lines ++ []) true
@@ -184,7 +165,8 @@ judges_read w = rw (w.none_left, append-nil, append-nil) (judges_whole w.all w.l
 -- the first lines of an input are judged
 pub judges_first : {q rest : List ℕ} {lines : List (List ℕ)} → AreFirst q rest lines →
     (judged : List (List ℕ)) × (ended : Bool) × Judges (q ++ rest) (lines ++ judged) ended
-judges_first {q} {rest} (inl (more, b, h)) = judges_after {x = q ++ rest} (more ++ rest) (record { plain = b.plain; whole = rw (b.whole, append_assoc) }) h
+judges_first {q} {rest} (inl (more, b, h)) =
+    judges_after {x = q ++ rest} (more ++ rest) (record { plain = b.plain; whole = rw (b.whole, append_assoc) }) h
 judges_first (inr whole) = ([], true, judges_read whole)
 
 -- of a line that is judged after these, the whole is judged, or more of it, where it is long

@@ -64,11 +64,14 @@ module _ {q : List ℕ} {lines : List (List ℕ)} {held : List ℕ} {answered : 
   pub uncut : (held ≡ [] → ended ≡ true → ⊥) → (q ≡ text_of lines ++ held) × (answered ≡ length (text_of lines))
   uncut some = elim u.holds [ inl whole ↦ whole | inr (_, none, e, _) ↦ absurd (some none e) ]
 
-  pub bound_of : length q ≤ input_limit + held_limit
-  bound_of = elim u.holds [
-    | inl (q_is, here) ↦ omega (arith, ap length q_is, here, u.within, u.room, length-append (text_of lines) held)
-    | inr (_, _, _, here) ↦ omega (arith, here, u.within)
+  size_of : length q ≡ answered + length held
+  size_of = elim u.holds [
+    | inl (q_is, here) ↦ omega (arith, ap length q_is, here, length-append (text_of lines) held)
+    | inr (_, none, _, here) ↦ omega (arith, here, ap length none)
   ]
+
+  pub bound_of : length q ≤ input_limit + held_limit
+  bound_of = omega (arith, size_of, u.within, u.room)
 
   -- where nothing is held at the end of the source, these are all its lines
   pub whole_of : held ≡ [] → ended ≡ true → (rest : List ℕ) → (EndsAt left left' → rest ≡ []) → IsWhole q rest lines
@@ -78,10 +81,7 @@ module _ {q : List ℕ} {lines : List (List ℕ)} {held : List ℕ} {answered : 
       plain = u.plain;
       whole = elim u.holds [ inl (q_is, _) ↦ inl (q_is ∙ rw (none, append-nil)) | inr (cut, _, _, _) ↦ inr cut ];
     };
-    limit = elim u.holds [
-      | inl (q_is, here) ↦ omega (arith, ap length q_is, ap length none, here, u.within, length-append (text_of lines) held)
-      | inr (_, _, _, here) ↦ omega (arith, here, u.within)
-    ];
+    limit = omega (arith, size_of, ap length none, u.within);
   }
 
   pub first_of : (rest : List ℕ) → (EndsAt left left' → rest ≡ []) → AreFirst q rest lines
@@ -109,7 +109,8 @@ module _ {q : List ℕ} {lines : List (List ℕ)} {r r' : Reading} {all : List �
     (u : IsRead q lines all r.answered r'.ended left left') (valid : IsReading r') where
   -- some octets were held
   some_held : (line feed : List ℕ) → IsAnswered r r' all line feed → all ≡ [] → r'.ended ≡ true → ⊥
-  some_held line feed l none e = omega (arith, l.some, ap length none, ap length l.octets, length-append (line ++ feed) (r'.held ++ r'.past))
+  some_held line feed l none e =
+      omega (arith, l.some, ap length none, ap length l.octets, length-append (line ++ feed) (r'.held ++ r'.past))
 
   stands_next : (line : List ℕ) → HasLine r r' all line → IsNext q lines line r'
   stands_next line (inl l) =

@@ -14,39 +14,39 @@ use Rattle.um_io.proofs.KnownOctets.{Appends-nil, Appends-append, Consumes-nil}
 use Rattle.um_driver.proofs.Reaching.{front_ends, reach}
 use Rattle.um_driver.proofs.RunLemmas.{RunsInTwo, Runs-split}
 use Rattle.um_driver.proofs.ReadLemmas.{Rest, rest_of, bound_of, first_of}
-use Rattle.um_driver.proofs.Turns.{IsNear-more}
+use Rattle.um_driver.proofs.Turns.{IsNear-more, IsNear-all}
+
+-- more was written
+abbrev wrote : {State : Type 0} {r : Rules State} {a : State} {held : List ℕ} {answered number : ℕ} {ended : Bool}
+    {left left' taken mid taken' : Option (List ℕ)} → IsAt r a held answered number ended left left' taken mid →
+    (w : List ℕ) → Appends mid taken' w → IsAt r a held answered number ended left left' taken taken'
+wrote {taken = taken} {mid = mid} {taken' = taken'} at w written = record {
+  q = at.q;
+  y = at.y ++ w;
+  lines = at.lines;
+  answers = at.answers;
+  state = at.state;
+  reads = at.reads;
+  number_is = at.number_is;
+  written = Appends-append taken mid taken' at.y w at.written written;
+  runs = at.runs;
+  near = rw (append-nil, append-nil) at (IsNear-more at.near w [] []);
+}
 
 module _ {State : Type 0} {r : Rules State} {a : State} {held : List ℕ} {answered number : ℕ} {ended : Bool}
-    {left left' taken mid : Option (List ℕ)} {gathered : List ℕ} (at : IsAt r a held answered number ended left left' taken mid gathered) where
-  -- a front of what is gathered was taken, and the rest stays
-  abbrev gathers : {taken' : Option (List ℕ)} {gathered' : List ℕ} → Gathers gathered gathered' mid taken' →
-      IsAt r a held answered number ended left left' taken taken' gathered'
-  gathers {taken'} {gathered'} (w, gathered_is, written) = record {
-    q = at.q;
-    y = at.y ++ w;
-    lines = at.lines;
-    answers = at.answers;
-    state = at.state;
-    reads = at.reads;
-    number_is = at.number_is;
-    written = Appends-append taken mid taken' at.y w at.written written;
-    output = at.output ∙ rw (gathered_is, append_assoc);
-    runs = at.runs;
-    near = rw (append-nil, append-nil) at (IsNear-more at.near w [] []);
-  }
-
+    {left left' taken taken' : Option (List ℕ)} (at : IsAt r a held answered number ended left left' taken taken') where
   abbrev rest : Rest left left' at.q
   rest = rest_of left left' at.q at.reads.read
 
-  module _ {Stands : State → Type 0} (stands : Stands at.state) {taken' : Option (List ℕ)} (w : List ℕ) (written : Appends mid taken' w) where
+  module _ {Stands : State → Type 0} (stands : Stands at.state) where
     -- the answers are these and those, and these are reached
     run_in_two : (status : Status) (answers unwritten : List (List ℕ)) → at.answers ≡ answers ++ unwritten →
-        (two : RunsInTwo r a at.state at.lines answers unwritten) → IsReached (at.y ++ w) answers →
-        Row r status at.q rest.rest (at.y ++ w) two.first answers two.second two.mid → IsRun r a Stands status left left' taken taken'
+        (two : RunsInTwo r a at.state at.lines answers unwritten) → IsReached at.y answers →
+        Row r status at.q rest.rest at.y two.first answers two.second two.mid → IsRun r a Stands status left left' taken taken'
     run_in_two status answers unwritten answers_are two reached row = record {
       q = at.q;
       rest = rest.rest;
-      y = at.y ++ w;
+      y = at.y;
       lines = two.first;
       answers = answers;
       state = two.mid;
@@ -54,20 +54,21 @@ module _ {State : Type 0} {r : Rules State} {a : State} {held : List ℕ} {answe
       unwritten = unwritten;
       last = at.state;
       read = rest.reads;
-      written = Appends-append taken mid taken' at.y w at.written written;
+      written = at.written;
       bound = bound_of at.reads;
-      first = let P : List (List ℕ) → Type 0 = λ l. AreFirst at.q rest.rest l in subst P two.whole (first_of at.reads rest.rest rest.at_end);
+      first = let P : List (List ℕ) → Type 0 = λ l. AreFirst at.q rest.rest l in
+          subst P two.whole (first_of at.reads rest.rest rest.at_end);
       runs = two.runs_first;
       ahead = two.runs_second;
       stands = stands;
       reached = reached;
-      near = rw (append-nil, append-nil, two.whole, answers_are) at (IsNear-more at.near w [] []);
+      near = rw (two.whole, answers_are) at at.near;
       row = row;
     }
 
     -- all answers were written, and some text after them
-    ends_behind : (status : Status) (part : List ℕ) → at.y ++ w ≡ joined at.answers ++ part →
-        Row r status at.q rest.rest (at.y ++ w) at.lines at.answers [] at.state → IsRun r a Stands status left left' taken taken'
+    ends_behind : (status : Status) (part : List ℕ) → at.y ≡ joined at.answers ++ part →
+        Row r status at.q rest.rest at.y at.lines at.answers [] at.state → IsRun r a Stands status left left' taken taken'
     ends_behind status part y_is row = run_in_two status at.answers [] (sym (append-nil at.answers))
         (record {
           first = at.lines;
@@ -79,9 +80,9 @@ module _ {State : Type 0} {r : Rules State} {a : State} {held : List ℕ} {answe
         }) (inl (part, y_is)) row
 
     -- some answers were written, up to an octet in or behind one of them
-    ends_among : (more : List ℕ) → joined at.answers ≡ (at.y ++ w) ++ more → IsRun r a Stands WriteFault left left' taken taken'
+    ends_among : (more : List ℕ) → joined at.answers ≡ at.y ++ more → IsRun r a Stands WriteFault left left' taken taken'
     ends_among more e =
-        let s = reach at.answers (at.y ++ w) more e in
+        let s = reach at.answers at.y more e in
         let two = Runs-split r a at.state at.lines s.first s.second (rw s.answers_are at at.runs) in
         run_in_two WriteFault s.first s.second s.answers_are two s.reached (inl s.front)
 
@@ -98,35 +99,40 @@ module _ {State : Type 0} {r : Rules State} {a : State} {Stands : State → Type
   -- a front of what is gathered was taken, the rest stays, and the reader is as it was
   pub underway_gathers : {reading reading' : Reading} {gathered' : List ℕ} → IsUnderway r a Stands reading left left' taken mid gathered →
       Gathers gathered gathered' mid taken' → reading' ≡ reading → IsUnderway r a Stands reading' left left' taken taken' gathered'
-  underway_gathers u g e = rw e (record { at = gathers u.at g; stands = u.stands; valid = u.valid; goes_on = u.goes_on })
+  underway_gathers {gathered' = gathered'} u (w, gathered_is, written) e = rw e (record {
+    at = wrote u.at w written;
+    stands = u.stands;
+    output = u.output ∙ rw (gathered_is, append_assoc);
+    valid = u.valid;
+    goes_on = u.goes_on;
+  })
 
   -- a front of what is gathered was taken, and the sink failed
   pub underway_cut : {reading : Reading} → IsUnderway r a Stands reading left left' taken mid gathered → TakesFront mid taken' gathered →
       IsRun r a Stands WriteFault left left' taken taken'
   underway_cut u (w, (more, gathered_is), written) =
-      ends_among u.at u.stands w written more (u.at.output ∙ rw (gathered_is, append_assoc))
+      ends_among (wrote u.at w written) u.stands more (u.output ∙ rw (gathered_is, append_assoc))
 
   -- all that was still to be written was taken
   ending_taken : {status : Status} {text : List ℕ} → IsEnding r a Stands status left left' taken mid gathered text →
       Appends mid taken' (gathered ++ text) → IsRun r a Stands status left left' taken taken'
   ending_taken {status} {text} h written =
-      let at = h.at in
+      let at = wrote h.at (gathered ++ text) written in
       let left_over = rest at in
-      let y_is : at.y ++ (gathered ++ text) ≡ joined at.answers ++ text = rw (at.output, append_assoc) in
-      ends_behind at h.stands (gathered ++ text) written status text y_is
-      (full_row r status at.q left_over.rest (at.y ++ (gathered ++ text)) text at.lines at.answers at.state
-      (h.ends left_over.rest left_over.at_end) y_is)
+      let y_is : at.y ≡ joined at.answers ++ text = rw (h.output, append_assoc) in
+      ends_behind at h.stands status text y_is
+      (full_row r status at.q left_over.rest at.y text at.lines at.answers at.state (h.ends left_over.rest left_over.at_end) y_is)
 
   -- a front of it was taken, and the sink failed
   ending_cut : {status : Status} {text : List ℕ} → IsEnding r a Stands status left left' taken mid gathered text →
       TakesFront mid taken' (gathered ++ text) → IsRun r a Stands WriteFault left left' taken taken'
   ending_cut {status} {text} h (w, (more, text_is), written) =
-      let at = h.at in
+      let at = wrote h.at w written in
       let left_over = rest at in
-      let whole : (at.y ++ w) ++ more ≡ joined at.answers ++ text = rw (append_assoc, ← text_is, at.output, append_assoc) in
-      elim (front_ends (at.y ++ w) more (joined at.answers) text whole) [
-        | inl (more', e) ↦ ends_among at h.stands w written more' e
-        | inr (part, front, y_is) ↦ ends_behind at h.stands w written WriteFault part y_is
+      let whole : at.y ++ more ≡ joined at.answers ++ text = rw (append_assoc, ← text_is, h.output, append_assoc) in
+      elim (front_ends at.y more (joined at.answers) text whole) [
+        | inl (more', e) ↦ ends_among at h.stands more' e
+        | inr (part, front, y_is) ↦ ends_behind at h.stands WriteFault part y_is
             (inr (status, text, part, h.ends left_over.rest left_over.at_end, refl, front, y_is))
       ]
 
@@ -146,7 +152,7 @@ run_ends r a Stands reading left left' taken mid taken' gathered text ReadFault 
 run_ends r a Stands reading left left' taken mid taken' gathered text _ result ending written = ending_concludes result ending written
 
 -- nothing was read, and nothing written
-abbrev at_none : {State : Type 0} (r : Rules State) (a : State) (left taken : Option (List ℕ)) → IsAt r a [] 0 0 false left left taken taken []
+abbrev at_none : {State : Type 0} (r : Rules State) (a : State) (left taken : Option (List ℕ)) → IsAt r a [] 0 0 false left left taken taken
 at_none r a left taken = record {
   q = [];
   y = [];
@@ -163,21 +169,8 @@ at_none r a left taken = record {
   };
   number_is = refl;
   written = Appends-nil taken;
-  output = refl;
   runs = refl;
-  near = record {
-    before = [];
-    after = [];
-    written = [];
-    others = [];
-    rest = [];
-    lines_are = refl;
-    answers_are = refl;
-    count = refl;
-    begins = record { plain = All-nil IsLine; whole = refl };
-    front = ([], refl);
-    near = omega arith;
-  };
+  near = IsNear-all [] (record { plain = All-nil IsLine; whole = refl }) (omega arith) refl refl;
 }
 
 pub at_first : {State : Type 0} {r : Rules State} {a : State} {Stands : State → Type 0} {reading : Reading} {left taken : Option (List ℕ)} →
@@ -185,6 +178,7 @@ pub at_first : {State : Type 0} {r : Rules State} {a : State} {Stands : State �
 at_first {r = r} {a = a} {left = left} {taken = taken} e stands = rw e (record {
   at = at_none r a left taken;
   stands = stands;
+  output = refl;
   valid = record { limit = omega arith; past = λ h. absurd (omega (arith, h)); room = omega arith; number = omega arith };
   goes_on = refl;
 })
@@ -192,7 +186,7 @@ at_first {r = r} {a = a} {left = left} {taken = taken} e stands = rw e (record {
 pub without_memory : {State : Type 0} (r : Rules State) (a : State) (Stands : State → Type 0) (left taken : Option (List ℕ)) →
     Stands a → IsRun r a Stands NoMemory left left taken taken
 without_memory r a Stands left taken stands =
-    ends_behind (at_none r a left taken) stands [] (Appends-nil taken) NoMemory [] refl (refl, refl, refl, refl)
+    ends_behind (at_none r a left taken) stands NoMemory [] refl (refl, refl, refl, refl)
 
 -- what was taken whole, or a front of it
 pub concluded : (status : Status) (text : List ℕ) (taken taken' : Option (List ℕ)) (result : Status) → (status ≡ ReadFault → ⊥) →

@@ -33,7 +33,8 @@ module _ {State : Type 0} (r : Rules State) (det : IsDetermined r) (a : State) (
     -- an input that ends so after these lines is to end so
     due_is : (s : Status) (text : List ℕ) → (s ≡ ReadFault → ⊥) → Ends r s q rest lines b text → (s ≡ due) × (joined answers ++ text ≡ z)
     due_is s text unlike ends =
-        output_unique r det a (q ++ rest) s due (joined answers ++ text) z (ends_output r a b lines answers runs q rest s text unlike ends) out
+        output_unique r det a (q ++ rest) s due (joined answers ++ text) z
+        (ends_output r a b lines answers runs q rest s text unlike ends) out
 
     -- and the text that follows the answers goes on with it
     ends_front : (s : Status) (text : List ℕ) → AreFirst q rest lines → Ends r s q rest lines b text → IsFront (joined answers ++ text) z
@@ -47,9 +48,11 @@ module _ {State : Type 0} (r : Rules State) (det : IsDetermined r) (a : State) (
     agrees c ReadFault y further unwritten taken taken' ahead first (text, ends, none, y_is) written =
         (y, rw y_is (ends_front ReadFault text (rw (none, append-nil) at first) ends), written)
     agrees c WriteFault y further unwritten taken taken' ahead first (inl front) written =
-        let all = first_front c (lines ++ further) (answers ++ unwritten) (Runs-append r a b c lines further answers unwritten runs ahead) first in
+        let both = Runs-append r a b c lines further answers unwritten runs ahead in
+        let all = first_front c (lines ++ further) (answers ++ unwritten) both first in
         let answered : IsFront (joined answers) (joined (answers ++ unwritten)) = (joined unwritten, joined-append answers unwritten) in
-        (y, IsFront-append y (joined answers) z front (IsFront-append (joined answers) (joined (answers ++ unwritten)) z answered all), written)
+        let begins = IsFront-append (joined answers) (joined (answers ++ unwritten)) z answered all in
+        (y, IsFront-append y (joined answers) z front begins, written)
     agrees c WriteFault y further unwritten taken taken' ahead first (inr (s, text, part, ends, none, (more, text_is), y_is)) written =
         let front = ends_front s text (rw (none, append-nil) at first) ends in
         let begins : IsFront y (joined answers ++ text) = (more, rw (text_is, y_is, append_assoc)) in

@@ -1,14 +1,15 @@
 -- One turn of a run: what the next answer of the reader of lines makes of it, before it writes.
-use Rattle.std.proofs.Common.{◌≡◌, ℕ, ◌+◌, List, [], ◌∷◌, ◌++◌, length-append, Option, Some, None, ◌⊎◌, inl, inr, sym, refl, ap, ◌∙◌, append_assoc, append-nil, arith}
+use Rattle.std.proofs.Common.{◌≡◌, ℕ, ◌≤◌, ◌+◌, List, [], ◌∷◌, ◌++◌, length-append, Option, Some, None, ◌⊎◌, inl, inr, sym, refl, ap, ◌∙◌, append_assoc, append-nil, length, arith}
 use Rattle.std.specs.Borrow.{Bor}
 use Rattle.um_io.specs.Lines.{text_of}
 use Rattle.um_io.specs.Next.{IsNext, IsStep}
-use Rattle.um_io.specs.Reading.{Reading, IsReady}
+use Rattle.um_io.specs.Reading.{Reading, IsReady, held_limit}
 use Rattle.um_io.specs.declared.lines.Next.{Next}
 use Rattle.um_io.specs.declared.lines.Next.TheVariants as next
 use Rattle.um_lines.specs.declared.fault.LineFault.{LineFault}
 use Rattle.um_lines.specs.declared.fault.LineFault.TheVariants.{Long}
 use Rattle.um_lines.specs.Refusals.{refused_text}
+use Rattle.um_driver.specs.Divided.{Begins}
 use Rattle.um_driver.specs.Rules.{Rules, joined}
 use Rattle.um_driver.specs.Table.{IsNear, Ends}
 use Rattle.um_driver.specs.Course.{EndsAt, IsAt, IsUnderway, IsEnding}
@@ -34,6 +35,23 @@ IsNear-more {q} {y} {lines} {answers} n w lines' answers' = record {
   near = n.near;
 }
 
+-- the answers to all lines were written
+pub IsNear-all : {q y : List ℕ} {lines answers : List (List ℕ)} (rest : List ℕ) → Begins q lines rest → length rest ≤ held_limit →
+    length lines ≡ length answers → joined answers ≡ y → IsNear q y lines answers
+IsNear-all {lines = lines} {answers = answers} rest begins room count written = record {
+  before = lines;
+  after = [];
+  written = answers;
+  others = [];
+  rest = rest;
+  lines_are = sym (append-nil lines);
+  answers_are = sym (append-nil answers);
+  count = count;
+  begins = begins;
+  front = ([], sym (append-nil (joined answers) ∙ written));
+  near = room;
+}
+
 module _ {State : Type 0} {r : Rules State} {a : State} {Stands : State → Type 0} {reading reading' : Reading}
     {left mid left' taken taken' : Option (List ℕ)} {gathered : List ℕ}
     (u : IsUnderway r a Stands reading left mid taken taken' gathered) (ready : IsReady reading ⊎ (gathered ≡ [])) where
@@ -43,22 +61,11 @@ module _ {State : Type 0} {r : Rules State} {a : State} {Stands : State → Type
   near_now {came = came} step = elim ready [
     | inl answer ↦ stays (no_came step u.goes_on answer)
     | inr none ↦ elim u.at.reads.holds [
-      | inl (q_is, _) ↦ record {
-        before = u.at.lines;
-        after = [];
-        written = u.at.answers;
-        others = [];
-        rest = reading.held ++ reading.past ++ came;
-        lines_are = sym (append-nil u.at.lines);
-        answers_are = sym (append-nil u.at.answers);
-        count = Runs-length r a u.at.state u.at.lines u.at.answers u.at.runs;
-        begins = record {
-          plain = u.at.reads.plain;
-          whole = ap (λ o. o ++ came) q_is ∙ append_assoc (text_of u.at.lines) (reading.held ++ reading.past) came;
-        };
-        front = ([], rw (u.at.output, none, append-nil, append-nil));
-        near = step.room;
-      }
+      | inl (q_is, _) ↦ IsNear-all (reading.held ++ reading.past ++ came)
+          (record {
+            plain = u.at.reads.plain;
+            whole = ap (λ o. o ++ came) q_is ∙ append_assoc (text_of u.at.lines) (reading.held ++ reading.past) came;
+          }) step.room (Runs-length r a u.at.state u.at.lines u.at.answers u.at.runs) (u.output ∙ rw (none, append-nil))
       | inr (_, _, ended, _) ↦ stays (step.still ended).0
     ]
   ]
@@ -68,7 +75,7 @@ module _ {State : Type 0} {r : Rules State} {a : State} {Stands : State → Type
 
   -- octets came
   abbrev now : {next : Next} {came : List ℕ} → IsStep reading reading' mid left' next came →
-      IsAt r a (reading.held ++ reading.past ++ came) reading.answered reading.number reading'.ended left left' taken taken' gathered
+      IsAt r a (reading.held ++ reading.past ++ came) reading.answered reading.number reading'.ended left left' taken taken'
   now {came = came} step = record {
     q = u.at.q ++ came;
     y = u.at.y;
@@ -78,7 +85,6 @@ module _ {State : Type 0} {r : Rules State} {a : State} {Stands : State → Type
     reads = arrive u.at.reads step;
     number_is = u.at.number_is;
     written = u.at.written;
-    output = u.at.output;
     runs = u.at.runs;
     near = near_now step;
   }
@@ -103,11 +109,12 @@ module _ {State : Type 0} {r : Rules State} {a : State} {Stands : State → Type
           reads = next_line at.reads n.valid line.now step.gives;
           number_is = omega (arith, l.number, at.number_is, length-append at.lines (line.now ∷ []));
           written = at.written;
-          output = joined-append at.answers (text ∷ []) ∙ rw (at.output, append-nil, append_assoc);
-          runs = Runs-push r a at.state state at.lines at.answers line.now text at.runs (record { short = l.short; no_fault = none }) answer;
+          runs = Runs-push r a at.state state at.lines at.answers line.now text at.runs
+              (record { short = l.short; no_fault = none }) answer;
           near = rw append-nil at (IsNear-more at.near [] (line.now ∷ []) (text ∷ []));
         };
         stands = stands;
+        output = joined-append at.answers (text ∷ []) ∙ rw (u.output, append-nil, append_assoc);
         valid = n.valid;
         goes_on = l.over;
       }
@@ -124,6 +131,7 @@ module _ {State : Type 0} {r : Rules State} {a : State} {Stands : State → Type
     ended = reading'.ended;
     at = now step;
     stands = stands;
+    output = u.output;
     ends = ends;
   }
 
@@ -149,8 +157,8 @@ module _ {State : Type 0} {r : Rules State} {a : State} {Stands : State → Type
       ending Done text step u.stands (λ rest at_end.
       (whole_of (arrive u.at.reads step) none_held ended rest at_end, sym (says u.at.state u.stands) ∙ none, text_is))
 
-  pub end_refused : {reason : Option LineFault} {text : List ℕ} {number : ℕ} {fault : LineFault} → IsNext reading mid left' next.End reading'
-      → number ≡ reading'.number → text ≡ refused_text (number + 1) fault → reason ≡ Some fault →
+  pub end_refused : {reason : Option LineFault} {text : List ℕ} {number : ℕ} {fault : LineFault}
+      → IsNext reading mid left' next.End reading' → number ≡ reading'.number → text ≡ refused_text (number + 1) fault → reason ≡ Some fault →
       ((b : State) → Stands b → reason ≡ r.end_fault b) → IsEnding r a Stands BadInput left left' taken taken' gathered text
   end_refused {text = text} {fault = fault} n number_is text_is some says =
       let (came, step) = n.goes_on u.goes_on in

@@ -21,7 +21,8 @@ Holds q lines held answered ended =
     ⊎ (IsCutOff q lines × (held ≡ []) × (ended ≡ true) × (answered ≡ length q))
 
 -- q was read; of it these lines were answered, so many octets, and these are held, within the limit and past it
-pub record IsRead (q : List ℕ) (lines : List (List ℕ)) (held : List ℕ) (answered : ℕ) (ended : Bool) (left left' : Option (List ℕ)) : Type 0 where
+pub record IsRead (q : List ℕ) (lines : List (List ℕ)) (held : List ℕ) (answered : ℕ) (ended : Bool)
+    (left left' : Option (List ℕ)) : Type 0 where
   pub read : Consumes left left' q
   pub plain : All IsLine lines
   pub holds : Holds q lines held answered ended
@@ -29,10 +30,9 @@ pub record IsRead (q : List ℕ) (lines : List (List ℕ)) (held : List ℕ) (an
   pub room : length held ≤ held_limit
   pub at_end : ended ≡ true → EndsAt left left'
 
--- q was read and y written, these lines are good, these are their answers, of which what is gathered is still to be
--- written, and this is the state after them
+-- q was read and y written, these lines are good, these are their answers, and this is the state after them
 pub record IsAt {State : Type 0} (r : Rules State) (a : State) (held : List ℕ) (answered number : ℕ) (ended : Bool)
-    (left left' taken taken' : Option (List ℕ)) (gathered : List ℕ) : Type 0 where
+    (left left' taken taken' : Option (List ℕ)) : Type 0 where
   pub q : List ℕ
   pub y : List ℕ
   pub lines : List (List ℕ)
@@ -41,15 +41,15 @@ pub record IsAt {State : Type 0} (r : Rules State) (a : State) (held : List ℕ)
   pub reads : IsRead q lines held answered ended left left'
   pub number_is : number ≡ length lines
   pub written : Appends taken taken' y
-  pub output : joined answers ≡ y ++ gathered
   pub runs : Runs r a lines answers state
   pub near : IsNear q y lines answers
 
--- so far has a run come that goes on with this reader
+-- so far has a run come that goes on with this reader; of the answers what is gathered is still to be written
 pub record IsUnderway {State : Type 0} (r : Rules State) (a : State) (Stands : State → Type 0) (reading : Reading)
     (left left' taken taken' : Option (List ℕ)) (gathered : List ℕ) : Type 0 where
-  pub at : IsAt r a (reading.held ++ reading.past) reading.answered reading.number reading.ended left left' taken taken' gathered
+  pub at : IsAt r a (reading.held ++ reading.past) reading.answered reading.number reading.ended left left' taken taken'
   pub stands : Stands at.state
+  pub output : joined at.answers ≡ at.y ++ gathered
   pub valid : IsReading reading
   pub goes_on : reading.over ≡ false
 
@@ -60,8 +60,9 @@ pub record IsEnding {State : Type 0} (r : Rules State) (a : State) (Stands : Sta
   pub answered : ℕ
   pub number : ℕ
   pub ended : Bool
-  pub at : IsAt r a held answered number ended left left' taken taken' gathered
+  pub at : IsAt r a held answered number ended left left' taken taken'
   pub stands : Stands at.state
+  pub output : joined at.answers ≡ at.y ++ gathered
   pub ends : (rest : List ℕ) → (EndsAt left left' → rest ≡ []) → Ends r status at.q rest at.lines at.state text
 
 -- what one turn comes to, before it writes: this was gathered, and this text is the answer, or the refusal

@@ -17,8 +17,8 @@ returns-in-Err-clause-table g c = underway_cut c.loop-command.invariant.underway
 pub returns-in-Some-clause-table : goal.returns-in-Some-clause-table
 returns-in-Some-clause-table g c =
     let way = underway_gathers c.loop-command.invariant.underway c.in-Ok.ensures.gathers c.make_way.ensures.kept in
-    run_ends _ _ _ c.ask.new.lines _ _ _ _ _ _ c.ask.new.out c.in-Some.status _ (c.in-Some.ensures.comes _ _ _ _ _ way c.in-Ok.ensures.ready)
-    c.conclude.ensures.concludes
+    run_ends _ _ _ c.ask.new.lines _ _ _ _ _ _ c.ask.new.out c.in-Some.status _
+    (c.in-Some.ensures.comes _ _ _ _ _ way c.in-Ok.ensures.ready) c.conclude.ensures.concludes
 
 pub returns-in-Some-clause-cause : goal.returns-in-Some-clause-cause
 returns-in-Some-clause-cause g c =
