@@ -111,17 +111,16 @@ module _ (other : ℕ) (below : other < 45) where
   abbrev pub Is : ℕ → Type 0
   Is octet = octet ≢ other
 
-  fixed_lack : (text : List ℕ) → list_all (λ octet. not (octet == other)) text ≡ true → All Is text
-  fixed_lack [] lacks = All-nil Is
-  fixed_lack (octet ∷ text) lacks =
-      let parts = and_parts (not (octet == other)) (list_all (λ o. not (o == other)) text) lacks in
-      All-cons Is octet text (λ same. let is = eq-eqb octet other same in let not = parts.0 in absurd cc) (fixed_lack text parts.1)
+  -- a word of octets that pass a test which the other does not pass
+  pub passing_lack : (p : ℕ → Bool) → p other ≡ false → (word : List ℕ) → list_all p word ≡ true → All Is word
+  passing_lack p fails [] passes = All-nil Is
+  passing_lack p fails (octet ∷ word) passes =
+      let parts = and_parts (p octet) (list_all p word) passes in
+      let unlike : Is octet = λ same. let is : p other ≡ true = rw same at parts.0 in absurd cc in
+      All-cons Is octet word unlike (passing_lack p fails word parts.1)
 
   hex_lack : (word : List ℕ) → list_all is_hex_digit word ≡ true → All Is word
-  hex_lack [] digits = All-nil Is
-  hex_lack (digit ∷ word) digits =
-      let parts = and_parts (is_hex_digit digit) (list_all is_hex_digit word) digits in
-      All-cons Is digit word (λ same. let is = parts.0 in absurd (grind arith)) (hex_lack word parts.1)
+  hex_lack = passing_lack is_hex_digit (grind arith)
 
   bits_lack : (bits : List ℕ) → All Is (bit_digits bits)
   bits_lack [] = All-nil Is
@@ -151,7 +150,8 @@ module _ (other : ℕ) (below : other < 45) where
   spelled_lack [] values f lacks = All-nil (All Is)
   spelled_lack (Fixed text ∷ fields) values f lacks =
       let parts = and_parts (list_all (λ octet. not (octet == other)) text) (lack fields) lacks in
-      cons text (spelled fields values) (fixed_lack text parts.0) (spelled_lack fields values f parts.1)
+      let first = passing_lack (λ octet. not (octet == other)) (rw (eq-eqb other other refl) refl) text parts.0 in
+      cons text (spelled fields values) first (spelled_lack fields values f parts.1)
   spelled_lack (DigitTo most ∷ fields) values (n, rest, is, within, f) lacks =
       rw is (cons ((48 + n) ∷ []) (spelled fields rest) (All-cons Is (48 + n) [] (λ same. omega arith) (All-nil Is))
       (spelled_lack fields rest f lacks))
