@@ -1,5 +1,4 @@
 pub mod BurstLaws
-pub mod BurstRows
 pub mod CodeLaws
 pub mod DigitWords
 pub mod OtherBursts

@@ -5,7 +5,8 @@ use Rattle.um_text.specs.declared.frame_words.Fields.{Fields}
 use Rattle.um_text.specs.declared.frame_words.Fields.TheVariants.{I, Sabm, Ui, Ua}
 use Rattle.um_lines.specs.Fields.{is_digit_to, are_octet_digits, are_octets, octet_count, has_wrong_digits, has_wrong_length}
 use Rattle.um_lines.specs.Forms.{some_word}
-use Rattle.um_text.specs.ShowReading.{kind_form, kind_of, field_words, info_word, least_info, is_octets_word}
+use Rattle.um_text.specs.declared.frame_words.FrameWords.{FrameWords}
+use Rattle.um_text.specs.ShowReading.{line_words, line_fields, kind_form, kind_of, field_words, info_word, least_info, is_octets_word}
 
 pub not_false : (a : Bool) → not a ≡ false → a ≡ true
 not_false true e = refl
@@ -17,6 +18,14 @@ not_true false e = refl
 
 right : (a b : Bool) → (not a || b) ≡ false → a ≡ true
 right a b e = not_false a (or_parts (not a) b e).0
+
+-- the words of a frame's address have the digits that they are to have, and so have those behind it
+pub address_digits : (w : FrameWords) → some_word has_wrong_digits (line_fields w) (line_words w) ≡ false
+    → (is_digit_to 1 w.cr.now ≡ true) × (some_word has_wrong_digits (kind_form (kind_of w.fields)) (field_words w.fields) ≡ false)
+address_digits w right =
+    let sapi = or_parts (not (is_digit_to 7 w.sapi.now)) _ right in
+    let cr = or_parts (not (is_digit_to 1 w.cr.now)) _ sapi.1 in
+    (not_false _ cr.0, cr.1)
 
 -- the word of the information has no other characters than octets have
 pub info_digits : (fields : Fields) → some_word has_wrong_digits (kind_form (kind_of fields)) (field_words fields) ≡ false

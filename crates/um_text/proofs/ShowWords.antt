@@ -1,5 +1,5 @@
 -- Lines of `show` that begin with neither of its first words.
-use Rattle.std.proofs.Common.{◌≡◌, ◌≢◌, inl, inr, ℕ, false, List, [], ◌∷◌, ◌++◌, codes, Err, refl, sym, ap, ◌∙◌}
+use Rattle.std.proofs.Common.{◌≡◌, ◌≢◌, inl, inr, ℕ, false, List, [], ◌∷◌, ◌++◌, codes, Err, refl, sym, subst}
 use Rattle.std.specs.Str.{bytes_eq}
 use Rattle.std.specs.List.{join_with_byte}
 use Rattle.std.proofs.lemmas.Bool.{cases_Bool}
@@ -14,24 +14,25 @@ neither : (word : List ℕ) (more : List (List ℕ)) → bytes_eq word (codes "o
     → Err Word ≡ read_show (word ∷ more)
 neither word more octets frame = rw octets (rw frame refl)
 
+-- words of which the first is a name that no space follows are that name
+alone : (name line : List ℕ) (more : List (List ℕ)) → join_with_byte 32 (name ∷ more) ≡ line
+    → ((rest : List ℕ) → line ≢ name ++ 32 ∷ rest) → more ≡ []
+alone name line [] whole other = refl
+alone name line (next ∷ more) whole other = absurd (other (join_with_byte 32 (next ∷ more)) (sym whole))
+
 unnamed : (line : List ℕ) (parts : List (List ℕ)) → join_with_byte 32 parts ≡ line → ((rest : List ℕ) → line ≢ codes "octets " ++ rest)
     → ((rest : List ℕ) → line ≢ codes "frame " ++ rest) → Err Word ≡ read_show parts
 unnamed line [] whole octets frame = refl
-unnamed line (word ∷ []) whole octets frame =
+unnamed line (word ∷ more) whole octets frame =
     elim (cases_Bool (bytes_eq word (codes "octets"))) [
-      | inl same ↦ rw ((bytes_eq-Decides word (codes "octets")).0 same) refl
+      | inl same ↦
+          let is = (bytes_eq-Decides word (codes "octets")).0 same in
+          rw (is, alone (codes "octets") line more (subst (λ w. join_with_byte 32 (w ∷ more) ≡ line) is whole) octets) refl
       | inr other ↦ elim (cases_Bool (bytes_eq word (codes "frame"))) [
-        | inl same ↦ rw ((bytes_eq-Decides word (codes "frame")).0 same) refl
-        | inr another ↦ neither word [] other another
-      ]
-    ]
-unnamed line (word ∷ next ∷ more) whole octets frame =
-    let rest : List ℕ = join_with_byte 32 (next ∷ more) in
-    elim (cases_Bool (bytes_eq word (codes "octets"))) [
-      | inl same ↦ absurd (octets rest (sym whole ∙ ap (λ first. first ++ 32 ∷ rest) ((bytes_eq-Decides word (codes "octets")).0 same)))
-      | inr other ↦ elim (cases_Bool (bytes_eq word (codes "frame"))) [
-        | inl same ↦ absurd (frame rest (sym whole ∙ ap (λ first. first ++ 32 ∷ rest) ((bytes_eq-Decides word (codes "frame")).0 same)))
-        | inr another ↦ neither word (next ∷ more) other another
+        | inl same ↦
+            let is = (bytes_eq-Decides word (codes "frame")).0 same in
+            rw (is, alone (codes "frame") line more (subst (λ w. join_with_byte 32 (w ∷ more) ≡ line) is whole) frame) refl
+        | inr another ↦ neither word more other another
       ]
     ]
 
