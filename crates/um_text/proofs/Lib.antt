@@ -4,10 +4,7 @@ pub mod DigitWords
 pub mod OtherBursts
 pub mod ReportLaws
 pub mod ShowLaws
-pub mod ShowWords
-pub mod SoftLists
+pub mod ShowReading
 pub mod WorkedLines
 pub mod WrittenBursts
-pub mod ShowFaults
-pub mod ShowFields
 pub mod WrittenFrames

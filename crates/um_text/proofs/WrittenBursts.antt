@@ -1,6 +1,7 @@
 -- The lines of bursts as they are written, and that each means its burst again.
-use Rattle.std.proofs.Common.{◌≡◌, ◌≢◌, ℕ, ◌+◌, ◌≤◌, ◌==◌, Bool, true, false, ◌&&◌, not, Some, List, [], ◌∷◌, ◌++◌, length, codes, refl, ap, sym, subst, inl, inr, append_assoc, length-append, arith}
+use Rattle.std.proofs.Common.{◌≡◌, ◌≢◌, ℕ, ◌+◌, ◌≤◌, ◌==◌, false, not, Some, List, [], ◌∷◌, ◌++◌, length, codes, refl, ap, sym, subst, inl, inr, append_assoc, length-append, arith}
 use Rattle.std.specs.List.{All}
+use Rattle.std.proofs.lemmas.Bool.{and_right}
 use Rattle.std.proofs.lemmas.List.{length-map}
 use Rattle.bit_blocks.specs.Bits.{AllBits}
 use Rattle.um_block.specs.Received.{softened}
@@ -38,13 +39,9 @@ both bsic burst few bits many each = (bsic, Several burst ∷ [], refl, (few, bi
 access_line_from_left : (bsic burst : List ℕ) → access_line bsic burst ≡ 97 ∷ 32 ∷ (bit_digits bsic ++ 32 ∷ bit_digits burst)
 access_line_from_left bsic burst = ap (λ rest. 97 ∷ 32 ∷ rest) (append_assoc (bit_digits bsic) (codes " ") (bit_digits burst))
 
-and_false : (b : Bool) → (b && false) ≡ false
-and_false true = refl
-and_false false = refl
-
 -- a normal burst may stand anywhere
 held_normal : (held : ℕ) → burst_elsewhere held F.Normal ≡ false
-held_normal held = and_false (not (held == 0))
+held_normal held = and_right (not (held == 0)) false refl
 
 -- ---- each line means its burst
 

@@ -3,7 +3,7 @@ use Rattle.std.proofs.lemmas.List.{length-take-le}
 use Rattle.lapdm_frame.specs.Content.{content_of}
 use Rattle.um_lines.specs.Fields.{octet_count}
 use Rattle.um_text.specs.ShowReading.{least_info}
-use Rattle.um_text.proofs.ShowFields.{address_digits, info_digits, info_length}
+use Rattle.um_text.proofs.ShowReading.{address_digits, info_digits, info_length}
 use Rattle.um_text.proofs.frame_words.FrameWords.octets.Goals as goal
 
 pub some_octets_of-count-requires-clause-each : goal.some_octets_of-count-requires-clause-each
