@@ -1,6 +1,6 @@
 -- The digits of octets, more of them at a time.
 use Rattle.std.proofs.Common.{◌≡◌, ℕ, true, ◌==◌, ◌+◌, ◌*◌, ◌<◌, ◌≤◌, ◌-◌, ◌/◌, ◌%◌, List, [], ◌∷◌, length, set, get_or, suc, refl, ap, ap₂, ◌∙◌, sym, arith, inl, inr}
-use Rattle.std.proofs.lemmas.List.{length-set, get_or-set_same, get_or-set_other}
+use Rattle.std.proofs.lemmas.Grind.{common_steps}
 use Rattle.std.proofs.lemmas.Bool.{cases_eq, eqb-true}
 use Rattle.bit_blocks.proofs.Lemmas.{passes_below, at_passes_below}
 use Rattle.hex.specs.Hex.{encode_with, encode_lower, lower_digits}
@@ -32,22 +32,11 @@ pub digits_set : (octets digits : List ℕ) (n high low : ℕ) → 2 * n + 1 < l
     → ((k : ℕ) → k < n → HasDigits octets digits k)
     → (k : ℕ) → k < n + 1 → HasDigits octets (set (set digits (2 * n) high) (2 * n + 1) low) k
 digits_set octets digits n high low room is-high is-low before k within =
-    let longer : length (set digits (2 * n) high) ≡ length digits = length-set digits (2 * n) high in
     elim (cases_eq k n) [
-      | inl same ↦ rw same (
-        get_or-set_other (set digits (2 * n) high) (2 * n + 1) (2 * n) low 0 (λ e. omega arith)
-            ∙ get_or-set_same digits (2 * n) high 0 (omega arith)
-            ∙ is-high,
-        get_or-set_same (set digits (2 * n) high) (2 * n + 1) low 0 (omega arith) ∙ is-low,
-      )
-      | inr other ↦ (
-        get_or-set_other (set digits (2 * n) high) (2 * n + 1) (2 * k) low 0 (λ e. omega arith)
-            ∙ get_or-set_other digits (2 * n) (2 * k) high 0 (λ e. omega arith)
-            ∙ (before k (omega arith)).0,
-        get_or-set_other (set digits (2 * n) high) (2 * n + 1) (2 * k + 1) low 0 (λ e. omega arith)
-            ∙ get_or-set_other digits (2 * n) (2 * k + 1) high 0 (λ e. omega arith)
-            ∙ (before k (omega arith)).1,
-      )
+      | inl same ↦ (grind (arith, common_steps), grind (arith, common_steps))
+      | inr other ↦
+          let here = before k (omega arith) in
+          (grind (arith, common_steps), grind (arith, common_steps))
     ]
 
 -- ---- one digit
