@@ -1,8 +1,8 @@
 -- What is known of the values of a line that has a form.
 use Rattle.std.proofs.Common.{◌≡◌, ◌≢◌, ℕ, ◌<◌, ◌≤◌, Bool, true, false, List, [], ◌∷◌, length, Option, Some, None, sym, subst, inl, inr, arith}
-use Rattle.std.specs.List.{All, AllByRecursion}
+use Rattle.std.specs.List.{All}
 use Rattle.std.proofs.lemmas.Bool.{and_parts, leb-true}
-use Rattle.std.proofs.lemmas.List.Elements.{All-nil, All-cons}
+use Rattle.std.proofs.lemmas.List.Elements.{All-from_recursion}
 use Rattle.bit_blocks.specs.Bits.{AllBits}
 use Rattle.um_lines.specs.Fields.{Field, Fixed, DigitTo, BitDigits, HexOctets, SoftOctets, AnyOctets, BlockPlace, Value, Number, Several, Place, hex_octets, is_within, octet_count, are_octets}
 use Rattle.um_lines.specs.Forms.{Form, Table, fields_for, Fill, IsOf, LineMeans}
@@ -35,10 +35,6 @@ Fitting (AnyOctets least most ∷ fields) values =
     × ((least ≤ length octets) × AreWithin most octets × All (λ octet. octet < 256) octets) × Fitting fields rest
 Fitting (BlockPlace ∷ fields) values = (n : ℕ) × (rest : List Value) × (values ≡ Place n ∷ rest) × (n ≤ 591) × Fitting fields rest
 
-all_of : (P : ℕ → Type 0) (ns : List ℕ) → AllByRecursion P ns → All P ns
-all_of P [] each = All-nil P
-all_of P (n ∷ ns) each = All-cons P n ns each.0 (all_of P ns each.1)
-
 within : (most : Option ℕ) (word : List ℕ) → is_within most (octet_count word) ≡ true → AreWithin most (hex_octets word)
 within None word e = tt
 within (Some most) word e = let few = leb-true (octet_count word) most e in omega (arith, length-hex_octets word)
@@ -63,7 +59,7 @@ fill_fitting (Fixed text ∷ fields) (word ∷ words) values f =
 fill_fitting (DigitTo most ∷ fields) (word ∷ words) values f =
     let s = f.2 in (s.0, f.1, rw s.3 at f.4, s.1, fill_fitting fields words f.1 f.3)
 fill_fitting (BitDigits count ∷ fields) (word ∷ words) values f =
-    let s = f.2 in (s.0, f.1, rw s.4 at f.4, (s.1, all_of (λ bit. bit ≤ 1) s.0 s.2), fill_fitting fields words f.1 f.3)
+    let s = f.2 in (s.0, f.1, rw s.4 at f.4, (s.1, All-from_recursion (λ bit. bit ≤ 1) s.0 s.2), fill_fitting fields words f.1 f.3)
 fill_fitting (HexOctets count ∷ fields) (word ∷ words) values f =
     let s = f.2 in
     let many : length (hex_octets word) ≡ count = omega (arith, length-hex_octets word, s.1) in
@@ -74,7 +70,7 @@ fill_fitting (SoftOctets count ∷ fields) (word ∷ words) values f =
       hex_octets word,
       f.1,
       rw s.3 at f.4,
-      ((many, hex_octets-small word), all_of (λ octet. octet ≢ 128) (hex_octets word) s.2),
+      ((many, hex_octets-small word), All-from_recursion (λ octet. octet ≢ 128) (hex_octets word) s.2),
       fill_fitting fields words f.1 f.3,
     )
 fill_fitting (AnyOctets least most ∷ fields) (word ∷ words) values f =

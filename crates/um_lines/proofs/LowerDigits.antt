@@ -1,69 +1,43 @@
 -- The digits of octets, more of them at a time.
-use Rattle.std.proofs.Common.{◌≡◌, ℕ, true, ◌==◌, ◌+◌, ◌*◌, ◌<◌, ◌≤◌, ◌-◌, ◌/◌, ◌%◌, List, [], ◌∷◌, ◌++◌, length, take, set, get_or, zero, suc, refl, ap, ◌∙◌, sym, append_assoc, arith}
-use Rattle.std.proofs.Math.Seq.{take-suc, take-suc-set}
-use Rattle.std.proofs.lemmas.List.{length-set, take-take}
-use Rattle.std.proofs.lemmas.Bool.{eqb-true}
+use Rattle.std.proofs.Common.{◌≡◌, ℕ, true, ◌==◌, ◌+◌, ◌*◌, ◌<◌, ◌≤◌, ◌-◌, ◌/◌, ◌%◌, List, [], ◌∷◌, length, set, get_or, suc, refl, ap, ap₂, ◌∙◌, sym, arith, inl, inr}
+use Rattle.std.proofs.lemmas.Grind.{common_steps}
+use Rattle.std.proofs.lemmas.Bool.{cases_eq, eqb-true}
 use Rattle.bit_blocks.proofs.Lemmas.{passes_below, at_passes_below}
 use Rattle.hex.specs.Hex.{encode_with, encode_lower, lower_digits}
+use Rattle.um_lines.specs.HexPlaces.{HasDigits}
 
-pub digits_none : [] ≡ encode_lower []
+-- digits that are those of the octet at each place are those of all octets
+pub digits_from_places : (octets digits : List ℕ) → length digits ≡ 2 * length octets
+    → ((k : ℕ) → k < length octets → HasDigits octets digits k) → digits ≡ encode_lower octets
 unfolding encode_with
-digits_none = refl
+digits_from_places [] [] many each = refl
+digits_from_places [] (digit ∷ digits) many each = absurd (omega arith)
+digits_from_places (octet ∷ octets) [] many each = absurd (omega arith)
+digits_from_places (octet ∷ octets) (digit ∷ []) many each = absurd (omega arith)
+digits_from_places (octet ∷ octets) (high ∷ low ∷ digits) many each =
+    let first = each 0 (omega arith) in
+    let rest = digits_from_places octets digits (omega arith) (λ k within.
+    let high_place : 2 * suc k ≡ suc (suc (2 * k)) = omega arith in
+    let low_place : 2 * suc k + 1 ≡ suc (suc (2 * k + 1)) = omega arith in
+    let here = each (suc k) (omega arith) in (
+      ap (λ i. get_or (high ∷ low ∷ digits) i 0) (sym high_place) ∙ here.0,
+      ap (λ i. get_or (high ∷ low ∷ digits) i 0) (sym low_place) ∙ here.1,
+    )) in
+    ap₂ (λ h l. h ∷ l ∷ digits) first.0 first.1
+    ∙ ap (λ others. get_or lower_digits (octet / 16) 0 ∷ get_or lower_digits (octet % 16) 0 ∷ others) rest
 
-encode-append : (t front back : List ℕ) → encode_with t (front ++ back) ≡ encode_with t front ++ encode_with t back
-unfolding encode_with
-encode-append t [] back = refl
-encode-append t (octet ∷ front) back =
-    ap (λ digits. get_or t (octet / 16) 0 ∷ get_or t (octet % 16) 0 ∷ digits) (encode-append t front back)
-
--- one octet more is two digits more
-encode-more : (octets : List ℕ) (i : ℕ) → i < length octets
-    → encode_lower (take (i + 1) octets)
-    ≡ encode_lower (take i octets) ++ get_or lower_digits (get_or octets i 0 / 16) 0 ∷ get_or lower_digits (get_or octets i 0 % 16) 0 ∷ []
-unfolding encode_with
-encode-more octets i within =
-    let one : i + 1 ≡ suc i = omega arith in
-    rw (one, take-suc octets i 0 within) (encode-append lower_digits (take i octets) (get_or octets i 0 ∷ []))
-
-two_more : (k : ℕ) (xs : List ℕ) (a b : ℕ) → suc k < length xs → take (suc (suc k)) (set (set xs k a) (suc k) b) ≡ take k xs ++ a ∷ b ∷ []
-two_more k xs a b room =
-    let longer : length (set xs k a) ≡ length xs = length-set xs k a in
-    take-suc-set (set xs k a) (suc k) b (omega (arith, longer))
-    ∙ ap (λ front. front ++ b ∷ []) (take-suc-set xs k a (omega arith))
-    ∙ append_assoc (take k xs) (a ∷ []) (b ∷ [])
-
--- so the digits written so far are those of the octets so far
-pub digits_more : (octets : List ℕ) (i : ℕ) (digits : List ℕ) (high low : ℕ) → i < length octets → 2 * i + 1 < length digits
-    → take (2 * i) digits ≡ encode_lower (take i octets)
-    → high ≡ get_or lower_digits (get_or octets i 0 / 16) 0 → low ≡ get_or lower_digits (get_or octets i 0 % 16) 0
-    → take (2 * (i + 1)) (set (set digits (2 * i) high) (2 * i + 1) low) ≡ encode_lower (take (i + 1) octets)
-digits_more octets i digits high low within room before is-high is-low =
-    let two : 2 * (i + 1) ≡ suc (suc (2 * i)) = omega arith in
-    let one : 2 * i + 1 ≡ suc (2 * i) = omega arith in
-    rw (two, one) (
-    two_more (2 * i) digits high low (omega arith)
-    ∙ ap (λ front. front ++ high ∷ low ∷ []) before
-    ∙ ap (λ h. encode_lower (take i octets) ++ h ∷ low ∷ []) is-high
-    ∙ ap (λ l. encode_lower (take i octets) ++ get_or lower_digits (get_or octets i 0 / 16) 0 ∷ l ∷ []) is-low
-    ∙ sym (encode-more octets i within)
-    )
-
--- digits of the front octets do not depend on the others
-digits_front : (n : ℕ) (t octets : List ℕ) → take (2 * n) (encode_with t octets) ≡ encode_with t (take n octets)
-unfolding encode_with
-digits_front zero t octets = refl
-digits_front (suc n) t [] = let two : 2 * suc n ≡ suc (suc (2 * n)) = omega arith in rw two refl
-digits_front (suc n) t (octet ∷ octets) =
-    let two : 2 * suc n ≡ suc (suc (2 * n)) = omega arith in
-    rw two (ap (λ digits. get_or t (octet / 16) 0 ∷ get_or t (octet % 16) 0 ∷ digits) (digits_front n t octets))
-
-pub digits_before : (m n : ℕ) (octets digits : List ℕ) → m ≤ n → take (2 * n) digits ≡ encode_lower (take n octets)
-    → take (2 * m) digits ≡ encode_lower (take m octets)
-digits_before m n octets digits less is =
-    sym (take-take (2 * m) (2 * n) digits (omega arith))
-    ∙ ap (take (2 * m)) is
-    ∙ digits_front m lower_digits (take n octets)
-    ∙ ap encode_lower (take-take m n octets less)
+-- two digits more
+pub digits_set : (octets digits : List ℕ) (n high low : ℕ) → 2 * n + 1 < length digits
+    → high ≡ get_or lower_digits (get_or octets n 0 / 16) 0 → low ≡ get_or lower_digits (get_or octets n 0 % 16) 0
+    → ((k : ℕ) → k < n → HasDigits octets digits k)
+    → (k : ℕ) → k < n + 1 → HasDigits octets (set (set digits (2 * n) high) (2 * n + 1) low) k
+digits_set octets digits n high low room is-high is-low before k within =
+    elim (cases_eq k n) [
+      | inl same ↦ (grind (arith, common_steps), grind (arith, common_steps))
+      | inr other ↦
+          let here = before k (omega arith) in
+          (grind (arith, common_steps), grind (arith, common_steps))
+    ]
 
 -- ---- one digit
 

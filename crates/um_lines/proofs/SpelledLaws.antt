@@ -3,9 +3,9 @@ use Rattle.std.proofs.Common.{append-nil, ◌≡◌, ◌≢◌, ℕ, ◌+◌, �
 use Rattle.std.specs.Fmt.{decimal}
 use Rattle.std.specs.List.{All, list_all, AllByRecursion, join_with_byte}
 use Rattle.std.specs.Str.{bytes_eq, all_ascii_digits}
-use Rattle.std.proofs.lemmas.Bool.{and_parts, eq-eqb, le-leb}
+use Rattle.std.proofs.lemmas.Bool.{and_parts, or_right, eq-eqb, le-leb}
 use Rattle.std.proofs.lemmas.Bool.Decides.{nat_tests}
-use Rattle.std.proofs.lemmas.List.Elements.{All-nil, All-cons, All-head, All-tail, All-append}
+use Rattle.std.proofs.lemmas.List.Elements.{All-nil, All-cons, All-head, All-tail, All-append, recursion_from_All}
 use Rattle.hex.specs.Hex.{encode_with, encode_lower, lower_digits, hex_digit_value, is_hex_digit}
 use Rattle.hex.proofs.HexLemmas.{IsDigits-lower_digits, length-encode_with}
 use Rattle.um_lines.specs.Words.{is_skipped, words}
@@ -15,10 +15,6 @@ use Rattle.um_lines.specs.Spelled.{octets_word, spelled, spelled_line}
 use Rattle.um_lines.proofs.FieldLaws.{decimal_digits}
 use Rattle.um_lines.proofs.KnownValues.{Fitting, AreWithin}
 use Rattle.um_lines.proofs.WordLists.{words-join}
-
-by_recursion : (P : ℕ → Type 0) (ns : List ℕ) → All P ns → AllByRecursion P ns
-by_recursion P [] each = tt
-by_recursion P (n ∷ ns) each = (All-head P n ns each, by_recursion P ns (All-tail P n ns each))
 
 -- ---- hexadecimal digits
 
@@ -40,14 +36,10 @@ encoded (octet ∷ octets) small =
 pub length-encode_lower : (octets : List ℕ) → length (encode_lower octets) ≡ 2 * length octets
 length-encode_lower octets = length-encode_with lower_digits octets
 
-pub or_true : (b : Bool) → (b || true) ≡ true
-or_true true = refl
-or_true false = refl
-
 pub any_digits : (octets : List ℕ) → All (λ octet. octet < 256) octets → are_octet_digits (octets_word octets) ≡ true
 any_digits [] small = refl
 any_digits (octet ∷ octets) small =
-    ap (λ digits. bytes_eq (encode_lower (octet ∷ octets)) (codes "-") || digits) (encoded (octet ∷ octets) small).0 ∙ or_true _
+    ap (λ digits. bytes_eq (encode_lower (octet ∷ octets)) (codes "-") || digits) (encoded (octet ∷ octets) small).0 ∙ or_right _ true refl
 
 pub any_value : (octets : List ℕ) → All (λ octet. octet < 256) octets → hex_octets (octets_word octets) ≡ octets
 any_value [] small = refl
@@ -67,7 +59,7 @@ any_many least most (octet ∷ octets) many few =
     let even : (length (encode_lower (octet ∷ octets)) % 2 == 0) ≡ true = eq-eqb _ 0 (omega arith) in
     let low = le-leb least (octet_count (encode_lower (octet ∷ octets))) (omega arith) in
     let high = few_enough most (octet_count (encode_lower (octet ∷ octets))) (octet ∷ octets) few count in
-    rw (some, even, low, high, or_true (bytes_eq (encode_lower (octet ∷ octets)) (codes "-"))) refl
+    rw (some, even, low, high, or_right (bytes_eq (encode_lower (octet ∷ octets)) (codes "-")) true refl) refl
 
 -- ---- fields
 
@@ -81,7 +73,7 @@ spelled_fill (BitDigits count ∷ fields) values (bits, rest, is, known, f) =
     rw is (
       Several bits ∷ [],
       rest,
-      (bits, known.0, by_recursion (λ bit. bit ≤ 1) bits known.1, refl, refl),
+      (bits, known.0, recursion_from_All (λ bit. bit ≤ 1) bits known.1, refl, refl),
       spelled_fill fields rest f,
       refl,
     )
@@ -92,7 +84,7 @@ spelled_fill (HexOctets count ∷ fields) values (octets, rest, is, known, f) =
 spelled_fill (SoftOctets count ∷ fields) values (octets, rest, is, known, f) =
     let e = encoded octets known.0.1 in
     let long : length (encode_lower octets) ≡ 2 * count = omega (arith, length-encode_lower octets, known.0.0) in
-    let soft = subst (AllByRecursion (λ octet. octet ≢ 128)) (sym e.1) (by_recursion (λ octet. octet ≢ 128) octets known.1) in
+    let soft = subst (AllByRecursion (λ octet. octet ≢ 128)) (sym e.1) (recursion_from_All (λ octet. octet ≢ 128) octets known.1) in
     rw is (Several octets ∷ [], rest, (e.0, long, soft, ap (λ o. Several o ∷ []) (sym e.1)), spelled_fill fields rest f, refl)
 spelled_fill (AnyOctets least most ∷ fields) values (octets, rest, is, known, f) =
     rw is (
@@ -111,17 +103,16 @@ module _ (other : ℕ) (below : other < 45) where
   abbrev pub Is : ℕ → Type 0
   Is octet = octet ≢ other
 
-  fixed_lack : (text : List ℕ) → list_all (λ octet. not (octet == other)) text ≡ true → All Is text
-  fixed_lack [] lacks = All-nil Is
-  fixed_lack (octet ∷ text) lacks =
-      let parts = and_parts (not (octet == other)) (list_all (λ o. not (o == other)) text) lacks in
-      All-cons Is octet text (λ same. let is = eq-eqb octet other same in let not = parts.0 in absurd cc) (fixed_lack text parts.1)
+  -- a word of octets that pass a test which the other does not pass
+  pub passing_lack : (p : ℕ → Bool) → p other ≡ false → (word : List ℕ) → list_all p word ≡ true → All Is word
+  passing_lack p fails [] passes = All-nil Is
+  passing_lack p fails (octet ∷ word) passes =
+      let parts = and_parts (p octet) (list_all p word) passes in
+      let unlike : Is octet = λ same. let is : p other ≡ true = rw same at parts.0 in absurd cc in
+      All-cons Is octet word unlike (passing_lack p fails word parts.1)
 
   hex_lack : (word : List ℕ) → list_all is_hex_digit word ≡ true → All Is word
-  hex_lack [] digits = All-nil Is
-  hex_lack (digit ∷ word) digits =
-      let parts = and_parts (is_hex_digit digit) (list_all is_hex_digit word) digits in
-      All-cons Is digit word (λ same. let is = parts.0 in absurd (grind arith)) (hex_lack word parts.1)
+  hex_lack = passing_lack is_hex_digit (grind arith)
 
   bits_lack : (bits : List ℕ) → All Is (bit_digits bits)
   bits_lack [] = All-nil Is
@@ -151,7 +142,8 @@ module _ (other : ℕ) (below : other < 45) where
   spelled_lack [] values f lacks = All-nil (All Is)
   spelled_lack (Fixed text ∷ fields) values f lacks =
       let parts = and_parts (list_all (λ octet. not (octet == other)) text) (lack fields) lacks in
-      cons text (spelled fields values) (fixed_lack text parts.0) (spelled_lack fields values f parts.1)
+      let first = passing_lack (λ octet. not (octet == other)) (rw (eq-eqb other other refl) refl) text parts.0 in
+      cons text (spelled fields values) first (spelled_lack fields values f parts.1)
   spelled_lack (DigitTo most ∷ fields) values (n, rest, is, within, f) lacks =
       rw is (cons ((48 + n) ∷ []) (spelled fields rest) (All-cons Is (48 + n) [] (λ same. omega arith) (All-nil Is))
       (spelled_lack fields rest f lacks))

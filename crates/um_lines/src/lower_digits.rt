@@ -1,8 +1,10 @@
 //! Octets as hexadecimal digits in lower case, two digits an octet.
-ghost use Rattle.std.specs.Prelude.{◌≡◌, ◌+◌, ◌*◌, ◌<◌, ◌≤◌, ◌/◌, ◌%◌, ℕ, length, take, slice_index};
+ghost use Rattle.std.specs.Prelude.{◌≡◌, ◌+◌, ◌*◌, ◌<◌, ◌≤◌, ◌/◌, ◌%◌, ℕ, length, slice_index};
 ghost use Rattle.hex.specs.Hex.{encode_lower, lower_digits};
+ghost use Rattle.um_lines.specs.HexPlaces.{HasDigits};
 
 /// Writes the digits of octets, the high one of each first.
+#[tactic(auto, using(crate::proofs::LowerDigits::digits_from_places))]
 pub(crate) fn write_lower(octets: &[u8], digits: &mut [u8])
     requires many { length digits.old ≡ 2 * length octets.now }
     ensures { digits.new ≡ encode_lower octets.now }
@@ -28,7 +30,8 @@ fn write_few(octets: &[u8], digits: &mut [u8])
 fn write_many(octets: &[u8], digits: &mut [u8])
     requires many { length digits.old ≡ 2 * length octets.now }
     requires some { 16 ≤ length octets.now }
-    ensures { digits.new ≡ encode_lower octets.now }
+    ensures length { length digits.new ≡ length digits.old }
+    ensures written { (k : ℕ) → k < length octets.now → HasDigits octets.now digits.new k }
 {
     let last = octets.len() - 16;
     let mut at = 0;
@@ -42,9 +45,9 @@ fn write_many(octets: &[u8], digits: &mut [u8])
 fn write_sixteen(octets: &[u8], digits: &mut [u8], at: usize)
     requires many { length digits.old ≡ 2 * length octets.now }
     requires room { at + 16 ≤ length octets.now }
-    requires before { take (2 * at) digits.old ≡ encode_lower (take at octets.now) }
-    ensures more { take (2 * (at + 16)) digits.new ≡ encode_lower (take (at + 16) octets.now) }
+    requires before { (k : ℕ) → k < at → HasDigits octets.now digits.old k }
     ensures length { length digits.new ≡ length digits.old }
+    ensures written { (k : ℕ) → k < at + 16 → HasDigits octets.now digits.new k }
 {
     let (high, low) = sixteen(octets, at);
     for i in 0..16 {

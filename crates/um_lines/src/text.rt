@@ -63,6 +63,7 @@ impl Text {
     }
 
     /// Appends a decimal number.
+    #[tactic(auto, using(std::proofs::lemmas::Fmt::decimal_digit))]
     pub fn push_decimal(&mut self, number: u64)
         requires { length self.old + 20 ≤ 4096 }
         ensures text { self.new ≡ self.old ++ decimal number }

@@ -1,11 +1,12 @@
 -- Lines of `replay`: each means one thing or has a reason, and what it means are soft values.
-use Rattle.std.proofs.Common.{◌≡◌, ◌≢◌, ℕ, ◌≤◌, false, ◌&&◌, ◌==◌, not, true, ℤ, pos, List, length, replicate, refl, ◌∙◌, arith}
+use Rattle.std.proofs.Common.{◌≡◌, ◌≢◌, [], ◌∷◌, ◌<◌, ℕ, ◌≤◌, false, ◌&&◌, ◌==◌, not, true, ℤ, pos, List, length, replicate, refl, ◌∙◌, arith}
 use Rattle.std.specs.Int.{w8, cast_signed}
 use Rattle.std.specs.List.{All}
 use Rattle.std.proofs.lemmas.Bool.Decides.{nat_tests}
 use Rattle.std.proofs.lemmas.Int.{ints}
 use Rattle.std.proofs.lemmas.List.{length-map, length-replicate}
-use Rattle.std.proofs.lemmas.List.Elements.{All-replicate}
+use Rattle.std.proofs.lemmas.List.Elements.{All-nil, All-cons, All-head, All-tail, All-replicate}
+use Rattle.bit_blocks.specs.Octets.{IsOctet, AllOctets}
 use Rattle.bit_blocks.specs.Bits.{AllBits}
 use Rattle.bit_blocks.specs.SoftValues.{IsSoft, AllSoft}
 use Rattle.um_block.specs.Received.{soft_value, softened}
@@ -19,12 +20,23 @@ use Rattle.um_text.specs.declared.burst_lines.BurstLine.TheVariants.{Skip, Norma
 use Rattle.um_text.specs.SoftOctets.{signed_octets}
 use Rattle.um_text.specs.BurstLines.{burst_line, burst_fault, BurstMeans}
 use Rattle.um_block.proofs.Lemmas.{AllSoft-softened}
-use Rattle.um_text.proofs.SoftLists.{signed-AllSoft}
 
 pub one_meaning : (held : ℕ) (line : List ℕ) → HasOneMeaningUnless (burst_fault held line) (BurstMeans held line)
 one_meaning held line =
     Laws.one_made burst_line (LineMeans burst_forms (burst_elsewhere held) line) (burst_fault held line)
     (Laws.one_meaning burst_forms (burst_elsewhere held) line refl)
+
+-- octets of which none is 80 in hexadecimal are soft values
+soft_octet : (octet : ℕ) → octet < 256 → octet ≢ 128 → IsSoft (cast_signed w8 octet)
+soft_octet octet small other = (grind (arith, ints, nat_tests), grind (arith, ints, nat_tests))
+
+signed-AllSoft : (octets : List ℕ) → AllOctets octets → All (λ octet. octet ≢ 128) octets → AllSoft (signed_octets octets)
+signed-AllSoft [] small each = All-nil IsSoft
+signed-AllSoft (octet ∷ octets) small each =
+    let Unlike : ℕ → Type 0 = λ o. o ≢ 128 in
+    All-cons IsSoft (cast_signed w8 octet) (signed_octets octets)
+    (soft_octet octet (All-head IsOctet octet octets small) (All-head Unlike octet octets each))
+    (signed-AllSoft octets (All-tail IsOctet octet octets small) (All-tail Unlike octet octets each))
 
 -- so many soft values
 abbrev pub AreSoft : ℕ → List ℤ → Type 0

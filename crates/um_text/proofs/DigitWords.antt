@@ -1,22 +1,17 @@
 -- Texts of digits alone have no space, and so are one word.
-use Rattle.std.proofs.Common.{◌≡◌, inl, inr, ℕ, Bool, true, false, eqb, List, [], ◌∷◌, refl, ap, ◌∙◌}
-use Rattle.std.specs.List.{list_all, onto_first}
-use Rattle.std.proofs.lemmas.Bool.{cases_eq, ne_eqb}
-use Rattle.std.proofs.lemmas.List.Splits.{join_with_byte-slice_split, slice_split-cons_no}
+use Rattle.std.proofs.Common.{◌≡◌, ℕ, Bool, true, false, List, [], ◌∷◌, refl, ap, ◌∙◌, arith}
+use Rattle.std.specs.List.{All, list_all}
+use Rattle.std.proofs.lemmas.List.Elements.{All-nil, All-cons}
+use Rattle.std.proofs.lemmas.List.Splits.{join_with_byte-slice_split}
 use Rattle.hex.specs.Hex.{is_hex_digit}
 use Rattle.um_lines.specs.Fields.{is_bit_digit}
-use Rattle.um_lines.specs.Words.{words}
-use Rattle.bit_blocks.proofs.Lemmas.{both_true}
+use Rattle.um_lines.specs.Words.{IsNoSpace, words}
+use Rattle.um_lines.proofs.SpelledLaws.{passing_lack}
+use Rattle.um_lines.proofs.WordLists.{words-join}
 
 one_word_of : (p : ℕ → Bool) → p 32 ≡ false → (text : List ℕ) → list_all p text ≡ true → words text ≡ text ∷ []
-one_word_of p none [] all = refl
-one_word_of p none (octet ∷ text) all =
-    let both = both_true (p octet) (list_all p text) all in
-    elim (cases_eq octet 32) [
-      | inl space ↦ absurd (let passes : p 32 ≡ true = rw space at both.0 in cc)
-      | inr plain ↦
-          slice_split-cons_no (λ x. eqb x 32) octet text (ne_eqb octet 32 plain) ∙ ap (onto_first octet) (one_word_of p none text both.1)
-    ]
+one_word_of p fails text all =
+    words-join (text ∷ []) (λ e. cc) (All-cons (All IsNoSpace) text [] (passing_lack 32 (omega arith) p fails text all) (All-nil (All IsNoSpace)))
 
 pub bit_word : (text : List ℕ) → list_all is_bit_digit text ≡ true → words text ≡ text ∷ []
 bit_word = one_word_of is_bit_digit refl

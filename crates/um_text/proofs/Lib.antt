@@ -1,14 +1,10 @@
 pub mod BurstLaws
-pub mod BurstRows
 pub mod CodeLaws
 pub mod DigitWords
 pub mod OtherBursts
 pub mod ReportLaws
 pub mod ShowLaws
-pub mod ShowWords
-pub mod SoftLists
+pub mod ShowReading
 pub mod WorkedLines
 pub mod WrittenBursts
-pub mod ShowFaults
-pub mod ShowFields
 pub mod WrittenFrames

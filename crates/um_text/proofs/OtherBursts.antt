@@ -1,17 +1,13 @@
 -- Words that are none of the bursts' own.
-use Rattle.std.proofs.Common.{◌≡◌, ◌≢◌, ℕ, ◌≤◌, Bool, true, false, ◌&&◌, eqb, List, [], ◌∷◌, length, Err, codes, refl, ap, arith}
+use Rattle.std.proofs.Common.{◌≡◌, ◌≢◌, ℕ, ◌≤◌, true, false, ◌&&◌, eqb, List, [], ◌∷◌, length, Err, codes, refl, ap, arith}
 use Rattle.std.specs.Cmp.Lexicographic.{pointwise}
 use Rattle.std.specs.Str.{bytes_eq}
-use Rattle.std.proofs.lemmas.Bool.{ne_eqb}
+use Rattle.std.proofs.lemmas.Bool.{ne_eqb, and_right}
 use Rattle.std.proofs.lemmas.List.Splits.{length-slice_split}
 use Rattle.um_lines.specs.declared.fault.LineFault.TheVariants.{Word}
 use Rattle.um_lines.specs.Words.{words}
 use Rattle.um_lines.specs.Fields.{may_stand}
 use Rattle.um_text.specs.BurstLines.{read_burst}
-
-and_false : (b : Bool) → (b && false) ≡ false
-and_false true = refl
-and_false false = refl
 
 -- words that begin with no word of a form
 unnamed : (held : ℕ) (kind : List ℕ) (rest : List (List ℕ)) → bytes_eq kind (codes "n") ≡ false → bytes_eq kind (codes "N") ≡ false
@@ -28,7 +24,7 @@ pub other_letter : (held letter : ℕ) (rest : List (List ℕ)) → letter ≢ 1
 other_letter held letter rest n N a A s S =
     let alone = λ (other : ℕ) (unlike : letter ≢ other). ap (λ same. same && true) (ne_eqb letter other unlike) in
     let lost : (bytes_eq (letter ∷ []) (codes "lost") && pointwise may_stand [] rest) ≡ false =
-    ap (λ same. same && pointwise may_stand [] rest) (and_false (eqb letter 108)) in
+    ap (λ same. same && pointwise may_stand [] rest) (and_right (eqb letter 108) false refl) in
     unnamed held (letter ∷ []) rest (alone 110 n) (alone 78 N) lost (alone 97 a) (alone 65 A) (alone 115 s) (alone 83 S)
 
 -- a first word of none or of more letters, before another
@@ -36,7 +32,7 @@ pub other_kind : (held : ℕ) (kind text : List ℕ) → length kind ≢ 1 → r
 other_kind held [] text many = unnamed held [] (words text) refl refl refl refl refl refl refl
 other_kind held (first ∷ []) text many = absurd (many refl)
 other_kind held (first ∷ second ∷ kind) text many =
-    let alone = λ (other : ℕ). and_false (eqb first other) in
+    let alone = λ (other : ℕ). and_right (eqb first other) false refl in
     let some : 1 ≤ length (words text) = omega (arith, length-slice_split (λ octet. eqb octet 32) text) in
     unnamed held (first ∷ second ∷ kind) (words text) (alone 110) (alone 78) (lost (words text) some)
     (alone 97) (alone 65) (alone 115) (alone 83)
@@ -44,4 +40,4 @@ other_kind held (first ∷ second ∷ kind) text many =
     lost : (rest : List (List ℕ)) → 1 ≤ length rest → (bytes_eq (first ∷ second ∷ kind) (codes "lost") && pointwise may_stand [] rest)
         ≡ false
     lost [] some = absurd (omega arith)
-    lost (word ∷ rest) some = and_false (bytes_eq (first ∷ second ∷ kind) (codes "lost"))
+    lost (word ∷ rest) some = and_right (bytes_eq (first ∷ second ∷ kind) (codes "lost")) false refl

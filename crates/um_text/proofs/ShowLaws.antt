@@ -1,16 +1,16 @@
 -- Lines of `show`: each means one thing or has a reason, and the frame that one says fits.
-use Rattle.std.proofs.Common.{◌≡◌, ℕ, List, length, Option, Some, None, refl, sym, subst, arith}
+use Rattle.std.proofs.Common.{◌≡◌, ◌≤◌, ◌∷◌, ℕ, List, length, Option, Some, None, refl, sym, subst, arith}
 use Rattle.std.specs.Prelude.{IfSome}
 use Rattle.lapdm_frame.specs.declared.Channel.TheVariants.{Sdcch}
 use Rattle.lapdm_frame.specs.Content.{Frame}
 use Rattle.lapdm_frame.specs.Frames.{Fits}
-use Rattle.um_lines.specs.Fields.{Value}
+use Rattle.um_lines.specs.Fields.{Value, Number}
 use Rattle.um_lines.specs.Forms.{LineMeans, anywhere}
 use Rattle.um_lines.specs.Meanings.{HasOneMeaningUnless}
 use Rattle.um_lines.specs.ShowForms as F
 use Rattle.um_lines.specs.ShowForms.{ShowName, show_forms}
 use Rattle.um_lines.proofs.FormLaws as Laws
-use Rattle.um_lines.proofs.KnownValues.{AreOctets, line_is}
+use Rattle.um_lines.proofs.KnownValues.{AreOctets, Fitting, line_is}
 use Rattle.um_text.specs.declared.show.ShowLine.{ShowLine}
 use Rattle.um_text.specs.declared.show.ShowLine.TheVariants as S
 use Rattle.um_text.specs.ShowLines.{said_frame, shown, show_of, show_line, show_fault, ShowMeans}
@@ -29,31 +29,17 @@ abbrev IsKnown : ShowLine × Option Frame → Type 0
 IsKnown (S.Octets octets, f) = AreOctets 23 octets
 IsKnown (other, f) = IfSome f (Fits Sdcch)
 
+numbered : (s cr : ℕ) (values : List Value) → s ≤ 7 → Fitting F.numbered values
+    → IsKnown (said (Some (F.I, Number s ∷ Number cr ∷ values)))
+numbered s cr values small (ns, r3, e3, sent, (nr, r4, e4, got, (p, r5, e5, polls, (m, r6, e6, more, (info, r7, e7, fits, none))))) =
+    rw (e3, e4, e5, e6, e7, none) (record { sapi = small; numbers = (sent, got); information = (fits.0, fits.1) })
+
 known : (line : List ℕ) (meaning : Option (ShowName × List Value)) → LineMeans show_forms anywhere line meaning → IsKnown (said meaning)
 known line meaning means =
     line_is show_forms anywhere said IsKnown tt (
       λ count values here (octets, rest, is, known, none). rw (is, none) known,
       (
-        λ count values here (
-          s,
-          r1,
-          e1,
-          small,
-          (
-            cr,
-            r2,
-            e2,
-            one,
-            (
-              ns,
-              r3,
-              e3,
-              sent,
-              (nr, r4, e4, got, (p, r5, e5, polls, (m, r6, e6, more, (info, r7, e7, fits, none)))),
-            ),
-          ),
-        ).
-            rw (e1, e2, e3, e4, e5, e6, e7, none) (record { sapi = small; numbers = (sent, got); information = (fits.0, fits.1) }),
+        λ count values here (s, r1, e1, small, (cr, r2, e2, one, rest)). rw (e1, e2) (numbered s cr r2 small rest),
         (
           λ count values here (s, r1, e1, small, (cr, r2, e2, one, (nr, r3, e3, got, (pf, r4, e4, set, none)))).
               rw (e1, e2, e3, e4, none) (record { sapi = small; numbers = got; information = omega arith }),

@@ -1,7 +1,8 @@
 -- The lines of bursts as they are written, and that each means its burst again.
-use Rattle.std.proofs.Common.{◌≡◌, ◌≢◌, ℕ, ◌+◌, ◌≤◌, ◌==◌, Bool, true, false, ◌&&◌, not, Some, List, [], ◌∷◌, ◌++◌, length, codes, refl, ap, sym, subst, inl, inr, append_assoc, length-append, arith}
+use Rattle.std.proofs.Common.{◌≡◌, ◌≢◌, ℕ, ◌+◌, ◌≤◌, ◌==◌, false, not, Some, List, [], ◌∷◌, ◌++◌, length, codes, refl, ap, sym, subst, inl, inr, append_assoc, length-append, arith}
 use Rattle.std.specs.List.{All}
-use Rattle.std.proofs.lemmas.List.{append_cancel_right, length-map}
+use Rattle.std.proofs.lemmas.Bool.{and_right}
+use Rattle.std.proofs.lemmas.List.{length-map}
 use Rattle.bit_blocks.specs.Bits.{AllBits}
 use Rattle.um_block.specs.Received.{softened}
 use Rattle.um_lines.specs.Fields.{Fixed, BitDigits, Several, bit_digits}
@@ -10,7 +11,6 @@ use Rattle.um_lines.specs.BurstForms.{burst_forms, burst_elsewhere}
 use Rattle.um_lines.proofs.KnownValues.{Fitting}
 use Rattle.um_lines.proofs.SpelledLaws.{spelled_means, spelled_uncut}
 use Rattle.um_text.specs.declared.burst_lines.BurstLine.TheVariants.{Normal, Access, Sync}
-use Rattle.um_text.specs.BurstTexts.{normal_text, access_text, sync_text}
 use Rattle.um_text.specs.BurstLines.{BurstMeans}
 use Rattle.um_text.specs.WrittenBursts.{IsWholeLine}
 
@@ -39,13 +39,9 @@ both bsic burst few bits many each = (bsic, Several burst ∷ [], refl, (few, bi
 access_line_from_left : (bsic burst : List ℕ) → access_line bsic burst ≡ 97 ∷ 32 ∷ (bit_digits bsic ++ 32 ∷ bit_digits burst)
 access_line_from_left bsic burst = ap (λ rest. 97 ∷ 32 ∷ rest) (append_assoc (bit_digits bsic) (codes " ") (bit_digits burst))
 
-and_false : (b : Bool) → (b && false) ≡ false
-and_false true = refl
-and_false false = refl
-
 -- a normal burst may stand anywhere
 held_normal : (held : ℕ) → burst_elsewhere held F.Normal ≡ false
-held_normal held = and_false (not (held == 0))
+held_normal held = and_right (not (held == 0)) false refl
 
 -- ---- each line means its burst
 
@@ -105,14 +101,3 @@ access_whole bsic burst few bits many each = record {
       (both bsic burst few bits many each));
   stays = refl;
 }
-
--- ---- a line whose text with its line feed was written is that line
-
-pub normal_line_is : (burst line : List ℕ) → normal_text burst ≡ line ++ codes "\n" → normal_line burst ≡ line
-normal_line_is burst line text = append_cancel_right (normal_line burst) line (codes "\n") text
-
-pub access_line_is : (bsic burst line : List ℕ) → access_text bsic burst ≡ line ++ codes "\n" → access_line bsic burst ≡ line
-access_line_is bsic burst line text = append_cancel_right (access_line bsic burst) line (codes "\n") text
-
-pub sync_line_is : (burst line : List ℕ) → sync_text burst ≡ line ++ codes "\n" → sync_line burst ≡ line
-sync_line_is burst line text = append_cancel_right (sync_line burst) line (codes "\n") text

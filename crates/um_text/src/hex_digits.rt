@@ -13,6 +13,7 @@ pub(crate) fn some_octets_of(word: &[u8]) -> ([u8; 20], usize)
     ensures count { result.1 ≡ octet_count word.now }
     ensures octets { take result.1 result.0 ≡ hex_octets word.now }
     ensures room { length result.0 ≡ 20 }
+    ensures within { result.1 ≤ 20 }
 {
     let mut room = [0; 20];
     let count = word.len() / 2;

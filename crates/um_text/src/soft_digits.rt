@@ -1,10 +1,10 @@
 //! Words of soft values.
-ghost use Rattle.std.specs.Prelude.{◌≡◌, ◌-◌, ◌*◌, ◌==◌, if◌then◌else◌, pos, negsuc, length, map, true, false, IsTrue, MatchResult};
+ghost use Rattle.std.specs.Prelude.{◌≡◌, ◌-◌, ◌*◌, ◌==◌, length, map, true, false, IsTrue, MatchResult};
 ghost use Rattle.std.specs.List.{list_all, list_any};
 ghost use Rattle.hex.specs.Hex.{is_hex_digit};
 ghost use Rattle.um_lines.specs.Fields.{is_bit_digit};
 ghost use Rattle.um_lines.specs.Fields.{hex_octets};
-ghost use Rattle.um_block.specs.Received.{softened};
+ghost use Rattle.um_block.specs.Received.{soft_value, softened};
 ghost use Rattle.um_text.specs.SoftOctets.{signed_octets};
 
 use um_lines::{LineFault, octets_of};
@@ -23,7 +23,8 @@ pub(crate) fn hard_values<const N: usize>(digits: &[u8]) -> [i8; N]
 }
 
 fn hard_value(digit: u8) -> i8
-    ensures { result ≡ (if digit == 48 then pos 127 else negsuc 126) }
+    requires { IsTrue (is_bit_digit digit) }
+    ensures { result ≡ soft_value (digit - 48) }
 {
     if digit == b'0' { 127 } else { -127 }
 }

@@ -1,11 +1,11 @@
-use Rattle.std.proofs.Common.{◌≡◌, ◌+◌, ◌*◌, ◌-◌, ◌≤◌, take, length}
-use Rattle.um_lines.specs.Fields.{hex_octets}
+use Rattle.std.proofs.Common.{◌≡◌, ℕ, ◌+◌, ◌-◌, ◌<◌, ◌≤◌, length, get_or}
+use Rattle.um_lines.specs.HexPlaces.{octet_at}
 use Rattle.um_lines.proofs.hex_digits.write_many.Given as goal
 
--- the octets so far are those of the pairs of digits so far
+-- the octets so far are those of the digits at their places
 abbrev pub invariant-loop-at : goal.invariant-loop-at
 invariant-loop-at l =
-    (take l.at l.octets ≡ hex_octets (take (2 * l.at) l.digits)) × (length l.octets ≡ length l.initial.octets)
+    (length l.octets ≡ length l.initial.octets) × ((k : ℕ) → k < l.at → get_or l.octets k 0 ≡ octet_at l.digits k)
     × (l.at ≤ length l.octets) × (l.last + 16 ≡ length l.octets)
 
 abbrev pub decreases-loop-at : goal.decreases-loop-at

@@ -1,8 +1,8 @@
-use Rattle.std.proofs.Common.{◌≡◌, ◌+◌, ◌*◌, take, length}
-use Rattle.um_lines.specs.Fields.{hex_octets}
+use Rattle.std.proofs.Common.{◌≡◌, ℕ, ◌+◌, ◌<◌, length, get_or}
+use Rattle.um_lines.specs.HexPlaces.{octet_at}
 use Rattle.um_lines.proofs.hex_digits.write_sixteen.Given as goal
 
--- the octets so far are those of the pairs of digits so far
+-- the octets so far are those of the digits at their places
 abbrev pub invariant-loop-i : goal.invariant-loop-i
-invariant-loop-i l = (take (l.at + l.i) l.octets ≡ hex_octets (take (2 * (l.at + l.i)) l.digits))
-    × (length l.octets ≡ length l.initial.octets)
+invariant-loop-i l =
+    (length l.octets ≡ length l.initial.octets) × ((k : ℕ) → k < l.at + l.i → get_or l.octets k 0 ≡ octet_at l.digits k)

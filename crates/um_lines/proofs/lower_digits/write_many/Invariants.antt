@@ -1,11 +1,10 @@
-use Rattle.std.proofs.Common.{◌≡◌, ◌+◌, ◌*◌, ◌-◌, ◌≤◌, take, length}
-use Rattle.hex.specs.Hex.{encode_lower}
+use Rattle.std.proofs.Common.{◌≡◌, ℕ, ◌+◌, ◌-◌, ◌<◌, ◌≤◌, length}
+use Rattle.um_lines.specs.HexPlaces.{HasDigits}
 use Rattle.um_lines.proofs.lower_digits.write_many.Given as goal
 
--- the digits so far are those of the octets so far
+-- the digits so far are those of the octets at their places
 abbrev pub invariant-loop-at : goal.invariant-loop-at
-invariant-loop-at l =
-    (take (2 * l.at) l.digits ≡ encode_lower (take l.at l.octets)) × (length l.digits ≡ length l.initial.digits)
+invariant-loop-at l = (length l.digits ≡ length l.initial.digits) × ((k : ℕ) → k < l.at → HasDigits l.octets l.digits k)
     × (l.at ≤ length l.octets) × (l.last + 16 ≡ length l.octets)
 
 abbrev pub decreases-loop-at : goal.decreases-loop-at

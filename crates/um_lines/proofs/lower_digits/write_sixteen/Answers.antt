@@ -1,6 +1,6 @@
-use Rattle.std.proofs.Common.{◌≡◌, ◌+◌, ◌*◌, ◌<◌, length, set, get_or, ◌∙◌, arith}
+use Rattle.std.proofs.Common.{◌+◌, ◌*◌, ◌<◌, length, set, get_or, ◌∙◌, arith}
 use Rattle.std.proofs.lemmas.List.{length-set}
-use Rattle.um_lines.proofs.LowerDigits.{digits_more}
+use Rattle.um_lines.proofs.LowerDigits.{digits_set}
 use Rattle.um_lines.proofs.lower_digits.write_sixteen.Goals as goal
 
 pub loop-i-preserved : goal.loop-i-preserved
@@ -9,10 +9,8 @@ loop-i-preserved c =
     let high = get_or c.sixteen.result.0 c.loop-i.i 0 in
     let low = get_or c.sixteen.result.1 c.loop-i.i 0 in
     let small : c.loop-i.i < 16 = c.loop-i-test.true in
-    let one : c.args.at + (c.loop-i.i + 1) ≡ at + 1 = omega arith in
-    let room : 2 * at + 1 < length c.loop-i.digits = omega (arith, c.loop-i.invariant.1) in
-    rw one (
-      digits_more c.args.octets.now at c.loop-i.digits high low (omega arith) room c.loop-i.invariant.0
-          (c.sixteen.ensures.high c.loop-i.i small) (c.sixteen.ensures.low c.loop-i.i small),
-      length-set (set c.loop-i.digits (2 * at) high) (2 * at + 1) low ∙ length-set c.loop-i.digits (2 * at) high ∙ c.loop-i.invariant.1,
+    let room : 2 * at + 1 < length c.loop-i.digits = omega arith in (
+      length-set (set c.loop-i.digits (2 * at) high) (2 * at + 1) low ∙ length-set c.loop-i.digits (2 * at) high ∙ c.loop-i.invariant.0,
+      λ k within. digits_set c.args.octets.now c.loop-i.digits at high low room (c.sixteen.ensures.high c.loop-i.i small)
+          (c.sixteen.ensures.low c.loop-i.i small) c.loop-i.invariant.1 k (omega arith),
     )

@@ -1,8 +1,7 @@
-use Rattle.std.proofs.Common.{◌≡◌, ◌+◌, ◌*◌, take, length}
-use Rattle.hex.specs.Hex.{encode_lower}
+use Rattle.std.proofs.Common.{◌≡◌, ℕ, ◌+◌, ◌<◌, length}
+use Rattle.um_lines.specs.HexPlaces.{HasDigits}
 use Rattle.um_lines.proofs.lower_digits.write_sixteen.Given as goal
 
--- the digits so far are those of the octets so far
+-- the digits so far are those of the octets at their places
 abbrev pub invariant-loop-i : goal.invariant-loop-i
-invariant-loop-i l = (take (2 * (l.at + l.i)) l.digits ≡ encode_lower (take (l.at + l.i) l.octets))
-    × (length l.digits ≡ length l.initial.digits)
+invariant-loop-i l = (length l.digits ≡ length l.initial.digits) × ((k : ℕ) → k < l.at + l.i → HasDigits l.octets l.digits k)

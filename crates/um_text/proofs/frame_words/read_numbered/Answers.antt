@@ -1,5 +1,5 @@
 use Rattle.std.proofs.lemmas.Result.{err_from_is_err_and}
-use Rattle.um_text.proofs.ShowFaults.{numbered_lacks_m, numbered_lacks_info}
+use Rattle.um_text.proofs.ShowReading.{numbered_lacks_m, numbered_lacks_info}
 use Rattle.um_text.proofs.frame_words.read_numbered.Goals as goal
 
 pub returns-in_err-m : goal.returns-in_err-m

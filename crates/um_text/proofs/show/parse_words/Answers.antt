@@ -3,7 +3,7 @@ use Rattle.std.proofs.lemmas.Bool.Decides.{Decides-eqb}
 use Rattle.std.proofs.lemmas.Slice.Eq.{strip_prefix_is}
 use Rattle.um_lines.specs.Words.{words}
 use Rattle.um_text.specs.ShowLines.{read_show}
-use Rattle.um_text.proofs.ShowWords.{no_name}
+use Rattle.um_text.proofs.ShowReading.{no_name}
 use Rattle.um_text.proofs.show.parse_words.Goals as goal
 
 pub returns-in-Some : goal.returns-in-Some

@@ -1,7 +1,8 @@
-use Rattle.std.proofs.Common.{◌≡◌, take, map, length}
-use Rattle.um_text.proofs.SoftLists.{hard_value}
+use Rattle.std.proofs.Common.{◌≡◌, ◌-◌, take, map, length}
+use Rattle.um_block.specs.Received.{softened}
 use Rattle.um_text.proofs.soft_digits.hard_values.Given as goal
 
 -- the values so far are those of the digits so far
 abbrev pub invariant-loop-i : goal.invariant-loop-i
-invariant-loop-i g l = (take l.i l.values ≡ map hard_value (take l.i l.digits)) × (length l.values ≡ g.row.N)
+invariant-loop-i g l =
+    (take l.i l.values ≡ softened (map (λ octet. octet - 48) (take l.i l.digits))) × (length l.values ≡ length l.digits)

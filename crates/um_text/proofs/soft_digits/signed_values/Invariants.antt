@@ -4,4 +4,4 @@ use Rattle.um_text.proofs.soft_digits.signed_values.Given as goal
 
 -- the values so far are those of the octets so far
 abbrev pub invariant-loop-i : goal.invariant-loop-i
-invariant-loop-i g l = (take l.i l.values ≡ signed_octets (take l.i l.octets)) × (length l.values ≡ g.row.N)
+invariant-loop-i g l = (take l.i l.values ≡ signed_octets (take l.i l.octets)) × (length l.values ≡ length l.octets)
