@@ -7,14 +7,54 @@
 -- at most one more than its first, since the window is one frame. So of the two pieces that an arriving I frame may
 -- carry, the last accepted and the next, N(S) tells which, and of the two counts that an N(R) may stand for it tells
 -- whether it is that of the piece that waits; then what lies between, the count of accepted pieces, is that count too.
-use Rattle.std.proofs.Common.{◌≡◌, ◌≢◌, sym, ◌∙◌, ap, arith, ℕ, ◌+◌, ◌%◌, false, ◌<◌, ◌≤◌, List, [], ◌∷◌, ◌++◌, length, take, get_or}
+use Rattle.std.proofs.Common.{arith, ℕ, ◌≤◌, List, [], ◌∷◌, ◌++◌, ◌≡◌, ◌≢◌, sym, ◌∙◌, ap, ◌+◌, ◌%◌, false, ◌<◌, length, take, get_or}
 use Rattle.std.proofs.lemmas.List.{length-append, take-append-le, take_more}
 use Rattle.std.proofs.Math.ListN.{get_or-append}
 use Rattle.lapdm_frame.specs.Content.{Content, I, Rr, Rej, Frame}
 use Rattle.segmenting.specs.Pieces.{Piece}
 use Rattle.lapdm_window.specs.declared.Sapi.{Sapi}
 use Rattle.lapdm_link.proofs.Queues.{is_on, Where, where-more}
-use Rattle.lapdm_link.proofs.Climbs.{Climbs, AllTell, climbs-le, climbs-lower, climbs-higher, climbs-append, climbs-told, climbs-rest}
+
+-- ---- numbers that never fall
+
+module _ {T : Type 0} (Tells : ℕ → T → Type 0) where
+  -- from the low number to the high one by way of what tells the numbers in between: none is below the one before
+  abbrev pub Climbs : ℕ → List T → ℕ → Type 0
+  Climbs low [] high = low ≤ high
+  Climbs low (x ∷ xs) high = (k : ℕ) × (low ≤ k) × Tells k x × Climbs k xs high
+
+  abbrev pub AllTell : ℕ → List T → Type 0
+  AllTell k [] = Unit {0}
+  AllTell k (x ∷ xs) = Tells k x × AllTell k xs
+
+  pub climbs-le : (low : ℕ) (xs : List T) (high : ℕ) → Climbs low xs high → low ≤ high
+  climbs-le low [] high h = h
+  climbs-le low (x ∷ xs) high h = let rest : h.0 ≤ high = climbs-le h.0 xs high h.3 in omega (arith, h.1)
+
+  -- a wider range
+  pub climbs-lower : (low' low : ℕ) (xs : List T) (high : ℕ) → low' ≤ low → Climbs low xs high → Climbs low' xs high
+  climbs-lower low' low [] high l h = omega arith
+  climbs-lower low' low (x ∷ xs) high l h = (h.0, let a : low ≤ h.0 = h.1 in omega arith, h.2, h.3)
+
+  pub climbs-higher : (low : ℕ) (xs : List T) (high high' : ℕ) → high ≤ high' → Climbs low xs high → Climbs low xs high'
+  climbs-higher low [] high high' l h = omega arith
+  climbs-higher low (x ∷ xs) high high' l h = (h.0, h.1, h.2, climbs-higher h.0 xs high high' l h.3)
+
+  -- the highest is told at the end
+  pub climbs-append : (low : ℕ) (xs ys : List T) (high : ℕ) → AllTell high ys → Climbs low xs high → Climbs low (xs ++ ys) high
+  climbs-append low [] [] high t h = h
+  climbs-append low [] (y ∷ ys) high t h = (high, h, t.0, climbs-append high [] ys high t.1 (omega arith))
+  climbs-append low (x ∷ xs) ys high t h = (h.0, h.1, h.2, climbs-append h.0 xs ys high t h.3)
+
+  -- the first is gone
+  pub climbs-rest : (low : ℕ) (x : T) (xs : List T) (high : ℕ) → Climbs low (x ∷ xs) high → Climbs low xs high
+  climbs-rest low x xs high h = climbs-lower low h.0 xs high h.1 h.3
+
+-- what is told tells as much in other words
+pub climbs-told : {T : Type 0} (Tells Tells' : ℕ → T → Type 0) → ((k : ℕ) (x : T) → Tells k x → Tells' k x) →
+    (low : ℕ) (xs : List T) (high : ℕ) → Climbs Tells low xs high → Climbs Tells' low xs high
+climbs-told Tells Tells' f low [] high h = h
+climbs-told Tells Tells' f low (x ∷ xs) high h = (h.0, h.1, f h.0 x h.2, climbs-told Tells Tells' f h.0 xs high h.3)
 
 -- a frame with an N(R) says that so many pieces are accepted
 abbrev pub CountsIn : ℕ → Content → Type 0

@@ -8,9 +8,8 @@ use Rattle.lapdm_window.specs.declared.Sapi.{Sapi}
 use Rattle.lapdm_window.specs.Ends.{EndState, Outcome, stays, sends_frame, ◌then◌, response, all_pieces, next_piece, waits, vr}
 use Rattle.lapdm_window.specs.Rules.{waiting_frame, has_next, with_next, sends_piece, sends_next, acknowledges, with_acked, reports_acked, counts, accepts, says_rr, answers_piece, with_reject, reject_is_due, rejects, takes_i, answers_poll, takes_rr, sends_again, takes_rej}
 use Rattle.lapdm_link.proofs.Queues.{where-all, where-more, is_on, IsPlain, AllWhere}
-use Rattle.lapdm_link.proofs.Climbs.{AllTell}
+use Rattle.lapdm_link.proofs.Directions.{AllTell, IsDirection, IsPiece, CountsIn, CarriesIn, Counts, Carries, next_waits, waits_for_one, pieces_out, piece_in, piece_gone, numbers_out, number_in, number_gone}
 use Rattle.lapdm_link.proofs.Telling.{has_left}
-use Rattle.lapdm_link.proofs.Directions.{IsDirection, IsPiece, CountsIn, CarriesIn, Counts, Carries, next_waits, waits_for_one, pieces_out, piece_in, piece_gone, numbers_out, number_in, number_gone}
 
 -- both directions between an end and the other one: the frames on their way out, those that come in with pieces, and
 -- those that come in with acknowledgements

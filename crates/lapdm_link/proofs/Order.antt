@@ -1,27 +1,63 @@
 -- The claims on every session, whatever frames arrive.
-use Rattle.std.proofs.Common.{◌≡◌, refl, sym, ◌∙◌, ap, subst, arith, ℕ, ◌≤◌, List, [], ◌∷◌, ◌++◌, map, Option, Some, None, append_assoc}
+use Rattle.std.proofs.Common.{sym, subst, List, [], ◌∷◌, ◌++◌, map, append_assoc, ◌≡◌, refl, ◌∙◌, ap, arith, ℕ, ◌≤◌, Option, Some, None}
 use Rattle.std.proofs.lemmas.List.{append-nil}
+use Rattle.lapdm_window.specs.declared.Sapi.{Sapi}
+use Rattle.lapdm_window.specs.Ends.{Role, Mobile, EndState, Outcome, KeepsWindow}
+use Rattle.lapdm_window.specs.Calls.{Call}
+use Rattle.lapdm_link.specs.Claims.{Line, Asked, StandsAfter, Rivals, Told, answer_lines, lines, calls, notices, IsOfOpenEnd, IsOpenEnd, OrderClaims}
 use Rattle.lapdm_frame.specs.declared.Channel.{Channel}
 use Rattle.lapdm_frame.specs.Content.{Frame}
 use Rattle.std.proofs.lemmas.List.Elements.{All-nil}
 use Rattle.segmenting.specs.Pieces.{Message, IsMessage}
-use Rattle.lapdm_window.specs.declared.Sapi.{Sapi}
 use Rattle.lapdm_window.specs.declared.State.{State}
-use Rattle.lapdm_window.specs.declared.State.TheVariants as S
 use Rattle.lapdm_window.specs.declared.Notice.{Notice}
-use Rattle.lapdm_window.specs.declared.Notice.TheVariants as N
-use Rattle.lapdm_window.specs.Ends.{Role, Mobile, EndState, Outcome, KeepsWindow}
-use Rattle.lapdm_window.specs.Calls.{Call}
 use Rattle.lapdm_window.specs.Tables.{after_frame}
 use Rattle.lapdm_link.specs.Events.{Event, Deliver, Why, other, rival_frame}
 use Rattle.lapdm_link.specs.Worlds.{World, start_on, refusal, answer, after, answers}
-use Rattle.lapdm_link.specs.Claims.{Line, Asked, Rivals, Told, answer_lines, lines, calls, notices, IsOfOpenEnd, IsOpenEnd, OrderClaims}
 use Rattle.lapdm_link.proofs.Told.{Phase, HasTold, MaySay, AllSaid, IsStep, step-unasked}
 use Rattle.lapdm_link.proofs.Taking.{IsTaken, taken-frame}
 use Rattle.lapdm_link.proofs.Asked.{is_called}
 use Rattle.lapdm_link.proofs.Views.{end_of, without_first, with_frames, acted, said, each_end, each_start, end_does, end_does-else, calls-said, notices-said, calls-else, notices-else, calls-rival, notices-rival}
 use Rattle.lapdm_link.proofs.ByKind.{KnowsBy, by_kind}
-use Rattle.lapdm_link.proofs.Standing.{AllStand, stand-append, stand-asked, stands}
+use Rattle.lapdm_window.specs.declared.State.TheVariants as S
+use Rattle.lapdm_window.specs.declared.Notice.TheVariants as N
+
+-- ---- what holds of each line by the lines before it
+
+-- each of these lines may stand behind those before it
+abbrev pub AllStand : (List Line → Line → Type 0) → List Line → List Line → Type 0
+AllStand May before [] = Unit {0}
+AllStand May before (l ∷ ls) = May before l × AllStand May (before ++ l ∷ []) ls
+
+pub stand-append : (May : List Line → Line → Type 0) (before xs ys : List Line) → AllStand May before xs → AllStand May (before ++ xs) ys →
+    AllStand May before (xs ++ ys)
+stand-append May before [] ys h g = subst (λ (b : List Line). AllStand May b ys) (append-nil before) g
+stand-append May before (x ∷ xs) ys h g = (
+  h.0,
+  stand-append May (before ++ x ∷ []) xs ys h.1
+      (subst (λ (b : List Line). AllStand May b ys) (sym (append_assoc before (x ∷ []) xs)) g),
+)
+
+-- what an end is asked may stand anywhere
+pub stand-asked : (May : List Line → Line → Type 0) → ((b : List Line) (r : Role) (s : Sapi) (c : Call) → May b (Asked r s c)) → (r : Role)
+    (s : Sapi) (ls : List Line) (cs : List Call) (xs : List Line) → AllStand May (ls ++ map (Asked r s) cs) xs →
+    AllStand May ls (map (Asked r s) cs ++ xs)
+stand-asked May free r s ls [] xs h = subst (λ (b : List Line). AllStand May b xs) (append-nil ls) h
+stand-asked May free r s ls (c ∷ cs) xs h = (
+  free ls r s c,
+  stand-asked May free r s (ls ++ Asked r s c ∷ []) cs xs
+      (subst (λ (b : List Line). AllStand May b xs) (sym (append_assoc ls (Asked r s c ∷ []) (map (Asked r s) cs))) h),
+)
+
+at_place : (May : List Line → Line → Type 0) (first before : List Line) (l : Line) (more : List Line) →
+    AllStand May first (before ++ l ∷ more) → May (first ++ before) l
+at_place May first [] l more h = subst (λ (b : List Line). May b l) (sym (append-nil first)) h.0
+at_place May first (b ∷ bs) l more h =
+    subst (λ (c : List Line). May c l) (append_assoc first (b ∷ []) bs) (at_place May (first ++ b ∷ []) bs l more h.1)
+
+pub stands : (May : List Line → Line → Type 0) (ls before : List Line) (l : Line) → AllStand May [] ls → StandsAfter before l ls →
+    May before l
+stands May ls before l h place = at_place May [] before l place.0 (subst (AllStand May []) (sym place.1) h)
 
 -- an end, and what its lines tell of it
 pub record IsReported (r : Role) (s : Sapi) (e : EndState) (cs : List Call) (ns : List Notice) : Type 0 where
