@@ -17,7 +17,7 @@ use Rattle.lapdm_link.specs.Events.{Event, Deliver, Why, other}
 use Rattle.lapdm_link.specs.Worlds.{World, refusal, answer, after, IsHarmlessBy}
 use Rattle.lapdm_link.specs.Ways.{IsAsSent}
 use Rattle.lapdm_link.proofs.Views.{end_of, way, without_first, acted, said, other_is, notices-said, notices-else, notices-at}
-use Rattle.lapdm_link.proofs.Directions.{climbs-le, Counts}
+use Rattle.lapdm_link.proofs.Directions.{climbs-le, CountsIn}
 use Rattle.lapdm_link.proofs.Telling.{ending_in}
 use Rattle.lapdm_link.proofs.ByKind.{KnowsBy, by_kind}
 use Rattle.lapdm_link.proofs.Order.{AllStand, stand-asked, AllReported}
@@ -95,7 +95,7 @@ module _ (w : World) (ls : List Line) (reported : AllReported w ls) (carried : A
   pub acked_most : length (acked r s ls) ≤ length (got (other r) s ls)
   acked_most =
       let d = (carried r s).there in
-      let low : (end_of r s w).acked ≤ length (end_of (other r) s w).accepted = climbs-le (Counts s) _ _ _ d.acknowledged in
+      let low : (end_of r s w).acked ≤ length (end_of (other r) s w).accepted = climbs-le s CountsIn _ _ _ d.acknowledged in
       let most : wholly_acked (end_of r s w) ≤ length (messages (end_of (other r) s w).accepted) =
       counted (n201 (end_of r s w).channel) (end_of r s w).taken (reported r s).end.messages _ _ d.in_order (end_of r s w).acked low in
       omega (arith, most, (reported r s).told.acked, ap length got_is)

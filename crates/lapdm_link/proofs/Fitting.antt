@@ -8,7 +8,7 @@ use Rattle.lapdm_window.specs.declared.Sapi.{Sapi}
 use Rattle.lapdm_window.specs.Ends.{Role, Mobile, Network, EndState, Outcome, start, IsEnd}
 use Rattle.lapdm_window.specs.Calls.{Call, refusal_of, after_call, Opens, OpensBare, HasCall}
 use Rattle.lapdm_window.specs.Tables.{after_frame}
-use Rattle.lapdm_link.specs.Events.{Event, other, rival_frame, rival_refusal, Open, OpenBare, Ask, Deliver, Lose, Rival, Ends, end_in, sender_of, Deed, does, does_nothing, deed, call_of, End, taken, Why}
+use Rattle.lapdm_link.specs.Events.{Event, other, rival_frame, rival_refusal, Open, OpenBare, Ask, Deliver, Ends, end_in, sender_of, Deed, does, does_nothing, deed, call_of, End, taken, Why}
 use Rattle.lapdm_link.specs.Worlds.{World, start_on, refusal, answer, after, answer_by, next, after_by, answers, IsReadable, IsSendable}
 use Rattle.lapdm_link.specs.Claims.{Line, Rivals, answer_lines}
 use Rattle.lapdm_link.proofs.Views.{end_of, way, without_first, with_frames, acted, said, each_end, each_way, each_lost, each_start, end_does, end_does-else, way_does, way_does-other}
@@ -173,9 +173,7 @@ few-deed (Open info) es = few-does Mobile Zero _ es (few-call (Opens info) (end_
 few-deed (OpenBare r) es = few-does r Three _ es (few-call OpensBare (end_in r Three es))
 few-deed (Ask r s request) es = few-does r s _ es (few-call (call_of request) (end_in r s es))
 few-deed (Deliver sender (Some f)) es = few-takes (other sender) f es (nat_eq f.sapi 0) (nat_eq f.sapi 3)
-few-deed (Deliver sender None) es = record { frames = omega arith; notices = omega arith }
-few-deed (Lose sender) es = record { frames = omega arith; notices = omega arith }
-few-deed (Rival info) es = record { frames = omega arith; notices = omega arith }
+few-deed event es = record { frames = omega arith; notices = omega arith }
 
 -- what holds of all frames on their way holds of those that went out
 way_more : (r : Role) (fs : List Frame) (ws : Ways Frame) → W.way r (with_more r fs ws) ≡ W.way r ws ++ fs
