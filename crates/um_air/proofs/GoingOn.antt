@@ -1,5 +1,5 @@
 -- There is an answer to every event, where messages are octets: a session can always go on.
-use Rattle.std.proofs.Common.{◌≡◌, refl, sym, subst, arith, ℕ, ◌-◌, ◌<◌, ◌≤◌, List, [], ◌∷◌, ◌++◌, length, replicate, Option, None, ◌∙◌, ap, ◌/◌, ◌%◌, map, get_or, set, Some, All, inl, inr}
+use Rattle.std.proofs.Common.{◌≡◌, refl, sym, subst, arith, ℕ, ◌-◌, ◌<◌, ◌≤◌, List, [], ◌∷◌, ◌++◌, length, Option, None, ◌∙◌, ap, ◌/◌, ◌%◌, map, get_or, set, Some, All, inl, inr, append_assoc}
 use Rattle.std.proofs.lemmas.List.Elements.{All-nil, All-cons, All-append, All-replicate}
 use Rattle.lapdm_frame.specs.declared.Channel.{Channel}
 use Rattle.lapdm_frame.specs.declared.Channel.TheVariants.{Sdcch, Sacch}
@@ -8,21 +8,19 @@ use Rattle.lapdm_frame.specs.Content.{Content, I, Rr, Rnr, Rej, Sabm, Dm, Ui, Di
 use Rattle.lapdm_frame.specs.Frames.{address, control, length_octet, NumbersFit, Fits, octets_of}
 use Rattle.lapdm_frame.proofs.Controls.{bit_bound}
 use Rattle.lapdm_frame.proofs.Uniqueness.{information_bound}
-use Rattle.lapdm_window.specs.declared.Notice.{Notice}
-use Rattle.lapdm_window.specs.declared.Sapi.{Sapi}
 use Rattle.lapdm_window.specs.Ends.{Role}
-use Rattle.lapdm_link.specs.Ways.{Ways, no_ways, way, with_more}
+use Rattle.lapdm_link.specs.Ways.{Ways, way, with_more}
 use Rattle.lapdm_link.specs.Events.{Open, OpenBare, Ask, Deliver, Lose, Rival, Send, SendUnit, Close, Tick, Idle, Who, End, Other, Nobody, Why, Deed, deed, sender_of, taken, Nothing, unless, is_empty}
 use Rattle.lapdm_link.specs.Worlds.{World}
-use Rattle.lapdm_link.specs.Claims.{Line, notice_lines, answer_lines}
-use Rattle.lapdm_link.proofs.Lemmas.{KnowsBy, AllReported, LineOctets, AllSay, AllOf, EndOctets, SaysOctets, WorldOctets, octets-step, start-octets, deed-holds, AllFit, deed-fits, of-all}
+use Rattle.lapdm_link.specs.Claims.{Line}
+use Rattle.lapdm_link.proofs.Lemmas.{KnowsBy, AllSay, AllOf, WorldOctets, start-octets, AllFit, deed-fits, of-all, all-of}
 use Rattle.um_air.specs.Air.{Octets, Event, as_read, AirState, start_on, Answer, AirStep, AirRun, Block, Reads, Arrives, AreSent, Refuses, Does, refusal, turned_at, turned}
-use Rattle.um_air.specs.Sessions.{after, AreOctets, IsOctetEvent}
-use Rattle.um_air.proofs.Seeing.{ReadsWell, knows, world_of, IsSeenStep, refusal-same, known-read}
-use Rattle.um_air.proofs.Carrying.{IsSeenAt, start-seen, seen-now, seen-next, seen}
+use Rattle.um_air.specs.Sessions.{AreOctets, IsOctetEvent}
+use Rattle.um_air.proofs.Seeing.{ReadsWell, knows, world_of, refusal-same, known-read}
+use Rattle.um_air.proofs.Carrying.{IsSeenAt, seen, longer_run, says, deed-octets}
 use Rattle.std.specs.Prelude.{IfSome}
 use Rattle.std.proofs.lemmas.Bool.{cases_eq}
-use Rattle.std.proofs.lemmas.List.{get_or-set_other, get_or-set_same, get_or_default, length-set, length-map}
+use Rattle.std.proofs.lemmas.List.{append-nil, get_or-set_other, get_or-set_same, get_or_default, length-set, length-map}
 use Rattle.std.proofs.Math.ListN.{get_or-map}
 use Rattle.lapdm_frame.proofs.Canonical.{octets_canonical}
 use Rattle.lapdm_frame.proofs.Existence.{one_reading}
@@ -54,58 +52,14 @@ room_small Sacch = omega arith
 pub octets_small : (channel : Channel) (f : Frame) → Fits channel f → AreOctets (information f.content) → AreOctets (octets_of channel f)
 octets_small channel f h info =
     let small : ℕ → Type 0 = λ octet. octet < 256 in
-    let size : ℕ = n201 channel - length (information f.content) in
     let most : length (information f.content) ≤ n201 channel = information_bound channel f.content h.information in
-    let third : AreOctets (length_octet f.content ∷ []) =
-    All-cons small (length_octet f.content) [] (omega (arith, most, room_small channel, bit_bound (goes_on f.content)))
-    (All-nil small) in
-    let second : AreOctets (control f.content ∷ length_octet f.content ∷ []) =
-    All-cons small (control f.content) (length_octet f.content ∷ []) (control_small f.content h.numbers) third in
-    let head : List ℕ = address f ∷ control f.content ∷ length_octet f.content ∷ [] in
-    let heads : AreOctets head =
-    All-cons small (address f) (control f.content ∷ length_octet f.content ∷ []) (omega (arith, h.sapi, bit_bound f.cr)) second in
-    let front : AreOctets (replicate (header channel) 0 ++ head) =
-    All-append small (replicate (header channel) 0) head (All-replicate small (header channel) 0 (omega arith)) heads in
-    let said : AreOctets ((replicate (header channel) 0 ++ head) ++ information f.content) =
-    All-append small (replicate (header channel) 0 ++ head) (information f.content) front info in
-    All-append small ((replicate (header channel) 0 ++ head) ++ information f.content) (replicate size 0x2b) said
-    (All-replicate small size 0x2b (omega arith))
-
--- ---- the lines of an event
-
-abbrev pub IsOctetSeen : E.Event → Type 0
-IsOctetSeen (Open info) = AreOctets info
-IsOctetSeen (Ask role sapi (Send m)) = AreOctets m
-IsOctetSeen (Ask role sapi (SendUnit m)) = AreOctets m
-IsOctetSeen (Rival info) = AreOctets info
-IsOctetSeen event = Unit {0}
-
-pub says : (read : Option Frame) (event : Event) → IsOctetEvent event → IsOctetSeen (as_read read event)
-says read (Ask r s (Send m)) h = h
-says read event h = h
-
-told_octets : (who : Who) (s : Sapi) (ns : List Notice) → LineOctets (notice_lines who s ns)
-told_octets (End r) s [] = tt
-told_octets (End r) s (n ∷ ns) = told_octets (End r) s ns
-told_octets who s ns = tt
-
-line_octets : (event : E.Event) (answer : E.Answer) → IsOctetSeen event → LineOctets (answer_lines event answer)
-line_octets event (E.Refuses why) h = tt
-line_octets (Deliver sender read) (E.Does who s fs ns) h = told_octets who s ns
-line_octets (Lose sender) (E.Does who s fs ns) h = told_octets who s ns
-line_octets (Ask r q (Send m)) (E.Does who s fs ns) h = (h, told_octets who s ns)
-line_octets event (E.Does who s fs ns) h = (h, told_octets who s ns)
-
--- ---- a step
-
-module _ (channel : Channel) (w : World) (ls : List Line) (e : E.Event) (reported : AllReported w ls)
-    (known : KnowsBy (W.refusal e w) (ReadsWell channel) e) (small : WorldOctets w) (said : IsOctetSeen e) where
-  pub octets-next : WorldOctets (W.after e w)
-  octets-next = octets-step w ls e reported (knows _ _ (λ r f k. k.1) (W.refusal e w) e known) small (line_octets e (W.answer e w) said)
-
-  -- what a deed sends carries octets
-  pub deed-octets : W.refusal e w ≡ None → AllSay (deed e w.ends).frames
-  deed-octets none = deed-holds (λ s x. EndOctets x) SaysOctets octets-next.0 w e (W.refusal e w) none octets-next.1
+    let head : AreOctets (address f ∷ control f.content ∷ length_octet f.content ∷ []) =
+    all-of small (address f ∷ control f.content ∷ length_octet f.content ∷ []) (
+      omega (arith, h.sapi, bit_bound f.cr),
+      (control_small f.content h.numbers, (omega (arith, most, room_small channel, bit_bound (goes_on f.content)), tt)),
+    ) in
+    All-append small _ _ (All-append small _ _ (All-append small _ _ (All-replicate small (header channel) 0 (omega arith)) head) info)
+    (All-replicate small (n201 channel - length (information f.content)) 0x2b (omega arith))
 
 -- ---- a session
 
@@ -117,30 +71,12 @@ pub record IsSpoken (a : AirState) : Type 0 where
   pub at : IsSeenAt a octets frames ls
   pub small : WorldOctets (world_of a frames)
 
-pub start-spoken : (tsc : ℕ) (channel : Channel) → IsSpoken (start_on tsc channel)
-start-spoken tsc channel =
-    record { octets = no_ways; frames = no_ways; ls = []; at = start-seen tsc channel; small = start-octets channel }
-
-pub spoken-next : (a b : AirState) (event : Event) (answer : Answer) → IsOctetEvent event → IsSpoken a → AirStep a event b answer →
-    IsSpoken b
-spoken-next a b event answer said h step =
-    let t : IsSeenStep a h.octets h.frames event answer b = seen-now a h.octets h.frames h.ls event answer b h.at step in
-    record {
-      octets = after event answer h.octets;
-      frames = t.ways;
-      ls = _;
-      at = seen-next a h.octets h.frames h.ls event answer b h.at step;
-      small = subst WorldOctets t.later
-          (octets-next a.channel (world_of a h.frames) h.ls (as_read t.read event) h.at.reported t.known h.small (says t.read event said));
-    }
-
-pub spoken-run : (events : List Event) (answers : List Answer) (a b : AirState) → AllOf IsOctetEvent events → IsSpoken a →
-    AirRun a events answers b → IsSpoken b
-spoken-run [] [] a b said h run = subst IsSpoken (sym run) h
-spoken-run [] (answer ∷ answers) a b said h run = absurd run
-spoken-run (event ∷ events) [] a b said h run = absurd run
-spoken-run (event ∷ events) (answer ∷ answers) a b said h run =
-    spoken-run events answers run.0 b said.1 (spoken-next a run.0 event answer said.0 h run.1) run.2
+module _ (tsc : ℕ) (channel : Channel) (events : List Event) (answers : List Answer) (b : AirState)
+    (said : AllOf IsOctetEvent events) (run : AirRun (start_on tsc channel) events answers b) where
+  spoken : IsSpoken b
+  spoken =
+      let s = (seen tsc channel events answers b run).at in
+      record { octets = s.0; frames = s.1; ls = s.2; at = s.3; small = s.4 said (start-octets channel) }
 
 -- ---- a block that was sent is four bursts of 148, whatever bits are turned over
 
@@ -284,22 +220,27 @@ answer_at a event None is known said h =
 pub some_answer : (tsc : ℕ) (channel : Channel) (events : List Event) (answers : List Answer) (a : AirState) → tsc ≤ 7 →
     All IsOctetEvent events → AirRun (start_on tsc channel) events answers a →
     (event : Event) → IsOctetEvent event → (b : AirState) × (answer : Answer) × AirStep a event b answer
-some_answer tsc channel events answers a known spoken run event said =
+some_answer tsc channel events answers a known said run event says =
     let same : a.tsc ≡ tsc = (seen tsc channel events answers a run).tsc in
-    let s : SomeAnswer a event = answer_at a event (refusal event a) refl (omega (arith, known, same)) said
-    (spoken-run events answers (start_on tsc channel) a (of-all IsOctetEvent events spoken) (start-spoken tsc channel) run) in
+    let s : SomeAnswer a event = answer_at a event (refusal event a) refl (omega (arith, known, same)) says
+    (spoken tsc channel events answers a (of-all IsOctetEvent events said) run) in
     (s.after, s.answer, s.step)
 
-run_from : (events : List Event) (a : AirState) → a.tsc ≤ 7 → AllOf IsOctetEvent events → IsSpoken a →
-    (answers : List Answer) × (b : AirState) × AirRun a events answers b
-run_from [] a known spoken h = ([], a, refl)
-run_from (event ∷ events) a known spoken h =
-    let s : SomeAnswer a event = answer_at a event (refusal event a) refl known spoken.0 h in
-    let now = seen-now a h.octets h.frames h.ls event s.answer s.after h.at s.step in
-    let r = run_from events s.after (omega (arith, known, now.tsc)) spoken.1 (spoken-next a s.after event s.answer spoken.0 h s.step) in
-    (s.answer ∷ r.0, r.1, (s.after, s.step, r.2))
+-- a run goes on
+module _ (tsc : ℕ) (channel : Channel) (known : tsc ≤ 7) where
+  going_on : (done : List Event) (answers : List Answer) (a : AirState) → All IsOctetEvent done →
+      AirRun (start_on tsc channel) done answers a → (events : List Event) → AllOf IsOctetEvent events →
+      (all : List Answer) × (b : AirState) × AirRun (start_on tsc channel) (done ++ events) all b
+  going_on done answers a said run [] says =
+      (answers, a, subst (λ es. AirRun (start_on tsc channel) es answers a) (sym (append-nil done)) run)
+  going_on done answers a said run (event ∷ events) says =
+      let s = some_answer tsc channel done answers a known said run event says.0 in
+      let r = going_on (done ++ event ∷ []) (answers ++ s.1 ∷ []) s.0
+      (All-append IsOctetEvent done (event ∷ []) said (All-cons IsOctetEvent event [] says.0 (All-nil IsOctetEvent)))
+      (longer_run (start_on tsc channel) done answers a event s.1 s.0 run s.2) events says.1 in
+      (r.0, r.1, subst (λ es. AirRun (start_on tsc channel) es r.0 r.1) (append_assoc done (event ∷ []) events) r.2)
 
 pub some_run : (tsc : ℕ) (channel : Channel) (events : List Event) → tsc ≤ 7 → All IsOctetEvent events →
     (answers : List Answer) × (b : AirState) × AirRun (start_on tsc channel) events answers b
-some_run tsc channel events known spoken =
-    run_from events (start_on tsc channel) known (of-all IsOctetEvent events spoken) (start-spoken tsc channel)
+some_run tsc channel events known said =
+    going_on tsc channel known [] [] (start_on tsc channel) (All-nil IsOctetEvent) refl events (of-all IsOctetEvent events said)
