@@ -139,10 +139,8 @@ rival w ls h info = (
 )
 
 any_frame : (o : Option Why) (event : Event) → KnowsBy o (λ r f. Unit {0}) event
-any_frame (Some why) event = tt
 any_frame None (Deliver sender (Some f)) = tt
-any_frame None (Deliver sender None) = tt
-any_frame None other = tt
+any_frame o event = tt
 
 pub in_order-step : (w : World) (ls : List Line) (event : Event) → AllReported w ls →
     Follows ls (after event w) (answer_lines event (answer event w))

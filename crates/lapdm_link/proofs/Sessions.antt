@@ -14,8 +14,7 @@ use Rattle.lapdm_link.specs.Claims.{Line, Told, answer_lines, lines, calls, noti
 use Rattle.lapdm_link.proofs.Told.{MaySay}
 use Rattle.lapdm_link.proofs.Order.{AllStand, stand-append, stands, AllReported, MayStand, Follows, in_order-step, start-reported, opened-most}
 use Rattle.lapdm_link.proofs.ByKind.{by_kind}
-use Rattle.lapdm_link.proofs.Delivery.{AllCarried, start-carried}
-use Rattle.lapdm_link.proofs.Delivered.{got_in_order, none_oversize, IsAfterGot, delivers-step, as_sent, acked_most}
+use Rattle.lapdm_link.proofs.Delivery.{AllCarried, start-carried, got_in_order, none_oversize, IsAfterGot, delivers-step, as_sent, acked_most}
 use Rattle.lapdm_link.proofs.Units.{sub-front, AllUnits, units-call, units-frame, units-lost, units-rival, start-units}
 use Rattle.lapdm_link.proofs.Taking.{units_on}
 use Rattle.lapdm_link.proofs.Openings.{AllOpenings, IsOpenedAfter, openings-call, openings-frame, openings-lost, openings-rival, start-openings}
