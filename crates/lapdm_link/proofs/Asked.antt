@@ -23,13 +23,13 @@ use Rattle.lapdm_window.specs.Rules.{is_open, sends_next, waiting_frame}
 use Rattle.lapdm_window.specs.Tables.{becomes_closed}
 use Rattle.lapdm_window.specs.Calls.{Call, Opens, OpensBare, Sends, SendsUnit, Closes, Ticks, Idles, is_idle, refusal_of, put_refusals, frame_refusals, with_taken, repeated, after_call}
 use Rattle.lapdm_window.proofs.Lemmas.{wholly_acked-taken, all_pieces-taken, KeepsWindow-taken, is_message, not_false, passes, is_idle-is, is_open-is, three_bits, waits_within}
-use Rattle.lapdm_link.specs.Claims.{sent_in, closes_in, unit_sent_in, unit_got_in, opened_in, closed_in}
+use Rattle.lapdm_link.specs.Claims.{sent_in, unit_sent_in, unit_got_in, opened_in, closed_in}
 use Rattle.lapdm_link.proofs.Queues.{IsPlain, AllFrames, frames-as, where-all, all-where}
 use Rattle.lapdm_link.proofs.Directions.{waits_for_one, more_pieces}
 use Rattle.lapdm_link.proofs.Keeping.{IsBoth, After, sends_plain, quiet, moved, piece_sent, is_waiting, keeps-sends_next}
 use Rattle.lapdm_link.proofs.Telling.{IsLive, silent, SaysWell, InOpen, in-sends_next, same_pieces}
 use Rattle.lapdm_link.proofs.Taking.{one_told, unit_of, units_on, no-units}
-use Rattle.lapdm_link.proofs.Told.{Phase, HasTold, IsStep, step-by}
+use Rattle.lapdm_link.proofs.Told.{closes_in, Phase, HasTold, IsStep, step-by}
 
 -- what an end sends at a call, which leaves it in this state
 abbrev pub Asks : Call → EndState → Content → Type 0

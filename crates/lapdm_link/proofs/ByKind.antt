@@ -53,21 +53,11 @@ module _ (w : World) (P : World → List Line → Type 0) (Known : Role → Fram
     (lost : (sender : Role) → P (without_first sender w) [])
     (rival : (info : Message) → rival_refusal w.channel info ≡ None → P (with_frames Mobile (rival_frame info ∷ []) w) (Rivals info ∷ []))
   where
-    opened : (o : Option Why) (info : Message) → refusal (Open info) w ≡ o →
-        P (after_by o (Open info) w) (answer_lines {Manner = Option Frame} (Open info) (answer_by o (deed (Open info) w.ends)))
-    opened (Some why) info h = refused
-    opened None info h = called Mobile Zero (Opens info) (refl, refl) (no_refusal _ _ h)
-
-    opened_bare : (o : Option Why) (r : Role) → refusal (OpenBare r) w ≡ o →
-        P (after_by o (OpenBare r) w) (answer_lines {Manner = Option Frame} (OpenBare r) (answer_by o (deed (OpenBare r) w.ends)))
-    opened_bare (Some why) r h = refused
-    opened_bare None r h = called r Three OpensBare refl (no_refusal _ _ h)
-
-    asked : (o : Option Why) (r : Role) (s : Sapi) (request : Request) → refusal (Ask r s request) w ≡ o →
-        P (after_by o (Ask r s request) w)
-        (answer_lines {Manner = Option Frame} (Ask r s request) (answer_by o (deed (Ask r s request) w.ends)))
-    asked (Some why) r s request h = refused
-    asked None r s request h = called r s (call_of request) (placed-request r s request) (no_refusal _ _ h)
+    either : (o : Option Why) (event : Event) → KnowsBy o Known event → (o ≡ None → Knows Known event →
+        P (after_by None event w) (answer_lines event (answer_by None (deed event w.ends)))) →
+        P (after_by o event w) (answer_lines event (answer_by o (deed event w.ends)))
+    either (Some why) event known h = refused
+    either None event known h = h refl known
 
     -- nothing is sent
     quietly : (sender r : Role) → P (with_frames r [] (without_first sender w)) []
@@ -81,28 +71,16 @@ module _ (w : World) (P : World → List Line → Type 0) (Known : Role → Fram
     taken_by r f known false true = taken r Three f known
     taken_by r f known false false = quietly (other r) r
 
-    delivered : (o : Option Why) (sender : Role) (read : Option Frame) → KnowsBy o Known (Deliver sender read) →
-        P (after_by o (Deliver sender read) w) (answer_lines (Deliver sender read) (answer_by o (deed (Deliver sender read) w.ends)))
-    delivered (Some why) sender read known = refused
-    delivered None Mobile (Some f) known = taken_by Network f known (nat_eq f.sapi 0) (nat_eq f.sapi 3)
-    delivered None Network (Some f) known = taken_by Mobile f known (nat_eq f.sapi 0) (nat_eq f.sapi 3)
-    delivered None Mobile None known = quietly Mobile Network
-    delivered None Network None known = quietly Network Mobile
-
-    lost_by : (o : Option Why) (sender : Role) →
-        P (after_by o (Lose sender) w) (answer_lines {Manner = Option Frame} (Lose sender) (answer_by o (deed (Lose sender) w.ends)))
-    lost_by (Some why) sender = refused
-    lost_by None sender = quietly sender Mobile
-
-    rival_by : (o : Option Why) (info : Message) → refusal (Rival info) w ≡ o →
-        P (after_by o (Rival info) w) (answer_lines {Manner = Option Frame} (Rival info) (answer_by o (deed (Rival info) w.ends)))
-    rival_by (Some why) info h = refused
-    rival_by None info h = rival info (no_refusal _ _ h)
-
     pub by_kind : (event : Event) → KnowsBy (refusal event w) Known event → P (after event w) (answer_lines event (answer event w))
-    by_kind (Open info) known = opened (refusal (Open info) w) info refl
-    by_kind (OpenBare r) known = opened_bare (refusal (OpenBare r) w) r refl
-    by_kind (Ask r s request) known = asked (refusal (Ask r s request) w) r s request refl
-    by_kind (Deliver sender read) known = delivered (refusal (Deliver sender read) w) sender read known
-    by_kind (Lose sender) known = lost_by (refusal (Lose sender) w) sender
-    by_kind (Rival info) known = rival_by (refusal (Rival info) w) info refl
+    by_kind (Open info) known =
+        either _ (Open info) known (λ e k. called Mobile Zero (Opens info) (refl, refl) (no_refusal _ _ e))
+    by_kind (OpenBare r) known = either _ (OpenBare r) known (λ e k. called r Three OpensBare refl (no_refusal _ _ e))
+    by_kind (Ask r s request) known =
+        either _ (Ask r s request) known (λ e k. called r s (call_of request) (placed-request r s request) (no_refusal _ _ e))
+    by_kind (Deliver Mobile (Some f)) known =
+        either _ (Deliver Mobile (Some f)) known (λ e k. taken_by Network f k (nat_eq f.sapi 0) (nat_eq f.sapi 3))
+    by_kind (Deliver Network (Some f)) known =
+        either _ (Deliver Network (Some f)) known (λ e k. taken_by Mobile f k (nat_eq f.sapi 0) (nat_eq f.sapi 3))
+    by_kind (Deliver sender None) known = either _ (Deliver sender None) known (λ e k. quietly sender (other sender))
+    by_kind (Lose sender) known = either _ (Lose sender) known (λ e k. quietly sender Mobile)
+    by_kind (Rival info) known = either _ (Rival info) known (λ e k. rival info (no_refusal _ _ e))

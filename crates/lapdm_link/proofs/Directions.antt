@@ -7,14 +7,52 @@
 -- at most one more than its first, since the window is one frame. So of the two pieces that an arriving I frame may
 -- carry, the last accepted and the next, N(S) tells which, and of the two counts that an N(R) may stand for it tells
 -- whether it is that of the piece that waits; then what lies between, the count of accepted pieces, is that count too.
-use Rattle.std.proofs.Common.{◌≡◌, ◌≢◌, sym, ◌∙◌, ap, arith, ℕ, ◌+◌, ◌%◌, false, ◌<◌, ◌≤◌, List, [], ◌∷◌, ◌++◌, length, take, get_or}
+use Rattle.std.proofs.Common.{arith, ℕ, ◌≤◌, List, [], ◌∷◌, ◌++◌, ◌≡◌, ◌≢◌, sym, ◌∙◌, ap, ◌+◌, ◌%◌, false, ◌<◌, length, take, get_or}
 use Rattle.std.proofs.lemmas.List.{length-append, take-append-le, take_more}
 use Rattle.std.proofs.Math.ListN.{get_or-append}
 use Rattle.lapdm_frame.specs.Content.{Content, I, Rr, Rej, Frame}
 use Rattle.segmenting.specs.Pieces.{Piece}
 use Rattle.lapdm_window.specs.declared.Sapi.{Sapi}
-use Rattle.lapdm_link.proofs.Queues.{is_on, Where, where-more}
-use Rattle.lapdm_link.proofs.Climbs.{Climbs, AllTell, climbs-le, climbs-lower, climbs-higher, climbs-append, climbs-told, climbs-rest}
+use Rattle.lapdm_link.proofs.Queues.{is_on, Where, where-more, AllWhere}
+
+-- ---- numbers that never fall
+
+module _ (t : Sapi) (Tells : ℕ → Content → Type 0) where
+  -- from the low number to the high one by way of what frames of this SAPI tell of the numbers in between: none is below
+  -- the one before
+  abbrev pub Climbs : ℕ → List Frame → ℕ → Type 0
+  Climbs low [] high = low ≤ high
+  Climbs low (f ∷ fs) high = (k : ℕ) × (low ≤ k) × Where (is_on t f) (Tells k f.content) × Climbs k fs high
+
+  pub climbs-le : (low : ℕ) (fs : List Frame) (high : ℕ) → Climbs low fs high → low ≤ high
+  climbs-le low [] high h = h
+  climbs-le low (f ∷ fs) high h = let rest : h.0 ≤ high = climbs-le h.0 fs high h.3 in omega (arith, h.1)
+
+  -- a wider range
+  climbs-lower : (low' low : ℕ) (fs : List Frame) (high : ℕ) → low' ≤ low → Climbs low fs high → Climbs low' fs high
+  climbs-lower low' low [] high l h = omega arith
+  climbs-lower low' low (f ∷ fs) high l h = (h.0, let a : low ≤ h.0 = h.1 in omega arith, h.2, h.3)
+
+  climbs-higher : (low : ℕ) (fs : List Frame) (high high' : ℕ) → high ≤ high' → Climbs low fs high → Climbs low fs high'
+  climbs-higher low [] high high' l h = omega arith
+  climbs-higher low (f ∷ fs) high high' l h = (h.0, h.1, h.2, climbs-higher h.0 fs high high' l h.3)
+
+  -- the highest is told at the end
+  climbs-append : (low : ℕ) (fs gs : List Frame) (high : ℕ) → AllWhere (Tells high) t gs → Climbs low fs high → Climbs low (fs ++ gs) high
+  climbs-append low [] [] high a h = h
+  climbs-append low [] (g ∷ gs) high a h = (high, h, a.0, climbs-append high [] gs high a.1 (omega arith))
+  climbs-append low (f ∷ fs) gs high a h = (h.0, h.1, h.2, climbs-append h.0 fs gs high a h.3)
+
+  -- the first is gone
+  climbs-rest : (low : ℕ) (f : Frame) (fs : List Frame) (high : ℕ) → Climbs low (f ∷ fs) high → Climbs low fs high
+  climbs-rest low f fs high h = climbs-lower low h.0 fs high h.1 h.3
+
+-- what is told tells as much in other words
+climbs-told : (t : Sapi) (Tells Tells' : ℕ → Content → Type 0) → ((k : ℕ) (c : Content) → Tells k c → Tells' k c) →
+    (low : ℕ) (fs : List Frame) (high : ℕ) → Climbs t Tells low fs high → Climbs t Tells' low fs high
+climbs-told t Tells Tells' says low [] high h = h
+climbs-told t Tells Tells' says low (f ∷ fs) high h =
+    (h.0, h.1, where-more _ _ _ (says h.0 f.content) h.2, climbs-told t Tells Tells' says h.0 fs high h.3)
 
 -- a frame with an N(R) says that so many pieces are accepted
 abbrev pub CountsIn : ℕ → Content → Type 0
@@ -45,8 +83,8 @@ Carries t ps n f = Where (is_on t f) (CarriesIn ps n f.content)
 -- of all pieces so many are acknowledged and so many sent; these are accepted, the first of all; these frames are on
 -- their way with pieces, and back with acknowledgements
 pub record IsDirection (t : Sapi) (ps : List Piece) (acked sent : ℕ) (accepted : List Piece) (there back : List Frame) : Type 0 where
-  pub acknowledged : Climbs (Counts t) acked back (length accepted)
-  pub carried : Climbs (Carries t ps) (length accepted) there sent
+  pub acknowledged : Climbs t CountsIn acked back (length accepted)
+  pub carried : Climbs t (CarriesIn ps) (length accepted) there sent
   pub window : sent ≤ acked + 1
   pub within : sent ≤ length ps
   pub in_order : accepted ≡ take (length accepted) ps
@@ -61,10 +99,10 @@ right_number a r s k h1 h2 h3 h4 h5 h6 = grind arith
 
 module _ {t : Sapi} {ps : List Piece} {a s : ℕ} {qs : List Piece} {there back : List Frame} where
   acknowledged-le : IsDirection t ps a s qs there back → a ≤ length qs
-  acknowledged-le h = climbs-le (Counts t) a back (length qs) h.acknowledged
+  acknowledged-le h = climbs-le t CountsIn a back (length qs) h.acknowledged
 
   accepted-le : IsDirection t ps a s qs there back → length qs ≤ s
-  accepted-le h = climbs-le (Carries t ps) (length qs) there s h.carried
+  accepted-le h = climbs-le t (CarriesIn ps) (length qs) there s h.carried
 
   -- what is sent and not acknowledged is one piece
   pub waits_for_one : s ≢ a → IsDirection t ps a s qs there back → s ≡ a + 1
@@ -78,28 +116,28 @@ module _ {t : Sapi} {ps : List Piece} {a s : ℕ} {qs : List Piece} {there back 
   pub next_waits : s ≡ a → s < length ps → IsDirection t ps a s qs there back → IsDirection t ps a (s + 1) qs there back
   next_waits none left h = record {
     acknowledged = h.acknowledged;
-    carried = climbs-higher (Carries t ps) (length qs) there s (s + 1) (omega arith) h.carried;
+    carried = climbs-higher t (CarriesIn ps) (length qs) there s (s + 1) (omega arith) h.carried;
     window = omega arith;
     within = omega arith;
     in_order = h.in_order;
   }
 
   -- frames go out that carry the last piece sent, for the first time or again
-  pub pieces_out : (fs : List Frame) → AllTell (Carries t ps) s fs → IsDirection t ps a s qs there back →
+  pub pieces_out : (fs : List Frame) → AllWhere (CarriesIn ps s) t fs → IsDirection t ps a s qs there back →
       IsDirection t ps a s qs (there ++ fs) back
   pieces_out fs tell h = record {
     acknowledged = h.acknowledged;
-    carried = climbs-append (Carries t ps) (length qs) there fs s tell h.carried;
+    carried = climbs-append t (CarriesIn ps) (length qs) there fs s tell h.carried;
     window = h.window;
     within = h.within;
     in_order = h.in_order;
   }
 
   -- frames go back that count the accepted pieces
-  pub numbers_out : (fs : List Frame) → AllTell (Counts t) (length qs) fs → IsDirection t ps a s qs there back →
+  pub numbers_out : (fs : List Frame) → AllWhere (CountsIn (length qs)) t fs → IsDirection t ps a s qs there back →
       IsDirection t ps a s qs there (back ++ fs)
   numbers_out fs tell h = record {
-    acknowledged = climbs-append (Counts t) a back fs (length qs) tell h.acknowledged;
+    acknowledged = climbs-append t CountsIn a back fs (length qs) tell h.acknowledged;
     carried = h.carried;
     window = h.window;
     within = h.within;
@@ -112,18 +150,18 @@ module _ {t : Sapi} {ps : List Piece} {a s : ℕ} {qs : List Piece} {there back 
   piece_in f ns p carries number h =
       let k : ℕ = h.carried.0 in
       let c : IsPiece ps k ns p = carries k h.carried.2 in
-      let rest : Climbs (Carries t ps) k there s = h.carried.3 in
+      let rest : Climbs t (CarriesIn ps) k there s = h.carried.3 in
       let low : length qs ≤ k = h.carried.1 in
-      let below : a ≤ length qs = climbs-le (Counts t) a back (length qs) h.acknowledged in
-      let above : k ≤ s = climbs-le (Carries t ps) k there s rest in
+      let below : a ≤ length qs = climbs-le t CountsIn a back (length qs) h.acknowledged in
+      let above : k ≤ s = climbs-le t (CarriesIn ps) k there s rest in
       let at_is : c.at ≡ length qs = right_piece a (length qs) s c.at below (omega (arith, c.count)) (omega (arith, c.count)) h.window
       (sym c.number ∙ number) in
       let longer : length (qs ++ p ∷ []) ≡ length qs + 1 = length-append qs (p ∷ []) in
       let k_is : k ≡ length (qs ++ p ∷ []) = omega (arith, c.count) in
       let piece : get_or ps (length qs) ([], false) ≡ p = ap (λ i. get_or ps i ([], false)) (sym at_is) ∙ c.piece in
       record {
-        acknowledged = climbs-higher (Counts t) a back (length qs) (length (qs ++ p ∷ [])) (omega arith) h.acknowledged;
-        carried = climbs-lower (Carries t ps) (length (qs ++ p ∷ [])) k there s (omega arith) rest;
+        acknowledged = climbs-higher t CountsIn a back (length qs) (length (qs ++ p ∷ [])) (omega arith) h.acknowledged;
+        carried = climbs-lower t (CarriesIn ps) (length (qs ++ p ∷ [])) k there s (omega arith) rest;
         window = h.window;
         within = h.within;
         in_order = ap (λ q. qs ++ q ∷ []) (sym piece) ∙ ap (λ xs. xs ++ get_or ps (length qs) ([], false) ∷ []) h.in_order
@@ -134,7 +172,7 @@ module _ {t : Sapi} {ps : List Piece} {a s : ℕ} {qs : List Piece} {there back 
   pub piece_gone : {f : Frame} → IsDirection t ps a s qs (f ∷ there) back → IsDirection t ps a s qs there back
   piece_gone {f} h = record {
     acknowledged = h.acknowledged;
-    carried = climbs-rest (Carries t ps) (length qs) f there s h.carried;
+    carried = climbs-rest t (CarriesIn ps) (length qs) f there s h.carried;
     window = h.window;
     within = h.within;
     in_order = h.in_order;
@@ -142,7 +180,7 @@ module _ {t : Sapi} {ps : List Piece} {a s : ℕ} {qs : List Piece} {there back 
 
   pub number_gone : {f : Frame} → IsDirection t ps a s qs there (f ∷ back) → IsDirection t ps a s qs there back
   number_gone {f} h = record {
-    acknowledged = climbs-rest (Counts t) a f back (length qs) h.acknowledged;
+    acknowledged = climbs-rest t CountsIn a f back (length qs) h.acknowledged;
     carried = h.carried;
     window = h.window;
     within = h.within;
@@ -154,13 +192,13 @@ module _ {t : Sapi} {ps : List Piece} {a s : ℕ} {qs : List Piece} {there back 
       IsDirection t ps a s qs there (f ∷ back) → IsDirection t ps s s qs there back
   number_in f nr counts waits number h =
       let k : ℕ = h.acknowledged.0 in
-      let rest : Climbs (Counts t) k back (length qs) = h.acknowledged.3 in
-      let below : k ≤ length qs = climbs-le (Counts t) k back (length qs) rest in
-      let above : length qs ≤ s = climbs-le (Carries t ps) (length qs) there s h.carried in
+      let rest : Climbs t CountsIn k back (length qs) = h.acknowledged.3 in
+      let below : k ≤ length qs = climbs-le t CountsIn k back (length qs) rest in
+      let above : length qs ≤ s = climbs-le t (CarriesIn ps) (length qs) there s h.carried in
       let k_is : k ≡ s = right_number a (length qs) s k h.acknowledged.1 below above h.window waits
       (sym (counts k h.acknowledged.2) ∙ number) in
       record {
-        acknowledged = climbs-lower (Counts t) s k back (length qs) (omega arith) rest;
+        acknowledged = climbs-lower t CountsIn s k back (length qs) (omega arith) rest;
         carried = h.carried;
         window = omega arith;
         within = h.within;
@@ -181,11 +219,10 @@ carries-more ps more n other c = tt
 pub more_pieces : (more : List Piece) {t : Sapi} {ps : List Piece} {a s : ℕ} {qs : List Piece} {there back : List Frame} →
     IsDirection t ps a s qs there back → IsDirection t (ps ++ more) a s qs there back
 more_pieces more {t} {ps} {a} {s} {qs} {there} {back} h =
-    let r_le : length qs ≤ s = climbs-le (Carries t ps) (length qs) there s h.carried in
+    let r_le : length qs ≤ s = climbs-le t (CarriesIn ps) (length qs) there s h.carried in
     record {
       acknowledged = h.acknowledged;
-      carried = climbs-told (Carries t ps) (Carries t (ps ++ more))
-          (λ k f. where-more (is_on t f) _ _ (carries-more ps more k f.content)) (length qs) there s h.carried;
+      carried = climbs-told t (CarriesIn ps) (CarriesIn (ps ++ more)) (carries-more ps more) (length qs) there s h.carried;
       window = h.window;
       within = omega (arith, h.within, length-append ps more);
       in_order = h.in_order ∙ sym (take-append-le (length qs) ps more (omega (arith, h.within)));

@@ -7,10 +7,9 @@ use Rattle.segmenting.specs.Pieces.{Message, Piece}
 use Rattle.lapdm_window.specs.declared.Sapi.{Sapi}
 use Rattle.lapdm_window.specs.Ends.{EndState, Outcome, stays, sends_frame, ◌then◌, response, all_pieces, next_piece, waits, vr}
 use Rattle.lapdm_window.specs.Rules.{waiting_frame, has_next, with_next, sends_piece, sends_next, acknowledges, with_acked, reports_acked, counts, accepts, says_rr, answers_piece, with_reject, reject_is_due, rejects, takes_i, answers_poll, takes_rr, sends_again, takes_rej}
-use Rattle.lapdm_link.proofs.Queues.{where-all, where-more, is_on, IsPlain, AllWhere}
-use Rattle.lapdm_link.proofs.Climbs.{AllTell}
-use Rattle.lapdm_link.proofs.Telling.{has_left}
+use Rattle.lapdm_link.proofs.Queues.{where-all, where-as, IsPlain, AllWhere}
 use Rattle.lapdm_link.proofs.Directions.{IsDirection, IsPiece, CountsIn, CarriesIn, Counts, Carries, next_waits, waits_for_one, pieces_out, piece_in, piece_gone, numbers_out, number_in, number_gone}
+use Rattle.lapdm_link.proofs.Telling.{has_left}
 
 -- both directions between an end and the other one: the frames on their way out, those that come in with pieces, and
 -- those that come in with acknowledgements
@@ -33,15 +32,6 @@ plain_carries : (ps : List Piece) (n : ℕ) (c : Content) → IsPlain c → Carr
 plain_carries ps n (I ns nr p more info) h = absurd h
 plain_carries ps n other h = tt
 
-module _ (t : Sapi) where
-  pub plain-counts : (n : ℕ) (fs : List Frame) → AllWhere IsPlain t fs → AllTell (Counts t) n fs
-  plain-counts n [] h = tt
-  plain-counts n (f ∷ fs) h = (where-more (is_on t f) _ _ (plain_counts n f.content) h.0, plain-counts n fs h.1)
-
-  pub plain-carries : (ps : List Piece) (n : ℕ) (fs : List Frame) → AllWhere IsPlain t fs → AllTell (Carries t ps) n fs
-  plain-carries ps n [] h = tt
-  plain-carries ps n (f ∷ fs) h = (where-more (is_on t f) _ _ (plain_carries ps n f.content) h.0, plain-carries ps n fs h.1)
-
 pub is_waiting : (x : EndState) → waits x ≡ true → x.sent ≢ x.acked
 is_waiting x h = grind (arith, nat_tests)
 
@@ -50,12 +40,12 @@ acknowledges_one x nr h = (grind (arith, nat_tests), grind (arith, nat_tests))
 
 module _ {t : Sapi} {x y : EndState} {out comes hears : List Frame} where
   -- frames go out
-  pub sends : (fs : List Frame) → AllTell (Carries t (all_pieces x)) x.sent fs → AllTell (Counts t) (length x.accepted) fs →
+  pub sends : (fs : List Frame) → AllWhere (CarriesIn (all_pieces x) x.sent) t fs → AllWhere (CountsIn (length x.accepted)) t fs →
       IsBoth t x y out comes hears → IsBoth t x y (out ++ fs) comes hears
   sends fs pieces numbers h = record { there = pieces_out fs pieces h.there; back = numbers_out fs numbers h.back }
 
   pub sends_plain : (fs : List Frame) → AllWhere IsPlain t fs → IsBoth t x y out comes hears → IsBoth t x y (out ++ fs) comes hears
-  sends_plain fs plain h = sends fs (plain-carries t _ _ fs plain) (plain-counts t _ fs plain) h
+  sends_plain fs plain h = sends fs (where-as IsPlain _ (plain_carries _ _) t fs plain) (where-as IsPlain _ (plain_counts _) t fs plain) h
 
   pub quiet : IsBoth t x y out comes hears → IsBoth t x y (out ++ []) comes hears
   quiet h = sends [] tt tt h

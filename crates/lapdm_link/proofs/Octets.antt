@@ -20,7 +20,7 @@ use Rattle.lapdm_link.proofs.Taking.{Answers, OpensBy, Remains, IsOpenedBy, IsTa
 use Rattle.lapdm_link.proofs.Asked.{Asks, LeftBy, IsCalled, is_called}
 use Rattle.lapdm_link.proofs.ByKind.{KnowsBy}
 use Rattle.lapdm_link.proofs.Order.{AllReported}
-use Rattle.lapdm_link.proofs.Holding.{AllOf, of-append, Holds, holds-step, holds-start}
+use Rattle.lapdm_link.proofs.Fitting.{AllOf, of-append, Holds, holds-step, holds-start}
 
 abbrev pub AreOctets : List ℕ → Type 0
 AreOctets m = All (λ octet. octet < 256) m

@@ -23,7 +23,7 @@ use Rattle.lapdm_link.specs.Claims.{Line, Asked, Rivals, Told, opened_in, HasCau
 use Rattle.lapdm_link.proofs.Queues.{is_on, Where, AllWhere, AllFrames, where-append, where-rest, where-as, all-where, all-elsewhere}
 use Rattle.lapdm_link.proofs.Views.{end_of, way, without_first, with_frames, acted, said, each_end, each_way, each_lost, each_start, by_link, end_does, end_does-else, way_does, way_does-other}
 use Rattle.lapdm_link.proofs.ByKind.{IsPlaced}
-use Rattle.lapdm_link.proofs.Standing.{AllStand}
+use Rattle.lapdm_link.proofs.Order.{AllStand}
 use Rattle.lapdm_link.proofs.Taking.{HasBegun, Answers, MayOpen, OpensBy, Remains, IsOpenedBy, IsTaken, taken-frame, elsewhere}
 use Rattle.lapdm_link.proofs.Asked.{Asks, IsOpening, LeftBy, IsCalled}
 

@@ -1,27 +1,65 @@
 -- The claims on every session, whatever frames arrive.
-use Rattle.std.proofs.Common.{◌≡◌, refl, sym, ◌∙◌, ap, subst, arith, ℕ, ◌≤◌, List, [], ◌∷◌, ◌++◌, map, Option, Some, None, append_assoc}
+use Rattle.std.proofs.Common.{sym, subst, List, [], ◌∷◌, ◌++◌, map, append_assoc, ◌≡◌, refl, ◌∙◌, ap, arith, ℕ, ◌≤◌, Option, Some, None, zero, suc}
+use Rattle.std.specs.Prelude.{Contains}
+use Rattle.std.specs.List.{filter_map, cons_option}
 use Rattle.std.proofs.lemmas.List.{append-nil}
+use Rattle.lapdm_window.specs.declared.Sapi.{Sapi}
+use Rattle.lapdm_window.specs.Ends.{Role, Mobile, EndState, Outcome, KeepsWindow}
+use Rattle.lapdm_window.specs.Calls.{Call, Closes}
+use Rattle.lapdm_link.specs.Claims.{Line, Asked, StandsAfter, Rivals, Told, answer_lines, lines, call_in, notice_in, closed_in, calls, notices, IsOfOpenEnd, IsOpenEnd, OrderClaims}
 use Rattle.lapdm_frame.specs.declared.Channel.{Channel}
 use Rattle.lapdm_frame.specs.Content.{Frame}
-use Rattle.std.proofs.lemmas.List.Elements.{All-nil}
+use Rattle.std.proofs.lemmas.List.Elements.{All-nil, Contains-append_right}
 use Rattle.segmenting.specs.Pieces.{Message, IsMessage}
-use Rattle.lapdm_window.specs.declared.Sapi.{Sapi}
 use Rattle.lapdm_window.specs.declared.State.{State}
-use Rattle.lapdm_window.specs.declared.State.TheVariants as S
 use Rattle.lapdm_window.specs.declared.Notice.{Notice}
-use Rattle.lapdm_window.specs.declared.Notice.TheVariants as N
-use Rattle.lapdm_window.specs.Ends.{Role, Mobile, EndState, Outcome, KeepsWindow}
-use Rattle.lapdm_window.specs.Calls.{Call}
 use Rattle.lapdm_window.specs.Tables.{after_frame}
 use Rattle.lapdm_link.specs.Events.{Event, Deliver, Why, other, rival_frame}
 use Rattle.lapdm_link.specs.Worlds.{World, start_on, refusal, answer, after, answers}
-use Rattle.lapdm_link.specs.Claims.{Line, Asked, Rivals, Told, answer_lines, lines, calls, notices, IsOfOpenEnd, IsOpenEnd, OrderClaims}
-use Rattle.lapdm_link.proofs.Told.{Phase, HasTold, MaySay, AllSaid, IsStep, step-unasked}
+use Rattle.lapdm_link.proofs.Told.{closes_in, PhaseIn, Phase, HasTold, MaySay, AllSaid, IsStep, step-unasked}
 use Rattle.lapdm_link.proofs.Taking.{IsTaken, taken-frame}
 use Rattle.lapdm_link.proofs.Asked.{is_called}
-use Rattle.lapdm_link.proofs.Views.{end_of, without_first, with_frames, acted, said, each_end, each_start, end_does, end_does-else, calls-said, notices-said, calls-else, notices-else, calls-rival, notices-rival}
+use Rattle.lapdm_link.proofs.Views.{is_end-self, end_of, without_first, with_frames, acted, said, each_end, each_start, end_does, end_does-else, calls-said, notices-said, calls-else, notices-else, calls-rival, notices-rival}
 use Rattle.lapdm_link.proofs.ByKind.{KnowsBy, by_kind}
-use Rattle.lapdm_link.proofs.Standing.{AllStand, stand-append, stand-asked, stands}
+use Rattle.lapdm_window.specs.declared.State.TheVariants as S
+use Rattle.lapdm_window.specs.declared.Notice.TheVariants as N
+
+-- ---- what holds of each line by the lines before it
+
+-- each of these lines may stand behind those before it
+abbrev pub AllStand : (List Line → Line → Type 0) → List Line → List Line → Type 0
+AllStand May before [] = Unit {0}
+AllStand May before (l ∷ ls) = May before l × AllStand May (before ++ l ∷ []) ls
+
+pub stand-append : (May : List Line → Line → Type 0) (before xs ys : List Line) → AllStand May before xs → AllStand May (before ++ xs) ys →
+    AllStand May before (xs ++ ys)
+stand-append May before [] ys h g = subst (λ (b : List Line). AllStand May b ys) (append-nil before) g
+stand-append May before (x ∷ xs) ys h g = (
+  h.0,
+  stand-append May (before ++ x ∷ []) xs ys h.1
+      (subst (λ (b : List Line). AllStand May b ys) (sym (append_assoc before (x ∷ []) xs)) g),
+)
+
+-- what an end is asked may stand anywhere
+pub stand-asked : (May : List Line → Line → Type 0) → ((b : List Line) (r : Role) (s : Sapi) (c : Call) → May b (Asked r s c)) → (r : Role)
+    (s : Sapi) (ls : List Line) (cs : List Call) (xs : List Line) → AllStand May (ls ++ map (Asked r s) cs) xs →
+    AllStand May ls (map (Asked r s) cs ++ xs)
+stand-asked May free r s ls [] xs h = subst (λ (b : List Line). AllStand May b xs) (append-nil ls) h
+stand-asked May free r s ls (c ∷ cs) xs h = (
+  free ls r s c,
+  stand-asked May free r s (ls ++ Asked r s c ∷ []) cs xs
+      (subst (λ (b : List Line). AllStand May b xs) (sym (append_assoc ls (Asked r s c ∷ []) (map (Asked r s) cs))) h),
+)
+
+at_place : (May : List Line → Line → Type 0) (first before : List Line) (l : Line) (more : List Line) →
+    AllStand May first (before ++ l ∷ more) → May (first ++ before) l
+at_place May first [] l more h = subst (λ (b : List Line). May b l) (sym (append-nil first)) h.0
+at_place May first (b ∷ bs) l more h =
+    subst (λ (c : List Line). May c l) (append_assoc first (b ∷ []) bs) (at_place May (first ++ b ∷ []) bs l more h.1)
+
+pub stands : (May : List Line → Line → Type 0) (ls before : List Line) (l : Line) → AllStand May [] ls → StandsAfter before l ls →
+    May before l
+stands May ls before l h place = at_place May [] before l place.0 (subst (AllStand May []) (sym place.1) h)
 
 -- an end, and what its lines tell of it
 pub record IsReported (r : Role) (s : Sapi) (e : EndState) (cs : List Call) (ns : List Notice) : Type 0 where
@@ -101,10 +139,8 @@ rival w ls h info = (
 )
 
 any_frame : (o : Option Why) (event : Event) → KnowsBy o (λ r f. Unit {0}) event
-any_frame (Some why) event = tt
 any_frame None (Deliver sender (Some f)) = tt
-any_frame None (Deliver sender None) = tt
-any_frame None other = tt
+any_frame o event = tt
 
 pub in_order-step : (w : World) (ls : List Line) (event : Event) → AllReported w ls →
     Follows ls (after event w) (answer_lines event (answer event w))
@@ -141,11 +177,36 @@ closed-most : (s : State) (o c k : ℕ) → Phase s o c k → c ≤ 1
 closed-most S.Closed o c k h = omega (arith, h.1)
 closed-most s o c k h = omega (arith, h.1)
 
+-- what is picked of a list that contains it
+picked : {X Y : Type 0} (pick : X → Option Y) (xs : List X) (x : X) (y : Y) → pick x ≡ Some y → Contains xs x →
+    Contains (filter_map pick xs) y
+picked pick [] x y e h = absurd (omega (arith, h.1))
+picked {X} {Y} pick (z ∷ zs) x y e (zero, l, is) =
+    subst (λ (o : Option Y). Contains (cons_option o (filter_map pick zs)) y) (sym (ap pick is ∙ e)) (0, omega (arith), refl)
+picked {X} {Y} pick (z ∷ zs) x y e (suc k, l, is) = behind (pick z) (picked pick zs x y e (k, omega (arith, l), is))
+  where
+    behind : (o : Option Y) → Contains (filter_map pick zs) y → Contains (cons_option o (filter_map pick zs)) y
+    behind None h = h
+    behind (Some v) h = Contains-append_right (v ∷ []) (filter_map pick zs) y h
+
+is_open : (r : Role) (s : Sapi) (before : List Line) → PhaseIn S.Open (calls r s before) (notices r s before) → IsOpenEnd r s before
+is_open r s before h = record {
+  opened = h.0;
+  closed = λ reason c.
+      (let told = picked (notice_in r s) before (Told r s (N.Closed reason)) (N.Closed reason) (rw (is_end-self r s) refl) c in
+      let one = picked closed_in (notices r s before) (N.Closed reason) (N.Closed reason) refl told in
+      omega (arith, one.1, h.1));
+  asked = λ c.
+      (let told = picked (call_in r s) before (Asked r s Closes) Closes (rw (is_end-self r s) refl) c in
+      let one = picked closes_in (calls r s before) Closes Closes refl told in
+      omega (arith, one.1, h.2));
+}
+
 is_open_end : (r : Role) (s : Sapi) (n : Notice) (before : List Line) → IsOfOpenEnd n → MaySay (calls r s before) (notices r s before) n →
     IsOpenEnd r s before
-is_open_end r s (N.Got m) before of h = record { opened = h.0; closed = h.1; closes = h.2 }
-is_open_end r s (N.Acked n) before of h = record { opened = h.2.0; closed = h.2.1; closes = h.2.2 }
-is_open_end r s N.Oversize before of h = record { opened = h.0; closed = h.1; closes = h.2 }
+is_open_end r s (N.Got m) before of h = is_open r s before h
+is_open_end r s (N.Acked n) before of h = is_open r s before h.2
+is_open_end r s N.Oversize before of h = is_open r s before h
 is_open_end r s other before of h = absurd of
 
 pub order_claims : (channel : Channel) (events : List Event) → OrderClaims (lines events (answers events (start_on channel)))

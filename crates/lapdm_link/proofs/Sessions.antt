@@ -12,14 +12,11 @@ use Rattle.lapdm_link.proofs.Views.{end_of, way, without_first, other_twice}
 use Rattle.lapdm_link.proofs.Asked.{is_called}
 use Rattle.lapdm_link.specs.Claims.{Line, Told, answer_lines, lines, calls, notices, units_got, Claims, acked, got}
 use Rattle.lapdm_link.proofs.Told.{MaySay}
-use Rattle.lapdm_link.proofs.Standing.{AllStand, stand-append, stands}
+use Rattle.lapdm_link.proofs.Order.{AllStand, stand-append, stands, AllReported, MayStand, Follows, in_order-step, start-reported, opened-most}
 use Rattle.lapdm_link.proofs.ByKind.{by_kind}
-use Rattle.lapdm_link.proofs.Order.{AllReported, MayStand, Follows, in_order-step, start-reported, opened-most}
-use Rattle.lapdm_link.proofs.Delivery.{AllCarried, start-carried}
-use Rattle.lapdm_link.proofs.Delivered.{got_in_order, none_oversize, IsAfterGot, delivers-step, as_sent, acked_most}
-use Rattle.lapdm_link.proofs.Subsequences.{sub-front}
+use Rattle.lapdm_link.proofs.Delivery.{AllCarried, start-carried, got_in_order, none_oversize, IsAfterGot, delivers-step, as_sent, acked_most}
+use Rattle.lapdm_link.proofs.Units.{sub-front, AllUnits, units-call, units-frame, units-lost, units-rival, start-units}
 use Rattle.lapdm_link.proofs.Taking.{units_on}
-use Rattle.lapdm_link.proofs.Units.{AllUnits, units-call, units-frame, units-lost, units-rival, start-units}
 use Rattle.lapdm_link.proofs.Openings.{AllOpenings, IsOpenedAfter, openings-call, openings-frame, openings-lost, openings-rival, start-openings}
 
 -- what holds of the ends, the frames on their way and the lines

@@ -79,7 +79,6 @@ units_on s fs = filter_map (λ f. unit_of (is_on s f) f.content) fs
 
 unit-none : (here : Bool) (c : Content) → Where here (unit_of true c ≡ None) → unit_of here c ≡ None
 unit-none true c h = h
-unit-none false (Ui p []) h = refl
 unit-none false (Ui p (i ∷ is)) h = refl
 unit-none false other h = refl
 

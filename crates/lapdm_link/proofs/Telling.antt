@@ -266,36 +266,31 @@ one_more : (ps : List Piece) (p : Piece) →
 one_more ps (octets, true) = endings-more [] ps octets ∙ sym (append-nil (endings [] ps))
 one_more ps (octets, false) = endings-last [] ps octets
 
-no-acked : (j : Joined) (more : Bool) (m : Message) → filter_map acked_in (notices_of j more m) ≡ []
-no-acked J.Oversize true m = refl
-no-acked j more m = refl
+-- it tells of nothing else
+record TellsGot (k : ℕ) (ns : List Notice) : Type 0 where
+  acked : filter_map acked_in ns ≡ []
+  of_open : TellsOfOpen ns
+  numbers : Numbers k ns
+  walks : Walks Open ns Open
 
-no-units : (j : Joined) (more : Bool) (m : Message) → TellsOfOpen (notices_of j more m)
-no-units J.Oversize true m = (refl, refl)
-no-units j more m = (refl, refl)
-
-no-numbers : (k : ℕ) (j : Joined) (more : Bool) (m : Message) → Numbers k (notices_of j more m)
-no-numbers k J.Oversize true m = tt
-no-numbers k j more m = tt
-
-open-notices : (j : Joined) (more : Bool) (m : Message) → Walks Open (notices_of j more m) Open
-open-notices J.Whole more m = (Open, (refl, refl), refl)
-open-notices J.Oversize true m = refl
-open-notices J.Oversize false m = (Open, (refl, refl), refl)
-open-notices J.More more m = refl
+tells-got : (k : ℕ) (j : Joined) (more : Bool) (m : Message) → TellsGot k (notices_of j more m)
+tells-got k J.More more m = record { acked = refl; of_open = (refl, refl); numbers = tt; walks = refl }
+tells-got k J.Oversize true m = record { acked = refl; of_open = (refl, refl); numbers = tt; walks = refl }
+tells-got k j more m = record { acked = refl; of_open = (refl, refl); numbers = tt; walks = (Open, (refl, refl), refl) }
 
 in-accepts : (p : Piece) (x : EndState) → x.state ≡ Open → KeepsWindow x → InOpen x (accepts p x)
 in-accepts p x is_now e =
     let j : Joined = answer_to x.accepted p in
     let m : Message = open_part x.accepted ++ p.0 in
+    let g : TellsGot (wholly_acked x) (notices_of j p.1 m) = tells-got (wholly_acked x) j p.1 m in
     openly x x.acked x.sent (x.accepted ++ p ∷ []) false x.retries [] _ tt
     (record {
       taken = refl;
       got = one_more x.accepted p ∙ ap (λ ms. endings [] x.accepted ++ ms) (sym (ended-by (nat_lt longest (length m)) p.1 m));
-      acked = omega (arith, ap length (no-acked j p.1 m));
-      numbers = no-numbers (wholly_acked x) j p.1 m;
-      walks = subst (λ (s : State). Walks s (notices_of j p.1 m) s) (sym is_now) (open-notices j p.1 m);
-    }) (no-units j p.1 m) (record { messages = e.messages; sent = e.sent; behind = e.behind; window = e.window })
+      acked = omega (arith, ap length g.acked);
+      numbers = g.numbers;
+      walks = subst (λ (s : State). Walks s (notices_of j p.1 m) s) (sym is_now) g.walks;
+    }) g.of_open (record { messages = e.messages; sent = e.sent; behind = e.behind; window = e.window })
 
 -- the rules as a whole
 module _ (nr : ℕ) (x : EndState) (is_now : x.state ≡ Open) (e : KeepsWindow x) where

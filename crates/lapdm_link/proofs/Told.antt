@@ -1,5 +1,5 @@
 -- How the calls and notices of an end tell what it took, handed up and counted, with whatever frames arrive.
-use Rattle.std.proofs.Common.{◌≡◌, sym, ◌∙◌, ap, subst, arith, ℕ, ◌+◌, ◌≤◌, List, [], ◌∷◌, ◌++◌, length, append_assoc}
+use Rattle.std.proofs.Common.{◌≡◌, sym, ◌∙◌, ap, subst, arith, ℕ, ◌+◌, ◌≤◌, List, [], ◌∷◌, ◌++◌, length, Option, Some, None, append_assoc}
 use Rattle.std.specs.List.{filter_map}
 use Rattle.std.proofs.lemmas.List.{append-nil, length-append}
 use Rattle.std.proofs.lemmas.List.Elements.{filter_map-append}
@@ -10,10 +10,14 @@ use Rattle.lapdm_window.specs.declared.Notice.{Notice}
 use Rattle.lapdm_window.specs.declared.Notice.TheVariants as N
 use Rattle.lapdm_window.specs.Ends.{EndState, Outcome, KeepsWindow, IsUnopened, wholly_acked, capped}
 use Rattle.lapdm_window.specs.Steps.{IsSameLink}
-use Rattle.lapdm_window.specs.Calls.{Call}
+use Rattle.lapdm_window.specs.Calls.{Call, Closes}
 use Rattle.lapdm_window.proofs.Lemmas.{wholly_acked-most}
-use Rattle.lapdm_link.specs.Claims.{sent_in, closes_in, acked_in, opened_in, closed_in}
+use Rattle.lapdm_link.specs.Claims.{sent_in, acked_in, opened_in, closed_in}
 use Rattle.lapdm_link.proofs.Telling.{ending_in, Numbers, IsLive, MayTell, Walks, Tells}
+
+abbrev pub closes_in : Call → Option Call
+closes_in Closes = Some Closes
+closes_in other = None
 
 -- opened so often, closed so often, and so often asked to close
 abbrev pub Phase : State → ℕ → ℕ → ℕ → Type 0

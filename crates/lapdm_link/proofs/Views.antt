@@ -106,7 +106,7 @@ each_lost P gone Network w h Network = gone Network w.ways.down (h Network)
 each_lost P gone sender w h r = h r
 
 -- lines of one end, and of each other one
-is_end-self : (r : Role) (s : Sapi) → is_end r s r s ≡ true
+pub is_end-self : (r : Role) (s : Sapi) → is_end r s r s ≡ true
 is_end-self Mobile Zero = refl
 is_end-self Network Zero = refl
 is_end-self r s = refl

@@ -4,6 +4,7 @@ use Rattle.std.specs.List.{filter_map}
 use Rattle.segmenting.specs.Pieces.{Message}
 use Rattle.lapdm_window.specs.declared.Sapi.{Sapi}
 use Rattle.lapdm_window.specs.declared.Sapi.TheVariants.{Zero, Three}
+use Rattle.lapdm_window.specs.declared.Reason.{Reason}
 use Rattle.lapdm_window.specs.declared.Notice.{Notice}
 use Rattle.lapdm_window.specs.declared.Notice.TheVariants as N
 use Rattle.lapdm_window.specs.Ends.{Role, Mobile, Network, sapi_number, capped}
@@ -68,10 +69,6 @@ abbrev pub unit_sent_in : Call → Option Message
 unit_sent_in (SendsUnit m) = Some m
 unit_sent_in other = None
 
-abbrev pub closes_in : Call → Option Call
-closes_in Closes = Some Closes
-closes_in other = None
-
 abbrev pub unit_got_in : Notice → Option Message
 unit_got_in (N.Unit m) = Some m
 unit_got_in other = None
@@ -109,9 +106,6 @@ opened r s ls = filter_map opened_in (notices r s ls)
 
 abbrev pub closed : Role → Sapi → List Line → List Notice
 closed r s ls = filter_map closed_in (notices r s ls)
-
-abbrev pub closes : Role → Sapi → List Line → List Call
-closes r s ls = filter_map closes_in (calls r s ls)
 
 abbrev pub IsPrefix : {T : Type 0} → List T → List T → Type 0
 IsPrefix {T} xs ys = (more : List T) × (xs ++ more ≡ ys)
@@ -160,8 +154,8 @@ IsOfOpenEnd other = ⊥
 -- the end was opened, and neither closed nor asked to close
 pub record IsOpenEnd (r : Role) (s : Sapi) (before : List Line) : Type 0 where
   pub opened : length (opened r s before) ≡ 1
-  pub closed : length (closed r s before) ≡ 0
-  pub closes : length (closes r s before) ≡ 0
+  pub closed : (reason : Reason) → ¬ Contains before (Told r s (N.Closed reason))
+  pub asked : ¬ Contains before (Asked r s Closes)
 
 -- The claims on order, of every session, whatever arrives, for each end r of each link s: the number told with an
 -- acknowledgement counts the acknowledged messages, and r was asked to send as many before; it is opened and closed at

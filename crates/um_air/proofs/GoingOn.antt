@@ -1,31 +1,82 @@
 -- There is an answer to every event, where messages are octets: a session can always go on.
-use Rattle.std.proofs.Common.{◌≡◌, refl, sym, ◌∙◌, ap, subst, arith, ℕ, ◌/◌, ◌%◌, ◌-◌, ◌<◌, ◌≤◌, List, [], ◌∷◌, map, length, get_or, set, Option, Some, None, All, inl, inr}
+use Rattle.std.proofs.Common.{◌≡◌, refl, sym, subst, arith, ℕ, ◌-◌, ◌<◌, ◌≤◌, List, [], ◌∷◌, ◌++◌, length, Option, None, ◌∙◌, ap, ◌/◌, ◌%◌, map, get_or, set, Some, All, inl, inr, append_assoc}
+use Rattle.std.proofs.lemmas.List.Elements.{All-nil, All-cons, All-append, All-replicate}
+use Rattle.lapdm_frame.specs.declared.Channel.{Channel}
+use Rattle.lapdm_frame.specs.declared.Channel.TheVariants.{Sdcch, Sacch}
+use Rattle.lapdm_frame.specs.Layout.{header, n201}
+use Rattle.lapdm_frame.specs.Content.{Content, I, Rr, Rnr, Rej, Sabm, Dm, Ui, Disc, Ua, Frame, information, goes_on}
+use Rattle.lapdm_frame.specs.Frames.{address, control, length_octet, NumbersFit, Fits, octets_of}
+use Rattle.lapdm_frame.proofs.Controls.{bit_bound}
+use Rattle.lapdm_frame.proofs.Uniqueness.{information_bound}
+use Rattle.lapdm_window.specs.Ends.{Role}
+use Rattle.lapdm_link.specs.Ways.{Ways, way, with_more}
+use Rattle.lapdm_link.specs.Events.{Open, OpenBare, Ask, Deliver, Lose, Rival, Send, SendUnit, Close, Tick, Idle, Who, End, Other, Nobody, Why, Deed, deed, sender_of, taken, Nothing, unless, is_empty}
+use Rattle.lapdm_link.specs.Worlds.{World}
+use Rattle.lapdm_link.specs.Claims.{Line}
+use Rattle.lapdm_link.proofs.Lemmas.{KnowsBy, AllSay, AllOf, WorldOctets, start-octets, AllFit, deed-fits, of-all, all-of}
+use Rattle.um_air.specs.Air.{Octets, Event, as_read, AirState, start_on, Answer, AirStep, AirRun, Block, Reads, Arrives, AreSent, Refuses, Does, refusal, turned_at, turned}
+use Rattle.um_air.specs.Sessions.{AreOctets, IsOctetEvent}
+use Rattle.um_air.proofs.Seeing.{ReadsWell, knows, world_of, refusal-same, known-read}
+use Rattle.um_air.proofs.Carrying.{IsSeenAt, seen, longer_run, says, deed-octets}
 use Rattle.std.specs.Prelude.{IfSome}
 use Rattle.std.proofs.lemmas.Bool.{cases_eq}
-use Rattle.std.proofs.lemmas.List.{get_or-set_other, get_or-set_same, get_or_default, length-set, length-map}
+use Rattle.std.proofs.lemmas.List.{append-nil, get_or-set_other, get_or-set_same, get_or_default, length-set, length-map}
 use Rattle.std.proofs.Math.ListN.{get_or-map}
-use Rattle.std.proofs.lemmas.List.Elements.{All-head, All-tail}
-use Rattle.lapdm_frame.specs.declared.Channel.{Channel}
-use Rattle.lapdm_frame.specs.Content.{Frame}
-use Rattle.lapdm_frame.specs.Frames.{octets_of}
 use Rattle.lapdm_frame.proofs.Canonical.{octets_canonical}
 use Rattle.lapdm_frame.proofs.Existence.{one_reading}
-use Rattle.lapdm_window.specs.Ends.{Role}
 use Rattle.um_block.specs.Sent.{IsSentBlock}
 use Rattle.um_block.specs.declared.received.Received.{Received}
 use Rattle.um_block.specs.Received.{softened, IsReceivedBlock}
 use Rattle.um_block.proofs.Lemmas.{some_sent_block, sent_block_bits, some_received_block, accepted_count}
-use Rattle.lapdm_link.specs.Ways.{Ways, way, with_more}
 use Rattle.lapdm_link.specs.Events as E
-use Rattle.lapdm_link.specs.Events.{Open, OpenBare, Ask, Deliver, Lose, Rival, sender_of, Deed, deed, taken, Why, Nothing, unless, is_empty}
-use Rattle.lapdm_link.specs.Worlds.{World}
 use Rattle.lapdm_link.specs.Worlds as W
-use Rattle.lapdm_link.proofs.Lemmas.{KnowsBy, AllFit, AllSay, deed-fits, AllOf, of-all}
-use Rattle.um_air.specs.Air.{Octets, Block, Event, as_read, AirState, start_on, Reads, Arrives, AreSent, Answer, Refuses, Does, refusal, AirStep, AirRun, turned_at, turned}
-use Rattle.um_air.specs.Sessions.{IsOctetEvent}
-use Rattle.um_air.proofs.Seeing.{ReadsWell, knows, world_of, refusal-same, known-read}
-use Rattle.um_air.proofs.Carrying.{seen-now, seen}
-use Rattle.um_air.proofs.OctetFrames.{octets_small, says, deed-octets, IsSpoken, start-spoken, spoken-next, spoken-run}
+
+-- ---- where messages are octets, so are all frames on their way
+
+-- the octets of a frame
+control_small : (c : Content) → NumbersFit c → control c < 256
+control_small (I ns nr p more info) h = omega (arith, h.0, h.1, bit_bound p)
+control_small (Rr nr pf) h = omega (arith, h, bit_bound pf)
+control_small (Rnr nr pf) h = omega (arith, h, bit_bound pf)
+control_small (Rej nr pf) h = omega (arith, h, bit_bound pf)
+control_small (Sabm p info) h = omega (arith, bit_bound p)
+control_small (Dm f) h = omega (arith, bit_bound f)
+control_small (Ui p info) h = omega (arith, bit_bound p)
+control_small (Disc p) h = omega (arith, bit_bound p)
+control_small (Ua f info) h = omega (arith, bit_bound f)
+
+room_small : (channel : Channel) → n201 channel ≤ 20
+room_small Sdcch = omega arith
+room_small Sacch = omega arith
+
+pub octets_small : (channel : Channel) (f : Frame) → Fits channel f → AreOctets (information f.content) → AreOctets (octets_of channel f)
+octets_small channel f h info =
+    let small : ℕ → Type 0 = λ octet. octet < 256 in
+    let most : length (information f.content) ≤ n201 channel = information_bound channel f.content h.information in
+    let head : AreOctets (address f ∷ control f.content ∷ length_octet f.content ∷ []) =
+    all-of small (address f ∷ control f.content ∷ length_octet f.content ∷ []) (
+      omega (arith, h.sapi, bit_bound f.cr),
+      (control_small f.content h.numbers, (omega (arith, most, room_small channel, bit_bound (goes_on f.content)), tt)),
+    ) in
+    All-append small _ _ (All-append small _ _ (All-append small _ _ (All-replicate small (header channel) 0 (omega arith)) head) info)
+    (All-replicate small (n201 channel - length (information f.content)) 0x2b (omega arith))
+
+-- ---- a session
+
+-- what holds between two steps of a session whose messages are octets
+pub record IsSpoken (a : AirState) : Type 0 where
+  pub octets : Ways Octets
+  pub frames : Ways Frame
+  pub ls : List Line
+  pub at : IsSeenAt a octets frames ls
+  pub small : WorldOctets (world_of a frames)
+
+module _ (tsc : ℕ) (channel : Channel) (events : List Event) (answers : List Answer) (b : AirState)
+    (said : AllOf IsOctetEvent events) (run : AirRun (start_on tsc channel) events answers b) where
+  spoken : IsSpoken b
+  spoken =
+      let s = (seen tsc channel events answers b run).at in
+      record { octets = s.0; frames = s.1; ls = s.2; at = s.3; small = s.4 said (start-octets channel) }
 
 -- ---- a block that was sent is four bursts of 148, whatever bits are turned over
 
@@ -169,22 +220,27 @@ answer_at a event None is known said h =
 pub some_answer : (tsc : ℕ) (channel : Channel) (events : List Event) (answers : List Answer) (a : AirState) → tsc ≤ 7 →
     All IsOctetEvent events → AirRun (start_on tsc channel) events answers a →
     (event : Event) → IsOctetEvent event → (b : AirState) × (answer : Answer) × AirStep a event b answer
-some_answer tsc channel events answers a known spoken run event said =
+some_answer tsc channel events answers a known said run event says =
     let same : a.tsc ≡ tsc = (seen tsc channel events answers a run).tsc in
-    let s : SomeAnswer a event = answer_at a event (refusal event a) refl (omega (arith, known, same)) said
-    (spoken-run events answers (start_on tsc channel) a (of-all IsOctetEvent events spoken) (start-spoken tsc channel) run) in
+    let s : SomeAnswer a event = answer_at a event (refusal event a) refl (omega (arith, known, same)) says
+    (spoken tsc channel events answers a (of-all IsOctetEvent events said) run) in
     (s.after, s.answer, s.step)
 
-run_from : (events : List Event) (a : AirState) → a.tsc ≤ 7 → AllOf IsOctetEvent events → IsSpoken a →
-    (answers : List Answer) × (b : AirState) × AirRun a events answers b
-run_from [] a known spoken h = ([], a, refl)
-run_from (event ∷ events) a known spoken h =
-    let s : SomeAnswer a event = answer_at a event (refusal event a) refl known spoken.0 h in
-    let now = seen-now a h.octets h.frames h.ls event s.answer s.after h.at s.step in
-    let r = run_from events s.after (omega (arith, known, now.tsc)) spoken.1 (spoken-next a s.after event s.answer spoken.0 h s.step) in
-    (s.answer ∷ r.0, r.1, (s.after, s.step, r.2))
+-- a run goes on
+module _ (tsc : ℕ) (channel : Channel) (known : tsc ≤ 7) where
+  going_on : (done : List Event) (answers : List Answer) (a : AirState) → All IsOctetEvent done →
+      AirRun (start_on tsc channel) done answers a → (events : List Event) → AllOf IsOctetEvent events →
+      (all : List Answer) × (b : AirState) × AirRun (start_on tsc channel) (done ++ events) all b
+  going_on done answers a said run [] says =
+      (answers, a, subst (λ es. AirRun (start_on tsc channel) es answers a) (sym (append-nil done)) run)
+  going_on done answers a said run (event ∷ events) says =
+      let s = some_answer tsc channel done answers a known said run event says.0 in
+      let r = going_on (done ++ event ∷ []) (answers ++ s.1 ∷ []) s.0
+      (All-append IsOctetEvent done (event ∷ []) said (All-cons IsOctetEvent event [] says.0 (All-nil IsOctetEvent)))
+      (longer_run (start_on tsc channel) done answers a event s.1 s.0 run s.2) events says.1 in
+      (r.0, r.1, subst (λ es. AirRun (start_on tsc channel) es r.0 r.1) (append_assoc done (event ∷ []) events) r.2)
 
 pub some_run : (tsc : ℕ) (channel : Channel) (events : List Event) → tsc ≤ 7 → All IsOctetEvent events →
     (answers : List Answer) × (b : AirState) × AirRun (start_on tsc channel) events answers b
-some_run tsc channel events known spoken =
-    run_from events (start_on tsc channel) known (of-all IsOctetEvent events spoken) (start-spoken tsc channel)
+some_run tsc channel events known said =
+    going_on tsc channel known [] [] (start_on tsc channel) (All-nil IsOctetEvent) refl events (of-all IsOctetEvent events said)

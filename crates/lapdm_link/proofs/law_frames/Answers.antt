@@ -1,4 +1,4 @@
-use Rattle.lapdm_link.proofs.Small.{small_answers}
+use Rattle.lapdm_link.proofs.Fitting.{small_answers}
 use Rattle.lapdm_link.proofs.law_frames.Goals as goal
 
 pub returns : goal.returns

@@ -1,4 +1,4 @@
-use Rattle.um_air.proofs.Kind.{kind_is_harmless}
+use Rattle.um_air.proofs.Carrying.{kind_is_harmless}
 use Rattle.um_air.proofs.law_kind.Goals as goal
 
 pub returns : goal.returns
