@@ -1,8 +1,8 @@
 //! A joiner as plain values, and made from them again.
 
-ghost use Rattle.std.specs.Prelude.{◌≡◌, ◌↔◌, ◌≤◌, [], take, IsTrue, IsSome, IfSome};
-ghost use Rattle.segmenting.specs.Joiners.{HasJoined};
-ghost use Rattle.segmenting.specs.Pieces.{longest};
+ghost use Rattle.std.specs.Prelude.{◌≡◌, ◌↔◌, ◌≤◌, List, [], take, IsTrue, IsSome, IfSome};
+ghost use Rattle.segmenting.specs.Joiners.{HasJoined, HasTaken};
+ghost use Rattle.segmenting.specs.Pieces.{Piece, longest};
 ghost use Rattle.segmenting.specs.Parts.{parts_of, IsOfAJoiner};
 
 use super::{Joiner, Part};
@@ -45,6 +45,9 @@ impl Joiner {
     pub fn from_parts(parts: JoinerParts) -> Option<Joiner>
         ensures same { IfSome result (λ joiner. parts_of joiner ≡ parts) }
         ensures known { IsSome result ↔ IsOfAJoiner parts }
+
+        // Some pieces lead to whatever a joiner holds.
+        ensures taken { IfSome result (λ joiner. (taken : List Piece) × HasTaken joiner taken) }
     {
         if parts.len > LONGEST {
             return None;
