@@ -1,39 +1,21 @@
--- The table of coded bits against the places that they have, found by computing.
-use Rattle.std.proofs.Common.{◌≡◌, ℕ, ◌+◌, ◌*◌, ◌/◌, ◌%◌, ◌<◌, Bool, true, ◌&&◌, eqb, ltb, [], get_or, refl, rules, tests}
+-- The table of coded bits against the formula by rows, found by computing.
+use Rattle.std.proofs.Common.{◌≡◌, ℕ, ◌+◌, ◌*◌, ◌/◌, ◌%◌, ◌<◌, ◌≤◌, Bool, true, eqb, [], get_or, refl, ap₂, ◌∙◌, arith}
+use Rattle.std.proofs.lemmas.Bool.Decides.{Decides-eqb}
+use Rattle.bit_blocks.proofs.Lemmas.{passes_below, at_passes_below}
+use Rattle.interleave.specs.ColumnPlaces.{bit_at, column_bit}
 use Rattle.interleave.specs.declared.table.TheConstants.{HALVES}
-use Rattle.interleave.specs.Places.{burst_of, place_of}
-use Rattle.bit_blocks.proofs.Lemmas.{passes_below, at_passes_below, both_true}
-
--- the coded bit that row r of the table has at place i
-unfoldable pub entry : ℕ → ℕ → ℕ
-entry r i = get_or (get_or HALVES r []) i 0
-
--- this coded bit stands at this place of this half burst
-pub record StandsAt (k r i : ℕ) : Type 0 where
-  pub within : k < 456
-  pub burst : burst_of k ≡ r / 2
-  pub place : place_of k ≡ 57 * (r % 2) + i
 
 abbrev is_right : ℕ → ℕ → Bool
-is_right r i =
-    let k = entry r i in
-    ltb k 456 && (eqb (burst_of k) (r / 2) && eqb (place_of k) (57 * (r % 2) + i))
+is_right r i = eqb (get_or (get_or HALVES r []) i 0) (bit_at (r / 2) (57 * (r % 2) + i))
 
 every_entry_is_right : passes_below (λ r. passes_below (is_right r) 57) 8 ≡ true
-unfolding entry burst_of place_of passes_below
+unfolding bit_at column_bit passes_below
 every_entry_is_right = refl
 
-pub entry-stands : (r i : ℕ) → r < 8 → i < 57 → StandsAt (entry r i) r i
-entry-stands r i hr hi =
-    let row = at_passes_below (λ r. passes_below (is_right r) 57) 8 every_entry_is_right r hr in
-    let here = at_passes_below (is_right r) 57 row i hi in
-    let k = entry r i in
-    let burst = eqb (burst_of k) (r / 2) in
-    let place = eqb (place_of k) (57 * (r % 2) + i) in
-    let first = both_true (ltb k 456) (burst && place) here in
-    let rest = both_true burst place first.1 in
-    record {
-      within = search (rules, tests);
-      burst = search (rules, tests);
-      place = search (rules, tests);
-    }
+pub entry-is : (b half i : ℕ) → b < 4 → half ≤ 1 → i < 57 → get_or (get_or HALVES (2 * b + half) []) i 0 ≡ bit_at b (57 * half + i)
+entry-is b half i hb hh hi =
+    let r : ℕ = 2 * b + half in
+    let row = at_passes_below (λ r. passes_below (is_right r) 57) 8 every_entry_is_right r (omega arith) in
+    let place : 57 * (r % 2) + i ≡ 57 * half + i = omega arith in
+    (Decides-eqb (get_or (get_or HALVES r []) i 0) (bit_at (r / 2) (57 * (r % 2) + i))).0 (at_passes_below (is_right r) 57 row i hi)
+    ∙ ap₂ bit_at (omega arith) place

@@ -1,8 +1,8 @@
 -- Whole bursts of two halves.
 use Rattle.std.proofs.Common.{◌≡◌, ℕ, ◌+◌, ◌*◌, ◌-◌, ◌<◌, inl, inr, List, [], ◌++◌, length, get_or, take, drop, ap, ◌∙◌, arith}
 use Rattle.std.proofs.lemmas.Bool.{cases_lt}
-use Rattle.std.proofs.lemmas.List.{get_or_append_left, get_or-append_right, take_at, drop_at, drop_all, append-nil, take_all, length-drop, take-append-drop}
-use borrow.Rule.Slice.PartMut.{put_mid, mid_of}
+use Rattle.std.proofs.lemmas.List.{get_or_append_left, get_or-append_right, take_at, drop_at, drop_all, append-nil}
+use borrow.Rule.Slice.PartMut.{put_mid}
 use Rattle.interleave.specs.Places.{burst_of, place_of}
 
 pub burst_of-below : (k : ℕ) → burst_of k < 4
@@ -37,9 +37,3 @@ put_mid-halves first old second f o s =
     ap (λ front. front ++ (second ++ drop 57 (drop 57 (first ++ old)))) before
     ∙ ap (λ rest. first ++ (second ++ rest)) behind
     ∙ ap (λ rest. first ++ rest) (append-nil second)
-
--- a burst is its two halves
-pub halves-whole : {X : Type 0} (burst : List X) → length burst ≡ 114 → take 57 burst ++ mid_of 57 57 burst ≡ burst
-halves-whole burst long =
-    ap (λ rest. take 57 burst ++ rest) (take_all 57 (drop 57 burst) (omega (arith, length-drop 57 burst)))
-    ∙ take-append-drop 57 burst

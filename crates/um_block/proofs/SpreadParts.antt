@@ -1,8 +1,5 @@
 -- The four parts of a block's coded bits.
-use Rattle.std.proofs.Common.{◌≡◌, ℕ, List, [], ◌∷◌, length, get_or, refl, arith}
-use Rattle.std.specs.List.{All}
-use Rattle.std.proofs.lemmas.List.Elements.{All-cons, All-nil}
-use Rattle.bit_blocks.specs.Bits.{AllBits}
+use Rattle.std.proofs.Common.{◌≡◌, List, [], ◌∷◌, length, get_or, refl, arith}
 
 -- a list of four
 pub four : {A : Type 0} (xs : List A) (d : A) → length xs ≡ 4 →
@@ -17,8 +14,3 @@ four (a ∷ b ∷ c ∷ x ∷ y ∷ xs) d e = absurd (omega arith)
 pub same_four : {A : Type 0} (a a' b b' x x' y y' : A) → a ≡ a' → b ≡ b' → x ≡ x' → y ≡ y' →
     (a ∷ b ∷ x ∷ y ∷ []) ≡ (a' ∷ b' ∷ x' ∷ y' ∷ [])
 same_four a a' b b' x x' y y' ea eb ex ey = cc
-
-pub AllBits-four : (a b c d : List ℕ) → AllBits a → AllBits b → AllBits c → AllBits d → All AllBits (a ∷ b ∷ c ∷ d ∷ [])
-AllBits-four a b c d ba bb bc bd =
-    All-cons AllBits a (b ∷ c ∷ d ∷ []) ba
-    (All-cons AllBits b (c ∷ d ∷ []) bb (All-cons AllBits c (d ∷ []) bc (All-cons AllBits d [] bd (All-nil AllBits))))

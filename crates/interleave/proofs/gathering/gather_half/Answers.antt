@@ -1,37 +1,35 @@
-use Rattle.std.proofs.Common.{◌≡◌, ◌<◌, get_or, pos, ap, sym, subst, ◌∙◌, arith, length, w8, to_z, of_z, ℕ}
+use Rattle.std.proofs.Common.{◌≡◌, ◌<◌, get_or, pos, ap, sym, subst, ◌∙◌, arith, length, w8, to_z, of_z, ℕ, ◌+◌, ◌*◌}
 use Rattle.std.proofs.lemmas.Int.{ints}
 use Rattle.std.proofs.lemmas.List.{length-set}
 use Rattle.interleave.specs.Places.{burst_of, place_of}
-use Rattle.interleave.proofs.HalfBursts.{row-at, own-more, others-more}
+use Rattle.interleave.proofs.HalfBursts.{half-stands, own-more, others-more}
+use Rattle.interleave.proofs.Rows.{bit_at-is}
 use Rattle.interleave.proofs.gathering.gather_half.Goals as goal
 
 pub loop-i-preserved : goal.loop-i-preserved
 loop-i-preserved c =
-    let row = c.coded_bits-k-items.result.now in
-    let is_half = c.coded_bits-k-items.ensures in
+    let b = c.args.b in
+    let half = c.args.half in
     let soft = c.loop-i.soft in
     let values = c.args.values.now in
     let i = c.loop-i.i in
-    let k : ℕ = get_or row i 0 in
     let full : length soft ≡ 456 = c.loop-i.invariant.0 in
     let value : to_z w8 (of_z w8 (get_or values i (pos 0))) ≡ get_or values i (pos 0) = omega (arith, ints) in
-    rw c.from.ensures (
+    rw (c.from.ensures, c.coded_bits-k-items.ensures.value i c.loop-i-test.true) (
       simp length-set full,
-      own-more row c.args.b c.args.half is_half soft c.args.soft.now values i _ c.loop-i-test.true full value c.loop-i.invariant.1,
-      others-more row c.args.b c.args.half is_half soft c.args.soft.now values i _ c.loop-i-test.true full value c.loop-i.invariant.2,
+      own-more b half c.requires.burst c.requires.half soft c.args.soft.now values i _ c.loop-i-test.true full value c.loop-i.invariant.1,
+      others-more b half c.requires.burst c.requires.half soft c.args.soft.now values i _ c.loop-i-test.true full value c.loop-i.invariant.2,
     )
 
 pub returns-clause-own : goal.returns-clause-own
 returns-clause-own c k i hk burst hi place =
-    let row = c.coded_bits-k-items.result.now in
-    let written : i < c.loop-i.i = omega arith in
-    let same = row-at row c.args.b c.args.half c.coded_bits-k-items.ensures k i hk burst hi place in
-    subst (λ n. get_or c.loop-i.soft n (pos 0) ≡ get_or c.args.values.now i (pos 0)) same (c.loop-i.invariant.1 i written)
+    let same = bit_at-is k c.args.b (57 * c.args.half + i) hk burst place in
+    subst (λ n. get_or c.loop-i.soft n (pos 0) ≡ get_or c.args.values.now i (pos 0)) same (c.loop-i.invariant.1 i (omega arith))
 
 pub returns-clause-others : goal.returns-clause-others
 returns-clause-others c k hk none =
-    let half = c.coded_bits-k-items.ensures in
     c.loop-i.invariant.2 k hk
     (λ j hj same.
     let here : j < 57 = omega arith in
-    none (sym (ap burst_of same) ∙ half.burst j here) j here (sym (ap place_of same) ∙ half.place j here))
+    let stands = half-stands c.args.b c.args.half c.requires.burst c.requires.half j here in
+    none (sym (ap burst_of same) ∙ stands.burst) j here (sym (ap place_of same) ∙ stands.place))

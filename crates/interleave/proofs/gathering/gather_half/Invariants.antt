@@ -1,9 +1,11 @@
-use Rattle.std.proofs.Common.{◌≡◌, ◌≢◌, ℕ, ◌<◌, length, get_or, pos}
+use Rattle.std.proofs.Common.{◌≡◌, ◌≢◌, ℕ, ◌+◌, ◌*◌, ◌<◌, length, get_or, pos}
+use Rattle.interleave.specs.ColumnPlaces.{bit_at}
 use Rattle.interleave.proofs.gathering.gather_half.Given as goal
 
 -- the coded bits of the places so far have their values, and all others what they had
 abbrev pub invariant-loop-i : goal.invariant-loop-i
 invariant-loop-i l =
     (length l.soft ≡ 456)
-    × ((j : ℕ) → j < l.i → get_or l.soft (get_or l.k-items j 0) (pos 0) ≡ get_or l.values j (pos 0))
-    × ((k : ℕ) → k < 456 → ((j : ℕ) → j < l.i → get_or l.k-items j 0 ≢ k) → get_or l.soft k (pos 0) ≡ get_or l.initial.soft k (pos 0))
+    × ((j : ℕ) → j < l.i → get_or l.soft (bit_at l.b (57 * l.half + j)) (pos 0) ≡ get_or l.values j (pos 0))
+    × ((k : ℕ) → k < 456 → ((j : ℕ) → j < l.i → bit_at l.b (57 * l.half + j) ≢ k) →
+    get_or l.soft k (pos 0) ≡ get_or l.initial.soft k (pos 0))

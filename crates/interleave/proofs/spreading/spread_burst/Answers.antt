@@ -1,18 +1,15 @@
-use Rattle.std.proofs.Common.{◌<◌, get_or, ap, ◌∙◌, arith}
-use Rattle.interleave.proofs.HalfBursts.{row-at, part-of_bursts}
+use Rattle.std.proofs.Common.{◌+◌, ◌*◌, ◌<◌, get_or, ap, ◌∙◌, arith}
+use Rattle.interleave.proofs.HalfBursts.{half_of_bursts}
+use Rattle.interleave.proofs.Rows.{bit_at-is}
 use Rattle.interleave.proofs.spreading.spread_burst.Goals as goal
 
 pub returns-clause-places : goal.returns-clause-places
 returns-clause-places c k i hk burst hi place =
-    let row = c.coded_bits-k-items.result.now in
-    let written : i < c.loop-i.i = omega arith in
-    c.loop-i.invariant i written
+    c.loop-i.invariant i (omega arith)
     ∙ ap (λ k. get_or c.args.coded.now k 0)
-    (row-at row c.args.b c.args.half c.coded_bits-k-items.ensures k i hk burst hi place)
+    (c.coded_bits-k-items.ensures.value i hi ∙ bit_at-is k c.args.b (57 * c.args.half + i) hk burst place)
 
 pub returns-clause-part : goal.returns-clause-part
 returns-clause-part c bursts whole =
-    let row = c.coded_bits-k-items.result.now in
-    part-of_bursts row c.args.b c.args.half c.coded_bits-k-items.ensures c.args.coded.now bursts c.loop-i.out whole
-    (omega arith) c.requires.half c.requires.burst
-    (λ i h. let written : i < c.loop-i.i = omega arith in c.loop-i.invariant i written)
+    half_of_bursts c.args.b c.args.half c.requires.burst c.requires.half c.args.coded.now bursts c.loop-i.out whole (omega arith)
+    (λ i h. c.loop-i.invariant i (omega arith) ∙ ap (λ k. get_or c.args.coded.now k 0) (c.coded_bits-k-items.ensures.value i h))

@@ -1,17 +1,12 @@
-use Rattle.std.proofs.Common.{◌≡◌, ℕ, ◌+◌, ◌*◌, ◌/◌, ◌%◌, arith, ap, ◌∙◌}
-use Rattle.interleave.proofs.CodedBits.{entry, entry-stands}
+use Rattle.std.proofs.Common.{arith}
+use Rattle.interleave.proofs.CodedBits.{entry-is}
+use Rattle.interleave.proofs.HalfBursts.{half-stands}
 use Rattle.interleave.proofs.table.coded_bits.Goals as goal
 
-pub returns : goal.returns
-unfolding entry
-returns c =
-    let b = c.args.b in
-    let half = c.args.half in
-    let row : ℕ = 2 * b + half in
-    let burst : row / 2 ≡ b = omega arith in
-    let side : row % 2 ≡ half = omega arith in
-    record {
-      within = λ i h. (entry-stands row i (omega arith) h).within;
-      burst = λ i h. (entry-stands row i (omega arith) h).burst ∙ burst;
-      place = λ i h. (entry-stands row i (omega arith) h).place ∙ ap (λ half. 57 * half + i) side;
-    }
+pub returns-clause-value : goal.returns-clause-value
+returns-clause-value c i h = entry-is c.args.b c.args.half i c.requires.burst c.requires.half h
+
+pub returns-clause-within : goal.returns-clause-within
+returns-clause-within c i h =
+    let same = entry-is c.args.b c.args.half i c.requires.burst c.requires.half h in
+    omega (arith, (half-stands c.args.b c.args.half c.requires.burst c.requires.half i h).within)

@@ -23,7 +23,7 @@ returns c coded bursts are whole =
     let full : length written ≡ 57 = omega (arith, length-append front (drop 32 out), length-drop 32 out) in
     let many' : length back ≡ 32 = omega (arith, length-take (length written - 25) (drop 25 written), length-drop 25 written) in
     let long = same_len_mid 25 (length written - 25) written back a' ∙ full in
-    half_of_bursts coded bursts _ c.args.b c.args.half whole c.requires.burst c.requires.half long
+    half_of_bursts c.args.b c.args.half c.requires.burst c.requires.half coded bursts _ whole long
     (λ i hi.
     half_place coded front (drop 32 out) back c.args.b c.args.half (length written - 25) i many many' hi
     (λ j. c.write_places.ensures coded j are) (λ j. c.write_places-2.ensures coded j are))
