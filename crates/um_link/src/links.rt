@@ -31,7 +31,7 @@ pub(crate) struct Links {
     ends: Ends,
     up: HeapCircularBuffer<[[u8; 148]; 4]>,
     down: HeapCircularBuffer<[[u8; 148]; 4]>,
-    // Room for the soft values of the block that arrives.
+    // Room for the soft values of the block that arrives. Were it cleared just before, a step would wait for that.
     soft: [[i8; 148]; 4],
 }
 
