@@ -1,6 +1,6 @@
 -- An input whose output is that of a good one, line by line.
-use Rattle.std.proofs.Common.{◌≡◌, ℕ, ◌≤◌, ◌+◌, Bool, true, false, List, [], ◌∷◌, ◌++◌, length, None, inl, inr, sym, refl, ap, ◌∙◌, append-nil}
-use Rattle.um_io.specs.Lines.{IsDivided, text_of}
+use Rattle.std.proofs.Common.{◌≡◌, ℕ, ◌≤◌, ◌+◌, Bool, true, false, List, [], ◌∷◌, ◌++◌, length, None, inl, inr, refl, ap, ◌∙◌, append-nil}
+use Rattle.um_io.specs.Lines.{IsDivided}
 use Rattle.um_io.specs.Reading.{input_limit}
 use Rattle.um_driver.specs.Rules.{Rules, Runs, joined}
 use Rattle.um_driver.specs.Outputs.{Judges, Gives, IsOutput}
@@ -36,8 +36,7 @@ divided_judged : (x : List ℕ) (judged : List (List ℕ)) → Judges x judged t
 divided_judged x judged j = record {
   plain = plain_judged x judged true j;
   whole = elim j.tail [
-    | inl (e, none) ↦ inl (j.counts.0 ∙ j.begins.whole ∙ (let n = ap (λ u. text_of j.lines ++ u) none in n) ∙ append-nil (text_of j.lines)
-        ∙ ap text_of (sym e))
+    | inl (e, none) ↦ inl (j.counts.0 ∙ j.begins.whole ∙ rw (none, append-nil, e))
     | inr (e, some) ↦ inr (record { front = j.lines; last = j.last; lines_are = e; octets_are = j.counts.0 ∙ j.begins.whole; some = some })
   ];
 }

@@ -48,7 +48,7 @@ reach_after answer answers y part e then = record {
   second = then.second;
   answers_are = ap (λ l. answer ∷ l) then.answers_are;
   reached = elim then.reached [
-    | inl (w, f) ↦ inl (w, e ∙ ap (λ o. answer ++ o) f ∙ sym (append_assoc answer (joined then.first) w))
+    | inl (w, f) ↦ inl (w, rw (e, f, append_assoc))
     | inr ends ↦ inr (record {
       earlier = answer ∷ ends.earlier;
       answer = ends.answer;
@@ -56,14 +56,10 @@ reach_after answer answers y part e then = record {
       answers_are = ap (λ l. answer ∷ l) ends.answers_are;
       front = ends.front;
       some = ends.some;
-      y_is = e ∙ ap (λ o. answer ++ o) ends.y_is ∙ sym (append_assoc answer (joined ends.earlier) ends.part);
+      y_is = rw (e, ends.y_is, append_assoc);
     })
   ];
-  front = (
-    then.front.0,
-    ap (λ o. answer ++ o) then.front.1 ∙ sym (append_assoc answer part then.front.0)
-        ∙ ap (λ o. o ++ then.front.0) (sym e),
-  );
+  front = (then.front.0, rw (then.front.1, e, append_assoc));
 }
 
 pub reach : (answers : List (List ℕ)) (y more : List ℕ) → joined answers ≡ y ++ more → Reach answers y

@@ -1,7 +1,7 @@
 -- What was read, and which lines of it are answered, judged or held.
 use Rattle.std.proofs.Common.{◌≡◌, ℕ, ◌<◌, ◌≤◌, ◌+◌, Bool, true, false, List, [], ◌∷◌, ◌++◌, length, length-append, Option, Some, None, ◌⊎◌, inl, inr, sym, refl, ap, ◌∙◌, append_assoc, append-nil, arith}
 use Rattle.std.specs.Io.KnownBytes.{Consumes, IsAtEnd}
-use Rattle.std.proofs.lemmas.Bool.{cases_Bool, cases_lt}
+use Rattle.std.proofs.lemmas.Bool.{cases_Bool}
 use Rattle.std.proofs.lemmas.List.{nil_from_length}
 use Rattle.std.proofs.lemmas.List.Elements.{All-nil, All-cons, All-append}
 use Rattle.um_io.specs.Lines.{IsLine, text_of}
@@ -217,10 +217,8 @@ failed_unready {r} {r'} {came = came} valid valid' step open_ ready =
     let none = no_came step open_ ready in
     let (h, needs) = step.gives in
     let all : r.held ++ r.past ≡ r'.held = sym (rw (none, append-nil)) ∙ h.octets ∙ rw (needs.past, append-nil) in
-    let past : r.past ≡ [] = nil_from_length r.past (elim (cases_lt 0 (length r.past)) [
-      | inl some ↦ absurd (omega (arith, some, valid.past some, valid'.limit, h.answered, ap length all, length-append r.held r.past))
-      | inr n ↦ omega (arith, n)
-    ]) in
+    let past : r.past ≡ [] =
+    nil_from_length r.past (grind (arith, valid.past, valid'.limit, h.answered, ap length all, length-append r.held r.past)) in
     let held : r.held ≡ r'.held = sym (rw (past, append-nil)) ∙ all in
     let ended : r.ended ≡ false = elim (cases_Bool r.ended) [
       | inl e ↦ let still = (step.still e).1 in let open' = needs.ended in absurd (cc (still, open'))
