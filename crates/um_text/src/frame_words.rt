@@ -195,7 +195,8 @@ fn read_informed<'a, const LEAST: usize>(
 ) -> Result<(&'a [u8], &'a [u8]), LineFault>
     ensures { MatchResult result
         (λ both. words text.now ≡ name.now ∷ both.0.now ∷ codes "info" ∷ both.1.now ∷ [])
-        (λ fault. (fault ≡ LineFault.Word) × (has_fields (words text.now) (named name.now 1 (forms.information LEAST)) ≡ false)) }
+        (λ fault. (fault ≡ LineFault.Word)
+        × (has_fields (words text.now) (named name.now 1 (forms.information LEAST)) ≡ false)) }
 {
     let (pf, rest) = named(text, name)?;
     let info = last_named(rest, b"info")?;
