@@ -11,7 +11,8 @@ use Rattle.um_lines.proofs.WordLists.{words-join}
 
 one_word_of : (p : ℕ → Bool) → p 32 ≡ false → (text : List ℕ) → list_all p text ≡ true → words text ≡ text ∷ []
 one_word_of p fails text all =
-    words-join (text ∷ []) (λ e. cc) (All-cons (All IsNoSpace) text [] (passing_lack 32 (omega arith) p fails text all) (All-nil (All IsNoSpace)))
+    words-join (text ∷ []) (λ e. cc)
+    (All-cons (All IsNoSpace) text [] (passing_lack 32 (omega arith) p fails text all) (All-nil (All IsNoSpace)))
 
 pub bit_word : (text : List ℕ) → list_all is_bit_digit text ≡ true → words text ≡ text ∷ []
 bit_word = one_word_of is_bit_digit refl

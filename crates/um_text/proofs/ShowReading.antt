@@ -2,7 +2,7 @@
 use Rattle.std.proofs.Common.{◌≡◌, ◌≢◌, inl, inr, ℕ, false, List, [], ◌∷◌, ◌++◌, codes, Err, refl, sym, subst, true, ◌&&◌, Bool, Option, Some, None, Ok, ◌∙◌, ap, ◌≤◌, not, ◌||◌, leb, leb-true, arith}
 use Rattle.std.specs.Str.{bytes_eq}
 use Rattle.std.specs.List.{join_with_byte}
-use Rattle.std.proofs.lemmas.Bool.{cases_Bool, and_right, and_parts, or_parts, not-false}
+use Rattle.std.proofs.lemmas.Bool.{cases_Bool, and_parts, or_parts, not-false}
 use Rattle.std.proofs.lemmas.Slice.Eq.{bytes_eq-Decides}
 use Rattle.std.proofs.lemmas.List.Splits.{join_with_byte-slice_split}
 use Rattle.lapdm_frame.specs.declared.Channel.TheVariants.{Sdcch}
@@ -11,14 +11,14 @@ use Rattle.lapdm_frame.specs.Frames.{octets_of}
 use Rattle.um_lines.specs.declared.fault.LineFault.TheVariants.{Word, Digits, Length}
 use Rattle.um_lines.specs.Words.{words}
 use Rattle.um_lines.specs.declared.fault.LineFault.{LineFault}
-use Rattle.um_lines.specs.Fields.{Field, Fixed, DigitTo, AnyOctets, may_stand, has_wrong_digits, has_wrong_length, has_wrong_soft, has_wrong_place, is_digit_to, are_octet_digits, are_octets, octet_count}
+use Rattle.um_lines.specs.Fields.{Field, has_wrong_digits, has_wrong_length, has_wrong_soft, has_wrong_place, is_digit_to, are_octet_digits, are_octets, octet_count}
 use Rattle.um_lines.specs.Forms.{some_word, values_of, places, fields_fault, unless, fields_of}
-use Rattle.um_lines.specs.ShowForms.{numbered, frame_form}
+use Rattle.um_lines.specs.ShowForms.{frame_form}
 use Rattle.um_text.specs.ShowLines.{read_show, said_frame, shown}
 use Rattle.um_text.specs.declared.frame_words.FrameWords.{FrameWords}
 use Rattle.um_text.specs.declared.frame_words.Fields.{Fields}
 use Rattle.um_text.specs.declared.frame_words.Fields.TheVariants.{I, Sabm, Ui, Ua}
-use Rattle.um_text.specs.ShowReading.{has_fields, begins_named, is_named, kind_word, kind_form, kind_of, name_of, field_words, line_words, line_fields, info_word, least_info, is_octets_word}
+use Rattle.um_text.specs.ShowReading.{kind_word, kind_form, kind_of, name_of, field_words, line_words, line_fields, info_word, least_info, is_octets_word}
 use Rattle.um_text.specs.declared.show.ShowLine.TheVariants as S
 
 -- ---- the first word
@@ -54,26 +54,6 @@ unnamed line (word ∷ more) whole octets frame =
 pub no_name : (line : List ℕ) → ((rest : List ℕ) → line ≢ codes "octets " ++ rest) → ((rest : List ℕ) → line ≢ codes "frame " ++ rest)
     → Err Word ≡ read_show (words line)
 no_name line octets frame = unnamed line (words line) (join_with_byte-slice_split 32 line) octets frame
-
--- ---- names and their values
-
--- words that do not begin with a name have no form that does, and goes on
-pub lacks_name : (name : List ℕ) (parts : List (List ℕ)) (field other : Field) (form : List Field) → begins_named name parts ≡ false
-    → has_fields parts (Fixed name ∷ field ∷ other ∷ form) ≡ false
-lacks_name name [] field other form lacks = refl
-lacks_name name (word ∷ []) field other form lacks = and_right (bytes_eq word name) false refl
-lacks_name name (word ∷ value ∷ []) field other form lacks =
-    and_right (bytes_eq word name) _ (and_right (may_stand field value) false refl)
-lacks_name name (word ∷ value ∷ more ∷ rest) field other form lacks = rw lacks refl
-
--- words that are no name and its value have no such form
-pub is_not_named : (name : List ℕ) (parts : List (List ℕ)) (field : Field) → is_named name parts ≡ false
-    → has_fields parts (Fixed name ∷ field ∷ []) ≡ false
-is_not_named name [] field lacks = refl
-is_not_named name (word ∷ []) field lacks = and_right (bytes_eq word name) false refl
-is_not_named name (word ∷ value ∷ []) field lacks = rw lacks refl
-is_not_named name (word ∷ value ∷ more ∷ rest) field lacks =
-    and_right (bytes_eq word name) _ (and_right (may_stand field value) false refl)
 
 -- ---- what is read of the words of a frame
 
@@ -122,18 +102,6 @@ module _ (parts : List (List ℕ)) (w : FrameWords) (e : parts ≡ line_words w)
       let plain = are_read w.sapi.now w.cr.now w.fields in
       let good : fields_fault (line_fields w) (line_words w) ≡ None = rw (right, many, plain.soft, plain.place, plain.once) refl in
       sym (reason None good ∙ ap (λ o. Ok (shown o)) said)
-
--- words behind `i` in which `m`, or `info`, does not stand where it is to stand
-pub numbered_lacks_m : (parts r1 r2 r3 : List (List ℕ)) (ns nr p : List ℕ) → parts ≡ codes "ns" ∷ ns ∷ r1 → r1 ≡ codes "nr" ∷ nr ∷ r2
-    → r2 ≡ codes "p" ∷ p ∷ r3 → begins_named (codes "m") r3 ≡ false → has_fields parts numbered ≡ false
-numbered_lacks_m parts r1 r2 r3 ns nr p e1 e2 e3 lacks =
-    rw (e1, e2, e3) (lacks_name (codes "m") r3 (DigitTo 1) (Fixed (codes "info")) (AnyOctets 1 (Some 20) ∷ []) lacks)
-
-pub numbered_lacks_info : (parts r1 r2 r3 r4 : List (List ℕ)) (ns nr p m : List ℕ) → parts ≡ codes "ns" ∷ ns ∷ r1
-    → r1 ≡ codes "nr" ∷ nr ∷ r2 → r2 ≡ codes "p" ∷ p ∷ r3 → r3 ≡ codes "m" ∷ m ∷ r4 → is_named (codes "info") r4 ≡ false
-    → has_fields parts numbered ≡ false
-numbered_lacks_info parts r1 r2 r3 r4 ns nr p m e1 e2 e3 e4 lacks =
-    rw (e1, e2, e3, e4) (is_not_named (codes "info") r4 (AnyOctets 1 (Some 20)) lacks)
 
 -- ---- words that have their digits and their length
 

@@ -6,7 +6,7 @@ use Rattle.um_lines.specs.declared.fault.LineFault.{LineFault}
 use Rattle.um_lines.specs.Fields.{Field, may_stand}
 use Rattle.um_lines.specs.Forms.{anywhere, fields_of, form_of, form_fault}
 use Rattle.um_lines.specs.ShowForms as F
-use Rattle.um_lines.specs.ShowForms.{ShowName, numbered, supervisory, informed, plain, frame_form, show_forms}
+use Rattle.um_lines.specs.ShowForms.{ShowName, named, information, numbered, supervisory, informed, plain, frame_form, show_forms}
 use Rattle.um_text.specs.declared.frame_words.FrameWords.{FrameWords}
 use Rattle.um_text.specs.declared.frame_words.Kind.{Kind}
 use Rattle.um_text.specs.declared.frame_words.Kind.TheVariants as K
@@ -16,6 +16,10 @@ use Rattle.um_text.specs.declared.frame_words.Fields.TheVariants.{I, Rr, Rnr, Re
 -- whether words stand at the places of fields
 abbrev pub has_fields : List (List ℕ) → List Field → Bool
 has_fields words fields = pointwise may_stand fields words
+
+-- what stands behind the numbers of an I frame
+abbrev pub marked : List Field
+marked = named (codes "p") 1 (named (codes "m") 1 (information 1))
 
 -- the first reason of words, if they have one
 abbrev pub words_fault : List (List ℕ) → Option LineFault

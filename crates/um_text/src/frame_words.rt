@@ -7,9 +7,10 @@ ghost use Rattle.lapdm_frame.specs.Frames.{NumbersFit, InformationFits, octets_o
 ghost use Rattle.um_lines.specs.Words.{words};
 ghost use Rattle.um_lines.specs.Fields.{Number, has_wrong_digits, has_wrong_length, hex_octets, is_digit_to};
 ghost use Rattle.um_lines.specs.Forms.{some_word, values_of};
-ghost use Rattle.um_lines.specs.ShowForms.{numbered, supervisory, informed, plain};
+ghost use Rattle.um_lines.specs.ShowForms.{named, numbered, supervisory, plain};
+ghost use Rattle.um_lines.specs.ShowForms as forms;
 ghost use Rattle.um_text.specs.ShowLines.{is_set, framed, said_frame};
-ghost use Rattle.um_text.specs.ShowReading.{has_fields, words_fault, begins_named, is_named, kind_word, kind_words, kind_form, kind_of, name_of, field_words, line_words, line_fields, info_word, least_info};
+ghost use Rattle.um_text.specs.ShowReading.{marked, has_fields, words_fault, begins_named, is_named, kind_word, kind_words, kind_form, kind_of, name_of, field_words, line_words, line_fields, info_word, least_info};
 
 use crate::digits::{digit_of, is_digit_to};
 use crate::hex_digits::some_octets_of;
@@ -136,21 +137,21 @@ fn fields_of<'a>(kind: Kind, text: &'a [u8]) -> Result<Fields<'a>, LineFault>
             Ok(Fields::Rej { nr, pf })
         }
         Kind::Sabm => {
-            let (p, info) = read_informed(text, b"p")?;
+            let (p, info) = read_informed::<0>(text, b"p")?;
             Ok(Fields::Sabm { p, info })
         }
         Kind::Dm => Ok(Fields::Dm {
             f: last_named(text, b"f")?,
         }),
         Kind::Ui => {
-            let (p, info) = read_informed(text, b"p")?;
+            let (p, info) = read_informed::<0>(text, b"p")?;
             Ok(Fields::Ui { p, info })
         }
         Kind::Disc => Ok(Fields::Disc {
             p: last_named(text, b"p")?,
         }),
         Kind::Ua => {
-            let (f, info) = read_informed(text, b"f")?;
+            let (f, info) = read_informed::<0>(text, b"f")?;
             Ok(Fields::Ua { f, info })
         }
     }
@@ -163,10 +164,18 @@ fn read_numbered<'a>(text: &'a [u8]) -> Result<Fields<'a>, LineFault>
 {
     let (ns, rest) = named(text, b"ns")?;
     let (nr, rest) = named(rest, b"nr")?;
-    let (p, rest) = named(rest, b"p")?;
-    let (m, rest) = named(rest, b"m")?;
-    let info = last_named(rest, b"info")?;
+    let (p, m, info) = read_marked(rest)?;
     Ok(Fields::I { ns, nr, p, m, info })
+}
+
+fn read_marked<'a>(text: &'a [u8]) -> Result<(&'a [u8], &'a [u8], &'a [u8]), LineFault>
+    ensures { MatchResult result
+        (λ all. words text.now ≡ codes "p" ∷ all.0.now ∷ codes "m" ∷ all.1.now ∷ codes "info" ∷ all.2.now ∷ [])
+        (λ fault. (fault ≡ LineFault.Word) × (has_fields (words text.now) marked ≡ false)) }
+{
+    let (p, rest) = named(text, b"p")?;
+    let (m, info) = read_informed::<1>(rest, b"m")?;
+    Ok((p, m, info))
 }
 
 fn read_supervisory<'a>(text: &'a [u8]) -> Result<(&'a [u8], &'a [u8]), LineFault>
@@ -179,10 +188,15 @@ fn read_supervisory<'a>(text: &'a [u8]) -> Result<(&'a [u8], &'a [u8]), LineFaul
     Ok((nr, pf))
 }
 
-fn read_informed<'a>(text: &'a [u8], name: &[u8]) -> Result<(&'a [u8], &'a [u8]), LineFault>
+// Where the information has at least so many octets.
+fn read_informed<'a, const LEAST: usize>(
+    text: &'a [u8],
+    name: &[u8],
+) -> Result<(&'a [u8], &'a [u8]), LineFault>
     ensures { MatchResult result
         (λ both. words text.now ≡ name.now ∷ both.0.now ∷ codes "info" ∷ both.1.now ∷ [])
-        (λ fault. (fault ≡ LineFault.Word) × (has_fields (words text.now) (informed name.now) ≡ false)) }
+        (λ fault. (fault ≡ LineFault.Word)
+        × (has_fields (words text.now) (named name.now 1 (forms.information LEAST)) ≡ false)) }
 {
     let (pf, rest) = named(text, name)?;
     let info = last_named(rest, b"info")?;

@@ -9,7 +9,8 @@ use Rattle.um_text.proofs.burst_lines.law_written_bursts.Goals as goal
 
 pub returns-clause-normal : goal.returns-clause-normal
 returns-clause-normal c held burst line many each text =
-    subst (λ l. IsWholeLine l × BurstMeans held l (Normal (softened burst))) (append_cancel_right (normal_line burst) line (codes "\n") text)
+    subst (λ l. IsWholeLine l × BurstMeans held l (Normal (softened burst)))
+    (append_cancel_right (normal_line burst) line (codes "\n") text)
     (normal_whole burst many each, normal_restored held burst many each)
 
 pub returns-clause-access : goal.returns-clause-access

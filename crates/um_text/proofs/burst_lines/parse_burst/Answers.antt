@@ -7,5 +7,6 @@ use Rattle.um_text.proofs.burst_lines.parse_burst.Goals as goal
 pub returns : goal.returns
 returns c =
     let stays = sym c.is_skipped.ensures ∙ c.if-is_skipped.false in
-    let read = read_of_words burst_forms (burst_elsewhere c.args.held) burst_line _ _ c.if-line-gt-LINE_LIMIT.false stays c.parse_words.ensures in
+    let short = c.if-line-gt-LINE_LIMIT.false in
+    let read = read_of_words burst_forms (burst_elsewhere c.args.held) burst_line _ _ short stays c.parse_words.ensures in
     record { means = read.0; refused = read.1 }
