@@ -146,7 +146,8 @@ bool um_write_frame(const um_frame *frame, uint8_t channel, uint8_t octets[23]);
  * gives it each block that comes in, and calls um_end_timer when T200 has run out: T200 starts anew whenever an end sends a SABM,
  * a DISC or an I frame, and stops once nothing awaits an answer (um_end_timer then answers UM_END_NOT_RUNNING).
  *
- * The state is plain numbers and arrays: it may be copied, kept in a file and taken up again. Each call tests it, and answers
+ * The state is plain numbers and arrays: it may be copied, kept in a file and taken up again, and what a call writes of it is set by
+ * what the end holds, with zeros behind each count. Each call tests it, and answers
  * UM_END_NONE, with nothing written, where no end has such a state; whatever state passes stands for an end, and the call does what
  * that end does. Nobody needs to look into a state; what an end has to say is in its effects. */
 
@@ -156,7 +157,7 @@ enum um_part { UM_PART_OPEN, UM_PART_WHOLE, UM_PART_OVER };
 
 typedef struct um_message {
 	uint8_t count;       /* how many octets */
-	uint8_t octets[255]; /* the octets; those from count on are not looked at. In a notice they are zeros, in a um_end whatever stood there */
+	uint8_t octets[255]; /* the octets; those from count on are not looked at, and zeros where a call wrote them */
 } um_message;
 
 typedef struct um_end {
@@ -216,17 +217,16 @@ enum um_answer {
 	UM_END_TOO_LONG,    /* it has too many */
 	UM_END_FULL,        /* eight messages are not wholly acknowledged */
 	UM_END_NONE,        /* no end has this state */
-	UM_END_OTHER_SAPI,  /* the link of the other SAPI is opened so */
+	UM_END_NO_CALL,     /* the end opens no link so: that of the other SAPI is, or on SAPI 0 a mobile asks */
 	UM_END_NO_FRAME     /* the octets are no frame: um_read_frame says why */
 };
 
 /* Writes the state of an end before its first call, whatever stood there. False: no such role, SAPI (0 or 3) or channel. */
 bool um_end_new(um_end *end, uint8_t role, uint8_t sapi, uint8_t channel);
 
-/* Asks the other end to open the link of SAPI 0, with 1 to 20 octets of information (18 on SACCH), which tell mobiles apart: a call
- * for a mobile. An end of the network is not refused it, but a mobile answers its SABM by DM.
- * Answers a um_answer, as the other calls do; of several reasons the first in the order of that enum, UM_END_NONE and
- * UM_END_OTHER_SAPI before all. */
+/* Asks the network to open the link of SAPI 0, with 1 to 20 octets of information (18 on SACCH), which tell mobiles apart: a mobile's
+ * call. Answers a um_answer, as the other calls do; of several reasons the first in the order of that enum, UM_END_NONE and
+ * UM_END_NO_CALL before all. */
 uint8_t um_end_open(um_end *end, const um_message *info, um_effects *effects);
 
 /* Asks the other end to open the link of SAPI 3. */

@@ -193,7 +193,7 @@ ROLES = ("mobile", "network")
 STATES = ("idle", "opening", "open", "closing", "closed")
 NOTICES = ("opened", "got", "unit", "acked", "oversize", "closed")
 REASONS = ("contention", "failed", "refused", "released")
-ANSWERS = ("not idle", "not open", "not running", "empty", "too long", "full", "no end", "other sapi", "no frame")
+ANSWERS = ("not idle", "not open", "not running", "empty", "too long", "full", "no end", "no call", "no frame")
 
 Effects = collections.namedtuple("Effects", "frames notices")
 
@@ -253,7 +253,7 @@ class End:
         return Effects(frames, [_noticed(notice) for notice in raw.notices[: raw.notice_count]])
 
     def open(self, info):
-        """Asks the other end to open the link of SAPI 0, with this information."""
+        """Asks the network to open the link of SAPI 0, with this information: a call of a mobile's."""
         return self._call("open", c.byref(_message(info)))
 
     def open_bare(self):

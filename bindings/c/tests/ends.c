@@ -112,7 +112,9 @@ static void opened(place *mobile, place *network, uint8_t channel)
 	REFUSED(mobile, um_end_send(&mobile->end, &m, &mobile->told), UM_END_NOT_OPEN);
 	REFUSED(mobile, um_end_close(&mobile->end, &mobile->told), UM_END_NOT_OPEN);
 	REFUSED(mobile, um_end_timer(&mobile->end, &mobile->told), UM_END_NOT_RUNNING);
-	REFUSED(mobile, um_end_open_bare(&mobile->end, &mobile->told), UM_END_OTHER_SAPI);
+	REFUSED(mobile, um_end_open_bare(&mobile->end, &mobile->told), UM_END_NO_CALL);
+	REFUSED(network, um_end_open(&network->end, &m, &network->told), UM_END_NO_CALL);
+	REFUSED(network, um_end_open_bare(&network->end, &network->told), UM_END_NO_CALL);
 	check(um_end_open(&mobile->end, &m, &mobile->told) == UM_END_DONE && is_around(mobile) && is_sent(mobile, sabm, 5)
 		&& is_quiet(mobile), "a SABM");
 	REFUSED(mobile, um_end_open(&mobile->end, &m, &mobile->told), UM_END_NOT_IDLE);
@@ -243,7 +245,7 @@ static void short_messages(void)
 
 	begin(&mobile, UM_MOBILE, 3, UM_SDCCH);
 	begin(&network, UM_NETWORK, 3, UM_SDCCH);
-	REFUSED(&mobile, um_end_open(&mobile.end, &m, &mobile.told), UM_END_OTHER_SAPI);
+	REFUSED(&mobile, um_end_open(&mobile.end, &m, &mobile.told), UM_END_NO_CALL);
 	check(um_end_open_bare(&mobile.end, &mobile.told) == UM_END_DONE && is_sent(&mobile, sabm, 3), "a SABM without information");
 	REFUSED(&mobile, um_end_open_bare(&mobile.end, &mobile.told), UM_END_NOT_IDLE);
 	give(&network, &mobile);
@@ -310,6 +312,14 @@ static void spoiled(void)
 	SPOILED(idle, s.part = UM_PART_OVER, "a message too long before the link is open");
 	SPOILED(idle, s.vs = 1, "a piece sent before the link is open");
 	SPOILED(bare, s.kept.count = 1, "information kept on SAPI 3");
+	um_effects last;
+	um_end closing = mobile.end;
+	check(um_end_close(&closing, &last) == UM_END_DONE, "a link that is closed with a message held");
+	place closed;
+	memset(&closed, 0xa5, sizeof closed);
+	closed.end = closing;
+	SPOILED(closed, s.held_count = 0, "a piece that waits of no message, after the link was open");
+	SPOILED(closed, s.place = 1, "a piece passed over, after the link was open");
 
 	memset(&idle, 0xa5, sizeof idle);
 	check(!um_end_new(&idle.end, 2, 0, UM_SDCCH) && !um_end_new(&idle.end, UM_MOBILE, 1, UM_SDCCH)
@@ -320,7 +330,12 @@ static void spoiled(void)
 	memset(mobile.end.held + 1, 0xff, 7 * sizeof(um_message));
 	memset(mobile.end.kept.octets + 2, 0xff, 253);
 	mobile.end.rejecting = 200;
-	check(um_end_timer(&mobile.end, &mobile.told) == UM_END_DONE && mobile.end.held[7].count == 0
+	um_end same = mobile.end;
+	memset(&same.held[1], 0, 7 * sizeof(um_message));
+	memset(same.kept.octets + 2, 0, 253);
+	same.rejecting = 1;
+	check(um_end_timer(&mobile.end, &mobile.told) == UM_END_DONE && um_end_timer(&same, &idle.told) == UM_END_DONE
+		&& !memcmp(&mobile.end, &same, offsetof(um_end, held)) && !memcmp(mobile.end.held, same.held, sizeof same.held)
 		&& mobile.end.rejecting == 1, "octets without meaning");
 }
 
@@ -336,6 +351,6 @@ int main(void)
 	short_messages();
 	spoiled();
 	if (!failed)
-		printf("library: ends of a link from C: sessions on both channels and SAPIs, each refusal, 27 states that no end has\n");
+		printf("library: ends of a link from C: sessions on both channels and SAPIs, each refusal, 29 states that no end has\n");
 	return failed;
 }

@@ -8,7 +8,7 @@ use Rattle.lapdm_frame.specs.Frames.{octets_of}
 use Rattle.segmenting.specs.Pieces.{Message, pieces}
 use Rattle.lapdm_window.specs.declared.Sapi.TheVariants.{Three}
 use Rattle.lapdm_window.specs.declared.State.{State}
-use Rattle.lapdm_window.specs.declared.State.TheVariants.{Opening, Open, Closing}
+use Rattle.lapdm_window.specs.declared.State.TheVariants.{Idle, Opening, Open, Closing, Closed}
 use Rattle.lapdm_window.specs.declared.window.Window.{Window}
 use Rattle.lapdm_window.specs.declared.effects.Effects.{Effects}
 use Rattle.lapdm_window.specs.declared.Reason.TheVariants as R
@@ -54,6 +54,10 @@ Window-moved s k r e same h =
       retries = λ t. h.retries t ∙ same t;
     }
 
+pub Holds-moved : (w : Window) (s : State) (k : Message) (r : ℕ) (e : EndState) → Holds w.held.items w.place e →
+    Holds w.held.items w.place (moved s k r e)
+Holds-moved w s k r e h = record { messages = h.messages; next = h.next }
+
 -- nothing waits where nothing was taken
 unopened-waits : (e : EndState) → e.taken ≡ [] → KeepsWindow e → waits e ≡ false
 unopened-waits e taken h =
@@ -98,6 +102,14 @@ link_moved s k r e h = record { role = h.role; sapi = h.sapi; channel = h.channe
 
 pub in_state : (w : Window) (r : ℕ) (e : EndState) (s t : State) → s ≡ t → InState s w r e → InState t w r e
 in_state w r e s t same h = subst (λ (u : State). InState u w r e) same h
+
+-- in each state the window holds what is not acknowledged
+pub holds_in : (w : Window) (r : ℕ) (e : EndState) (s : State) → InState s w r e → Holds w.held.items w.place e
+holds_in w r e Idle h = h.holds
+holds_in w r e Opening h = h.window.holds
+holds_in w r e Open h = h.holds
+holds_in w r e Closing h = h.holds
+holds_in w r e Closed h = h
 
 -- in Open, what the rules over the window give
 pub Runs-open : {m : End} {e : EndState} → m.state ≡ Open → Stands m e → Runs m.link m.window e

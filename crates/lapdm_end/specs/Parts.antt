@@ -1,56 +1,77 @@
 -- An end as plain values.
-use Rattle.std.specs.Prelude.{◌≡◌, ◌⊎◌, ◌+◌, ◌%◌, ◌≤◌, [], length, take}
+use Rattle.std.specs.Prelude.{◌≡◌, ◌≤◌, ℕ, [], length}
 use Rattle.lapdm_frame.specs.Layout.{n201}
+use Rattle.segmenting.specs.Pieces.{Message}
 use Rattle.segmenting.specs.Joiners.{HasJoined}
+use Rattle.lapdm_window.specs.declared.Sapi.{Sapi}
 use Rattle.lapdm_window.specs.declared.Sapi.TheVariants.{Three}
 use Rattle.lapdm_window.specs.declared.State.{State}
 use Rattle.lapdm_window.specs.declared.State.TheVariants.{Idle, Opening, Open, Closing, Closed}
-use Rattle.lapdm_window.specs.declared.window.parts.WindowParts.{WindowParts}
 use Rattle.lapdm_window.specs.Ends.{EndState}
+use Rattle.lapdm_window.specs.Parts.{WindowValues}
 use Rattle.lapdm_window.specs.Parts as W
+use Rattle.lapdm_end.specs.declared.Role.{Role}
 use Rattle.lapdm_end.specs.declared.ends.End.{End}
 use Rattle.lapdm_end.specs.declared.parts.EndParts.{EndParts}
 use Rattle.lapdm_end.specs.Standing.{Stands}
 
-abbrev pub parts_of : End → EndParts
-parts_of m = record {
+pub record EndValues : Type 0 where
+  pub role : Role
+  pub sapi : Sapi
+  pub state : State
+  pub kept : Message
+  pub retries : ℕ
+  pub window : WindowValues
+
+-- what an end holds
+abbrev pub values_of : End → EndValues
+values_of m = record {
   role = m.link.role;
   sapi = m.link.sapi;
   state = m.state;
   kept = m.kept;
   retries = m.retries;
-  window = W.parts_of m.window;
+  window = W.values_of m.window;
 }
 
--- these are the parts of an end that stands for this state
-pub record StandFor (p : EndParts) (e : EndState) : Type 0 where
+-- what its parts say
+abbrev pub said_by : EndParts → EndValues
+said_by p = record {
+  role = p.role;
+  sapi = p.sapi;
+  state = p.state;
+  kept = p.kept.now;
+  retries = p.retries;
+  window = W.said_by p.window;
+}
+
+-- an end that holds this stands for this state
+pub record StandFor (x : EndValues) (e : EndState) : Type 0 where
   pub end : End
-  pub parts : parts_of end ≡ p
+  pub values : values_of end ≡ x
   pub stands : Stands end e
 
--- these are the parts of some end
-abbrev pub AreOfAnEnd : EndParts → Type 0
-AreOfAnEnd p = (e : EndState) × StandFor p e
+-- an end that holds this stands for some state
+abbrev pub AreOfAnEnd : EndValues → Type 0
+AreOfAnEnd x = (e : EndState) × StandFor x e
 
--- for the body of the test: what the parts of every end have. Before Open no message was taken, and no piece accepted
-pub record IsUnused (w : WindowParts) : Type 0 where
-  pub held : w.held.items ≡ []
-  pub vs : w.vs ≡ 0
-  pub va : w.va ≡ 0
-  pub vr : w.vr ≡ 0
-  pub done : w.done ≡ 0
-  pub joined : HasJoined w.joiner.part (take w.joiner.len w.joiner.octets) []
+-- for the body of the test: what all of these have, where their window is one. Before Open no message was taken, and no piece accepted
+pub record IsUnused (x : WindowValues) : Type 0 where
+  pub held : x.held ≡ []
+  pub vs : x.vs ≡ 0
+  pub va : x.va ≡ 0
+  pub vr : x.vr ≡ 0
+  pub done : x.done ≡ 0
+  pub joined : HasJoined x.joiner.part x.joiner.octets []
 
--- in Open, where no message is wholly acknowledged, V(A) counts the acknowledged pieces of the first
-abbrev pub IsInState : State → WindowParts → Type 0
-IsInState Idle w = IsUnused w
-IsInState Opening w = IsUnused w
-IsInState Open w = w.done ≡ 0 → w.va ≡ w.place % 8
-IsInState Closing w = Unit {0}
-IsInState Closed w = Unit {0}
+abbrev pub IsInState : State → WindowValues → Type 0
+IsInState Idle x = IsUnused x
+IsInState Opening x = IsUnused x
+IsInState Open x = Unit {0}
+IsInState Closing x = Unit {0}
+IsInState Closed x = Unit {0}
 
-pub record AreInStep (p : EndParts) : Type 0 where
-  pub kept : length p.kept ≤ n201 p.window.channel
-  pub bare : p.sapi ≡ Three → p.kept ≡ []
-  pub window : (p.window.vs ≡ p.window.va) ⊎ (p.window.vs ≡ (p.window.va + 1) % 8)
-  pub now : IsInState p.state p.window
+pub record AreInStep (x : EndValues) : Type 0 where
+  pub kept : length x.kept ≤ n201 x.window.channel
+  pub bare : x.sapi ≡ Three → x.kept ≡ []
+  pub now : IsInState x.state x.window

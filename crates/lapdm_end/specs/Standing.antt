@@ -25,14 +25,19 @@ pub record IsOpening (w : Window) (retries : ℕ) (e : EndState) : Type 0 where
   pub window : W.Stands w e
   pub count : retries ≡ e.retries
 
+-- while the DISC awaits its answer
+pub record IsClosing (w : Window) (retries : ℕ) (e : EndState) : Type 0 where
+  pub holds : W.Holds w.held.items w.place e
+  pub count : retries ≡ e.retries
+
 -- the retry count is kept where a frame awaits an answer, in Open by the window, which holds what is not
--- acknowledged up to the end of Open
+-- acknowledged, and after Open what it held then
 abbrev pub InState : State → Window → ℕ → EndState → Type 0
 InState Idle w retries e = W.Stands w e
 InState Opening w retries e = IsOpening w retries e
 InState Open w retries e = W.Stands w e
-InState Closing w retries e = retries ≡ e.retries
-InState Closed w retries e = Unit {0}
+InState Closing w retries e = IsClosing w retries e
+InState Closed w retries e = W.Holds w.held.items w.place e
 
 pub record Stands (m : End) (e : EndState) : Type 0 where
   pub end : IsEnd e

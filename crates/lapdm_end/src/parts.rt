@@ -1,87 +1,93 @@
 //! An end as plain values, and made from them again.
 
-ghost use Rattle.std.specs.Prelude.{◌≡◌, ◌↔◌, ◌⊎◌, ◌+◌, ◌%◌, ◌^◌, ◌<◌, ◌≤◌, [], length, IsTrue, IsSome, IfSome};
-ghost use Rattle.lapdm_frame.specs.Layout.{n201};
+ghost use Rattle.std.specs.Prelude.{◌≡◌, ◌↔◌, ◌<◌, ◌≤◌, [], false, length, IsTrue, IsSome, IfSome};
+ghost use Rattle.lapdm_frame.specs.Layout.{n201, most_information};
+ghost use Rattle.segmenting.specs.Joiners.{HasJoined};
 ghost use Rattle.segmenting.specs.Pieces.{longest, most_pieces};
 ghost use Rattle.lapdm_window.specs.Ends.{EndState};
-ghost use Rattle.lapdm_end.specs.Parts.{parts_of, StandFor, AreOfAnEnd, IsUnused, IsInState, AreInStep};
+ghost use Rattle.lapdm_window.specs.Parts.{said_by as window_by};
+ghost use Rattle.lapdm_end.specs.Links.{role_of};
+ghost use Rattle.lapdm_end.specs.Parts.{values_of, said_by, StandFor, AreOfAnEnd, IsUnused, IsInState, AreInStep};
 ghost use Rattle.lapdm_end.specs.Standing.{Stands, channel_of};
 
 use crate::Role;
 use crate::ends::End;
 use crate::link::Link;
 use lapdm_frame::Channel;
-use lapdm_window::{Message, Sapi, State, Window, WindowParts};
+use lapdm_window::{Sapi, State, WindowParts};
+use segmenting::Part;
 
-/// What an end holds. Its channel is its window's.
-#[derive(Debug, Drop)]
-pub struct EndParts {
+/// What an end holds, whose messages and octets are borrowed. Its channel is its window's.
+#[derive(Clone, Copy, Debug)]
+pub struct EndParts<'a> {
     pub role: Role,
     pub sapi: Sapi,
     pub state: State,
     /// The information of the SABM that it sent, or that it was opened by.
-    pub kept: Message,
+    pub kept: &'a [u8],
     /// How often the SABM or the DISC that awaits an answer went out again.
     pub retries: u8,
-    pub window: WindowParts,
+    pub window: WindowParts<'a>,
 }
 
-impl EndParts {
+impl EndParts<'_> {
     // Whether these go together, where the window's do.
     fn are_in_step(&self) -> bool
-        ensures together { IsTrue result ↔ AreInStep self.now }
-        ensures counted { self.now.window.done < 2 ^ 64 }
+        ensures { IsTrue result ↔ AreInStep (said_by self.now) }
     {
-        // A number that is read is known to be in its range.
-        let _done = self.window.done;
-        self.has_kept()
-            && is_window_of_one(self.window.vs, self.window.va)
-            && is_in_state(self.state, &self.window)
+        self.has_kept() && is_in_state(self.state, &self.window)
     }
 
     fn has_kept(&self) -> bool
-        ensures { IsTrue result ↔ ((length self.now.kept ≤ n201 self.now.window.channel)
-            × (self.now.sapi ≡ Sapi.Three → self.now.kept ≡ [])) }
+        ensures { IsTrue result ↔ ((length self.now.kept.now ≤ n201 self.now.window.channel)
+            × (self.now.sapi ≡ Sapi.Three → self.now.kept.now ≡ [])) }
     {
-        let kept = self.kept.octets();
-        if kept.len() > self.window.channel.n201() {
+        if self.kept.len() > self.window.channel.n201() {
             return false;
         }
         match self.sapi {
             Sapi::Zero => true,
-            Sapi::Three => kept.is_empty(),
+            Sapi::Three => self.kept.is_empty(),
         }
     }
 }
 
-fn is_window_of_one(vs: u8, va: u8) -> bool
-    ensures { IsTrue result ↔ ((vs ≡ va) ⊎ (vs ≡ (va + 1) % 8)) }
-{
-    vs == va || vs == (va % 8 + 1) % 8
-}
-
-fn is_in_state(state: State, window: &WindowParts) -> bool
-    ensures { IsTrue result ↔ IsInState state window.now }
+fn is_in_state(state: State, window: &WindowParts<'_>) -> bool
+    ensures { IsTrue result ↔ IsInState state (window_by window.now) }
 {
     match state {
         State::Idle | State::Opening => is_unused(window),
-        State::Open => window.done != 0 || usize::from(window.va) == window.place % 8,
-        State::Closing | State::Closed => true,
+        State::Open | State::Closing | State::Closed => true,
     }
 }
 
-fn is_unused(window: &WindowParts) -> bool
-    ensures { IsTrue result ↔ IsUnused window.now }
+fn is_unused(window: &WindowParts<'_>) -> bool
+    ensures { IsTrue result ↔ IsUnused (window_by window.now) }
 {
     window.held.is_empty()
         && window.vs == 0
         && window.va == 0
         && window.vr == 0
         && window.done == 0
-        && window.joiner.are_unused()
+        && has_joined_nothing(window.part, window.joined)
+}
+
+fn has_joined_nothing(part: Part, octets: &[u8]) -> bool
+    ensures { IsTrue result ↔ HasJoined part octets.now [] }
+{
+    match part {
+        Part::Open | Part::Whole => octets.is_empty(),
+        Part::Over => false,
+    }
 }
 
 impl End {
+    pub fn role(&self) -> Role
+        ensures { (e : EndState) → Stands self.now e → role_of result ≡ e.role }
+    {
+        self.link.role
+    }
+
     pub fn channel(&self) -> Channel
         ensures channel { result ≡ channel_of self.now }
         ensures stands { (e : EndState) → Stands self.now e → result ≡ e.channel }
@@ -89,44 +95,54 @@ impl End {
         self.link.channel
     }
 
-    pub fn into_parts(self) -> EndParts
-        ensures parts { result ≡ parts_of self }
+    pub fn parts(&self) -> EndParts<'_>
+        ensures values { said_by result ≡ values_of self.now }
+        ensures kept { length result.kept.now ≤ most_information }
+        ensures few { length result.window.held.now ≤ 8 }
         ensures place { result.window.place < most_pieces result.window.channel }
-        ensures most { result.window.joiner.len ≤ longest }
+        ensures most { length result.window.joined.now ≤ longest }
     {
         EndParts {
             role: self.link.role,
             sapi: self.link.sapi,
             state: self.state,
-            kept: self.kept,
+            kept: self.kept.octets(),
             retries: self.retries,
-            window: self.window.into_parts(),
+            window: self.window.parts(),
         }
     }
 
-    /// The end of these parts, exactly where there is one.
-    pub fn from_parts(parts: EndParts) -> Option<End>
-        ensures same { IfSome result (λ end. parts_of end ≡ parts) }
-        ensures stands { IfSome result (λ end. (e : EndState) → StandFor parts e → Stands end e) }
-        ensures known { IsSome result ↔ AreOfAnEnd parts }
+    /// Holds what these parts say, exactly where an end that stands for some state does. Else
+    /// nothing changes.
+    pub fn restore(&mut self, parts: &EndParts<'_>) -> bool
+        ensures same { IsTrue result → values_of self.new ≡ said_by parts.now }
+        ensures stands { IsTrue result → (e : EndState) → StandFor (said_by parts.now) e
+            → Stands self.new e }
+        ensures known { IsTrue result ↔ AreOfAnEnd (said_by parts.now) }
+        ensures unknown { result ≡ false → self.new ≡ self.old }
     {
-        if !parts.are_in_step() {
-            return None;
+        if !parts.are_in_step() || !self.window.restore(&parts.window) {
+            return false;
         }
-        let link = Link {
+        self.link = Link {
             role: parts.role,
             sapi: parts.sapi,
             channel: parts.window.channel,
         };
-        let Some(window) = Window::from_parts(parts.window) else {
-            return None;
-        };
-        Some(End {
-            link,
-            window,
-            state: parts.state,
-            kept: parts.kept,
-            retries: parts.retries,
-        })
+        self.state = parts.state;
+        self.kept.write(parts.kept);
+        self.retries = parts.retries;
+        true
+    }
+
+    /// The end of these parts, exactly where there is one.
+    pub fn from_parts(parts: &EndParts<'_>) -> Option<End>
+        ensures same { IfSome result (λ end. values_of end ≡ said_by parts.now) }
+        ensures stands { IfSome result
+            (λ end. (e : EndState) → StandFor (said_by parts.now) e → Stands end e) }
+        ensures known { IsSome result ↔ AreOfAnEnd (said_by parts.now) }
+    {
+        let mut end = End::new_on(parts.role, parts.sapi, parts.window.channel);
+        if end.restore(parts) { Some(end) } else { None }
     }
 }

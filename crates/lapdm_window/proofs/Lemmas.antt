@@ -5,7 +5,7 @@ pub use Rattle.lapdm_window.proofs.Following.{counted, counts-is, rejects-due, r
 pub use Rattle.lapdm_window.proofs.Keeping.{IsEnd-moved, IsEnd-start, plain_fits, Keeps, keeps-frame, keeps-call, three_bits, waits_within}
 pub use Rattle.lapdm_window.proofs.FirstPieces.{within_all}
 pub use Rattle.lapdm_window.proofs.Moves.{KeepsWindow-acked, KeepsWindow-taken, within_held}
-pub use Rattle.lapdm_window.proofs.Parts.{Tracks-parts, Stands-parts}
+pub use Rattle.lapdm_window.proofs.Parts.{Tracks-values, Holds-values, Stands-values, StandsForOne, stands_for_one}
 pub use Rattle.lapdm_window.proofs.Pasts.{IsPast, HasPast, past_of, message_of, is_message_of, pieces-message_of}
 pub use Rattle.lapdm_window.proofs.Numbers.{waits-nothing, waits-one}
 pub use Rattle.lapdm_window.proofs.Refusing.{passes, not_false, is_open-is, is_message, is_idle-is}

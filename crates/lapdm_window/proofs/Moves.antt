@@ -1,5 +1,5 @@
 -- What the window holds after each call.
-use Rattle.std.proofs.Common.{◌≡◌, ◌≢◌, refl, sym, ◌∙◌, ap, subst, arith, ℕ, ◌+◌, ◌/◌, ◌<◌, ◌≤◌, Bool, true, false, not, nat_eq, nat_lt, ◌&&◌, List, [], ◌∷◌, ◌++◌, length, drop, get_or, Some, slice_get, IsTrue, remove}
+use Rattle.std.proofs.Common.{◌≡◌, ◌≢◌, refl, sym, ◌∙◌, ap, subst, arith, ℕ, ◌+◌, ◌/◌, ◌<◌, ◌≤◌, Bool, true, false, not, nat_eq, nat_lt, ◌&&◌, List, [], ◌∷◌, ◌++◌, length, drop, get_or, Some, slice_get, IsTrue}
 use Rattle.std.specs.List.{flat_map}
 use Rattle.std.proofs.lemmas.Bool.{false≢true}
 use Rattle.std.proofs.lemmas.Bool.Decides.{nat_tests}
@@ -185,10 +185,6 @@ waiting_is e x waiting next = rw waiting (ap (λ (p : Piece). Some p) (sym next.
 -- nothing waits afterwards
 pub acked-waits : (e : EndState) → IsTrue (waits (with_acked e)) → ⊥
 acked-waits e t = absurd (false≢true (sym (waits-nothing (with_acked e) refl) ∙ t))
-
-pub remove_first : (held : List Message) → remove held 0 ≡ drop 1 held
-remove_first [] = refl
-remove_first (m ∷ ms) = refl
 
 pub Stands-same : (w : Window) (e f : EndState) → f ≡ e → Stands w e → Stands w f
 Stands-same w e f same h = subst (Stands w) (sym same) h

@@ -1,3 +1,4 @@
+pub mod Held
 pub mod Ends
 pub mod Rules
 pub mod Tables

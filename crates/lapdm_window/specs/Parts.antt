@@ -1,15 +1,33 @@
 -- A window as plain values.
-use Rattle.std.specs.Prelude.{◌≡◌, ◌≢◌, ◌<◌, ◌≤◌, [], length, slice_index_or, All}
+use Rattle.std.specs.Prelude.{◌≡◌, ◌⊎◌, ◌+◌, ◌%◌, ◌<◌, ◌≤◌, ℕ, Bool, List, [], length, map, slice_index_or, All}
+use Rattle.lapdm_frame.specs.declared.Channel.{Channel}
 use Rattle.lapdm_frame.specs.Layout.{n201}
-use Rattle.segmenting.specs.Pieces.{IsMessage, count_of}
+use Rattle.segmenting.specs.Pieces.{Message, IsMessage, count_of, longest}
+use Rattle.segmenting.specs.Rooms.{octets_in}
+use Rattle.segmenting.specs.Parts.{JoinerValues}
 use Rattle.segmenting.specs.Parts as J
 use Rattle.lapdm_window.specs.declared.window.Window.{Window}
 use Rattle.lapdm_window.specs.declared.window.parts.WindowParts.{WindowParts}
+use Rattle.lapdm_window.specs.Ends.{EndState}
+use Rattle.lapdm_window.specs.Standing.{Stands}
 
-abbrev pub parts_of : Window → WindowParts
-parts_of w = record {
+pub record WindowValues : Type 0 where
+  pub channel : Channel
+  pub held : List Message
+  pub place : ℕ
+  pub vs : ℕ
+  pub va : ℕ
+  pub vr : ℕ
+  pub done : ℕ
+  pub rejecting : Bool
+  pub retries : ℕ
+  pub joiner : JoinerValues
+
+-- what a window holds
+abbrev pub values_of : Window → WindowValues
+values_of w = record {
   channel = w.channel;
-  held = w.held;
+  held = w.held.items;
   place = w.place;
   vs = w.vs;
   va = w.va;
@@ -17,18 +35,44 @@ parts_of w = record {
   done = w.done;
   rejecting = w.rejecting;
   retries = w.retries;
-  joiner = J.parts_of w.joiner;
+  joiner = J.values_of w.joiner;
 }
 
--- some window has these parts
-abbrev pub IsOfAWindow : WindowParts → Type 0
-IsOfAWindow p = (w : Window) × (parts_of w ≡ p)
+-- what its parts say
+abbrev pub said_by : WindowParts → WindowValues
+said_by p = record {
+  channel = p.channel;
+  held = map octets_in p.held.now;
+  place = p.place;
+  vs = p.vs;
+  va = p.va;
+  vr = p.vr;
+  done = p.done;
+  rejecting = p.rejecting;
+  retries = p.retries;
+  joiner = record { octets = p.joined.now; part = p.part };
+}
 
--- for the body of the test: what the parts of every window have, but for its joiner's
-pub record AreInStep (p : WindowParts) : Type 0 where
-  pub messages : All IsMessage p.held.items
-  pub within : p.place < count_of (n201 p.channel) (slice_index_or p.held.items 0 [])
-  pub waiting : p.vs ≢ p.va → 1 ≤ length p.held.items
-  pub vs : p.vs ≤ 7
-  pub va : p.va ≤ 7
-  pub vr : p.vr ≤ 7
+-- a window that holds this stands for the end
+pub record StandFor (x : WindowValues) (e : EndState) : Type 0 where
+  pub window : Window
+  pub values : values_of window ≡ x
+  pub stands : Stands window e
+
+-- a window that holds this stands for some end
+abbrev pub AreOfAWindow : WindowValues → Type 0
+AreOfAWindow x = (e : EndState) × StandFor x e
+
+-- for the body of the test: what all of these have
+pub record AreHeld (held : List Message) : Type 0 where
+  pub few : length held ≤ 8
+  pub messages : All IsMessage held
+
+pub record AreInStep (x : WindowValues) : Type 0 where
+  pub held : AreHeld x.held
+  pub within : x.place < count_of (n201 x.channel) (slice_index_or x.held 0 [])
+  pub waiting : (x.vs ≡ x.va) ⊎ ((x.vs ≡ (x.va + 1) % 8) × (1 ≤ length x.held))
+  pub va : x.va ≤ 7
+  pub vr : x.vr ≤ 7
+  pub counted : x.done ≡ 0 → x.va ≡ x.place % 8
+  pub joined : length x.joiner.octets ≤ longest

@@ -7,6 +7,7 @@ ghost use Rattle.std.specs.Prelude.{◌≡◌, ◌≤◌};
 ghost use Rattle.lapdm_window.specs.Ends.{n200 as most_repeats};
 
 mod effects;
+mod held;
 mod laws;
 mod message;
 mod window;

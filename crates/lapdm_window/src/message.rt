@@ -49,6 +49,16 @@ impl Message {
         Message { held, len }
     }
 
+    /// Holds these octets and no others.
+    pub fn write(&mut self, octets: &[u8])
+        requires { length octets.now ≤ longest }
+        ensures { self.new ≡ octets.now }
+    {
+        let len = octets.len();
+        self.held[0..len].copy_from_slice(octets);
+        self.len = len;
+    }
+
     pub fn octets(&self) -> &[u8]
         ensures value { result.now ≡ self.now }
         ensures most { length result.now ≤ longest }

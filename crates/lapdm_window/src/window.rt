@@ -4,8 +4,8 @@ ghost use Rattle.std.specs.Prelude.{◌≡◌, ◌≢◌, ◌+◌, ◌<◌, ◌�
 ghost use Rattle.lapdm_frame.specs.Layout.{n201, most_information};
 ghost use Rattle.segmenting.specs.Pieces.{IsMessage, longest, count_of};
 
-use crate::{Acked, Info, Message, Refused, State, Timer, n200};
-use arrayvec::ArrayVec;
+use crate::held::Held;
+use crate::{Acked, Info, Refused, State, Timer, n200};
 use lapdm_frame::Channel;
 use segmenting::{Joiner, LONGEST, Piece, Pieces};
 
@@ -17,7 +17,7 @@ pub use parts::WindowParts;
 #[derive(Debug, Drop)]
 pub struct Window {
     channel: Channel,
-    held: ArrayVec<Message, 8>,
+    held: Held,
     // The next piece, or the one that waits, as a place among the pieces of the first message.
     place: usize,
     vs: u8,
@@ -28,6 +28,7 @@ pub struct Window {
     rejecting: bool,
     retries: u8,
     joiner: Joiner,
+    ghost few: { length held.items ≤ 8 },
     ghost messages: { All IsMessage held.items },
     ghost within: { place < count_of (n201 channel) (slice_index_or held.items 0 []) },
     ghost waiting: { vs ≢ va → 1 ≤ length held.items },
@@ -65,7 +66,7 @@ impl Window {
     {
         Window {
             channel,
-            held: ArrayVec::new(),
+            held: Held::new(),
             place: 0,
             vs: 0,
             va: 0,
@@ -95,7 +96,7 @@ impl Window {
         if self.held.is_full() {
             return Err(Refused::Full);
         }
-        self.held.push(Message::new(message));
+        self.held.push(message);
         Ok(())
     }
 
@@ -145,7 +146,7 @@ impl Window {
             self.place += 1;
             return Acked::Piece;
         }
-        self.held.remove(0);
+        self.held.remove_first();
         self.place = 0;
         self.done = self.done.saturating_add(1);
         Acked::Message(self.done)
@@ -238,7 +239,6 @@ impl Window {
             slice_get (pieces (n201 self.now.channel) first) self.now.place
             ≡ Some (result.octets.now, result.more) }
     {
-        let message = &self.held.as_slice()[0];
-        Pieces::new_on(message.octets(), self.channel).piece(self.place)
+        Pieces::new_on(self.held.first(), self.channel).piece(self.place)
     }
 }

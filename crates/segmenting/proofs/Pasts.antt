@@ -63,5 +63,10 @@ past_of P.Over held r few fits =
       joined = goes_over (ends_of k) long held (omega (arith, ap length (begins k long), length-replicate {A = ℕ} 252 0));
     }
 
+pub some_past : (part : Part) (count : ℕ) (octets : List ℕ) → count ≤ longest → (taken : List Piece) × HasJoined part (take count octets) taken
+some_past part count octets fits =
+    let past = past_of part (take count octets) 0 (omega arith) (omega (arith, length-take count octets)) in
+    (past.taken, past.joined)
+
 pub joiner_past : (j : Joiner) (r : ℕ) → r ≤ 7 → HasPast j.part (take j.len j.octets) r
 joiner_past j r few = past_of j.part (take j.len j.octets) r few (omega (arith, length-take j.len j.octets, j.within))

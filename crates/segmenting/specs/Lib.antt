@@ -3,3 +3,4 @@ pub mod Joining
 pub mod Joiners
 pub mod Cuttings
 pub mod Parts
+pub mod Rooms

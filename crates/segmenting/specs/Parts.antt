@@ -1,11 +1,17 @@
 -- A joiner as plain values.
-use Rattle.std.specs.Prelude.{◌≡◌}
+use Rattle.std.specs.Prelude.{◌≡◌, ℕ, List, take}
+use Rattle.segmenting.specs.declared.joiner.Part.{Part}
 use Rattle.segmenting.specs.declared.joiner.Joiner.{Joiner}
-use Rattle.segmenting.specs.declared.joiner.parts.JoinerParts.{JoinerParts}
 
-abbrev pub parts_of : Joiner → JoinerParts
-parts_of j = record { octets = j.octets; len = j.len; part = j.part }
+-- octets, and what they are
+pub record JoinerValues : Type 0 where
+  pub octets : List ℕ
+  pub part : Part
 
--- some joiner has these parts
-abbrev pub IsOfAJoiner : JoinerParts → Type 0
-IsOfAJoiner p = (j : Joiner) × (parts_of j ≡ p)
+-- what a joiner holds
+abbrev pub values_of : Joiner → JoinerValues
+values_of j = record { octets = take j.len j.octets; part = j.part }
+
+-- some joiner holds this
+abbrev pub IsOfAJoiner : JoinerValues → Type 0
+IsOfAJoiner x = (j : Joiner) × (values_of j ≡ x)

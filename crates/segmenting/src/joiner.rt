@@ -8,8 +8,6 @@ use crate::LONGEST;
 
 mod parts;
 
-pub use parts::JoinerParts;
-
 /// What a piece brings.
 #[derive(Clone, Copy, PartialEq, Eq, Debug)]
 pub enum Joined {

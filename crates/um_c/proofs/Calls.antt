@@ -1,15 +1,16 @@
 -- What a call of an end answers, from what the end below it does.
-use Rattle.std.proofs.Common.{◌≡◌, true, refl, sym, ◌∙◌, ap, subst, ℕ, List, Option, Some, None, Result, Ok, Err, IfOk, IfErr, map}
+use Rattle.std.proofs.Common.{◌≡◌, true, refl, sym, ◌∙◌, ap, subst, ℕ, List, Option, Some, None, Result, Ok, Err, OnOk, IfErr, map}
 use Rattle.lapdm_frame.specs.declared.Channel.{Channel}
 use Rattle.lapdm_frame.specs.Content.{Frame}
 use Rattle.lapdm_frame.specs.Frames.{octets_of}
-use Rattle.lapdm_frame.specs.Readings.{IsOnlyFrame}
+use Rattle.lapdm_frame.specs.declared.Refusal.{Refusal}
+use Rattle.lapdm_frame.specs.Readings.{IsOnlyFrame, IsOnlyRefusal}
 use Rattle.lapdm_window.specs.declared.Sapi.{Sapi}
 use Rattle.lapdm_window.specs.declared.Refused.{Refused}
 use Rattle.lapdm_window.specs.declared.Notice.{Notice}
 use Rattle.lapdm_window.specs.declared.effects.Effects.{Effects}
 use Rattle.lapdm_window.specs.Ends.{EndState, Outcome, start}
-use Rattle.lapdm_window.specs.Calls.{Call, HasCall, after_call}
+use Rattle.lapdm_window.specs.Calls.{Call, after_call}
 use Rattle.lapdm_window.specs.Tables.{after_frame}
 use Rattle.lapdm_window.specs.Steps.{Does}
 use Rattle.lapdm_end.specs.declared.Role.{Role}
@@ -17,13 +18,14 @@ use Rattle.lapdm_end.specs.Links as L
 use Rattle.lapdm_end.specs.declared.ends.End.{End}
 use Rattle.lapdm_end.specs.Standing.{Stands}
 use Rattle.lapdm_end.specs.Following.{Follows, IsRefusedAs}
-use Rattle.lapdm_end.specs.Parts.{parts_of}
+use Rattle.lapdm_end.specs.Parts.{values_of}
 use Rattle.um_c.specs.declared.states.PlainEnd.{PlainEnd}
 use Rattle.um_c.specs.declared.effects.PlainEffects.{PlainEffects}
 use Rattle.um_c.specs.Plain.{channel_of}
-use Rattle.um_c.specs.States.{role_of, sapi_of, said_end, StandsFor, IsOfAnEnd}
+use Rattle.um_c.specs.States.{role_of, sapi_of, said_end, StandsFor, IsOfAnEnd, plain_end}
 use Rattle.um_c.specs.Effects.{plain_effects}
-use Rattle.um_c.specs.EndCalls.{refused_number, IsCarriedOut, IsCalledAs, IsGivenAs, IsBegun, IsBegunAs}
+use Rattle.um_c.proofs.Plain.{end-plain}
+use Rattle.um_c.specs.EndCalls.{refused_number, MayAsk, IsCarriedOut, IsCalledAs, IsGivenAs, IsBegun, IsBegunAs}
 
 -- the end that was read stands for whatever the state does, and there is something
 pub record IsRead (s : PlainEnd) (m : End) : Type 0 where
@@ -33,14 +35,23 @@ pub record IsRead (s : PlainEnd) (m : End) : Type 0 where
 -- what was answered, where the call was not refused and where it was
 abbrev pub IsDone : Effects → End → ℕ → PlainEnd → PlainEffects → Type 0
 IsDone effects n answer after told =
-    (answer ≡ 0) × (said_end after ≡ Some (parts_of n)) × (told ≡ plain_effects effects.frames effects.notices)
+    (answer ≡ 0) × (said_end after ≡ Some (values_of n)) × (told ≡ plain_effects effects.frames effects.notices)
+
+abbrev pub IsWritten : Effects → End → ℕ → PlainEnd → PlainEffects → Type 0
+IsWritten effects n answer after told =
+    (answer ≡ 0) × (after ≡ plain_end (values_of n)) × (told ≡ plain_effects effects.frames effects.notices)
+
+pub is_done : (effects : Effects) (n : End) (answer : ℕ) (after : PlainEnd) (told : PlainEffects) → IsWritten effects n answer after told →
+    IsDone effects n answer after told
+is_done effects n answer after told is = (is.0, ap said_end is.1 ∙ end-plain (values_of n) n.window.few, is.2)
+
+pub written : {A : Type 0} (r : Result A Refused) (effects : Effects) (n : End) (answer : ℕ) (after : PlainEnd) (told : PlainEffects) →
+    OnOk r (IsWritten effects n answer after told) → OnOk r (IsDone effects n answer after told)
+written (Ok x) effects n answer after told is = is_done effects n answer after told is
+written (Err reason) effects n answer after told is = is
 
 abbrev pub IsRefusal : Refused → ℕ → (before after : PlainEnd) → (untold told : PlainEffects) → Type 0
 IsRefusal reason answer before after untold told = (answer ≡ refused_number reason) × (after ≡ before) × (told ≡ untold)
-
-abbrev pub IsAnswer : Result Effects Refused → End → ℕ → (before after : PlainEnd) → (untold told : PlainEffects) → Type 0
-IsAnswer (Ok effects) n answer before after untold told = IsDone effects n answer after told
-IsAnswer (Err reason) n answer before after untold told = IsRefusal reason answer before after untold told
 
 same_told : (f g : List (List ℕ)) (a b : List Notice) → f ≡ g → a ≡ b → plain_effects f a ≡ plain_effects g b
 same_told f g a b h k = ap (λ x. plain_effects x a) h ∙ ap (plain_effects g) k
@@ -50,7 +61,7 @@ pub carried_out : (o : Outcome) (e : EndState) (n : End) (effects : Effects) (an
 carried_out o e n effects answer after told stands does is =
     record {
       zero = is.0;
-      stands = record { parts = parts_of n; said = is.1; stand = record { end = n; parts = refl; stands = stands } };
+      stands = record { values = values_of n; said = is.1; stand = record { end = n; values = refl; stands = stands } };
       effects = is.2 ∙ same_told effects.frames (map (octets_of e.channel) o.frames) effects.notices o.notices does.frames does.notices;
     }
 
@@ -60,60 +71,57 @@ some_is h = cc
 none_is : {A : Type 0} {x : Refused} → None ≡ Some x → A
 none_is h = absurd (let h2 : None ≡ Some _ = h in cc)
 
-pub called : (call : Call) (before after : PlainEnd) (untold told : PlainEffects) (m n : End) (answer : ℕ) (r : Result Effects Refused) →
-    IsRead before m → ((e : EndState) → StandsFor before e → HasCall e call) → IsRefusedAs call m r →
-    IfOk r (λ effects. Follows (after_call call) m effects n) → IsAnswer r n answer before after untold told →
-    IsCalledAs call answer before after untold told
-called call before after untold told m n answer (Ok effects) read has refusal follows is =
+pub called_by : {A : Type 0} (call : Call) (before after : PlainEnd) (untold told : PlainEffects) (m n : End) (effects : Effects) (answer : ℕ)
+    (r : Result A Refused) → IsRead before m → ((e : EndState) → StandsFor before e → MayAsk e call) → IsRefusedAs call m r →
+    OnOk r (Follows (after_call call) m effects n) → OnOk r (IsDone effects n answer after told) →
+    IfErr r (λ reason. IsRefusal reason answer before after untold told) → IsCalledAs call answer before after untold told
+called_by call before after untold told m n effects answer (Ok x) read may refusal follows is refused =
     record {
-      done = λ e h may none. let s = follows e (read.stands e h) in carried_out (after_call call e) e n effects answer after told s.0 s.1 is;
-      refused = λ e h may reason refuses. none_is (refusal e (read.stands e h) ∙ refuses);
-      other = λ e h not_one. absurd (not_one (has e h));
+      done = λ e h asked none. let s = follows e (read.stands e h) in carried_out (after_call call e) e n effects answer after told s.0 s.1 is;
+      refused = λ e h asked reason refuses. none_is (refusal e (read.stands e h) ∙ refuses);
+      other = λ e h not_one. absurd (not_one (may e h));
       no_end = λ none. absurd (none read.one.0 read.one.1);
       unchanged = λ other. absurd (other is.0);
     }
-called call before after untold told m n answer (Err reason) read has refusal follows is =
+called_by call before after untold told m n effects answer (Err reason) read may refusal follows done is =
     record {
-      done = λ e h may none. none_is (sym none ∙ sym (refusal e (read.stands e h)));
-      refused = λ e h may other refuses. is.0 ∙ ap refused_number (some_is (refusal e (read.stands e h) ∙ refuses));
-      other = λ e h not_one. absurd (not_one (has e h));
+      done = λ e h asked none. none_is (sym none ∙ sym (refusal e (read.stands e h)));
+      refused = λ e h asked other refuses. is.0 ∙ ap refused_number (some_is (refusal e (read.stands e h) ∙ refuses));
+      other = λ e h not_one. absurd (not_one (may e h));
       no_end = λ none. absurd (none read.one.0 read.one.1);
       unchanged = λ other. (is.1, is.2);
     }
 
-answer_of : (r : Result Effects Refused) (n : End) (answer : ℕ) (before after : PlainEnd) (untold told : PlainEffects) →
-    IfOk r (λ effects. IsDone effects n answer after told) → IfErr r (λ reason. IsRefusal reason answer before after untold told) →
-    IsAnswer r n answer before after untold told
-answer_of (Ok effects) n answer before after untold told done refused = done
-answer_of (Err reason) n answer before after untold told done refused = refused
-
-pub called_by : (call : Call) (before after : PlainEnd) (untold told : PlainEffects) (m n : End) (answer : ℕ) (r : Result Effects Refused) →
-    IsRead before m → ((e : EndState) → StandsFor before e → HasCall e call) → IsRefusedAs call m r →
-    IfOk r (λ effects. Follows (after_call call) m effects n) → IfOk r (λ effects. IsDone effects n answer after told) →
-    IfErr r (λ reason. IsRefusal reason answer before after untold told) → IsCalledAs call answer before after untold told
-called_by call before after untold told m n answer r read has refusal follows done refused =
-    called call before after untold told m n answer r read has refusal follows
-    (answer_of r n answer before after untold told done refused)
+-- a call that may not be asked
+pub not_asked : (call : Call) (s : PlainEnd) (told : PlainEffects) (m : End) → IsRead s m →
+    ((e : EndState) → StandsFor s e → MayAsk e call → ⊥) → IsCalledAs call 8 s s told told
+not_asked call s told m read never = record {
+  done = λ e h asked none. absurd (never e h asked);
+  refused = λ e h asked reason refuses. absurd (never e h asked);
+  other = λ e h not_one. refl;
+  no_end = λ none. absurd (none read.one.0 read.one.1);
+  unchanged = λ other. (refl, refl);
+}
 
 -- a call that leaves the state as it is
-told_done : (r : Result Effects Refused) (n : End) (answer : ℕ) (s : PlainEnd) (told : PlainEffects) → said_end s ≡ Some (parts_of n) →
-    IfOk r (λ effects. (answer ≡ 0) × (told ≡ plain_effects effects.frames effects.notices)) →
-    IfOk r (λ effects. IsDone effects n answer s told)
-told_done (Ok effects) n answer s told said done = (done.0, said, done.1)
-told_done (Err reason) n answer s told said done = done
+told_done : {A : Type 0} (r : Result A Refused) (n : End) (effects : Effects) (answer : ℕ) (s : PlainEnd) (told : PlainEffects) →
+    said_end s ≡ Some (values_of n) → OnOk r ((answer ≡ 0) × (told ≡ plain_effects effects.frames effects.notices)) →
+    OnOk r (IsDone effects n answer s told)
+told_done (Ok x) n effects answer s told said done = (done.0, said, done.1)
+told_done (Err reason) n effects answer s told said done = done
 
-told_refusal : (r : Result Effects Refused) (answer : ℕ) (s : PlainEnd) (untold told : PlainEffects) →
+told_refusal : {A : Type 0} (r : Result A Refused) (answer : ℕ) (s : PlainEnd) (untold told : PlainEffects) →
     IfErr r (λ reason. (answer ≡ refused_number reason) × (told ≡ untold)) → IfErr r (λ reason. IsRefusal reason answer s s untold told)
-told_refusal (Ok effects) answer s untold told refused = refused
+told_refusal (Ok x) answer s untold told refused = refused
 told_refusal (Err reason) answer s untold told refused = (refused.0, refl, refused.1)
 
-pub told_by : (call : Call) (s : PlainEnd) (untold told : PlainEffects) (m n : End) (answer : ℕ) (r : Result Effects Refused) →
-    IsRead s m → said_end s ≡ Some (parts_of n) → ((e : EndState) → StandsFor s e → HasCall e call) → IsRefusedAs call m r →
-    IfOk r (λ effects. Follows (after_call call) m effects n) →
-    IfOk r (λ effects. (answer ≡ 0) × (told ≡ plain_effects effects.frames effects.notices)) →
+pub told_by : {A : Type 0} (call : Call) (s : PlainEnd) (untold told : PlainEffects) (m n : End) (effects : Effects) (answer : ℕ)
+    (r : Result A Refused) → IsRead s m → said_end s ≡ Some (values_of n) → ((e : EndState) → StandsFor s e → MayAsk e call) →
+    IsRefusedAs call m r → OnOk r (Follows (after_call call) m effects n) →
+    OnOk r ((answer ≡ 0) × (told ≡ plain_effects effects.frames effects.notices)) →
     IfErr r (λ reason. (answer ≡ refused_number reason) × (told ≡ untold)) → IsCalledAs call answer s s untold told
-told_by call s untold told m n answer r read said has refusal follows done refused =
-    called_by call s s untold told m n answer r read has refusal follows (told_done r n answer s told said done)
+told_by call s untold told m n effects answer r read said may refusal follows done refused =
+    called_by call s s untold told m n effects answer r read may refusal follows (told_done r n effects answer s told said done)
     (told_refusal r answer s untold told refused)
 
 -- a block that is a frame
@@ -134,13 +142,26 @@ given_by octets channel f before after untold told m n answer effects read same 
       unchanged = λ other. absurd (other is.0);
     }
 
+-- a block that is none
+pub not_given : (octets : List ℕ) (channel : Channel) (reason : Refusal) (s : PlainEnd) (told : PlainEffects) (m : End) → IsRead s m →
+    ((e : EndState) → Stands m e → channel ≡ e.channel) → IsOnlyRefusal channel octets reason → IsGivenAs octets 9 s s told told
+not_given octets channel reason s told m read same refusal =
+    let known : (e : EndState) → StandsFor s e → IsOnlyRefusal e.channel octets reason =
+    λ e h. subst (λ (c : Channel). IsOnlyRefusal c octets reason) (same e (read.stands e h)) refusal in
+    record {
+      done = λ e h f only. absurd ((known e h).no_frame f only.frame);
+      no_frame = λ e h other refused. refl;
+      no_end = λ none. absurd (none read.one.0 read.one.1);
+      unchanged = λ other. (refl, refl);
+    }
+
 -- an end before its first call
 pub begun : (role sapi channel : ℕ) (r : Role) (s : Sapi) (c : Channel) (before after : PlainEnd) (m : End) → Some r ≡ role_of role →
-    Some s ≡ sapi_of sapi → Some c ≡ channel_of channel → said_end after ≡ Some (parts_of m) → Stands m (start (L.role_of r) s c) →
+    Some s ≡ sapi_of sapi → Some c ≡ channel_of channel → after ≡ plain_end (values_of m) → Stands m (start (L.role_of r) s c) →
     IsBegunAs role sapi channel true before after
-begun role sapi channel r s c before after m of_role of_sapi of_channel said stands =
+begun role sapi channel r s c before after m of_role of_sapi of_channel is stands =
     let by_channel : Option Channel → Type 0 = λ z. IsBegun (Some r) (Some s) z true before after in
     let by_sapi : Option Sapi → Type 0 = λ y. IsBegun (Some r) y (channel_of channel) true before after in
     let by_role : Option Role → Type 0 = λ x. IsBegun x (sapi_of sapi) (channel_of channel) true before after in
     subst by_role of_role (subst by_sapi of_sapi (subst by_channel of_channel
-    (refl, record { parts = parts_of m; said = said; stand = record { end = m; parts = refl; stands = stands } })))
+    (refl, record { values = values_of m; said = ap said_end is ∙ end-plain (values_of m) m.window.few; stand = record { end = m; values = refl; stands = stands } })))

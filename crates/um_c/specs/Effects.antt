@@ -4,9 +4,9 @@ use Rattle.lapdm_window.specs.declared.Notice.{Notice}
 use Rattle.lapdm_window.specs.declared.Notice.TheVariants as N
 use Rattle.lapdm_window.specs.declared.Reason.{Reason}
 use Rattle.lapdm_window.specs.declared.Reason.TheVariants as R
+use Rattle.segmenting.specs.Rooms.{plain_message}
 use Rattle.um_c.specs.declared.effects.PlainNotice.{PlainNotice}
 use Rattle.um_c.specs.declared.effects.PlainEffects.{PlainEffects}
-use Rattle.um_c.specs.States.{plain_message}
 
 abbrev pub reason_number : Reason → ℕ
 reason_number R.Contention = 0

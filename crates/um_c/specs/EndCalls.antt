@@ -8,8 +8,9 @@ use Rattle.lapdm_frame.specs.Readings.{IsOnlyFrame, IsOnlyRefusal}
 use Rattle.lapdm_window.specs.declared.Sapi.{Sapi}
 use Rattle.lapdm_window.specs.declared.Refused.{Refused}
 use Rattle.lapdm_window.specs.declared.Refused.TheVariants as No
-use Rattle.lapdm_window.specs.Ends.{EndState, Outcome, start}
-use Rattle.lapdm_window.specs.Calls.{Call, HasCall, refusal_of, after_call}
+use Rattle.lapdm_window.specs.declared.Sapi.TheVariants.{Zero}
+use Rattle.lapdm_window.specs.Ends.{Mobile, EndState, Outcome, start}
+use Rattle.lapdm_window.specs.Calls.{Call, Opens, HasCall, refusal_of, after_call}
 use Rattle.lapdm_window.specs.Tables.{after_frame}
 use Rattle.lapdm_end.specs.Links as L
 use Rattle.lapdm_end.specs.declared.Role.{Role}
@@ -34,14 +35,19 @@ pub record IsCarriedOut (channel : Channel) (o : Outcome) (answer : ℕ) (after 
   pub stands : StandsFor after o.after
   pub effects : told ≡ plain_effects (map (octets_of channel) o.frames) o.notices
 
--- whatever end the state stands for, the call does what that end does or is refused as it is; 8 where the end has no such call, 7
+-- what may be asked of an end: the calls that it has, and of those that open the link of SAPI 0 a mobile's alone
+abbrev pub MayAsk : EndState → Call → Type 0
+MayAsk e (Opens info) = (e.sapi ≡ Zero) × (e.role ≡ Mobile)
+MayAsk e call = HasCall e call
+
+-- whatever end the state stands for, the call does what that end does or is refused as it is; 8 where it may not be asked so, 7
 -- where the state is that of no end; and nothing is written where the answer is not 0
 pub record IsCalledAs (call : Call) (answer : ℕ) (before after : PlainEnd) (untold told : PlainEffects) : Type 0 where
-  pub done : (e : EndState) → StandsFor before e → HasCall e call → refusal_of call e ≡ None →
+  pub done : (e : EndState) → StandsFor before e → MayAsk e call → refusal_of call e ≡ None →
       IsCarriedOut e.channel (after_call call e) answer after told
-  pub refused : (e : EndState) → StandsFor before e → HasCall e call → (reason : Refused) → refusal_of call e ≡ Some reason →
+  pub refused : (e : EndState) → StandsFor before e → MayAsk e call → (reason : Refused) → refusal_of call e ≡ Some reason →
       answer ≡ refused_number reason
-  pub other : (e : EndState) → StandsFor before e → (HasCall e call → ⊥) → answer ≡ 8
+  pub other : (e : EndState) → StandsFor before e → (MayAsk e call → ⊥) → answer ≡ 8
   pub no_end : ((e : EndState) → StandsFor before e → ⊥) → answer ≡ 7
   pub unchanged : answer ≢ 0 → (after ≡ before) × (told ≡ untold)
 

@@ -1,30 +1,24 @@
--- An end of a link as a C program holds it: what its numbers and arrays say.
-use Rattle.std.specs.Prelude.{ℕ, ◌≡◌, ◌==◌, ◌&&◌, ◌-◌, nat_le, if◌then◌else◌, Bool, List, ◌++◌, length, take, replicate, map, Option, Some, None}
-use Rattle.std.specs.List.{list_all}
+-- An end of a link as a C program holds it: what its numbers and arrays say, and how they are written.
+use Rattle.std.specs.Prelude.{ℕ, zero, suc, ◌≡◌, ◌==◌, nat_le, if◌then◌else◌, Bool, true, List, [], ◌∷◌, length, take, map, Option, Some, None}
 use Rattle.lapdm_frame.specs.declared.Channel.{Channel}
+use Rattle.lapdm_frame.specs.declared.Channel.TheVariants.{Sdcch, Sacch}
+use Rattle.lapdm_frame.specs.Frames.{bit}
 use Rattle.segmenting.specs.declared.joiner.Part.{Part}
 use Rattle.segmenting.specs.declared.joiner.Part.TheVariants as P
-use Rattle.segmenting.specs.Pieces.{Message, longest}
+use Rattle.segmenting.specs.declared.rooms.PlainMessage.{PlainMessage}
+use Rattle.segmenting.specs.Pieces.{Message}
+use Rattle.segmenting.specs.Rooms.{octets_in, plain_message}
 use Rattle.lapdm_window.specs.declared.Sapi.{Sapi}
 use Rattle.lapdm_window.specs.declared.Sapi.TheVariants.{Zero, Three}
 use Rattle.lapdm_window.specs.declared.State.{State}
 use Rattle.lapdm_window.specs.declared.State.TheVariants as S
-use Rattle.lapdm_window.specs.declared.window.parts.WindowParts.{WindowParts}
 use Rattle.lapdm_window.specs.Ends.{EndState}
+use Rattle.lapdm_window.specs.Parts.{WindowValues}
 use Rattle.lapdm_end.specs.declared.Role.{Role}
 use Rattle.lapdm_end.specs.declared.Role.TheVariants.{Mobile, Network}
-use Rattle.lapdm_end.specs.declared.parts.EndParts.{EndParts}
-use Rattle.lapdm_end.specs.Parts.{StandFor}
-use Rattle.um_c.specs.declared.states.PlainMessage.{PlainMessage}
+use Rattle.lapdm_end.specs.Parts.{EndValues, StandFor}
 use Rattle.um_c.specs.declared.states.PlainEnd.{PlainEnd}
 use Rattle.um_c.specs.Plain.{says, channel_of}
-
-abbrev pub octets_in : PlainMessage → List ℕ
-octets_in m = take m.count m.octets
-
--- zeros behind the octets
-abbrev pub plain_message : List ℕ → PlainMessage
-plain_message octets = record { count = length octets; octets = octets ++ replicate (255 - length octets) 0 }
 
 -- what a number names
 abbrev pub role_of : ℕ → Option Role
@@ -45,23 +39,11 @@ state_of number =
 abbrev pub part_of : ℕ → Option Part
 part_of number = if number == 0 then Some P.Open else if number == 1 then Some P.Whole else if number == 2 then Some P.Over else None
 
--- a message of no more octets than one may have
-abbrev pub fits : PlainMessage → Bool
-fits m = nat_le m.count longest
-
-abbrev pub said_message : PlainMessage → Option Message
-said_message m = if fits m then Some (octets_in m) else None
-
--- the first of eight messages
-abbrev pub said_held : ℕ → List PlainMessage → Option (List Message)
-said_held count messages =
-    if nat_le count 8 && list_all fits (take count messages) then Some (map octets_in (take count messages)) else None
-
-abbrev pub window_with : PlainEnd → Option Channel → Option (List Message) → Option Part → Option WindowParts
-window_with s (Some channel) (Some held) (Some part) =
+abbrev pub window_with : PlainEnd → Option Channel → Option Part → Bool → Option WindowValues
+window_with s (Some channel) (Some part) true =
     Some (record {
       channel = channel;
-      held = record { items = held };
+      held = map octets_in (take s.held_count s.held);
       place = s.place;
       vs = s.vs;
       va = s.va;
@@ -69,28 +51,85 @@ window_with s (Some channel) (Some held) (Some part) =
       done = s.done;
       rejecting = says s.rejecting;
       retries = s.repeats;
-      joiner = record { octets = take longest s.joined.octets; len = s.joined.count; part = part };
+      joiner = record { octets = octets_in s.joined; part = part };
     })
-window_with s channel held part = None
+window_with s channel part few = None
 
-abbrev pub said_window : PlainEnd → Option WindowParts
-said_window s = window_with s (channel_of s.channel) (said_held s.held_count s.held) (part_of s.part)
+abbrev pub said_window : PlainEnd → Option WindowValues
+said_window s = window_with s (channel_of s.channel) (part_of s.part) (nat_le s.held_count 8)
 
-abbrev pub end_with : PlainEnd → Option Role → Option Sapi → Option State → Option Message → Option WindowParts → Option EndParts
-end_with s (Some role) (Some sapi) (Some state) (Some kept) (Some window) =
-    Some (record { role = role; sapi = sapi; state = state; kept = kept; retries = s.retries; window = window })
-end_with s role sapi state kept window = None
+abbrev pub end_with : PlainEnd → Option Role → Option Sapi → Option State → Option WindowValues → Option EndValues
+end_with s (Some role) (Some sapi) (Some state) (Some window) =
+    Some (record { role = role; sapi = sapi; state = state; kept = octets_in s.kept; retries = s.retries; window = window })
+end_with s role sapi state window = None
 
--- the parts that the state says, if each number names something and each count is within its room
-abbrev pub said_end : PlainEnd → Option EndParts
-said_end s = end_with s (role_of s.role) (sapi_of s.sapi) (state_of s.state) (said_message s.kept) (said_window s)
+-- what the state says, if each number names something and at most eight messages are counted
+abbrev pub said_end : PlainEnd → Option EndValues
+said_end s = end_with s (role_of s.role) (sapi_of s.sapi) (state_of s.state) (said_window s)
 
--- they are the parts of an end that stands for this
+-- an end that holds this stands for the end of the definition
 pub record StandsFor (s : PlainEnd) (e : EndState) : Type 0 where
-  pub parts : EndParts
-  pub said : said_end s ≡ Some parts
-  pub stand : StandFor parts e
+  pub values : EndValues
+  pub said : said_end s ≡ Some values
+  pub stand : StandFor values e
 
 -- the state is that of some end
 abbrev pub IsOfAnEnd : PlainEnd → Type 0
 IsOfAnEnd s = (e : EndState) × StandsFor s e
+
+-- the number of each name
+abbrev pub role_number : Role → ℕ
+role_number Mobile = 0
+role_number Network = 1
+
+abbrev pub sapi_number : Sapi → ℕ
+sapi_number Zero = 0
+sapi_number Three = 3
+
+abbrev pub channel_number : Channel → ℕ
+channel_number Sdcch = 0
+channel_number Sacch = 1
+
+abbrev pub state_number : State → ℕ
+state_number S.Idle = 0
+state_number S.Opening = 1
+state_number S.Open = 2
+state_number S.Closing = 3
+state_number S.Closed = 4
+
+abbrev pub part_number : Part → ℕ
+part_number P.Open = 0
+part_number P.Whole = 1
+part_number P.Over = 2
+
+-- so many messages, of which those behind the last have no octets
+abbrev pub rooms_for : ℕ → List Message → List PlainMessage
+rooms_for zero held = []
+rooms_for (suc k) [] = plain_message [] ∷ rooms_for k []
+rooms_for (suc k) (m ∷ ms) = plain_message m ∷ rooms_for k ms
+
+-- how an end that holds this is written: zeros behind each count
+abbrev pub plain_end : EndValues → PlainEnd
+plain_end x = record {
+  done = x.window.done;
+  role = role_number x.role;
+  sapi = sapi_number x.sapi;
+  channel = channel_number x.window.channel;
+  state = state_number x.state;
+  retries = x.retries;
+  vs = x.window.vs;
+  va = x.window.va;
+  vr = x.window.vr;
+  repeats = x.window.retries;
+  rejecting = bit x.window.rejecting;
+  place = x.window.place;
+  held_count = length x.window.held;
+  part = part_number x.window.joiner.part;
+  kept = plain_message x.kept;
+  joined = plain_message x.window.joiner.octets;
+  held = rooms_for 8 x.window.held;
+}
+
+-- the state is written so: there is one such state of what an end holds
+abbrev pub IsPlain : PlainEnd → Type 0
+IsPlain s = (x : EndValues) × (s ≡ plain_end x)

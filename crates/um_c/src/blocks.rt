@@ -1,9 +1,16 @@
 //! Blocks of 23 octets as four normal bursts, and back.
-ghost use Rattle.std.specs.Prelude.{◌≡◌, ◌≤◌, ◌↔◌, All, IsTrue, false, ℕ, List, replicate, MatchOption};
+ghost use Rattle.std.specs.Prelude.{◌≡◌, ◌≢◌, ◌≤◌, ◌↔◌, All, IsTrue, IsSome, false, ℕ, ℤ, List, map, replicate, MatchOption};
 ghost use Rattle.bit_blocks.specs.Bits.{AllBits};
 ghost use Rattle.bit_blocks.specs.SoftValues.{AllSoft};
 ghost use Rattle.um_block.specs.Sent.{IsSentBlock};
 ghost use Rattle.conv_code.specs.Code.{IsInformation};
+ghost use Rattle.conv_code.specs.Likelihood.{FallsBehind};
+ghost use Rattle.interleave.specs.Bursts.{IsInterleaved};
+ghost use Rattle.list_decode.specs.Ranking.{IsCandidate};
+ghost use Rattle.um_block.specs.declared.received.Received.{Received as ReceivedOf};
+ghost use Rattle.um_block.specs.Received.{IsReceivedBlock, coded_places};
+ghost use Rattle.um_among.specs.Among.{NoneHolds};
+ghost use Rattle.um_among.specs.Parities.{HoldsInBlock};
 ghost use Rattle.um_c.specs.Reports.{IsBlockReport, IsBlockReportAmong, TellsBlock};
 
 use crate::soft::are_soft_bursts;
@@ -29,7 +36,7 @@ pub struct BlockReport {
     pub accepted: u8,
     /// The octets where the parity holds, else zeros.
     pub octets: [u8; 23],
-    /// The most likely word, a bit an octet: 184 of data, 40 of parity, four zeros.
+    /// The word reported, a bit an octet: 184 of data, 40 of parity, four zeros.
     pub word: [u8; 228],
 }
 
@@ -75,6 +82,14 @@ pub extern "C" fn um_receive_block_among(
 ) -> bool
     ensures known { IsTrue result ↔ (All AllSoft bursts.now × (1 ≤ most) × (most ≤ 64)) }
     ensures received { IsTrue result → IsBlockReportAmong bursts.now most rank.new report.new }
+    ensures best { IsTrue result → report.new.accepted ≡ 1 → (soft : List ℤ) (v : List ℕ)
+        → IsInterleaved soft (map coded_places bursts.now) → IsCandidate soft v → HoldsInBlock v
+        → v ≢ report.new.word → FallsBehind soft v report.new.word }
+    ensures none { IsTrue result → (soft : List ℤ)
+        → IsInterleaved soft (map coded_places bursts.now)
+        → ((report.new.accepted ≡ 0) ↔ NoneHolds HoldsInBlock soft most) }
+    ensures first { IsTrue result → (r : ReceivedOf) → IsReceivedBlock bursts.now r
+        → IsSome r.accepted → TellsBlock bursts.now r report.new × (rank.new ≡ 1) }
     ensures refused { result ≡ false → (report.new ≡ report.old) × (rank.new ≡ rank.old) }
 {
     if most == 0 || most > MOST || !are_soft_bursts(bursts) {

@@ -1,11 +1,11 @@
 //! What an end sends and reports, as arrays of fixed room.
 ghost use Rattle.std.specs.Prelude.{◌≡◌, ◌≤◌, ◌-◌, ◌++◌, map, length, replicate};
 ghost use Rattle.segmenting.specs.Pieces.{longest};
-ghost use Rattle.um_c.specs.States.{plain_message};
+ghost use Rattle.segmenting.specs.Rooms.{plain_message};
 ghost use Rattle.um_c.specs.Effects.{plain_notice, plain_effects, nothing, reason_number};
 
-use crate::states::{PlainMessage, plain_message};
 use lapdm_window::{Effects, Notice, Reason};
+use segmenting::PlainMessage;
 
 /// What an end reports.
 #[repr(C)]
@@ -94,11 +94,13 @@ fn handed_up(kind: u8, octets: &[u8]) -> PlainNotice
     requires { length octets.now ≤ longest }
     ensures { result ≡ record { number = 0; kind = kind; reason = 0; message = plain_message octets.now } }
 {
+    let mut message = PlainMessage::empty();
+    message.write(octets);
     PlainNotice {
         number: 0,
         kind,
         reason: 0,
-        message: plain_message(octets),
+        message,
     }
 }
 

@@ -1,28 +1,31 @@
 //! One end of a link, whose state is the caller's.
-ghost use Rattle.std.specs.Prelude.{◌≡◌, Some, IfOk, IfErr, IsTrue, false};
+ghost use Rattle.std.specs.Prelude.{◌≡◌, OnOk, IfErr, IsTrue};
+ghost use Rattle.segmenting.specs.Rooms.{octets_in};
 ghost use Rattle.lapdm_window.specs.Calls.{Opens, OpensBare, Sends, SendsUnit, Closes, Ticks, Idles};
-ghost use Rattle.lapdm_end.specs.Parts.{parts_of};
-ghost use Rattle.um_c.specs.States.{octets_in, said_end};
+ghost use Rattle.lapdm_end.specs.Parts.{values_of};
+ghost use Rattle.um_c.specs.States.{plain_end, IsPlain};
 ghost use Rattle.um_c.specs.Effects.{plain_effects};
 ghost use Rattle.um_c.specs.EndCalls.{refused_number, IsCalledAs, IsGivenAs, IsBegunAs};
 
 use crate::effects::{PlainEffects, plain_effects};
 use crate::frames::channel_of;
-use crate::states::{PlainEnd, PlainMessage, end_in, plain_end, role_of, sapi_of};
-use lapdm_end::End;
-use lapdm_frame::read_on;
+use crate::states::{PlainEnd, read_end, role_of, sapi_of, write_end};
+use lapdm_end::{End, Role};
+use lapdm_frame::{Channel, read_on};
 use lapdm_window::{Effects, Refused, Sapi};
+use segmenting::PlainMessage;
 
 const NO_END: u8 = 7;
 
-const OTHER_SAPI: u8 = 8;
+const NO_CALL: u8 = 8;
 
 const NO_FRAME: u8 = 9;
 
 /// Writes the state of an end before its first call. False, and nothing written, where there is no such role, SAPI or channel.
 #[unsafe(no_mangle)]
 pub extern "C" fn um_end_new(end: &mut PlainEnd, role: u8, sapi: u8, channel: u8) -> bool
-    ensures { IsBegunAs role sapi channel result end.old end.new }
+    ensures begun { IsBegunAs role sapi channel result end.old end.new }
+    ensures plain { IsTrue result → IsPlain end.new }
 {
     let Some(role) = role_of(role) else {
         return false;
@@ -33,7 +36,7 @@ pub extern "C" fn um_end_new(end: &mut PlainEnd, role: u8, sapi: u8, channel: u8
     let Some(channel) = channel_of(channel) else {
         return false;
     };
-    *end = plain_end(End::new_on(role, sapi, channel));
+    write_end(&End::new_on(role, sapi, channel), end);
     true
 }
 
@@ -44,16 +47,23 @@ pub extern "C" fn um_end_open(
     info: &PlainMessage,
     effects: &mut PlainEffects,
 ) -> u8
-    ensures { IsCalledAs (Opens (octets_in info.now)) result end.old end.new effects.old effects.new }
+    ensures called { IsCalledAs (Opens (octets_in info.now)) result end.old end.new effects.old effects.new }
+    ensures plain { result ≡ 0 → IsPlain end.new }
 {
-    let Some(mut held) = end_in(end) else {
+    let mut held = any_end();
+    if !read_end(end, &mut held) {
         return NO_END;
-    };
+    }
+    let mut told = Effects::new();
+    match held.role() {
+        Role::Network => return NO_CALL,
+        Role::Mobile => {}
+    }
     match held.sapi() {
-        Sapi::Three => OTHER_SAPI,
+        Sapi::Three => NO_CALL,
         Sapi::Zero => {
-            let answer = held.open(info.octets());
-            carry_out(answer, held, end, effects)
+            let answer = held.open_into(info.octets(), &mut told);
+            carry_out(answer, &told, &held, end, effects)
         }
     }
 }
@@ -61,16 +71,19 @@ pub extern "C" fn um_end_open(
 /// Asks the other end to open the link of SAPI 3, with no information.
 #[unsafe(no_mangle)]
 pub extern "C" fn um_end_open_bare(end: &mut PlainEnd, effects: &mut PlainEffects) -> u8
-    ensures { IsCalledAs OpensBare result end.old end.new effects.old effects.new }
+    ensures called { IsCalledAs OpensBare result end.old end.new effects.old effects.new }
+    ensures plain { result ≡ 0 → IsPlain end.new }
 {
-    let Some(mut held) = end_in(end) else {
+    let mut held = any_end();
+    if !read_end(end, &mut held) {
         return NO_END;
-    };
+    }
+    let mut told = Effects::new();
     match held.sapi() {
-        Sapi::Zero => OTHER_SAPI,
+        Sapi::Zero => NO_CALL,
         Sapi::Three => {
-            let answer = held.open_bare();
-            carry_out(answer, held, end, effects)
+            let answer = held.open_bare_into(&mut told);
+            carry_out(answer, &told, &held, end, effects)
         }
     }
 }
@@ -82,13 +95,16 @@ pub extern "C" fn um_end_send(
     message: &PlainMessage,
     effects: &mut PlainEffects,
 ) -> u8
-    ensures { IsCalledAs (Sends (octets_in message.now)) result end.old end.new effects.old effects.new }
+    ensures called { IsCalledAs (Sends (octets_in message.now)) result end.old end.new effects.old effects.new }
+    ensures plain { result ≡ 0 → IsPlain end.new }
 {
-    let Some(mut held) = end_in(end) else {
+    let mut held = any_end();
+    if !read_end(end, &mut held) {
         return NO_END;
-    };
-    let answer = held.send(message.octets());
-    carry_out(answer, held, end, effects)
+    }
+    let mut told = Effects::new();
+    let answer = held.send_into(message.octets(), &mut told);
+    carry_out(answer, &told, &held, end, effects)
 }
 
 /// Sends a message in one unnumbered frame, outside the link.
@@ -100,35 +116,43 @@ pub extern "C" fn um_end_unit(
 ) -> u8
     ensures { IsCalledAs (SendsUnit (octets_in message.now)) result end.now end.now effects.old effects.new }
 {
-    let Some(mut held) = end_in(end) else {
+    let mut held = any_end();
+    if !read_end(end, &mut held) {
         return NO_END;
-    };
-    let answer = held.unit(message.octets());
-    tell(&answer, effects)
+    }
+    let mut told = Effects::new();
+    let answer = held.unit_into(message.octets(), &mut told);
+    tell(answer, &told, effects)
 }
 
 /// Closes the link. What is not acknowledged is given up.
 #[unsafe(no_mangle)]
 pub extern "C" fn um_end_close(end: &mut PlainEnd, effects: &mut PlainEffects) -> u8
-    ensures { IsCalledAs Closes result end.old end.new effects.old effects.new }
+    ensures called { IsCalledAs Closes result end.old end.new effects.old effects.new }
+    ensures plain { result ≡ 0 → IsPlain end.new }
 {
-    let Some(mut held) = end_in(end) else {
+    let mut held = any_end();
+    if !read_end(end, &mut held) {
         return NO_END;
-    };
-    let answer = held.close();
-    carry_out(answer, held, end, effects)
+    }
+    let mut told = Effects::new();
+    let answer = held.close_into(&mut told);
+    carry_out(answer, &told, &held, end, effects)
 }
 
 /// The timer T200 has run out.
 #[unsafe(no_mangle)]
 pub extern "C" fn um_end_timer(end: &mut PlainEnd, effects: &mut PlainEffects) -> u8
-    ensures { IsCalledAs Ticks result end.old end.new effects.old effects.new }
+    ensures called { IsCalledAs Ticks result end.old end.new effects.old effects.new }
+    ensures plain { result ≡ 0 → IsPlain end.new }
 {
-    let Some(mut held) = end_in(end) else {
+    let mut held = any_end();
+    if !read_end(end, &mut held) {
         return NO_END;
-    };
-    let answer = held.timer();
-    carry_out(answer, held, end, effects)
+    }
+    let mut told = Effects::new();
+    let answer = held.timer_into(&mut told);
+    carry_out(answer, &told, &held, end, effects)
 }
 
 /// The fill frame, which is sent when there is nothing else to send.
@@ -136,11 +160,13 @@ pub extern "C" fn um_end_timer(end: &mut PlainEnd, effects: &mut PlainEffects) -
 pub extern "C" fn um_end_idle(end: &PlainEnd, effects: &mut PlainEffects) -> u8
     ensures { IsCalledAs Idles result end.now end.now effects.old effects.new }
 {
-    let Some(held) = end_in(end) else {
+    let mut held = any_end();
+    if !read_end(end, &mut held) {
         return NO_END;
-    };
-    let answer = Ok(held.idle());
-    tell(&answer, effects)
+    }
+    let mut told = Effects::new();
+    held.idle_into(&mut told);
+    tell(Ok(()), &told, effects)
 }
 
 /// Takes a block that came in.
@@ -150,48 +176,58 @@ pub extern "C" fn um_end_take(
     octets: &[u8; 23],
     effects: &mut PlainEffects,
 ) -> u8
-    ensures { IsGivenAs octets.now result end.old end.new effects.old effects.new }
+    ensures given { IsGivenAs octets.now result end.old end.new effects.old effects.new }
+    ensures plain { result ≡ 0 → IsPlain end.new }
 {
-    let Some(mut held) = end_in(end) else {
+    let mut held = any_end();
+    if !read_end(end, &mut held) {
         return NO_END;
-    };
-    let Ok(frame) = read_on(octets, held.channel()) else {
-        return NO_FRAME;
-    };
-    let answer = Ok(held.take(&frame));
-    carry_out(answer, held, end, effects)
+    }
+    let mut told = Effects::new();
+    match read_on(octets, held.channel()) {
+        Err(_) => return NO_FRAME,
+        Ok(frame) => held.take_into(&frame, &mut told),
+    }
+    carry_out(Ok(()), &told, &held, end, effects)
+}
+
+/// An end to be restored.
+fn any_end() -> End {
+    End::new_on(Role::Mobile, Sapi::Zero, Channel::Sdcch)
 }
 
 /// Writes what a call sends and reports, and the state that it leaves; or answers why it is refused.
 fn carry_out(
-    answer: Result<Effects, Refused>,
-    after: End,
+    answer: Result<(), Refused>,
+    told: &Effects,
+    after: &End,
     end: &mut PlainEnd,
     effects: &mut PlainEffects,
 ) -> u8
-    ensures done { IfOk answer (λ told. (result ≡ 0) × (said_end end.new ≡ Some (parts_of after))
-        × (effects.new ≡ plain_effects told.frames told.notices)) }
+    ensures done { OnOk answer ((result ≡ 0) × (end.new ≡ plain_end (values_of after.now))
+        × (effects.new ≡ plain_effects told.now.frames told.now.notices)) }
+    ensures plain { result ≡ 0 → end.new ≡ plain_end (values_of after.now) }
     ensures refused { IfErr answer (λ reason. (result ≡ refused_number reason) × (end.new ≡ end.old)
         × (effects.new ≡ effects.old)) }
 {
-    let number = tell(&answer, effects);
+    let number = tell(answer, told, effects);
     if answer.is_ok() {
-        *end = plain_end(after);
+        write_end(after, end);
     }
     number
 }
 
 /// Writes what a call sends and reports, or answers why it is refused.
-fn tell(answer: &Result<Effects, Refused>, effects: &mut PlainEffects) -> u8
-    ensures done { IfOk answer.now (λ told. (result ≡ 0) × (effects.new ≡ plain_effects told.frames told.notices)) }
-    ensures refused { IfErr answer.now (λ reason. (result ≡ refused_number reason) × (effects.new ≡ effects.old)) }
+fn tell(answer: Result<(), Refused>, told: &Effects, effects: &mut PlainEffects) -> u8
+    ensures done { OnOk answer ((result ≡ 0) × (effects.new ≡ plain_effects told.now.frames told.now.notices)) }
+    ensures refused { IfErr answer (λ reason. (result ≡ refused_number reason) × (effects.new ≡ effects.old)) }
 {
     match answer {
-        Ok(told) => {
+        Ok(()) => {
             *effects = plain_effects(told);
             0
         }
-        Err(reason) => refused_number(*reason),
+        Err(reason) => refused_number(reason),
     }
 }
 

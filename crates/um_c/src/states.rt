@@ -1,27 +1,19 @@
-//! An end of a link as numbers and arrays in the caller's memory.
-ghost use Rattle.std.specs.Prelude.{◌≡◌, ◌≤◌, ◌↔◌, Some, None, length, take, replicate, IsSome, IfSome, MatchOption};
-ghost use Rattle.segmenting.specs.Pieces.{longest};
+//! An end of a link as numbers and arrays in the caller's memory. What an end holds is read from them and written back where it lies,
+//! and of messages only the octets that count.
+ghost use Rattle.std.specs.Prelude.{◌≡◌, ◌↔◌, [], Some, None, map, slice_index_or, IsTrue, MatchOption};
+ghost use Rattle.segmenting.specs.Rooms.{octets_in, plain_message};
 ghost use Rattle.lapdm_window.specs.Ends.{EndState};
-ghost use Rattle.lapdm_end.specs.Parts.{parts_of};
+ghost use Rattle.lapdm_window.specs.Parts.{said_by as window_by};
+ghost use Rattle.lapdm_end.specs.Parts.{values_of, said_by};
 ghost use Rattle.lapdm_end.specs.Standing.{Stands};
 ghost use Rattle.um_c.specs.Plain.{channel_of};
-ghost use Rattle.um_c.specs.States.{octets_in, plain_message, role_of, sapi_of, state_of, part_of, said_message, said_held, said_window, said_end, StandsFor, IsOfAnEnd};
+ghost use Rattle.um_c.specs.States.{role_of, sapi_of, state_of, part_of, said_window, said_end, StandsFor, IsOfAnEnd, role_number, sapi_number, channel_number, state_number, part_number, rooms_for, plain_end};
 
 use crate::frames::channel_of;
-use arrayvec::ArrayVec;
 use lapdm_end::{End, EndParts, Role};
 use lapdm_frame::Channel;
-use lapdm_window::{Message, Sapi, State, WindowParts};
-use segmenting::{JoinerParts, LONGEST, Part};
-
-/// A message, of at most 251 octets where the link takes it.
-#[repr(C)]
-#[derive(Clone, Copy, Drop)]
-pub struct PlainMessage {
-    pub count: u8,
-    /// The octets, of which those from `count` on mean nothing.
-    pub octets: [u8; 255],
-}
+use lapdm_window::{Sapi, State, WindowParts};
+use segmenting::{Part, PlainMessage};
 
 /// The state of one end of a link.
 #[repr(C)]
@@ -59,88 +51,48 @@ pub struct PlainEnd {
     pub held: [PlainMessage; 8],
 }
 
-impl PlainMessage {
-    /// The octets of the message.
-    pub(crate) fn octets(&self) -> &[u8]
-        ensures { result.now ≡ octets_in self.now }
-    {
-        &self.octets[..usize::from(self.count)]
-    }
-
-    fn message(&self) -> Option<Message>
-        ensures { MatchOption result (said_message self.now ≡ None) (λ message. said_message self.now ≡ Some message) }
-    {
-        if usize::from(self.count) > LONGEST {
-            return None;
-        }
-        Some(Message::new(self.octets()))
+/// Lets an end hold what the state says, exactly where it is that of one. Else the end stays as it is.
+pub(crate) fn read_end(plain: &PlainEnd, end: &mut End) -> bool
+    ensures said { IsTrue result → said_end plain.now ≡ Some (values_of end.new) }
+    ensures stands { IsTrue result → (e : EndState) → StandsFor plain.now e → Stands end.new e }
+    ensures known { IsTrue result ↔ IsOfAnEnd plain.now }
+{
+    match parts_in(plain) {
+        Some(parts) => end.restore(&parts),
+        None => false,
     }
 }
 
-pub(crate) fn plain_message(octets: &[u8]) -> PlainMessage
-    requires { length octets.now ≤ longest }
-    ensures { result ≡ plain_message octets.now }
-{
-    let mut room = zeros();
-    room[..octets.len()].copy_from_slice(octets);
-    PlainMessage {
-        count: octets.len() as u8,
-        octets: room,
-    }
-}
-
-fn zeros() -> [u8; 255]
-    ensures { result ≡ replicate 255 0 }
-{
-    [0; 255]
-}
-
-/// The end whose state this is, exactly where it is that of one.
-pub(crate) fn end_in(plain: &PlainEnd) -> Option<End>
-    ensures said { IfSome result (λ end. said_end plain.now ≡ Some (parts_of end)) }
-    ensures stands { IfSome result (λ end. (e : EndState) → StandsFor plain.now e → Stands end e) }
-    ensures known { IsSome result ↔ IsOfAnEnd plain.now }
-{
-    let Some(parts) = parts_in(plain) else {
-        return None;
-    };
-    End::from_parts(parts)
-}
-
-fn parts_in(plain: &PlainEnd) -> Option<EndParts>
-    ensures { result ≡ said_end plain.now }
+fn parts_in(plain: &PlainEnd) -> Option<EndParts<'_>>
+    ensures { MatchOption result (said_end plain.now ≡ None)
+        (λ parts. said_end plain.now ≡ Some (said_by parts)) }
 {
     let role = role_of(plain.role)?;
     let sapi = sapi_of(plain.sapi)?;
     let state = state_of(plain.state)?;
-    let kept = plain.kept.message()?;
-    // `?` would copy what is large twice more.
-    let Some(window) = window_in(plain) else {
-        return None;
-    };
+    let window = window_in(plain)?;
     Some(EndParts {
         role,
         sapi,
         state,
-        kept,
+        kept: plain.kept.octets(),
         retries: plain.retries,
         window,
     })
 }
 
-fn window_in(plain: &PlainEnd) -> Option<WindowParts>
-    ensures { result ≡ said_window plain.now }
+fn window_in(plain: &PlainEnd) -> Option<WindowParts<'_>>
+    ensures { MatchOption result (said_window plain.now ≡ None)
+        (λ parts. said_window plain.now ≡ Some (window_by parts)) }
 {
     let channel = channel_of(plain.channel)?;
-    let Some(held) = held_in(plain.held_count, &plain.held) else {
-        return None;
-    };
     let part = part_of(plain.part)?;
-    let mut octets = [0; LONGEST];
-    octets.copy_from_slice(&plain.joined.octets[..LONGEST]);
+    if plain.held_count > 8 {
+        return None;
+    }
     Some(WindowParts {
         channel,
-        held,
+        held: &plain.held[..usize::from(plain.held_count)],
         place: usize::from(plain.place),
         vs: plain.vs,
         va: plain.va,
@@ -148,25 +100,9 @@ fn window_in(plain: &PlainEnd) -> Option<WindowParts>
         done: plain.done,
         rejecting: plain.rejecting != 0,
         retries: plain.repeats,
-        joiner: JoinerParts {
-            octets,
-            len: usize::from(plain.joined.count),
-            part,
-        },
+        joined: plain.joined.octets(),
+        part,
     })
-}
-
-fn held_in(count: u8, messages: &[PlainMessage; 8]) -> Option<ArrayVec<Message, 8>>
-    ensures { MatchOption result (said_held count messages.now ≡ None) (λ held. said_held count messages.now ≡ Some held.items) }
-{
-    if count > 8 {
-        return None;
-    }
-    let mut held = ArrayVec::new();
-    for plain in &messages[..usize::from(count)] {
-        held.push(plain.message()?);
-    }
-    Some(held)
 }
 
 pub(crate) fn role_of(number: u8) -> Option<Role>
@@ -213,62 +149,59 @@ fn part_of(number: u8) -> Option<Part>
     }
 }
 
-/// The state of an end.
-pub(crate) fn plain_end(end: End) -> PlainEnd
-    ensures { said_end result ≡ Some (parts_of end) }
+/// Writes what an end holds.
+pub(crate) fn write_end(end: &End, plain: &mut PlainEnd)
+    ensures { plain.new ≡ plain_end (values_of end.now) }
 {
-    let parts = end.into_parts();
+    let parts = end.parts();
     let window = parts.window;
-    let messages = window.held.as_slice();
-    let held = plain_messages(messages);
-    PlainEnd {
-        done: window.done,
-        role: role_number(parts.role),
-        sapi: sapi_number(parts.sapi),
-        channel: channel_number(window.channel),
-        state: state_number(parts.state),
-        retries: parts.retries,
-        vs: window.vs,
-        va: window.va,
-        vr: window.vr,
-        repeats: window.retries,
-        rejecting: u8::from(window.rejecting),
-        place: window.place as u8,
-        held_count: messages.len() as u8,
-        part: part_number(window.joiner.part),
-        kept: plain_message(parts.kept.octets()),
-        joined: plain_joined(&window.joiner),
-        held,
-    }
+    plain.done = window.done;
+    plain.role = role_number(parts.role);
+    plain.sapi = sapi_number(parts.sapi);
+    plain.channel = channel_number(window.channel);
+    plain.state = state_number(parts.state);
+    plain.retries = parts.retries;
+    plain.vs = window.vs;
+    plain.va = window.va;
+    plain.vr = window.vr;
+    plain.repeats = window.retries;
+    plain.rejecting = u8::from(window.rejecting);
+    plain.place = window.place as u8;
+    plain.held_count = window.held.len() as u8;
+    plain.part = part_number(window.part);
+    plain.kept.write(parts.kept);
+    plain.joined.write(window.joined);
+    plain.held = rooms_for(window.held);
 }
 
-fn plain_joined(parts: &JoinerParts) -> PlainMessage
-    requires { parts.now.len ≤ longest }
-    ensures count { result.count ≡ parts.now.len }
-    ensures octets { take longest result.octets ≡ parts.now.octets }
+/// These messages, and behind them messages without octets.
+fn rooms_for(messages: &[PlainMessage]) -> [PlainMessage; 8]
+    ensures { result ≡ rooms_for 8 (map octets_in messages.now) }
 {
-    let mut octets = zeros();
-    octets[..LONGEST].copy_from_slice(&parts.octets);
-    PlainMessage {
-        count: parts.len as u8,
-        octets,
-    }
+    [
+        room_for(messages, 0),
+        room_for(messages, 1),
+        room_for(messages, 2),
+        room_for(messages, 3),
+        room_for(messages, 4),
+        room_for(messages, 5),
+        room_for(messages, 6),
+        room_for(messages, 7),
+    ]
 }
 
-fn plain_messages(messages: &[Message]) -> [PlainMessage; 8]
-    requires { length messages.now ≤ 8 }
-    ensures { said_held (length messages.now) result ≡ Some messages.now }
+fn room_for(messages: &[PlainMessage], i: usize) -> PlainMessage
+    ensures { result ≡ plain_message (slice_index_or (map octets_in messages.now) i []) }
 {
-    let none = plain_message(&[]);
-    let mut plain = [none; 8];
-    for (i, message) in messages.iter().enumerate() {
-        plain[i] = plain_message(message.octets());
+    let mut room = PlainMessage::empty();
+    if let Some(message) = messages.get(i) {
+        room.write(message.octets());
     }
-    plain
+    room
 }
 
 fn role_number(role: Role) -> u8
-    ensures { role_of result ≡ Some role }
+    ensures { result ≡ role_number role }
 {
     match role {
         Role::Mobile => 0,
@@ -277,7 +210,7 @@ fn role_number(role: Role) -> u8
 }
 
 fn sapi_number(sapi: Sapi) -> u8
-    ensures { sapi_of result ≡ Some sapi }
+    ensures { result ≡ sapi_number sapi }
 {
     match sapi {
         Sapi::Zero => 0,
@@ -286,7 +219,7 @@ fn sapi_number(sapi: Sapi) -> u8
 }
 
 fn channel_number(channel: Channel) -> u8
-    ensures { channel_of result ≡ Some channel }
+    ensures { result ≡ channel_number channel }
 {
     match channel {
         Channel::Sdcch => 0,
@@ -295,7 +228,7 @@ fn channel_number(channel: Channel) -> u8
 }
 
 fn state_number(state: State) -> u8
-    ensures { state_of result ≡ Some state }
+    ensures { result ≡ state_number state }
 {
     match state {
         State::Idle => 0,
@@ -307,7 +240,7 @@ fn state_number(state: State) -> u8
 }
 
 fn part_number(part: Part) -> u8
-    ensures { part_of result ≡ Some part }
+    ensures { result ≡ part_number part }
 {
     match part {
         Part::Open => 0,

@@ -1,31 +1,34 @@
 //! A network's end as plain values, and made from them again.
 
-ghost use Rattle.std.specs.Prelude.{◌≡◌, ◌↔◌, ◌<◌, ◌≤◌, IsSome, IfSome};
+ghost use Rattle.std.specs.Prelude.{◌≡◌, ◌↔◌, ◌<◌, ◌≤◌, length, IsSome, IfSome};
+ghost use Rattle.lapdm_frame.specs.Layout.{most_information};
 ghost use Rattle.segmenting.specs.Pieces.{longest, most_pieces};
 ghost use Rattle.lapdm_window.specs.Ends.{EndState};
 ghost use Rattle.lapdm_end.specs.declared.Role.TheVariants as R;
 ghost use Rattle.lapdm_end.specs.Standing.{Stands};
-ghost use Rattle.lapdm_end.specs.Parts.{parts_of, StandFor, AreOfAnEnd};
+ghost use Rattle.lapdm_end.specs.Parts.{values_of, said_by, StandFor, AreOfAnEnd};
 ghost use Rattle.lapdm_network.specs.Ends.{end_of};
 
 use super::Network;
 use lapdm_end::{End, EndParts, Role};
 
 impl Network {
-    pub fn into_parts(self) -> EndParts
-        ensures parts { result ≡ parts_of (end_of self) }
+    pub fn parts(&self) -> EndParts<'_>
+        ensures values { said_by result ≡ values_of (end_of self.now) }
+        ensures kept { length result.kept.now ≤ most_information }
+        ensures few { length result.window.held.now ≤ 8 }
         ensures place { result.window.place < most_pieces result.window.channel }
-        ensures most { result.window.joiner.len ≤ longest }
+        ensures most { length result.window.joined.now ≤ longest }
     {
-        self.end.into_parts()
+        self.end.parts()
     }
 
     /// The end of these parts, exactly where there is one and it is a network's.
-    pub fn from_parts(parts: EndParts) -> Option<Network>
-        ensures same { IfSome result (λ network. parts_of (end_of network) ≡ parts) }
+    pub fn from_parts(parts: &EndParts<'_>) -> Option<Network>
+        ensures same { IfSome result (λ network. values_of (end_of network) ≡ said_by parts.now) }
         ensures stands { IfSome result
-            (λ network. (e : EndState) → StandFor parts e → Stands (end_of network) e) }
-        ensures known { IsSome result ↔ (AreOfAnEnd parts × (parts.role ≡ R.Network)) }
+            (λ network. (e : EndState) → StandFor (said_by parts.now) e → Stands (end_of network) e) }
+        ensures known { IsSome result ↔ (AreOfAnEnd (said_by parts.now) × (parts.now.role ≡ R.Network)) }
     {
         if parts.role != Role::Network {
             return None;

@@ -1,11 +1,21 @@
-use Rattle.std.proofs.Common.{refl}
 use Rattle.lapdm_frame.specs.Content.{frame_of}
-use Rattle.um_c.proofs.Calls.{given_by}
+use Rattle.lapdm_end.specs.Parts.{values_of}
+use Rattle.um_c.proofs.Calls.{is_done, given_by, not_given}
 use Rattle.um_c.proofs.ends.um_end_take.Goals as goal
 
-pub returns : goal.returns
-returns c =
+pub returns-clause-given : goal.returns-clause-given
+returns-clause-given c =
     given_by c.args.octets.now c.channel.result (frame_of c.in-Ok.frame) c.args.end.now c.carry_out.new.end c.args.effects.now
-    c.carry_out.new.effects c.in-Some.held c.take.new.self c.carry_out.result c.take.result
-    (record { stands = c.in-Some.ensures.stands; one = c.in-Some.ensures.known.0 refl }) c.channel.ensures.stands c.in-Ok.ensures.frame
-    c.take.ensures.follows c.carry_out.ensures.done
+    c.carry_out.new.effects c.read_end.new.end c.take_into.new.self c.carry_out.result c.take_into.new.effects
+    (record { stands = c.read_end.ensures.stands c.if-not-read_end.false; one = c.read_end.ensures.known.0 c.if-not-read_end.false }) c.channel.ensures.stands c.in-Ok.ensures.frame
+    c.take_into.ensures.follows
+    (is_done c.take_into.new.effects c.take_into.new.self c.carry_out.result c.carry_out.new.end c.carry_out.new.effects c.carry_out.ensures.done)
+
+pub returns-clause-plain : goal.returns-clause-plain
+returns-clause-plain c = λ zero. (values_of c.take_into.new.self, c.carry_out.ensures.plain zero)
+
+pub returns-in-Err-clause-given : goal.returns-in-Err-clause-given
+returns-in-Err-clause-given c =
+    not_given c.args.octets.now c.channel.result _ c.args.end.now c.args.effects.now c.read_end.new.end
+    (record { stands = c.read_end.ensures.stands c.if-not-read_end.false; one = c.read_end.ensures.known.0 c.if-not-read_end.false })
+    c.channel.ensures.stands c.in-Err.ensures.refusal

@@ -2,7 +2,8 @@ use Rattle.std.proofs.Common.{◌≡◌, sym, ◌∙◌, ap, arith, ◌+◌}
 use Rattle.lapdm_window.specs.declared.State.TheVariants.{Closing}
 use Rattle.lapdm_window.specs.Ends.{EndState, n200}
 use Rattle.lapdm_window.proofs.Lemmas.{IsEnd-moved}
-use Rattle.lapdm_end.proofs.Moves.{as_outcome, both, moved, link_moved, in_state, Tracks-moved, ticks-closes, ticks-disc}
+use Rattle.lapdm_end.specs.Standing.{IsClosing}
+use Rattle.lapdm_end.proofs.Moves.{as_outcome, both, moved, link_moved, in_state, Tracks-moved, Holds-moved, ticks-closes, ticks-disc}
 use Rattle.lapdm_end.proofs.ends.End.tick_closing.Goals as goal
 
 pub returns-then-self-n200-clause-follows : goal.returns-then-self-n200-clause-follows
@@ -10,7 +11,8 @@ returns-then-self-n200-clause-follows c e h =
     let m = c.args.self.now in
     let is : e.state ≡ Closing = sym h.state ∙ c.requires.closing in
     let most : c.n200.result ≡ n200 e.channel Closing = c.n200.ensures.value ∙ ap (λ ch. n200 ch Closing) h.link.channel in
-    let count : m.retries ≡ e.retries = in_state m.window m.retries e m.state Closing c.requires.closing h.now in
+    let closing : IsClosing m.window m.retries e = in_state m.window m.retries e m.state Closing c.requires.closing h.now in
+    let count : m.retries ≡ e.retries = closing.count in
     as_outcome _ _ e _ _ (ticks-closes c.n200.result e (ap (n200 e.channel) is ∙ sym most) (omega (arith, c.if-self-n200.true, count)))
     (c.close_with.ensures.follows e h)
 
@@ -19,7 +21,8 @@ returns-clause-follows c e h =
     let m = c.args.self.now in
     let is : e.state ≡ Closing = sym h.state ∙ c.requires.closing in
     let most : c.n200.result ≡ n200 e.channel Closing = c.n200.ensures.value ∙ ap (λ ch. n200 ch Closing) h.link.channel in
-    let count : m.retries ≡ e.retries = in_state m.window m.retries e m.state Closing c.requires.closing h.now in
+    let closing : IsClosing m.window m.retries e = in_state m.window m.retries e m.state Closing c.requires.closing h.now in
+    let count : m.retries ≡ e.retries = closing.count in
     let f : EndState = moved e.state e.kept (e.retries + 1) e in
     as_outcome _ _ e _ _ (ticks-disc c.n200.result e is most (omega (arith, c.if-self-n200.false, count))) (both (record {
       end = IsEnd-moved e e.state e.kept (e.retries + 1) h.end h.end.kept h.end.bare (λ u. u);
@@ -27,5 +30,5 @@ returns-clause-follows c e h =
       state = h.state;
       kept = h.kept;
       tracks = Tracks-moved e.state e.kept (e.retries + 1) e h.tracks;
-      now = in_state m.window (m.retries + 1) f Closing m.state (sym c.requires.closing) (ap (λ n. n + 1) count);
+      now = in_state m.window (m.retries + 1) f Closing m.state (sym c.requires.closing) (record { holds = Holds-moved m.window e.state e.kept (e.retries + 1) e closing.holds; count = ap (λ n. n + 1) count });
     }) (λ s. record { frames = c.disc.ensures.frames f s; notices = c.disc.ensures.notices }))

@@ -1,4 +1,5 @@
 use Rattle.std.proofs.Common.{◌≡◌, ◌≢◌, refl, sym, ◌∙◌, ap, subst, arith, ◌+◌, List, [], true, false, length, drop, slice_index_or, Some}
+use Rattle.std.proofs.lemmas.List.{length-drop}
 use Rattle.std.proofs.lemmas.List.Elements.{All-same, All-drop}
 use Rattle.lapdm_frame.specs.Layout.{n201}
 use Rattle.segmenting.specs.Pieces.{Message, Piece, IsMessage, pieces}
@@ -9,7 +10,7 @@ use Rattle.lapdm_window.specs.Standing.{Holds}
 use Rattle.lapdm_window.proofs.Numbers.{one_sent, capped-more}
 use Rattle.lapdm_window.proofs.FirstPieces.{goes_on, ends}
 use Rattle.lapdm_window.proofs.Counting.{wholly_acked-more, wholly_acked-last}
-use Rattle.lapdm_window.proofs.Moves.{IsFirst, IsNext, next_is, KeepsWindow-acked, Holds-more, Holds-last, acknowledges-not_waiting, acknowledges-other, acknowledges-waiting, counts-nothing, counts-something, acked_by-piece, acked_by-message, acked-waits, remove_first, Stands-same}
+use Rattle.lapdm_window.proofs.Moves.{IsFirst, IsNext, next_is, KeepsWindow-acked, Holds-more, Holds-last, acknowledges-not_waiting, acknowledges-other, acknowledges-waiting, counts-nothing, counts-something, acked_by-piece, acked_by-message, acked-waits, Stands-same}
 use Rattle.lapdm_window.proofs.window.Window.on_ack.Goals as goal
 use Rattle.lapdm_window.proofs.window.Window.on_ack.Goals.{then-self-via-then-self, then-self-via-else-self+then-nr-self}
 
@@ -17,6 +18,7 @@ pub invariant_of-self : goal.invariant_of-self
 invariant_of-self c =
     let w = c.args.self.now in
     record {
+      few = w.few;
       messages = w.messages;
       within = goes_on (n201 w.channel) w.place (slice_index_or w.held.items 0 []) c.next-more.result.octets.now (c.next-more.ensures ∙ ap
           (λ b. Some (c.next-more.result.octets.now, b)) c.if-more.true);
@@ -29,9 +31,10 @@ invariant_of-self c =
 pub invariant_of-self-2 : goal.invariant_of-self-2
 invariant_of-self-2 c =
     let w = c.args.self.now in
-    let items : c.remove.new.self.items ≡ drop 1 w.held.items = c.remove.ensures.items ∙ remove_first w.held.items in
+    let items : c.remove_first.new.self.items ≡ drop 1 w.held.items = c.remove_first.ensures.items in
     record {
-      messages = All-same IsMessage c.remove.new.self.items (drop 1 w.held.items) items (All-drop IsMessage 1 w.held.items w.messages);
+      few = omega (arith, ap length items, length-drop 1 w.held.items, w.few);
+      messages = All-same IsMessage c.remove_first.new.self.items (drop 1 w.held.items) items (All-drop IsMessage 1 w.held.items w.messages);
       within = omega arith;
       waiting = λ other. absurd (other refl);
       vs_fits = w.vs_fits;
@@ -114,7 +117,7 @@ returns-clause-counted c e h =
     let at_the_end : w.place + 1 ≡ length (pieces (n201 e.channel) m) = ends (n201 w.channel) w.place m c.next-more.result.octets.now
     (c.next-more.ensures ∙ ap (λ b. Some (c.next-more.result.octets.now, b)) c.if-more.false) ∙ ap
     (λ ch. length (pieces (n201 ch) m)) h.tracks.channel in
-    let items : c.remove.new.self.items ≡ drop 1 w.held.items = c.remove.ensures.items ∙ remove_first w.held.items in
+    let items : c.remove_first.new.self.items ≡ drop 1 w.held.items = c.remove_first.ensures.items in
     Stands-same _ (with_acked e) _ (counts-something e c.args.nr
     (acknowledges-waiting e c.args.nr h.end differ (c.if-nr-self.false ∙ h.tracks.vs))) (record {
       end = KeepsWindow-acked e h.end;

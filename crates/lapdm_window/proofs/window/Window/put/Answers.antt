@@ -20,7 +20,7 @@ returns-clause-taken c e h =
     let good : IsMessage m = record { some = some_octets; most = c.if-message-gt-LONGEST.false } in
     let within : w.place < count_of n (slice_index_or w.held.items 0 []) = subst
     (λ (ch : Channel). w.place < count_of (n201 ch) (slice_index_or w.held.items 0 [])) h.tracks.channel w.within in
-    let items : c.push.new.self.items ≡ w.held.items ++ m ∷ [] = c.push.ensures.items ∙ ap (λ o. w.held.items ++ o ∷ []) c.new.ensures in
+    let items : c.push.new.self.items ≡ w.held.items ++ m ∷ [] = c.push.ensures.items in
     record {
       end = KeepsWindow-taken e m h.end good;
       tracks = record {

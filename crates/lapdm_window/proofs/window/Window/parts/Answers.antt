@@ -1,10 +1,9 @@
-use Rattle.std.proofs.Common.{◌≡◌, refl, ap, arith, ℕ, ◌≤◌, ◌<◌, List, [], ◌∷◌, length, get_or, All}
+use Rattle.std.proofs.Common.{refl, arith, ◌≤◌, List, [], ◌∷◌, length, get_or, All}
 use Rattle.std.proofs.lemmas.List.Elements.{All-head}
 use Rattle.lapdm_frame.specs.Layout.{n201}
 use Rattle.segmenting.specs.Pieces.{Message, IsMessage, longest}
 use Rattle.segmenting.proofs.Lemmas.{few_pieces}
-use Rattle.lapdm_window.specs.declared.window.parts.WindowParts.{WindowParts}
-use Rattle.lapdm_window.proofs.window.Window.into_parts.Goals as goal
+use Rattle.lapdm_window.proofs.window.Window.parts.Goals as goal
 
 first_fits : (held : List Message) → All IsMessage held → length (get_or held 0 []) ≤ longest
 first_fits [] h = omega arith
@@ -12,5 +11,5 @@ first_fits (m ∷ ms) h = let first : IsMessage m = All-head IsMessage m ms h in
 
 pub returns-clause-place : goal.returns-clause-place
 returns-clause-place c =
-    let w = c.args.self in
+    let w = c.args.self.now in
     omega (arith, w.within, few_pieces w.channel (n201 w.channel) (length (get_or w.held.items 0 [])) refl (first_fits w.held.items w.messages))

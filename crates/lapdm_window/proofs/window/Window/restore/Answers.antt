@@ -1,0 +1,61 @@
+use Rattle.std.proofs.Common.{◌≡◌, ◌≢◌, refl, sym, ◌∙◌, ap, subst, arith, ℕ, ◌+◌, ◌%◌, ◌≤◌, ◌⊎◌, inl, inr, length, map}
+use Rattle.std.proofs.lemmas.Bool.{false≢true}
+use Rattle.segmenting.specs.Parts.{JoinerValues}
+use Rattle.segmenting.specs.Rooms.{octets_in}
+use Rattle.lapdm_window.specs.declared.window.Window.{Window}
+use Rattle.lapdm_window.specs.Parts.{WindowValues, values_of, said_by, AreOfAWindow, AreInStep}
+use Rattle.lapdm_window.proofs.Parts.{in_step, stands_for_one}
+use Rattle.lapdm_window.proofs.window.Window.restore.Goals as goal
+use Rattle.lapdm_window.proofs.window.Window.restore.Goals.{then-not-are_in_step-via-then-not-are_in_step, then-not-are_in_step-via-else-not-are_in_step+then-not-restore}
+
+stepped : (x : WindowValues) → AreOfAWindow x → AreInStep x
+stepped x h = subst AreInStep h.1.values (in_step h.1.window h.0 h.1.stands)
+
+fits : (vs va : ℕ) (A : Type 0) → va ≤ 7 → (vs ≡ va) ⊎ ((vs ≡ (va + 1) % 8) × A) → vs ≤ 7
+fits vs va A few (inl same) = omega (arith, few, same)
+fits vs va A few (inr more) = let number : vs ≡ (va + 1) % 8 = more.0 in grind arith
+
+some_held : (vs va : ℕ) (A : Type 0) → (vs ≡ va) ⊎ ((vs ≡ (va + 1) % 8) × A) → vs ≢ va → A
+some_held vs va A (inl same) other = absurd (other same)
+some_held vs va A (inr more) other = more.1
+
+pub returns-then-not-are_in_step-clause-known : goal.returns-then-not-are_in_step-clause-known
+returns-then-not-are_in_step-clause-known c = (
+  λ s. absurd (false≢true s),
+  λ h. elim c.then-not-are_in_step.branch [
+    | then-not-are_in_step-via-then-not-are_in_step w ↦
+        absurd (false≢true (sym w.if-not-are_in_step.true ∙ c.are_in_step.ensures.together.1 (stepped (said_by c.args.parts.now) h)))
+    | then-not-are_in_step-via-else-not-are_in_step+then-not-restore w ↦
+        absurd (false≢true (sym w.if-not-restore.true
+        ∙ w.restore.ensures.known.1 (h.1.window.joiner, ap (λ (x : WindowValues). x.joiner) h.1.values)))
+  ],
+)
+
+pub returns-clause-known : goal.returns-clause-known
+returns-clause-known c =
+    let p = c.args.parts.now in
+    let x = said_by p in
+    let h : AreInStep x = c.are_in_step.ensures.together.0 c.if-not-are_in_step.false in
+    let w : Window = record {
+      channel = p.channel;
+      held = record { items = map octets_in p.held.now };
+      place = p.place;
+      vs = p.vs;
+      va = p.va;
+      vr = p.vr;
+      done = p.done;
+      rejecting = p.rejecting;
+      retries = p.retries;
+      joiner = c.restore.new.self;
+      few = h.held.few;
+      messages = h.held.messages;
+      within = h.within;
+      waiting = some_held p.vs p.va (1 ≤ length (map octets_in p.held.now)) h.waiting;
+      vs_fits = fits p.vs p.va (1 ≤ length (map octets_in p.held.now)) h.va h.waiting;
+      va_fits = h.va;
+      vr_fits = h.vr;
+    } in
+    let same : values_of w ≡ x = ap (λ (j : JoinerValues). let y : WindowValues = record x { joiner = j } in y)
+    (c.restore.ensures.same c.if-not-restore.false) in
+    let found = stands_for_one w (subst AreInStep (sym same) h) c.are_in_step.ensures.counted in
+    (λ s. (found.0, record { window = w; values = same; stands = found.1 }), λ k. refl)

@@ -1,0 +1,29 @@
+use Rattle.std.proofs.Common.{arith, List, [], ◌∷◌, map, All}
+use Rattle.std.proofs.lemmas.Bool.{false≢true}
+use Rattle.std.proofs.lemmas.List.{length-map}
+use Rattle.std.proofs.lemmas.List.Elements.{All-map, All-nil, All-cons, All-head, All-tail}
+use Rattle.segmenting.specs.declared.rooms.PlainMessage.{PlainMessage}
+use Rattle.segmenting.specs.Pieces.{IsMessage}
+use Rattle.segmenting.specs.Rooms.{octets_in}
+use Rattle.lapdm_window.proofs.window.parts.are_held.Goals as goal
+
+each : (rooms : List PlainMessage) → All IsMessage (map octets_in rooms) → All (λ room. IsMessage (octets_in room)) rooms
+each [] h = All-nil (λ room. IsMessage (octets_in room))
+each (room ∷ rooms) h =
+    All-cons (λ room. IsMessage (octets_in room)) room rooms (All-head IsMessage (octets_in room) (map octets_in rooms) h)
+    (each rooms (All-tail IsMessage (octets_in room) (map octets_in rooms) h))
+
+pub returns-then-messages-gt8 : goal.returns-then-messages-gt8
+returns-then-messages-gt8 c =
+    let rooms = c.args.messages.now in
+    (λ s. absurd (false≢true s), λ h. absurd (omega (arith, h.few, length-map rooms octets_in, c.if-messages-gt8.true)))
+
+pub returns : goal.returns
+returns c =
+    let rooms = c.args.messages.now in (
+      λ s. record {
+        few = omega (arith, length-map rooms octets_in, c.if-messages-gt8.false);
+        messages = All-map IsMessage octets_in rooms (c.are_messages.ensures.0 s);
+      },
+      λ h. c.are_messages.ensures.1 (each rooms h.messages),
+    )

@@ -1,0 +1,101 @@
+//! The messages that a window holds, each in a room of its own. They are written where they lie, and dropped by their count alone.
+
+ghost use Rattle.std.specs.Prelude.{◌≡◌, ◌<◌, ◌≤◌, ◌==◌, [], ◌∷◌, ◌++◌, length, map, drop, slice_index_or};
+ghost use Rattle.segmenting.specs.Rooms.{octets_in};
+
+use segmenting::PlainMessage;
+use std::marker::Model;
+
+/// At most eight messages, in the order in which they were taken.
+#[derive(Debug, Drop)]
+pub(crate) struct Held {
+    rooms: [PlainMessage; 8],
+    len: usize,
+}
+
+// Clauses see the list of messages.
+impl Model for Held {
+    ghost use Rattle.std.specs.Prelude.{◌≤◌, map, take};
+    ghost use Rattle.segmenting.specs.Rooms.{octets_in};
+    ghost use Rattle.lapdm_window.specs.Held.{Messages};
+
+    ghost Value = { Messages };
+
+    ghost view = { λ h. record { items = map octets_in (take h.len h.rooms) } };
+
+    ghost invariant = { λ h. h.len ≤ 8 };
+}
+
+impl Held {
+    pub(crate) fn new() -> Held
+        ensures { result.items ≡ [] }
+    {
+        Held {
+            rooms: [PlainMessage::empty(); 8],
+            len: 0,
+        }
+    }
+
+    pub(crate) fn len(&self) -> usize
+        ensures len { result ≡ length self.now.items }
+        ensures most { result ≤ 8 }
+    {
+        self.as_slice().len()
+    }
+
+    pub(crate) fn is_empty(&self) -> bool
+        ensures { result ≡ (length self.now.items == 0) }
+    {
+        self.len() == 0
+    }
+
+    pub(crate) fn is_full(&self) -> bool
+        ensures full { result ≡ (length self.now.items == 8) }
+        ensures most { length self.now.items ≤ 8 }
+    {
+        self.len() == 8
+    }
+
+    pub(crate) fn push(&mut self, message: &[u8])
+        requires room { length self.old.items < 8 }
+        requires fits { length message.now ≤ 255 }
+        ensures items { self.new.items ≡ self.old.items ++ message.now ∷ [] }
+    {
+        let len = self.len;
+        self.rooms[len].write(message);
+        self.len = len + 1;
+    }
+
+    pub(crate) fn remove_first(&mut self)
+        requires { 1 ≤ length self.old.items }
+        ensures items { self.new.items ≡ drop 1 self.old.items }
+    {
+        let len = self.len;
+        self.rooms[0..len].rotate_left(1);
+        self.len = len - 1;
+    }
+
+    pub(crate) fn first(&self) -> &[u8]
+        requires { 1 ≤ length self.now.items }
+        ensures { result.now ≡ slice_index_or self.now.items 0 [] }
+    {
+        self.rooms[0].octets()
+    }
+
+    pub(crate) fn as_slice(&self) -> &[PlainMessage]
+        ensures value { map octets_in result.now ≡ self.now.items }
+        ensures most { length result.now ≤ 8 }
+    {
+        &self.rooms[..self.len]
+    }
+
+    /// Holds these messages and no others.
+    pub(crate) fn restore(&mut self, rooms: &[PlainMessage])
+        requires { length rooms.now ≤ 8 }
+        ensures items { self.new.items ≡ map octets_in rooms.now }
+    {
+        let len = rooms.len();
+        self.rooms[0..len].copy_from_slice(rooms);
+        self.len = len;
+    }
+}

@@ -1,0 +1,29 @@
+use Rattle.std.proofs.Common.{sym, ◌∙◌, ap, subst, List, ℕ}
+use Rattle.conv_code.specs.Likelihood.{FallsBehind}
+use Rattle.um_among.specs.declared.reports.BlockAmong.{BlockAmong}
+use Rattle.um_c.specs.Reports.{TellsBlock}
+use Rattle.um_c.proofs.Accepting.{some_flagged, none_flagged}
+use Rattle.um_c.proofs.blocks.um_receive_block_among.Goals as goal
+
+pub returns-clause-best : goal.returns-clause-best
+returns-clause-best c = λ _ one soft v gathered candidate holds other.
+    let told = c.told_block.ensures in
+    let among = c.receive_block_among-among.result in
+    let some = some_flagged among.report.accepted c.told_block.result.accepted c.told_block.result.octets told.accepted one in
+    subst (λ (u : List ℕ). FallsBehind soft v u) (sym told.word)
+    (c.receive_block_among-among.ensures.best some soft v gathered candidate holds (λ same. other (same ∙ sym told.word)))
+
+pub returns-clause-none : goal.returns-clause-none
+returns-clause-none c = λ _ soft gathered.
+    let told = c.told_block.ensures in
+    let among = c.receive_block_among-among.result in
+    let flag = none_flagged among.report.accepted c.told_block.result.accepted c.told_block.result.octets told.accepted in
+    let none = c.receive_block_among-among.ensures.none soft gathered in
+    (λ zero. none.0 (flag.0 zero), λ fail. flag.1 (none.1 fail))
+
+pub returns-clause-first : goal.returns-clause-first
+returns-clause-first c = λ _ r received some.
+    let same = c.receive_block_among-among.ensures.first r received some in (
+      subst (λ (x : BlockAmong). TellsBlock c.args.bursts.now x.report c.told_block.result) same c.told_block.ensures,
+      ap (λ (x : BlockAmong). x.rank) same,
+    )
