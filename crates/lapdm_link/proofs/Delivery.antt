@@ -107,7 +107,8 @@ carried-rival w h info = seen_by Mobile (with_frames Mobile (rival_frame info �
     (λ s. sends_plain (rival_frame info ∷ []) (where-all _ _ tt, tt) (h Mobile s))
 
 start-direction : (t : Sapi) → IsDirection t [] 0 0 [] [] []
-start-direction t = record { acknowledged = omega arith; carried = omega arith; window = omega arith; within = omega arith; in_order = refl }
+start-direction t =
+    record { acknowledged = omega arith; carried = omega arith; window = omega arith; within = omega arith; in_order = refl }
 
 pub start-carried : (channel : Channel) → AllCarried (start_on channel)
 start-carried channel = seen_by Mobile (start_on channel)
