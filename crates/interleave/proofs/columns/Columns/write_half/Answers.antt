@@ -11,7 +11,14 @@ length-written front back long long' =
     let full : length (front ++ replicate 32 0) ≡ 64 = omega (arith, length-append front (replicate 32 0)) in
     let all : List ℕ = front ++ replicate 32 0 in
     let rest : List ℕ = drop 32 (drop 32 all) in
-    omega (arith, length-append (take 32 all) (back ++ rest), length-append back rest, length-take 32 all, length-drop 32 all, length-drop 32 (drop 32 all))
+    omega (
+      arith,
+      length-append (take 32 all) (back ++ rest),
+      length-append back rest,
+      length-take 32 all,
+      length-drop 32 all,
+      length-drop 32 (drop 32 all),
+    )
 
 pub slice_bounds-bits-end-3 : goal.slice_bounds-bits-end-3
 slice_bounds-bits-end-3 c =
