@@ -71,7 +71,7 @@ AreColumns-twice coded packed columns octets are ordered front back = record {
 -- ---- a burst
 
 -- a row goes on by one column from one of its places to the next
-pub row_bit : (coded columns : List ℕ) (b place p : ℕ) → AreColumns coded columns → b < 4 → place ≤ 83 → p < 16 →
+pub row_bit : (coded columns : List ℕ) (b place p : ℕ) → AreColumns coded columns → b < 4 → place ≤ 90 → p < 16 →
     let row = b + 4 * (place % 2) in
     bit_of (get_or columns (8 * row + place / 2 + p) 0) (packed_place row) ≡ get_or coded (bit_at b (place + 2 * p)) 0
 unfolding bit_at
@@ -145,19 +145,19 @@ turned_places coded first second b from i long hi even odd =
           ∙ ap (λ j. get_or coded (bit_at b j) 0) place
     ]
 
--- the places 0 to 31 of a half are written, and then those from 25 on
+-- the places 0 to 31 of a half are written, and then those from 32 on
 pub half_place : (coded front rest back : List ℕ) (b half m i : ℕ) → length front ≡ 32 → length back ≡ 32 → i < 57 →
     ((j : ℕ) → j < 32 → get_or front j 0 ≡ get_or coded (bit_at b (57 * half + j)) 0) →
-    ((j : ℕ) → j < 32 → get_or back j 0 ≡ get_or coded (bit_at b (57 * half + 25 + j)) 0) →
-    get_or (put_mid 25 m (front ++ rest) back) i 0 ≡ get_or coded (bit_at b (57 * half + i)) 0
+    ((j : ℕ) → j < 32 → get_or back j 0 ≡ get_or coded (bit_at b (57 * half + 32 + j)) 0) →
+    get_or (put_mid 32 m (front ++ rest) back) i 0 ≡ get_or coded (bit_at b (57 * half + i)) 0
 half_place coded front rest back b half m i long long' hi first second =
-    elim (cases_lt i 25) [
-      | inl lower ↦ written_before 25 m front rest back (omega arith) i lower ∙ first i (omega arith)
+    elim (cases_lt i 32) [
+      | inl lower ↦ written_before 32 m front rest back (omega arith) i lower ∙ first i (omega arith)
       | inr upper ↦
-          let same : 25 + (i - 25) ≡ i = omega arith in
-          let place : 57 * half + 25 + (i - 25) ≡ 57 * half + i = omega arith in
-          ap (λ k. get_or (put_mid 25 m (front ++ rest) back) k 0) (sym same)
-          ∙ written_behind 25 m front rest back (omega arith) (i - 25) (omega arith)
-          ∙ second (i - 25) (omega arith)
+          let same : 32 + (i - 32) ≡ i = omega arith in
+          let place : 57 * half + 32 + (i - 32) ≡ 57 * half + i = omega arith in
+          ap (λ k. get_or (put_mid 32 m (front ++ rest) back) k 0) (sym same)
+          ∙ written_behind 32 m front rest back (omega arith) (i - 32) (omega arith)
+          ∙ second (i - 32) (omega arith)
           ∙ ap (λ j. get_or coded (bit_at b j) 0) place
     ]

@@ -42,7 +42,8 @@ module _ (b half : ℕ) (hb : b < 4) (hh : half ≤ 1) where
       other (omega arith)
 
   -- one more value is written: those written before stay, and so do all that the half does not have
-  module _ (soft old values : List ℤ) (i : ℕ) (value : ℤ) (hi : i < 57) (full : length soft ≡ 456) (read : value ≡ get_or values i (pos 0)) where
+  module _ (soft old values : List ℤ) (i : ℕ) (value : ℤ) (hi : i < 57) (full : length soft ≡ 456)
+      (read : value ≡ get_or values i (pos 0)) where
     pub own-more : ((j : ℕ) → j < i → get_or soft (bit_of_half j) (pos 0) ≡ get_or values j (pos 0)) →
         (j : ℕ) → j < i + 1 → get_or (set soft (bit_of_half i) value) (bit_of_half j) (pos 0) ≡ get_or values j (pos 0)
     own-more before =

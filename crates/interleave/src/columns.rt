@@ -1,5 +1,5 @@
 //! From the coded bits eight to an octet to the bursts, without a look at each place: a burst takes each of its two rows from
-//! 57 octets in turn, one bit of each. Sixteen octets are read at once, and 32 places of a half written where it stands.
+//! 57 octets in turn, one bit of each, sixteen octets at a time.
 ghost use Rattle.std.specs.Prelude.{◌≡◌, ℕ, ◌+◌, ◌*◌, ◌/◌, ◌%◌, ◌<◌, ◌≤◌, ◌++◌, List, [], length, slice_index, slice_index_or, slice_range};
 ghost use Rattle.bit_blocks.specs.Packed.{ArePacked, bit_of};
 ghost use Rattle.interleave.specs.Bursts.{IsInterleaved};
@@ -45,15 +45,17 @@ impl Columns {
         ensures { (coded : List ℕ) (bursts : List (List ℕ)) → AreColumns coded self.now.octets → IsInterleaved coded bursts →
             out.new ≡ slice_range (slice_index_or bursts b []) (57 * half) (57 * half + 57) }
     {
-        // Both times 32 places: those from 25 to 31 come twice.
-        self.write_places(b, 57 * half, &mut out[..32]);
-        self.write_places(b, 57 * half + 25, &mut out[25..]);
+        // Whole vectors, of which the last seven places belong to no half.
+        let mut bits = [0; 64];
+        self.write_places(b, 57 * half, &mut bits[..32]);
+        self.write_places(b, 57 * half + 32, &mut bits[32..]);
+        out.copy_from_slice(&bits[..57]);
     }
 
     /// Writes the 32 places of burst `b` from one on.
     fn write_places(&self, b: usize, from: usize, out: &mut [u8])
         requires burst { b < 4 }
-        requires from { from ≤ 82 }
+        requires from { from ≤ 89 }
         requires count { length out.old ≡ 32 }
         ensures { (coded : List ℕ) (i : ℕ) → AreColumns coded self.now.octets → i < 32 →
             slice_index out.new i ≡ slice_index coded (bit_at b (from + i)) }
@@ -64,7 +66,7 @@ impl Columns {
     /// The bits of burst `b` at every other place from this one on, which are one bit each of sixteen columns.
     fn row_part(&self, b: usize, place: usize) -> u8x16
         requires burst { b < 4 }
-        requires place { place ≤ 83 }
+        requires place { place ≤ 90 }
         ensures count { length result ≡ 16 }
         ensures each { (coded : List ℕ) (p : ℕ) → AreColumns coded self.now.octets → p < 16 →
             slice_index result p ≡ slice_index coded (bit_at b (place + 2 * p)) }

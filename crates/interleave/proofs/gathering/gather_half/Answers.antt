@@ -11,14 +11,15 @@ loop-i-preserved c =
     let b = c.args.b in
     let half = c.args.half in
     let soft = c.loop-i.soft in
+    let old = c.args.soft.now in
     let values = c.args.values.now in
     let i = c.loop-i.i in
     let full : length soft ≡ 456 = c.loop-i.invariant.0 in
     let value : to_z w8 (of_z w8 (get_or values i (pos 0))) ≡ get_or values i (pos 0) = omega (arith, ints) in
     rw (c.from.ensures, c.coded_bits-k-items.ensures.value i c.loop-i-test.true) (
       simp length-set full,
-      own-more b half c.requires.burst c.requires.half soft c.args.soft.now values i _ c.loop-i-test.true full value c.loop-i.invariant.1,
-      others-more b half c.requires.burst c.requires.half soft c.args.soft.now values i _ c.loop-i-test.true full value c.loop-i.invariant.2,
+      own-more b half c.requires.burst c.requires.half soft old values i _ c.loop-i-test.true full value c.loop-i.invariant.1,
+      others-more b half c.requires.burst c.requires.half soft old values i _ c.loop-i-test.true full value c.loop-i.invariant.2,
     )
 
 pub returns-clause-own : goal.returns-clause-own
