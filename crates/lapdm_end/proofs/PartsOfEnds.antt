@@ -17,7 +17,8 @@ use Rattle.lapdm_end.specs.Standing.{InState, Stands}
 use Rattle.lapdm_end.specs.Parts.{EndValues, values_of, IsUnused, IsInState, AreInStep}
 use Rattle.lapdm_end.proofs.Moves.{bare_of, in_state, unopened}
 
-InState-values : (s : State) (w v : Window) (r q : ℕ) (e : EndState) → W.values_of w ≡ W.values_of v → r ≡ q → InState s w r e → InState s v q e
+InState-values : (s : State) (w v : Window) (r q : ℕ) (e : EndState) → W.values_of w ≡ W.values_of v → r ≡ q →
+    InState s w r e → InState s v q e
 InState-values Idle w v r q e same count h = Stands-values same h
 InState-values Opening w v r q e same count h = record { window = Stands-values same h.window; count = sym count ∙ h.count }
 InState-values Open w v r q e same count h = Stands-values same h
@@ -81,7 +82,8 @@ in_step m e h = record {
 abbrev with_retries : ℕ → EndState → EndState
 with_retries r e = record e { retries = r }
 
-held_by_then : (w : Window) (e : EndState) → IsEnd e → WS.Tracks w e → WS.Holds w.held.items w.place e → WS.Stands w (with_retries w.retries e)
+held_by_then : (w : Window) (e : EndState) → IsEnd e → WS.Tracks w e → WS.Holds w.held.items w.place e →
+    WS.Stands w (with_retries w.retries e)
 held_by_then w e end tracks holds = record {
   end = record { messages = end.window.messages; sent = end.window.sent; behind = end.window.behind; window = end.window.window };
   tracks = record {

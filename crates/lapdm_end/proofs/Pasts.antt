@@ -86,7 +86,12 @@ from_open m s retries e is opened h window now =
       since m s retries e,
       record {
         end = record {
-          window = record { messages = window.end.messages; sent = window.end.sent; behind = window.end.behind; window = window.end.window };
+          window = record {
+            messages = window.end.messages;
+            sent = window.end.sent;
+            behind = window.end.behind;
+            window = window.end.window;
+          };
           kept = omega (arith, m.kept_fits, ap n201 channel);
           bare = h.bare;
           taken = λ u. absurd (opened u);

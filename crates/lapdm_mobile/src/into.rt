@@ -21,7 +21,8 @@ impl Mobile {
         requires { sapi_of (end_of self.old) ≡ S.Zero }
         ensures refusal { IsRefusedAs (Opens info.now) (end_of self.old) result }
         ensures follows { OnOk result
-            (Follows (after_call (Opens info.now)) (end_of self.old) effects.new (end_of self.new)) }
+            (Follows (after_call (Opens info.now))
+            (end_of self.old) effects.new (end_of self.new)) }
         ensures refused { OnErr result (self.new ≡ self.old) }
         ensures kept { OnErr result (effects.new ≡ effects.old) }
         ensures sapi { sapi_of (end_of self.new) ≡ sapi_of (end_of self.old) }
@@ -46,7 +47,8 @@ impl Mobile {
     pub fn send_into(&mut self, message: &[u8], effects: &mut Effects) -> Result<(), Refused>
         ensures refusal { IsRefusedAs (Sends message.now) (end_of self.old) result }
         ensures follows { OnOk result
-            (Follows (after_call (Sends message.now)) (end_of self.old) effects.new (end_of self.new)) }
+            (Follows (after_call (Sends message.now))
+            (end_of self.old) effects.new (end_of self.new)) }
         ensures refused { OnErr result (self.new ≡ self.old) }
         ensures kept { OnErr result (effects.new ≡ effects.old) }
         ensures sapi { sapi_of (end_of self.new) ≡ sapi_of (end_of self.old) }
@@ -58,7 +60,8 @@ impl Mobile {
     pub fn unit_into(&mut self, message: &[u8], effects: &mut Effects) -> Result<(), Refused>
         ensures refusal { IsRefusedAs (SendsUnit message.now) (end_of self.old) result }
         ensures follows { OnOk result
-            (Follows (after_call (SendsUnit message.now)) (end_of self.old) effects.new (end_of self.new)) }
+            (Follows (after_call (SendsUnit message.now))
+            (end_of self.old) effects.new (end_of self.new)) }
         ensures refused { OnErr result (self.new ≡ self.old) }
         ensures kept { OnErr result (effects.new ≡ effects.old) }
         ensures sapi { sapi_of (end_of self.new) ≡ sapi_of (end_of self.old) }

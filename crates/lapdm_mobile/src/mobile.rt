@@ -88,7 +88,8 @@ impl Mobile {
         requires { sapi_of (end_of self.old) ≡ S.Three }
         ensures refusal { IsRefusedAs OpensBare (end_of self.old) result }
         ensures follows { IfOk result
-            (λ effects. Follows (after_call OpensBare) (end_of self.old) effects (end_of self.new)) }
+            (λ effects. Follows (after_call OpensBare)
+            (end_of self.old) effects (end_of self.new)) }
         ensures refused { OnErr result (self.new ≡ self.old) }
         ensures sapi { sapi_of (end_of self.new) ≡ sapi_of (end_of self.old) }
         ensures channel { channel_of (end_of self.new) ≡ channel_of (end_of self.old) }

@@ -33,7 +33,8 @@ impl Network {
     pub fn send_into(&mut self, message: &[u8], effects: &mut Effects) -> Result<(), Refused>
         ensures refusal { IsRefusedAs (Sends message.now) (end_of self.old) result }
         ensures follows { OnOk result
-            (Follows (after_call (Sends message.now)) (end_of self.old) effects.new (end_of self.new)) }
+            (Follows (after_call (Sends message.now))
+            (end_of self.old) effects.new (end_of self.new)) }
         ensures refused { OnErr result (self.new ≡ self.old) }
         ensures kept { OnErr result (effects.new ≡ effects.old) }
         ensures sapi { sapi_of (end_of self.new) ≡ sapi_of (end_of self.old) }
@@ -45,7 +46,8 @@ impl Network {
     pub fn unit_into(&mut self, message: &[u8], effects: &mut Effects) -> Result<(), Refused>
         ensures refusal { IsRefusedAs (SendsUnit message.now) (end_of self.old) result }
         ensures follows { OnOk result
-            (Follows (after_call (SendsUnit message.now)) (end_of self.old) effects.new (end_of self.new)) }
+            (Follows (after_call (SendsUnit message.now))
+            (end_of self.old) effects.new (end_of self.new)) }
         ensures refused { OnErr result (self.new ≡ self.old) }
         ensures kept { OnErr result (effects.new ≡ effects.old) }
         ensures sapi { sapi_of (end_of self.new) ≡ sapi_of (end_of self.old) }

@@ -68,7 +68,12 @@ missing va b few = grind arith
 
 front_of : (n done va place : ℕ) → 1 ≤ n → n ≤ 20 → va ≤ 7 → (done ≡ 0 → va ≡ place % 8) → HasFront n done va place
 front_of n zero va place room most few none =
-    record { front = []; messages = All-nil IsMessage; count = refl; number = (let e : 0 + place ≡ place = omega arith in ap (λ i. i % 8) e) ∙ sym (none refl) }
+    record {
+      front = [];
+      messages = All-nil IsMessage;
+      count = refl;
+      number = (let e : 0 + place ≡ place = omega arith in ap (λ i. i % 8) e) ∙ sym (none refl);
+    }
 front_of n (suc d) va place room most few none =
     let k = (va + 15 - (d + place) % 8) % 8 in
     let some : k ≤ 7 = omega arith in
@@ -128,7 +133,8 @@ past_of n done va place sent held room most few messages below within none =
         within = omega (arith, ap length all, length-append p q, within);
         number = f.number;
         wholly = ap (λ ps. ended (take acked ps)) all ∙ ap ended (take-append-add p q place) ∙ ended-append p (take place q) ∙ ap
-            (λ i. ended p + i) (ended_before n place held room below) ∙ (let e : ended p + 0 ≡ done = omega (arith, ended-all n f.front, f.count) in e);
+            (λ i. ended p + i) (ended_before n place held room below)
+            ∙ (let e : ended p + 0 ≡ done = omega (arith, ended-all n f.front, f.count) in e);
         rest = sym (ap (λ i. drop i (f.front ++ held)) (sym f.count) ∙ drop-append_seam f.front held);
         next = sym (ap (drop acked) all ∙ drop-append-add p q place);
       };

@@ -63,7 +63,8 @@ past_of P.Over held r few fits =
       joined = goes_over (ends_of k) long held (omega (arith, ap length (begins k long), length-replicate {A = ℕ} 252 0));
     }
 
-pub some_past : (part : Part) (count : ℕ) (octets : List ℕ) → count ≤ longest → (taken : List Piece) × HasJoined part (take count octets) taken
+pub some_past : (part : Part) (count : ℕ) (octets : List ℕ) → count ≤ longest →
+    (taken : List Piece) × HasJoined part (take count octets) taken
 some_past part count octets fits =
     let past = past_of part (take count octets) 0 (omega arith) (omega (arith, length-take count octets)) in
     (past.taken, past.joined)

@@ -27,7 +27,8 @@ IsHarmlessStep (Deliver sender places) (Does step) ws = IfSome step.received (λ
 IsHarmlessStep event answer ws = Unit {0}
 
 abbrev pub IsHarmlessAfter : Ways Octets → List Event → List Answer → Type 0
-IsHarmlessAfter ws (event ∷ events) (answer ∷ answers) = IsHarmlessStep event answer ws × IsHarmlessAfter (after event answer ws) events answers
+IsHarmlessAfter ws (event ∷ events) (answer ∷ answers) =
+    IsHarmlessStep event answer ws × IsHarmlessAfter (after event answer ws) events answers
 IsHarmlessAfter ws events answers = Unit {0}
 
 abbrev pub IsHarmless : List Event → List Answer → Type 0

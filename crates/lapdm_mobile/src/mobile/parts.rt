@@ -28,7 +28,8 @@ impl Mobile {
         ensures same { IfSome result (λ mobile. values_of (end_of mobile) ≡ said_by parts.now) }
         ensures stands { IfSome result
             (λ mobile. (e : EndState) → StandFor (said_by parts.now) e → Stands (end_of mobile) e) }
-        ensures known { IsSome result ↔ (AreOfAnEnd (said_by parts.now) × (parts.now.role ≡ R.Mobile)) }
+        ensures known { IsSome result
+            ↔ (AreOfAnEnd (said_by parts.now) × (parts.now.role ≡ R.Mobile)) }
     {
         if parts.role != Role::Mobile {
             return None;

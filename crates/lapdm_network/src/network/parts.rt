@@ -27,8 +27,10 @@ impl Network {
     pub fn from_parts(parts: &EndParts<'_>) -> Option<Network>
         ensures same { IfSome result (λ network. values_of (end_of network) ≡ said_by parts.now) }
         ensures stands { IfSome result
-            (λ network. (e : EndState) → StandFor (said_by parts.now) e → Stands (end_of network) e) }
-        ensures known { IsSome result ↔ (AreOfAnEnd (said_by parts.now) × (parts.now.role ≡ R.Network)) }
+            (λ network. (e : EndState) → StandFor (said_by parts.now) e
+            → Stands (end_of network) e) }
+        ensures known { IsSome result
+            ↔ (AreOfAnEnd (said_by parts.now) × (parts.now.role ≡ R.Network)) }
     {
         if parts.role != Role::Network {
             return None;

@@ -56,7 +56,8 @@ impl WindowParts<'_> {
 }
 
 fn is_window_of_one(vs: u8, va: u8, held: &[PlainMessage]) -> bool
-    ensures { IsTrue result ↔ ((vs ≡ va) ⊎ ((vs ≡ (va + 1) % 8) × (1 ≤ length (map octets_in held.now)))) }
+    ensures { IsTrue result ↔ ((vs ≡ va)
+        ⊎ ((vs ≡ (va + 1) % 8) × (1 ≤ length (map octets_in held.now)))) }
 {
     vs == va || (vs == (va % 8 + 1) % 8 && !held.is_empty())
 }
@@ -127,7 +128,8 @@ impl Window {
     /// Holds what these parts say, exactly where a window that stands for some end does. Else nothing changes.
     pub fn restore(&mut self, parts: &WindowParts<'_>) -> bool
         ensures same { IsTrue result → values_of self.new ≡ said_by parts.now }
-        ensures stands { IsTrue result → (e : EndState) → StandFor (said_by parts.now) e → Stands self.new e }
+        ensures stands { IsTrue result → (e : EndState) → StandFor (said_by parts.now) e
+            → Stands self.new e }
         ensures known { IsTrue result ↔ AreOfAWindow (said_by parts.now) }
         ensures unknown { result ≡ false → self.new ≡ self.old }
     {

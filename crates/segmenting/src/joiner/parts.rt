@@ -26,7 +26,8 @@ impl Joiner {
 
     /// Holds this, exactly where a joiner may. Else nothing changes.
     pub fn restore(&mut self, octets: &[u8], part: Part) -> bool
-        ensures same { IsTrue result → values_of self.new ≡ record { octets = octets.now; part = part } }
+        ensures same { IsTrue result
+            → values_of self.new ≡ record { octets = octets.now; part = part } }
         ensures known { IsTrue result ↔ IsOfAJoiner (record { octets = octets.now; part = part }) }
         ensures unknown { result ≡ false → self.new ≡ self.old }
 

@@ -30,5 +30,8 @@ returns-clause-follows c e h =
       state = h.state;
       kept = h.kept;
       tracks = Tracks-moved e.state e.kept (e.retries + 1) e h.tracks;
-      now = in_state m.window (m.retries + 1) f Closing m.state (sym c.requires.closing) (record { holds = Holds-moved m.window e.state e.kept (e.retries + 1) e closing.holds; count = ap (λ n. n + 1) count });
+      now = in_state m.window (m.retries + 1) f Closing m.state (sym c.requires.closing) (record {
+        holds = Holds-moved m.window e.state e.kept (e.retries + 1) e closing.holds;
+        count = ap (λ n. n + 1) count;
+      });
     }) (λ s. record { frames = c.disc.ensures.frames f s; notices = c.disc.ensures.notices }))

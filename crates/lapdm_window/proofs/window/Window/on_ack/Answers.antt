@@ -34,7 +34,8 @@ invariant_of-self-2 c =
     let items : c.remove_first.new.self.items ≡ drop 1 w.held.items = c.remove_first.ensures.items in
     record {
       few = omega (arith, ap length items, length-drop 1 w.held.items, w.few);
-      messages = All-same IsMessage c.remove_first.new.self.items (drop 1 w.held.items) items (All-drop IsMessage 1 w.held.items w.messages);
+      messages = All-same IsMessage c.remove_first.new.self.items (drop 1 w.held.items) items
+          (All-drop IsMessage 1 w.held.items w.messages);
       within = omega arith;
       waiting = λ other. absurd (other refl);
       vs_fits = w.vs_fits;

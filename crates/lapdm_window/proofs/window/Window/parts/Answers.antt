@@ -12,4 +12,8 @@ first_fits (m ∷ ms) h = let first : IsMessage m = All-head IsMessage m ms h in
 pub returns-clause-place : goal.returns-clause-place
 returns-clause-place c =
     let w = c.args.self.now in
-    omega (arith, w.within, few_pieces w.channel (n201 w.channel) (length (get_or w.held.items 0 [])) refl (first_fits w.held.items w.messages))
+    omega (
+      arith,
+      w.within,
+      few_pieces w.channel (n201 w.channel) (length (get_or w.held.items 0 [])) refl (first_fits w.held.items w.messages),
+    )
