@@ -1,3 +1,4 @@
 mod Accepting
 mod Calls
+mod Places
 mod Plain

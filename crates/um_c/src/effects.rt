@@ -1,9 +1,9 @@
 //! What an end sends and reports, as arrays of fixed room.
-ghost use Rattle.std.specs.Prelude.{◌≡◌, ◌≤◌, ◌-◌, ◌++◌, map, length, replicate};
+ghost use Rattle.std.specs.Prelude.{◌≡◌, ◌≤◌, ◌-◌, ◌++◌, map, length, replicate, slice_index_or};
 ghost use Rattle.segmenting.specs.Pieces.{longest};
-ghost use Rattle.segmenting.specs.Rooms.{plain_message};
-ghost use Rattle.um_c.specs.Effects.{plain_notice, plain_effects, nothing, reason_number};
+ghost use Rattle.um_c.specs.Effects.{notice_of, plain_notice, plain_effects, nothing, reason_number};
 
+use crate::rooms::write_message;
 use lapdm_window::{Effects, Notice, Reason};
 use segmenting::PlainMessage;
 
@@ -31,76 +31,57 @@ pub struct PlainEffects {
     pub frames: [[u8; 23]; 2],
 }
 
-pub(crate) fn plain_effects(effects: &Effects) -> PlainEffects
-    ensures { result ≡ plain_effects effects.now.frames effects.now.notices }
+/// Writes what a call sends and reports where it is to stand.
+pub(crate) fn write_effects(told: &Effects, effects: &mut PlainEffects)
+    ensures { effects.new ≡ plain_effects told.now.frames told.now.notices }
 {
-    let sent = effects.frames.as_slice();
-    let mut frames = [[0; 23]; 2];
+    write_frames(told.frames.as_slice(), &mut effects.frames);
+    write_notices(told.notices.as_slice(), &mut effects.notices);
+    effects.frame_count = told.frames.as_slice().len() as u8;
+    effects.notice_count = told.notices.as_slice().len() as u8;
+}
+
+fn write_frames(sent: &[[u8; 23]], frames: &mut [[u8; 23]; 2])
+    requires { length sent.now ≤ 2 }
+    ensures { frames.new ≡ sent.now ++ replicate (2 - length sent.now) (replicate 23 0) }
+{
+    *frames = [[0; 23]; 2];
     frames[..sent.len()].copy_from_slice(sent);
-    let reported = effects.notices.as_slice();
-    let notices = plain_notices(reported);
-    PlainEffects {
-        notices,
-        notice_count: reported.len() as u8,
-        frame_count: sent.len() as u8,
-        frames,
+}
+
+fn write_notices(reported: &[Notice], notices: &mut [PlainNotice; 3])
+    requires { length reported.now ≤ 3 }
+    ensures { notices.new ≡ map plain_notice reported.now ++ replicate (3 - length reported.now) nothing }
+{
+    write_notice(reported, 0, &mut notices[0]);
+    write_notice(reported, 1, &mut notices[1]);
+    write_notice(reported, 2, &mut notices[2]);
+}
+
+/// Writes a notice, or that there is none.
+fn write_notice(reported: &[Notice], i: usize, place: &mut PlainNotice)
+    ensures { place.new ≡ slice_index_or (map plain_notice reported.now) i nothing }
+{
+    match reported.get(i) {
+        None => place.write(0, 0, 0, &[]),
+        Some(Notice::Opened(message)) => place.write(1, 0, 0, message.octets()),
+        Some(Notice::Got(message)) => place.write(2, 0, 0, message.octets()),
+        Some(Notice::Unit(message)) => place.write(3, 0, 0, message.octets()),
+        Some(Notice::Acked(number)) => place.write(4, *number, 0, &[]),
+        Some(Notice::Oversize) => place.write(5, 0, 0, &[]),
+        Some(Notice::Closed(reason)) => place.write(6, 0, reason_number(*reason), &[]),
     }
 }
 
-fn plain_notices(notices: &[Notice]) -> [PlainNotice; 3]
-    requires { length notices.now ≤ 3 }
-    ensures { result ≡ map plain_notice notices.now ++ replicate (3 - length notices.now) nothing }
-{
-    let none = nothing();
-    match notices {
-        [] => [none, none, none],
-        [a] => [plain_notice(a), none, none],
-        [a, b] => [plain_notice(a), plain_notice(b), none],
-        [a, b, c, ..] => [plain_notice(a), plain_notice(b), plain_notice(c)],
-    }
-}
-
-fn nothing() -> PlainNotice
-    ensures { result ≡ nothing }
-{
-    handed_up(0, &[])
-}
-
-fn plain_notice(notice: &Notice) -> PlainNotice
-    ensures { result ≡ plain_notice notice.now }
-{
-    match notice {
-        Notice::Opened(message) => handed_up(1, message.octets()),
-        Notice::Got(message) => handed_up(2, message.octets()),
-        Notice::Unit(message) => handed_up(3, message.octets()),
-        Notice::Acked(number) => PlainNotice {
-            number: *number,
-            kind: 4,
-            ..nothing()
-        },
-        Notice::Oversize => PlainNotice {
-            kind: 5,
-            ..nothing()
-        },
-        Notice::Closed(reason) => PlainNotice {
-            kind: 6,
-            reason: reason_number(*reason),
-            ..nothing()
-        },
-    }
-}
-
-fn handed_up(kind: u8, octets: &[u8]) -> PlainNotice
-    requires { length octets.now ≤ longest }
-    ensures { result ≡ record { number = 0; kind = kind; reason = 0; message = plain_message octets.now } }
-{
-    let mut message = PlainMessage::empty();
-    message.write(octets);
-    PlainNotice {
-        number: 0,
-        kind,
-        reason: 0,
-        message,
+impl PlainNotice {
+    fn write(&mut self, kind: u8, number: u64, reason: u8, octets: &[u8])
+        requires { length octets.now ≤ longest }
+        ensures { self.new ≡ notice_of kind number reason octets.now }
+    {
+        self.number = number;
+        self.kind = kind;
+        self.reason = reason;
+        write_message(octets, &mut self.message);
     }
 }
 

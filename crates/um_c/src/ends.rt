@@ -7,7 +7,7 @@ ghost use Rattle.um_c.specs.States.{plain_end, IsPlain};
 ghost use Rattle.um_c.specs.Effects.{plain_effects};
 ghost use Rattle.um_c.specs.EndCalls.{refused_number, IsCalledAs, IsGivenAs, IsBegunAs};
 
-use crate::effects::{PlainEffects, plain_effects};
+use crate::effects::{PlainEffects, write_effects};
 use crate::frames::channel_of;
 use crate::states::{PlainEnd, read_end, role_of, sapi_of, write_end};
 use lapdm_end::{End, Role};
@@ -224,7 +224,7 @@ fn tell(answer: Result<(), Refused>, told: &Effects, effects: &mut PlainEffects)
 {
     match answer {
         Ok(()) => {
-            *effects = plain_effects(told);
+            write_effects(told, effects);
             0
         }
         Err(reason) => refused_number(reason),

@@ -11,5 +11,6 @@ mod ends;
 mod frames;
 mod margins;
 mod repairs;
+mod rooms;
 mod soft;
 mod states;

@@ -10,6 +10,7 @@ ghost use Rattle.um_c.specs.Plain.{channel_of};
 ghost use Rattle.um_c.specs.States.{role_of, sapi_of, state_of, part_of, said_window, said_end, StandsFor, IsOfAnEnd, role_number, sapi_number, channel_number, state_number, part_number, rooms_for, plain_end};
 
 use crate::frames::channel_of;
+use crate::rooms::write_message;
 use lapdm_end::{End, EndParts, Role};
 use lapdm_frame::Channel;
 use lapdm_window::{Sapi, State, WindowParts};
@@ -169,35 +170,35 @@ pub(crate) fn write_end(end: &End, plain: &mut PlainEnd)
     plain.place = window.place as u8;
     plain.held_count = window.held.len() as u8;
     plain.part = part_number(window.part);
-    plain.kept.write(parts.kept);
-    plain.joined.write(window.joined);
-    plain.held = rooms_for(window.held);
+    write_message(parts.kept, &mut plain.kept);
+    write_message(window.joined, &mut plain.joined);
+    write_rooms(window.held, &mut plain.held);
 }
 
-/// These messages, and behind them messages without octets.
-fn rooms_for(messages: &[PlainMessage]) -> [PlainMessage; 8]
-    ensures { result ≡ rooms_for 8 (map octets_in messages.now) }
+/// Writes these messages, and behind them messages without octets.
+fn write_rooms(messages: &[PlainMessage], rooms: &mut [PlainMessage; 8])
+    ensures { rooms.new ≡ rooms_for 8 (map octets_in messages.now) }
 {
-    [
-        room_for(messages, 0),
-        room_for(messages, 1),
-        room_for(messages, 2),
-        room_for(messages, 3),
-        room_for(messages, 4),
-        room_for(messages, 5),
-        room_for(messages, 6),
-        room_for(messages, 7),
-    ]
+    write_room(messages, 0, &mut rooms[0]);
+    write_room(messages, 1, &mut rooms[1]);
+    write_room(messages, 2, &mut rooms[2]);
+    write_room(messages, 3, &mut rooms[3]);
+    write_room(messages, 4, &mut rooms[4]);
+    write_room(messages, 5, &mut rooms[5]);
+    write_room(messages, 6, &mut rooms[6]);
+    write_room(messages, 7, &mut rooms[7]);
 }
 
-fn room_for(messages: &[PlainMessage], i: usize) -> PlainMessage
-    ensures { result ≡ plain_message (slice_index_or (map octets_in messages.now) i []) }
+fn write_room(messages: &[PlainMessage], i: usize, room: &mut PlainMessage)
+    ensures { room.new ≡ plain_message (slice_index_or (map octets_in messages.now) i []) }
 {
-    let mut room = PlainMessage::empty();
-    if let Some(message) = messages.get(i) {
-        room.write(message.octets());
+    match messages.get(i) {
+        Some(message) => write_message(message.octets(), room),
+        None => {
+            room.count = 0;
+            room.octets.fill(0);
+        }
     }
-    room
 }
 
 fn role_number(role: Role) -> u8
