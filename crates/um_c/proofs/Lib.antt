@@ -1,3 +1,5 @@
 mod Accepting
 mod Calls
 mod Plain
+mod RepairedOnce
+mod ToldOnce
