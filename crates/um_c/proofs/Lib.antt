@@ -2,3 +2,5 @@ mod Accepting
 mod Calls
 mod Places
 mod Plain
+mod RepairedOnce
+mod ToldOnce

@@ -61,6 +61,8 @@ pub extern "C" fn um_send_block(octets: &[u8; 23], tsc: u8, bursts: &mut [[u8; 1
 pub extern "C" fn um_receive_block(bursts: &[[i8; 148]; 4], report: &mut BlockReport) -> bool
     ensures soft { IsTrue result ↔ All AllSoft bursts.now }
     ensures received { IsTrue result → IsBlockReport bursts.now report.new }
+    ensures only { IsTrue result → (other : BlockReport) → IsBlockReport bursts.now other
+        → other ≡ report.new }
     ensures refused { result ≡ false → report.new ≡ report.old }
 {
     if !are_soft_bursts(bursts) {
@@ -82,6 +84,8 @@ pub extern "C" fn um_receive_block_among(
 ) -> bool
     ensures known { IsTrue result ↔ (All AllSoft bursts.now × (1 ≤ most) × (most ≤ 64)) }
     ensures received { IsTrue result → IsBlockReportAmong bursts.now most rank.new report.new }
+    ensures only { IsTrue result → (place : ℕ) (other : BlockReport)
+        → IsBlockReportAmong bursts.now most place other → (place ≡ rank.new) × (other ≡ report.new) }
     ensures best { IsTrue result → report.new.accepted ≡ 1 → (soft : List ℤ) (v : List ℕ)
         → IsInterleaved soft (map coded_places bursts.now) → IsCandidate soft v → HoldsInBlock v
         → v ≢ report.new.word → FallsBehind soft v report.new.word }

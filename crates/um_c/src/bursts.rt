@@ -76,6 +76,8 @@ pub extern "C" fn um_receive_access(
 ) -> bool
     ensures known { IsTrue result ↔ (AllSoft burst.now × AllBits bsic.now) }
     ensures received { IsTrue result → IsAccessReport burst.now bsic.now report.new }
+    ensures only { IsTrue result → (other : AccessReport) → IsAccessReport burst.now bsic.now other
+        → other ≡ report.new }
     ensures refused { result ≡ false → report.new ≡ report.old }
 {
     let Some(bsic) = Bits::<6>::from_slice(bsic) else {
@@ -119,6 +121,8 @@ pub extern "C" fn um_send_sync(info: &[u8; 25], burst: &mut [u8; 148]) -> bool
 pub extern "C" fn um_receive_sync(burst: &[i8; 148], report: &mut SyncReport) -> bool
     ensures soft { IsTrue result ↔ AllSoft burst.now }
     ensures received { IsTrue result → IsSyncReport burst.now report.new }
+    ensures only { IsTrue result → (other : SyncReport) → IsSyncReport burst.now other
+        → other ≡ report.new }
     ensures refused { result ≡ false → report.new ≡ report.old }
 {
     if !are_soft(burst) {

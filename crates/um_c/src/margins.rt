@@ -25,6 +25,8 @@ pub struct MarginReport {
 pub extern "C" fn um_margin_block(bursts: &[[i8; 148]; 4], report: &mut MarginReport) -> bool
     ensures soft { IsTrue result ↔ All AllSoft bursts.now }
     ensures compared { IsTrue result → IsMarginReport bursts.now report.new }
+    ensures only { IsTrue result → (other : MarginReport) → IsMarginReport bursts.now other
+        → other ≡ report.new }
     ensures refused { result ≡ false → report.new ≡ report.old }
 {
     if !are_soft_bursts(bursts) {

@@ -1,4 +1,5 @@
 //! Repair of words whose wrong bits lie close together.
+ghost use Rattle.std.specs.Prelude.{◌≡◌, ℕ};
 ghost use Rattle.um_c.specs.RepairReports.{IsRepairedAs};
 
 use bit_blocks::Bits;
@@ -21,7 +22,9 @@ pub struct RepairReport {
 /// where an octet is no bit.
 #[unsafe(no_mangle)]
 pub extern "C" fn um_repair(word: &[u8; 224], report: &mut RepairReport) -> u8
-    ensures { IsRepairedAs word.now result report.old report.new }
+    ensures answer { IsRepairedAs word.now result report.old report.new }
+    ensures only { (answer : ℕ) (other : RepairReport)
+        → IsRepairedAs word.now answer report.old other → (answer ≡ result) × (other ≡ report.new) }
 {
     let Some(bits) = Bits::<224>::from_slice(word) else {
         return 3;

@@ -3,6 +3,7 @@ use Rattle.conv_code.specs.Likelihood.{FallsBehind}
 use Rattle.um_among.specs.declared.reports.BlockAmong.{BlockAmong}
 use Rattle.um_c.specs.Reports.{TellsBlock}
 use Rattle.um_c.proofs.Accepting.{some_flagged, none_flagged}
+use Rattle.um_c.proofs.ToldOnce.{told_once}
 use Rattle.um_c.proofs.blocks.um_receive_block_among.Goals as goal
 
 pub returns-clause-best : goal.returns-clause-best
@@ -26,4 +27,13 @@ returns-clause-first c = λ _ r received some.
     let same = c.receive_block_among-among.ensures.first r received some in (
       subst (λ (x : BlockAmong). TellsBlock c.args.bursts.now x.report c.told_block.result) same c.told_block.ensures,
       ap (λ (x : BlockAmong). x.rank) same,
+    )
+
+pub returns-clause-only : goal.returns-clause-only
+returns-clause-only c = λ _ place other h.
+    let among = c.receive_block_among-among.result in
+    let same = c.receive_block_among-among.ensures.only h.received h.is in (
+      h.place ∙ ap (λ (x : BlockAmong). x.rank) same,
+      told_once c.args.bursts.now h.is.soft h.received.report among.report other _ h.is.gathered
+          (ap (λ (x : BlockAmong). x.report) same) h.told c.told_block.ensures,
     )

@@ -1,13 +1,39 @@
-use Rattle.std.proofs.Common.{ℕ, List, inl, inr, refl, subst}
+use Rattle.std.proofs.Common.{ℕ, List, inl, inr, refl, subst, rules}
 use Rattle.fire_code.specs.Words.{IsXcchWord}
 use Rattle.fire_repair.specs.Repairs.{IsRepair}
+use Rattle.um_c.proofs.RepairedOnce.{repaired_once}
 use Rattle.um_c.proofs.repairs.um_repair.Goals as goal
 
 -- a word is no parity word, and no parity word is near it
 abbrev Lost : List ℕ → Type 0
 Lost w = (IsXcchWord w → ⊥) × ((v : List ℕ) → IsRepair w v → ⊥)
 
-pub returns-in-NoRepair : goal.returns-in-NoRepair
-returns-in-NoRepair c =
+pub returns-in_default-clause-answer : goal.returns-in_default-clause-answer
+returns-in_default-clause-answer c = search rules
+
+pub returns-in_default-clause-only : goal.returns-in_default-clause-only
+returns-in_default-clause-only c = λ answer other h.
+    repaired_once c.args.word.now answer _ _ other _ h (returns-in_default-clause-answer c)
+
+pub returns-in-Holds-clause-answer : goal.returns-in-Holds-clause-answer
+returns-in-Holds-clause-answer c = search rules
+
+pub returns-in-Holds-clause-only : goal.returns-in-Holds-clause-only
+returns-in-Holds-clause-only c = λ answer other h.
+    repaired_once c.args.word.now answer _ _ other _ h (returns-in-Holds-clause-answer c)
+
+pub returns-in-Repaired-clause-answer : goal.returns-in-Repaired-clause-answer
+returns-in-Repaired-clause-answer c = search rules
+
+pub returns-in-Repaired-clause-only : goal.returns-in-Repaired-clause-only
+returns-in-Repaired-clause-only c = λ answer other h.
+    repaired_once c.args.word.now answer _ _ other _ h (returns-in-Repaired-clause-answer c)
+
+pub returns-in-NoRepair-clause-answer : goal.returns-in-NoRepair-clause-answer
+returns-in-NoRepair-clause-answer c =
     let lost : Lost c.args.word.now = subst Lost c.in-Some.ensures.value c.in-NoRepair.ensures.answer in
     inl ((c.in-Some.ensures.found.0 refl).1, inr (inr (lost.0, lost.1, refl, refl)))
+
+pub returns-in-NoRepair-clause-only : goal.returns-in-NoRepair-clause-only
+returns-in-NoRepair-clause-only c = λ answer other h.
+    repaired_once c.args.word.now answer _ _ other _ h (returns-in-NoRepair-clause-answer c)

@@ -1,0 +1,62 @@
+-- A word is answered in one way.
+use Rattle.std.proofs.Common.{◌≡◌, ℕ, List, inl, inr, refl, ap, sym, ◌∙◌}
+use Rattle.fire_repair.specs.declared.repairs.RepairAnswer.{RepairAnswer}
+use Rattle.fire_repair.specs.declared.repairs.RepairAnswer.TheVariants.{Holds, Repaired, NoRepair}
+use Rattle.fire_repair.specs.Answers.{IsAnswer}
+use Rattle.fire_repair.proofs.Lemmas.{one_answer}
+use Rattle.um_c.specs.declared.repairs.RepairReport.{RepairReport}
+use Rattle.um_c.specs.RepairReports.{IsAnswered, IsRepairedAs}
+
+abbrev number : RepairAnswer → ℕ
+number Holds = 0
+number (Repaired word first span) = 1
+number NoRepair = 2
+
+abbrev reported : RepairAnswer → RepairReport → RepairReport
+reported Holds before = before
+reported (Repaired word first span) before = record { first = first; span = span; word = word }
+reported NoRepair before = before
+
+-- the repair that an answer and a report tell of
+record Tells (w : List ℕ) (answer : ℕ) (before after : RepairReport) : Type 0 where
+  repair : RepairAnswer
+  due : IsAnswer w repair
+  numbered : answer ≡ number repair
+  told : after ≡ reported repair before
+
+telling : (w : List ℕ) (answer : ℕ) (before after : RepairReport) → IsAnswered w answer before after → Tells w answer before after
+telling w answer before after h = elim h [
+  | inl holds ↦ record { repair = Holds; due = holds.0; numbered = holds.1; told = holds.2 }
+  | inr other ↦ elim other [
+    | inl right ↦ record {
+      repair = Repaired after.word after.first after.span;
+      due = (right.0, right.1);
+      numbered = right.2;
+      told = refl;
+    }
+    | inr none ↦ record { repair = NoRepair; due = (none.0, none.1); numbered = none.2; told = none.3 }
+  ]
+]
+
+answered_once : (w : List ℕ) (a b : ℕ) (before r r' : RepairReport) → IsAnswered w a before r → IsAnswered w b before r' →
+    (a ≡ b) × (r ≡ r')
+answered_once w a b before r r' h g =
+    let x = telling w a before r h in
+    let y = telling w b before r' g in
+    let same = one_answer w x.repair y.repair x.due y.due in (
+      x.numbered ∙ ap number same ∙ sym y.numbered,
+      x.told ∙ ap (λ repair. reported repair before) same ∙ sym y.told,
+    )
+
+pub repaired_once : (w : List ℕ) (a b : ℕ) (before r r' : RepairReport) → IsRepairedAs w a before r → IsRepairedAs w b before r' →
+    (a ≡ b) × (r ≡ r')
+repaired_once w a b before r r' h g = elim h [
+  | inl bits ↦ elim g [
+    | inl bits' ↦ answered_once w a b before r r' bits.1 bits'.1
+    | inr none ↦ absurd (none.0 bits.0)
+  ]
+  | inr none ↦ elim g [
+    | inl bits ↦ absurd (none.0 bits.0)
+    | inr none' ↦ (none.1 ∙ sym none'.1, none.2 ∙ sym none'.2)
+  ]
+]
