@@ -9,6 +9,7 @@ mod bursts;
 mod effects;
 mod ends;
 mod frames;
+mod layout;
 mod margins;
 mod repairs;
 mod rooms;
