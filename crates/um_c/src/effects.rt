@@ -53,7 +53,8 @@ fn write_notices(reported: &[Notice], notices: &mut [PlainNotice; 3])
     requires { length reported.now ≤ 3 }
     ensures { notices.new ≡ map plain_notice reported.now ++ replicate (3 - length reported.now) nothing }
 {
-    // Most calls report nothing.
+    // Most calls report nothing: the places are then filled at once. The others are written one by one, as a loop would
+    // hide from the compiler that the fill frame reports nothing.
     if reported.is_empty() {
         *notices = [nothing(); 3];
         return;

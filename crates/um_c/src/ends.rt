@@ -1,4 +1,6 @@
 //! One end of a link, whose state is the caller's.
+//!
+//! The room for what a call does is made before the end is: the compiler then fills it with zeros once.
 ghost use Rattle.std.specs.Prelude.{◌≡◌, OnOk, IfErr, IsTrue};
 ghost use Rattle.segmenting.specs.Rooms.{octets_in};
 ghost use Rattle.lapdm_window.specs.Calls.{Opens, OpensBare, Sends, SendsUnit, Closes, Ticks, Idles};
