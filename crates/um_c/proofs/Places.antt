@@ -1,8 +1,11 @@
 -- Places that are written one after another.
-use Rattle.std.proofs.Common.{◌≡◌, refl, ◌∙◌, ap, arith, ℕ, ◌-◌, ◌≤◌, List, [], ◌∷◌, ◌++◌, length, replicate, slice_set, slice_index_or, map}
+use Rattle.std.proofs.Common.{◌≡◌, refl, ◌∙◌, ap, arith, ℕ, zero, suc, ◌+◌, ◌-◌, ◌<◌, ◌≤◌, List, [], ◌∷◌, ◌++◌, length, take, replicate, slice_set, slice_index_or, get_or, map}
+use Rattle.segmenting.specs.declared.rooms.PlainMessage.{PlainMessage}
+use Rattle.segmenting.specs.Rooms.{octets_in, plain_message}
 use Rattle.lapdm_window.specs.declared.Notice.{Notice}
 use Rattle.um_c.specs.declared.effects.PlainNotice.{PlainNotice}
 use Rattle.um_c.specs.Effects.{plain_notice, nothing}
+use Rattle.um_c.specs.States.{rooms_for}
 
 pub three_written : {A : Type 0} (xs : List A) (a b c : A) → length xs ≡ 3 →
     slice_set (slice_set (slice_set xs 0 a) 1 b) 2 c ≡ a ∷ b ∷ c ∷ []
@@ -33,15 +36,22 @@ three_notices old notices a b c three few at at1 at2 =
     ∙ ap (λ x. place notices 0 ∷ place notices 1 ∷ x ∷ []) at2
     ∙ three_places notices few
 
-pub eight_written : {A : Type 0} (xs : List A) (a b c d e f g h : A) → length xs ≡ 8 →
-    slice_set (slice_set (slice_set (slice_set (slice_set (slice_set (slice_set (slice_set xs 0 a) 1 b) 2 c) 3 d) 4 e) 5 f) 6 g) 7 h ≡ a ∷ b ∷ c ∷ d ∷ e ∷ f ∷ g ∷ h ∷ []
-eight_written [] a b c d e f g h few = absurd (omega (arith, few))
-eight_written (x0 ∷ []) a b c d e f g h few = absurd (omega (arith, few))
-eight_written (x0 ∷ x1 ∷ []) a b c d e f g h few = absurd (omega (arith, few))
-eight_written (x0 ∷ x1 ∷ x2 ∷ []) a b c d e f g h few = absurd (omega (arith, few))
-eight_written (x0 ∷ x1 ∷ x2 ∷ x3 ∷ []) a b c d e f g h few = absurd (omega (arith, few))
-eight_written (x0 ∷ x1 ∷ x2 ∷ x3 ∷ x4 ∷ []) a b c d e f g h few = absurd (omega (arith, few))
-eight_written (x0 ∷ x1 ∷ x2 ∷ x3 ∷ x4 ∷ x5 ∷ []) a b c d e f g h few = absurd (omega (arith, few))
-eight_written (x0 ∷ x1 ∷ x2 ∷ x3 ∷ x4 ∷ x5 ∷ x6 ∷ []) a b c d e f g h few = absurd (omega (arith, few))
-eight_written (x0 ∷ x1 ∷ x2 ∷ x3 ∷ x4 ∷ x5 ∷ x6 ∷ x7 ∷ []) a b c d e f g h few = refl
-eight_written (x0 ∷ x1 ∷ x2 ∷ x3 ∷ x4 ∷ x5 ∷ x6 ∷ x7 ∷ x8 ∷ xs) a b c d e f g h few = absurd (omega (arith, few))
+-- one message more
+rooms_more : (k i : ℕ) (held : List PlainMessage) (other : PlainMessage) → i < length held → i < k →
+    slice_set (rooms_for k (map octets_in (take i held))) i (plain_message (octets_in (get_or held i other)))
+    ≡ rooms_for k (map octets_in (take (suc i) held))
+rooms_more zero i held other at room = absurd (omega (arith, room))
+rooms_more (suc k) i [] other at room = absurd (omega (arith, at))
+rooms_more (suc k) zero (m ∷ ms) other at room = refl
+rooms_more (suc k) (suc i) (m ∷ ms) other at room =
+    ap (λ (rooms : List PlainMessage). plain_message (octets_in m) ∷ rooms)
+    (rooms_more k i ms other (omega (arith, at)) (omega (arith, room)))
+
+pub room_written : (held : List PlainMessage) (i : ℕ) (rooms : List PlainMessage) (room other : PlainMessage) (octets : List ℕ) →
+    i < length held → length held ≤ 8 → rooms ≡ rooms_for 8 (map octets_in (take i held)) → octets ≡ octets_in (get_or held i other) →
+    room ≡ plain_message octets → slice_set rooms i room ≡ rooms_for 8 (map octets_in (take (i + 1) held))
+room_written held i rooms room other octets at few so_far is written =
+    ap (λ (x : List PlainMessage). slice_set x i room) so_far
+    ∙ ap (slice_set (rooms_for 8 (map octets_in (take i held))) i) (written ∙ ap plain_message is)
+    ∙ rooms_more 8 i held other at (omega (arith, at, few))
+    ∙ ap (λ (k : ℕ). rooms_for 8 (map octets_in (take k held))) (let next : suc i ≡ i + 1 = omega arith in next)

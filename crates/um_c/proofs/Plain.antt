@@ -1,5 +1,5 @@
 -- What is read of a state that was written.
-use Rattle.std.proofs.Common.{◌≡◌, refl, ◌∙◌, ap, arith, ℕ, zero, suc, ◌-◌, ◌≤◌, Bool, true, false, nat_le, List, [], ◌∷◌, length, take, replicate, get_or, map, Some}
+use Rattle.std.proofs.Common.{◌≡◌, refl, ◌∙◌, ap, arith, ℕ, zero, suc, ◌-◌, ◌≤◌, Bool, true, false, nat_le, List, [], ◌∷◌, length, take, replicate, map, Some}
 use Rattle.std.proofs.lemmas.Bool.Decides.{nat_tests}
 use Rattle.std.proofs.lemmas.List.{take_at}
 use Rattle.lapdm_frame.specs.declared.Channel.{Channel}
@@ -7,7 +7,6 @@ use Rattle.lapdm_frame.specs.declared.Channel.TheVariants.{Sdcch, Sacch}
 use Rattle.lapdm_frame.specs.Frames.{bit}
 use Rattle.segmenting.specs.declared.joiner.Part.{Part}
 use Rattle.segmenting.specs.declared.joiner.Part.TheVariants as P
-use Rattle.segmenting.specs.declared.rooms.PlainMessage.{PlainMessage}
 use Rattle.segmenting.specs.Pieces.{Message}
 use Rattle.segmenting.specs.Rooms.{octets_in, plain_message}
 use Rattle.lapdm_window.specs.declared.Sapi.{Sapi}
@@ -58,37 +57,6 @@ messages-plain zero (m ∷ ms) few = absurd (omega (arith, few))
 messages-plain (suc k) (m ∷ ms) few =
     ap (λ x. x ∷ map octets_in (take (length ms) (rooms_for k ms))) (octets-plain m)
     ∙ ap (λ xs. m ∷ xs) (messages-plain k ms (omega (arith, few)))
-
--- the eight places, one by one
-abbrev place : List Message → ℕ → PlainMessage
-place held i = plain_message (get_or held i [])
-
-eight_places : (held : List Message) →
-    place held 0 ∷ place held 1 ∷ place held 2 ∷ place held 3 ∷ place held 4 ∷ place held 5 ∷ place held 6 ∷ place held 7 ∷ []
-    ≡ rooms_for 8 held
-eight_places [] = refl
-eight_places (a ∷ []) = refl
-eight_places (a ∷ b ∷ []) = refl
-eight_places (a ∷ b ∷ c ∷ []) = refl
-eight_places (a ∷ b ∷ c ∷ d ∷ []) = refl
-eight_places (a ∷ b ∷ c ∷ d ∷ e ∷ []) = refl
-eight_places (a ∷ b ∷ c ∷ d ∷ e ∷ f ∷ []) = refl
-eight_places (a ∷ b ∷ c ∷ d ∷ e ∷ f ∷ g ∷ []) = refl
-eight_places (a ∷ b ∷ c ∷ d ∷ e ∷ f ∷ g ∷ h ∷ ms) = refl
-
-pub eight_rooms : (held : List Message) (a b c d e f g h : PlainMessage) → a ≡ place held 0 → b ≡ place held 1 → c ≡ place held 2 →
-    d ≡ place held 3 → e ≡ place held 4 → f ≡ place held 5 → g ≡ place held 6 → h ≡ place held 7 →
-    a ∷ b ∷ c ∷ d ∷ e ∷ f ∷ g ∷ h ∷ [] ≡ rooms_for 8 held
-eight_rooms held a b c d e f g h at at1 at2 at3 at4 at5 at6 at7 =
-    ap (λ x. x ∷ b ∷ c ∷ d ∷ e ∷ f ∷ g ∷ h ∷ []) at
-    ∙ ap (λ x. place held 0 ∷ x ∷ c ∷ d ∷ e ∷ f ∷ g ∷ h ∷ []) at1
-    ∙ ap (λ x. place held 0 ∷ place held 1 ∷ x ∷ d ∷ e ∷ f ∷ g ∷ h ∷ []) at2
-    ∙ ap (λ x. place held 0 ∷ place held 1 ∷ place held 2 ∷ x ∷ e ∷ f ∷ g ∷ h ∷ []) at3
-    ∙ ap (λ x. place held 0 ∷ place held 1 ∷ place held 2 ∷ place held 3 ∷ x ∷ f ∷ g ∷ h ∷ []) at4
-    ∙ ap (λ x. place held 0 ∷ place held 1 ∷ place held 2 ∷ place held 3 ∷ place held 4 ∷ x ∷ g ∷ h ∷ []) at5
-    ∙ ap (λ x. place held 0 ∷ place held 1 ∷ place held 2 ∷ place held 3 ∷ place held 4 ∷ place held 5 ∷ x ∷ h ∷ []) at6
-    ∙ ap (λ x. place held 0 ∷ place held 1 ∷ place held 2 ∷ place held 3 ∷ place held 4 ∷ place held 5 ∷ place held 6 ∷ x ∷ []) at7
-    ∙ eight_places held
 
 window-plain : (x : EndValues) → length x.window.held ≤ 8 → said_window (plain_end x) ≡ Some x.window
 window-plain x few =

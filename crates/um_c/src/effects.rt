@@ -53,9 +53,26 @@ fn write_notices(reported: &[Notice], notices: &mut [PlainNotice; 3])
     requires { length reported.now ≤ 3 }
     ensures { notices.new ≡ map plain_notice reported.now ++ replicate (3 - length reported.now) nothing }
 {
+    // Most calls report nothing: the places are then filled at once. The others are written one by one, as a loop would
+    // hide from the compiler that the fill frame reports nothing.
+    if reported.is_empty() {
+        *notices = [nothing(); 3];
+        return;
+    }
     write_notice(reported, 0, &mut notices[0]);
     write_notice(reported, 1, &mut notices[1]);
     write_notice(reported, 2, &mut notices[2]);
+}
+
+fn nothing() -> PlainNotice
+    ensures { result ≡ nothing }
+{
+    PlainNotice {
+        number: 0,
+        kind: 0,
+        reason: 0,
+        message: PlainMessage::empty(),
+    }
 }
 
 /// Writes a notice, or that there is none.

@@ -1,4 +1,6 @@
 //! One end of a link, whose state is the caller's.
+//!
+//! The room for what a call does is made before the end is: the compiler then fills it with zeros once.
 ghost use Rattle.std.specs.Prelude.{◌≡◌, OnOk, IfErr, IsTrue};
 ghost use Rattle.segmenting.specs.Rooms.{octets_in};
 ghost use Rattle.lapdm_window.specs.Calls.{Opens, OpensBare, Sends, SendsUnit, Closes, Ticks, Idles};
@@ -50,11 +52,11 @@ pub extern "C" fn um_end_open(
     ensures called { IsCalledAs (Opens (octets_in info.now)) result end.old end.new effects.old effects.new }
     ensures plain { result ≡ 0 → IsPlain end.new }
 {
+    let mut told = Effects::new();
     let mut held = any_end();
     if !read_end(end, &mut held) {
         return NO_END;
     }
-    let mut told = Effects::new();
     match held.role() {
         Role::Network => return NO_CALL,
         Role::Mobile => {}
@@ -74,11 +76,11 @@ pub extern "C" fn um_end_open_bare(end: &mut PlainEnd, effects: &mut PlainEffect
     ensures called { IsCalledAs OpensBare result end.old end.new effects.old effects.new }
     ensures plain { result ≡ 0 → IsPlain end.new }
 {
+    let mut told = Effects::new();
     let mut held = any_end();
     if !read_end(end, &mut held) {
         return NO_END;
     }
-    let mut told = Effects::new();
     match held.sapi() {
         Sapi::Zero => NO_CALL,
         Sapi::Three => {
@@ -98,11 +100,11 @@ pub extern "C" fn um_end_send(
     ensures called { IsCalledAs (Sends (octets_in message.now)) result end.old end.new effects.old effects.new }
     ensures plain { result ≡ 0 → IsPlain end.new }
 {
+    let mut told = Effects::new();
     let mut held = any_end();
     if !read_end(end, &mut held) {
         return NO_END;
     }
-    let mut told = Effects::new();
     let answer = held.send_into(message.octets(), &mut told);
     carry_out(answer, &told, &held, end, effects)
 }
@@ -116,11 +118,11 @@ pub extern "C" fn um_end_unit(
 ) -> u8
     ensures { IsCalledAs (SendsUnit (octets_in message.now)) result end.now end.now effects.old effects.new }
 {
+    let mut told = Effects::new();
     let mut held = any_end();
     if !read_end(end, &mut held) {
         return NO_END;
     }
-    let mut told = Effects::new();
     let answer = held.unit_into(message.octets(), &mut told);
     tell(answer, &told, effects)
 }
@@ -131,11 +133,11 @@ pub extern "C" fn um_end_close(end: &mut PlainEnd, effects: &mut PlainEffects) -
     ensures called { IsCalledAs Closes result end.old end.new effects.old effects.new }
     ensures plain { result ≡ 0 → IsPlain end.new }
 {
+    let mut told = Effects::new();
     let mut held = any_end();
     if !read_end(end, &mut held) {
         return NO_END;
     }
-    let mut told = Effects::new();
     let answer = held.close_into(&mut told);
     carry_out(answer, &told, &held, end, effects)
 }
@@ -146,11 +148,11 @@ pub extern "C" fn um_end_timer(end: &mut PlainEnd, effects: &mut PlainEffects) -
     ensures called { IsCalledAs Ticks result end.old end.new effects.old effects.new }
     ensures plain { result ≡ 0 → IsPlain end.new }
 {
+    let mut told = Effects::new();
     let mut held = any_end();
     if !read_end(end, &mut held) {
         return NO_END;
     }
-    let mut told = Effects::new();
     let answer = held.timer_into(&mut told);
     carry_out(answer, &told, &held, end, effects)
 }
@@ -160,11 +162,11 @@ pub extern "C" fn um_end_timer(end: &mut PlainEnd, effects: &mut PlainEffects) -
 pub extern "C" fn um_end_idle(end: &PlainEnd, effects: &mut PlainEffects) -> u8
     ensures { IsCalledAs Idles result end.now end.now effects.old effects.new }
 {
+    let mut told = Effects::new();
     let mut held = any_end();
     if !read_end(end, &mut held) {
         return NO_END;
     }
-    let mut told = Effects::new();
     held.idle_into(&mut told);
     tell(Ok(()), &told, effects)
 }
@@ -179,11 +181,11 @@ pub extern "C" fn um_end_take(
     ensures given { IsGivenAs octets.now result end.old end.new effects.old effects.new }
     ensures plain { result ≡ 0 → IsPlain end.new }
 {
+    let mut told = Effects::new();
     let mut held = any_end();
     if !read_end(end, &mut held) {
         return NO_END;
     }
-    let mut told = Effects::new();
     match read_on(octets, held.channel()) {
         Err(_) => return NO_FRAME,
         Ok(frame) => held.take_into(&frame, &mut told),

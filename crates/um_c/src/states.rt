@@ -1,7 +1,7 @@
 //! An end of a link as numbers and arrays in the caller's memory. What an end holds is read from them and written back where it lies,
 //! and of messages only the octets that count.
-ghost use Rattle.std.specs.Prelude.{◌≡◌, ◌↔◌, [], Some, None, map, slice_index_or, IsTrue, MatchOption};
-ghost use Rattle.segmenting.specs.Rooms.{octets_in, plain_message};
+ghost use Rattle.std.specs.Prelude.{◌≡◌, ◌≤◌, ◌↔◌, Some, None, length, map, IsTrue, MatchOption};
+ghost use Rattle.segmenting.specs.Rooms.{octets_in};
 ghost use Rattle.lapdm_window.specs.Ends.{EndState};
 ghost use Rattle.lapdm_window.specs.Parts.{said_by as window_by};
 ghost use Rattle.lapdm_end.specs.Parts.{values_of, said_by};
@@ -177,27 +177,12 @@ pub(crate) fn write_end(end: &End, plain: &mut PlainEnd)
 
 /// Writes these messages, and behind them messages without octets.
 fn write_rooms(messages: &[PlainMessage], rooms: &mut [PlainMessage; 8])
+    requires { length messages.now ≤ 8 }
     ensures { rooms.new ≡ rooms_for 8 (map octets_in messages.now) }
 {
-    write_room(messages, 0, &mut rooms[0]);
-    write_room(messages, 1, &mut rooms[1]);
-    write_room(messages, 2, &mut rooms[2]);
-    write_room(messages, 3, &mut rooms[3]);
-    write_room(messages, 4, &mut rooms[4]);
-    write_room(messages, 5, &mut rooms[5]);
-    write_room(messages, 6, &mut rooms[6]);
-    write_room(messages, 7, &mut rooms[7]);
-}
-
-fn write_room(messages: &[PlainMessage], i: usize, room: &mut PlainMessage)
-    ensures { room.new ≡ plain_message (slice_index_or (map octets_in messages.now) i []) }
-{
-    match messages.get(i) {
-        Some(message) => write_message(message.octets(), room),
-        None => {
-            room.count = 0;
-            room.octets.fill(0);
-        }
+    *rooms = [PlainMessage::empty(); 8];
+    for (i, message) in messages.iter().enumerate() {
+        write_message(message.octets(), &mut rooms[i]);
     }
 }
 
