@@ -12,11 +12,11 @@ use lapdm_window::{Effects, Message, Reason, Refused, Sapi, State, Timer, Window
 /// One end of a link.
 #[derive(Debug, Drop)]
 pub struct End {
-    pub(crate) link: Link,
     pub(crate) window: Window,
-    pub(crate) state: State,
     // The information of the SABM that it sent, or that it was opened by.
     pub(crate) kept: Message,
+    pub(crate) link: Link,
+    pub(crate) state: State,
     // How often the SABM or the DISC that awaits an answer went out again.
     pub(crate) retries: u8,
     ghost one_channel: { window_channel window ≡ link.channel },
@@ -41,14 +41,14 @@ impl End {
         ensures channel { channel_of result ≡ channel }
     {
         End {
+            window: Window::new_on(channel),
+            kept: Message::new(&[]),
             link: Link {
                 role,
                 sapi,
                 channel,
             },
-            window: Window::new_on(channel),
             state: State::Idle,
-            kept: Message::new(&[]),
             retries: 0,
         }
     }

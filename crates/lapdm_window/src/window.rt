@@ -16,18 +16,18 @@ pub use parts::WindowParts;
 /// The messages that are not wholly acknowledged, the piece that waits, and what came in.
 #[derive(Debug, Drop)]
 pub struct Window {
-    channel: Channel,
     held: Held,
+    joiner: Joiner,
     // The next piece, or the one that waits, as a place among the pieces of the first message.
     place: usize,
+    // How many messages are wholly acknowledged.
+    done: u64,
+    channel: Channel,
     vs: u8,
     va: u8,
     vr: u8,
-    // How many messages are wholly acknowledged.
-    done: u64,
     rejecting: bool,
     retries: u8,
-    joiner: Joiner,
     ghost few: { length held.items ≤ 8 },
     ghost messages: { All IsMessage held.items },
     ghost within: { place < count_of (n201 channel) (slice_index_or held.items 0 []) },
@@ -65,16 +65,16 @@ impl Window {
         ensures channel { channel_of result ≡ channel }
     {
         Window {
-            channel,
             held: Held::new(),
+            joiner: Joiner::new(),
             place: 0,
+            done: 0,
+            channel,
             vs: 0,
             va: 0,
             vr: 0,
-            done: 0,
             rejecting: false,
             retries: 0,
-            joiner: Joiner::new(),
         }
     }
 
