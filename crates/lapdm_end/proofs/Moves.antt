@@ -6,6 +6,7 @@ use Rattle.std.proofs.lemmas.Bool.Decides.{nat_tests}
 use Rattle.lapdm_frame.specs.Layout.{n201}
 use Rattle.lapdm_frame.specs.Frames.{octets_of}
 use Rattle.segmenting.specs.Pieces.{Message, pieces}
+use Rattle.lapdm_window.specs.declared.Sapi.{Sapi}
 use Rattle.lapdm_window.specs.declared.Sapi.TheVariants.{Three}
 use Rattle.lapdm_window.specs.declared.State.{State}
 use Rattle.lapdm_window.specs.declared.State.TheVariants.{Idle, Opening, Open, Closing, Closed}
@@ -13,7 +14,7 @@ use Rattle.lapdm_window.specs.declared.window.Window.{Window}
 use Rattle.lapdm_window.specs.declared.effects.Effects.{Effects}
 use Rattle.lapdm_window.specs.declared.Reason.TheVariants as R
 use Rattle.lapdm_window.specs.declared.Timer.TheVariants as T
-use Rattle.lapdm_window.specs.Ends.{EndState, Outcome, KeepsWindow, IsUnopened, IsEnd, all_pieces, waits, n200, stays, sends_frame}
+use Rattle.lapdm_window.specs.Ends.{Role, EndState, Outcome, KeepsWindow, IsUnopened, IsEnd, all_pieces, waits, n200, stays, sends_frame}
 use Rattle.lapdm_window.specs.Rules.{waiting_frame}
 use Rattle.lapdm_window.specs.Calls.{sabm, disc, repeated, ticks}
 use Rattle.lapdm_window.specs.Tables.{becomes_closed}
@@ -29,12 +30,21 @@ use Rattle.lapdm_end.specs.Windows.{Runs, Gives, sends_waiting}
 use Rattle.lapdm_end.specs.Standing.{Stands, InState}
 use Rattle.lapdm_end.specs.Following.{Adds}
 
--- the end in this state, with this information kept and so many retries
-abbrev pub moved : State → Message → ℕ → EndState → EndState
-moved s k r e = record e { state = s; kept = k; retries = r }
+-- the end of this role and SAPI, in this state, with this information kept and so many retries
+abbrev pub other : Role → Sapi → State → Message → ℕ → EndState → EndState
+other role sapi s k r e = record e { role = role; sapi = sapi; state = s; kept = k; retries = r }
 
-pub Tracks-moved : {w : Window} (s : State) (k : Message) (r : ℕ) (e : EndState) → Tracks w e → Tracks w (moved s k r e)
-Tracks-moved s k r e h = record {
+abbrev pub moved : State → Message → ℕ → EndState → EndState
+moved s k r e = other e.role e.sapi s k r e
+
+-- none of these is anything to the window, but how often a piece that waits went out again
+pub Keeps-other : (role : Role) (sapi : Sapi) (s : State) (k : Message) (r : ℕ) (e : EndState) → KeepsWindow e →
+    KeepsWindow (other role sapi s k r e)
+Keeps-other role sapi s k r e h = record { messages = h.messages; sent = h.sent; behind = h.behind; window = h.window }
+
+pub Tracks-other : {w : Window} (role : Role) (sapi : Sapi) (s : State) (k : Message) (r : ℕ) (e : EndState) → Tracks w e →
+    Tracks w (other role sapi s k r e)
+Tracks-other role sapi s k r e h = record {
   channel = h.channel;
   vs = h.vs;
   va = h.va;
@@ -44,19 +54,29 @@ Tracks-moved s k r e h = record {
   joined = h.joined;
 }
 
+pub Holds-other : (w : Window) (role : Role) (sapi : Sapi) (s : State) (k : Message) (r : ℕ) (e : EndState) →
+    Holds w.held.items w.place e → Holds w.held.items w.place (other role sapi s k r e)
+Holds-other w role sapi s k r e h = record { messages = h.messages; next = h.next }
+
+pub Window-other : {w : Window} (role : Role) (sapi : Sapi) (s : State) (k : Message) (r : ℕ) (e : EndState) →
+    (IsTrue (waits e) → e.retries ≡ r) → W.Stands w e → W.Stands w (other role sapi s k r e)
+Window-other {w} role sapi s k r e same h = record {
+  end = Keeps-other role sapi s k r e h.end;
+  tracks = Tracks-other role sapi s k r e h.tracks;
+  holds = Holds-other w role sapi s k r e h.holds;
+  retries = λ t. h.retries t ∙ same t;
+}
+
+pub Tracks-moved : {w : Window} (s : State) (k : Message) (r : ℕ) (e : EndState) → Tracks w e → Tracks w (moved s k r e)
+Tracks-moved s k r e h = Tracks-other e.role e.sapi s k r e h
+
 pub Window-moved : {w : Window} (s : State) (k : Message) (r : ℕ) (e : EndState) → (IsTrue (waits e) → e.retries ≡ r) → W.Stands w e →
     W.Stands w (moved s k r e)
-Window-moved s k r e same h =
-    record {
-      end = record { messages = h.end.messages; sent = h.end.sent; behind = h.end.behind; window = h.end.window };
-      tracks = Tracks-moved s k r e h.tracks;
-      holds = record { messages = h.holds.messages; next = h.holds.next };
-      retries = λ t. h.retries t ∙ same t;
-    }
+Window-moved s k r e same h = Window-other e.role e.sapi s k r e same h
 
 pub Holds-moved : (w : Window) (s : State) (k : Message) (r : ℕ) (e : EndState) → Holds w.held.items w.place e →
     Holds w.held.items w.place (moved s k r e)
-Holds-moved w s k r e h = record { messages = h.messages; next = h.next }
+Holds-moved w s k r e h = Holds-other w e.role e.sapi s k r e h
 
 -- nothing waits where nothing was taken
 unopened-waits : (e : EndState) → e.taken ≡ [] → KeepsWindow e → waits e ≡ false

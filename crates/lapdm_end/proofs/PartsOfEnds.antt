@@ -1,5 +1,6 @@
 -- Ends of the same values stand for the same states, and what the values of every end have.
-use Rattle.std.proofs.Common.{◌≡◌, refl, sym, ◌∙◌, ap, subst, arith, ℕ, zero, suc, ◌%◌, [], length, drop}
+use Rattle.std.proofs.Common.{◌≡◌, refl, sym, ◌∙◌, ap, subst, arith, ℕ, ◌%◌, [], length, drop}
+use Rattle.std.proofs.Math.Seq.{drop-nil}
 use Rattle.std.specs.List.{flat_map}
 use Rattle.lapdm_frame.specs.Layout.{n201}
 use Rattle.segmenting.specs.Pieces.{Message, pieces}
@@ -15,7 +16,7 @@ use Rattle.lapdm_end.specs.declared.ends.End.{End}
 use Rattle.lapdm_end.specs.Links.{role_of}
 use Rattle.lapdm_end.specs.Standing.{InState, Stands}
 use Rattle.lapdm_end.specs.Parts.{EndValues, values_of, IsUnused, IsInState, AreInStep}
-use Rattle.lapdm_end.proofs.Moves.{bare_of, in_state, unopened}
+use Rattle.lapdm_end.proofs.Moves.{moved, Keeps-other, Tracks-moved, Holds-moved, bare_of, in_state, unopened}
 
 InState-values : (s : State) (w v : Window) (r q : ℕ) (e : EndState) → W.values_of w ≡ W.values_of v → r ≡ q →
     InState s w r e → InState s v q e
@@ -45,10 +46,6 @@ Stands-same_values m n e same h =
     }
 
 -- what the values of an end have
-drop-nil : (i : ℕ) → drop {A = Message} i [] ≡ []
-drop-nil zero = refl
-drop-nil (suc i) = refl
-
 unused : (w : Window) (e : EndState) → e.taken ≡ [] → e.accepted ≡ [] → WS.Stands w e → IsUnused (W.values_of w)
 unused w e taken accepted h =
     let none : length (all_pieces e) ≡ 0 = ap (λ ms. length (flat_map (pieces (n201 e.channel)) ms)) taken in
@@ -56,7 +53,7 @@ unused w e taken accepted h =
     let acked : e.acked ≡ 0 = omega (arith, h.end.behind) in
     let whole : wholly_acked e ≡ 0 = omega (arith, wholly_acked-most e, ap length taken) in
     record {
-      held = h.holds.messages ∙ ap (drop (wholly_acked e)) taken ∙ drop-nil (wholly_acked e);
+      held = h.holds.messages ∙ ap (drop (wholly_acked e)) taken ∙ drop-nil {A = Message} (wholly_acked e);
       vs = h.tracks.vs ∙ ap (λ i. i % 8) sent;
       va = h.tracks.va ∙ ap (λ i. i % 8) acked;
       vr = h.tracks.vr ∙ ap (λ ps. length ps % 8) accepted;
@@ -80,22 +77,14 @@ in_step m e h = record {
 
 -- and its window stands for an end
 abbrev with_retries : ℕ → EndState → EndState
-with_retries r e = record e { retries = r }
+with_retries r e = moved e.state e.kept r e
 
 held_by_then : (w : Window) (e : EndState) → IsEnd e → WS.Tracks w e → WS.Holds w.held.items w.place e →
     WS.Stands w (with_retries w.retries e)
 held_by_then w e end tracks holds = record {
-  end = record { messages = end.window.messages; sent = end.window.sent; behind = end.window.behind; window = end.window.window };
-  tracks = record {
-    channel = tracks.channel;
-    vs = tracks.vs;
-    va = tracks.va;
-    vr = tracks.vr;
-    done = tracks.done;
-    rejecting = tracks.rejecting;
-    joined = tracks.joined;
-  };
-  holds = record { messages = holds.messages; next = holds.next };
+  end = Keeps-other e.role e.sapi e.state e.kept w.retries e end.window;
+  tracks = Tracks-moved e.state e.kept w.retries e tracks;
+  holds = Holds-moved w e.state e.kept w.retries e holds;
   retries = λ t. refl;
 }
 

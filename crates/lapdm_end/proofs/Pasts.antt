@@ -1,6 +1,7 @@
 -- Whatever an end has whose window stands for an end, it stands for some state.
-use Rattle.std.proofs.Common.{◌≡◌, refl, sym, ◌∙◌, ap, arith, ℕ, zero, suc, [], drop}
+use Rattle.std.proofs.Common.{◌≡◌, refl, sym, ◌∙◌, ap, arith, ℕ, [], drop}
 use Rattle.std.specs.List.{flat_map}
+use Rattle.std.proofs.Math.Seq.{drop-nil}
 use Rattle.std.proofs.lemmas.Bool.{false≢true}
 use Rattle.std.proofs.lemmas.List.Elements.{All-nil}
 use Rattle.lapdm_frame.specs.Layout.{n201}
@@ -14,7 +15,7 @@ use Rattle.lapdm_end.specs.declared.ends.End.{End}
 use Rattle.lapdm_end.specs.Links.{role_of}
 use Rattle.lapdm_end.specs.Standing.{InState, Stands}
 use Rattle.lapdm_end.specs.Parts.{values_of, IsUnused, IsInState, AreInStep}
-use Rattle.lapdm_end.proofs.Moves.{in_state}
+use Rattle.lapdm_end.proofs.Moves.{other, Keeps-other, Tracks-other, Holds-other, Window-other, in_state}
 
 -- it has a state for which it stands
 abbrev pub StandsForOne : End → Type 0
@@ -51,14 +52,10 @@ unused_end m s h =
       };
       holds = record {
         messages = h.held;
-        next = ap (λ ms. drop m.window.place (flat_map (pieces (n201 m.link.channel)) ms)) h.held ∙ drop-nil m.window.place;
+        next = ap (λ ms. drop m.window.place (flat_map (pieces (n201 m.link.channel)) ms)) h.held ∙ drop-nil {A = Piece} m.window.place;
       };
       retries = λ t. absurd (false≢true t);
     }
-  where
-    drop-nil : (i : ℕ) → drop {A = Piece} i [] ≡ []
-    drop-nil zero = refl
-    drop-nil (suc i) = refl
 
 before_open : (m : End) (s : State) → m.state ≡ s → AreInStep (values_of m) → IsUnused (W.values_of m.window) →
     InState s m.window m.retries (before m s) → StandsForOne m
@@ -77,7 +74,7 @@ before_open m s is h unused now =
 
 -- from Open on
 abbrev since : End → State → ℕ → EndState → EndState
-since m s retries e = record e { role = role_of m.link.role; sapi = m.link.sapi; state = s; kept = m.kept; retries = retries }
+since m s retries e = other (role_of m.link.role) m.link.sapi s m.kept retries e
 
 from_open : (m : End) (s : State) (retries : ℕ) (e : EndState) → m.state ≡ s → (IsUnopened s → ⊥) → AreInStep (values_of m) →
     WS.Stands m.window e → InState s m.window m.retries (since m s retries e) → StandsForOne m
@@ -86,12 +83,7 @@ from_open m s retries e is opened h window now =
       since m s retries e,
       record {
         end = record {
-          window = record {
-            messages = window.end.messages;
-            sent = window.end.sent;
-            behind = window.end.behind;
-            window = window.end.window;
-          };
+          window = Keeps-other (role_of m.link.role) m.link.sapi s m.kept retries e window.end;
           kept = omega (arith, m.kept_fits, ap n201 channel);
           bare = h.bare;
           taken = λ u. absurd (opened u);
@@ -100,38 +92,17 @@ from_open m s retries e is opened h window now =
         link = record { role = refl; sapi = refl; channel = channel };
         state = is;
         kept = refl;
-        tracks = record {
-          channel = window.tracks.channel;
-          vs = window.tracks.vs;
-          va = window.tracks.va;
-          vr = window.tracks.vr;
-          done = window.tracks.done;
-          rejecting = window.tracks.rejecting;
-          joined = window.tracks.joined;
-        };
+        tracks = Tracks-other (role_of m.link.role) m.link.sapi s m.kept retries e window.tracks;
         now = in_state m.window m.retries (since m s retries e) s m.state (sym is) now;
       },
     )
 
 holds_since : (m : End) (s : State) (retries : ℕ) (e : EndState) → WS.Stands m.window e →
     WS.Holds m.window.held.items m.window.place (since m s retries e)
-holds_since m s retries e window = record { messages = window.holds.messages; next = window.holds.next }
+holds_since m s retries e window = Holds-other m.window (role_of m.link.role) m.link.sapi s m.kept retries e window.holds
 
 stands_since : (m : End) (e : EndState) → WS.Stands m.window e → WS.Stands m.window (since m Open e.retries e)
-stands_since m e window = record {
-  end = record { messages = window.end.messages; sent = window.end.sent; behind = window.end.behind; window = window.end.window };
-  tracks = record {
-    channel = window.tracks.channel;
-    vs = window.tracks.vs;
-    va = window.tracks.va;
-    vr = window.tracks.vr;
-    done = window.tracks.done;
-    rejecting = window.tracks.rejecting;
-    joined = window.tracks.joined;
-  };
-  holds = holds_since m Open e.retries e window;
-  retries = window.retries;
-}
+stands_since m e window = Window-other (role_of m.link.role) m.link.sapi Open m.kept e.retries e (λ t. refl) window
 
 by_state : (m : End) (s : State) (e : EndState) → m.state ≡ s → AreInStep (values_of m) → WS.Stands m.window e →
     IsInState s (W.values_of m.window) → StandsForOne m

@@ -110,8 +110,9 @@ impl Notices {
     pub fn new() -> Notices
         ensures { result ≡ [] }
     {
+        // A notice with a field is filled where it lies; one without is made elsewhere and copied.
         Notices {
-            items: [Notice::Oversize, Notice::Oversize, Notice::Oversize],
+            items: [Notice::Acked(0), Notice::Acked(0), Notice::Acked(0)],
             len: 0,
         }
     }

@@ -84,7 +84,7 @@ pub enum Notice {
     Closed(Reason),
 }
 
-// What an unused place of a list of notices holds.
+// For lists of other crates whose unused places hold a notice.
 impl Default for Notice {
     fn default() -> Notice
         ensures { result ≡ Notice.Oversize }

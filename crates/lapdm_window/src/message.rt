@@ -24,7 +24,7 @@ impl Model for Message {
     ghost invariant = { λ m. m.len ≤ longest };
 }
 
-// What an unused place of a list of messages holds.
+// For lists of other crates whose unused places hold a message.
 impl Default for Message {
     ghost use Rattle.std.specs.Prelude.{[]};
 

@@ -30,13 +30,14 @@ impl PlainMessage {
         &self.octets[..usize::from(self.count)]
     }
 
-    /// Writes a message, and zeros behind it.
+    /// Writes a message, and zeros behind it: each octet of the room once.
     pub fn write(&mut self, octets: &[u8])
         requires { length octets.now ≤ 255 }
         ensures { self.new ≡ plain_message octets.now }
     {
-        self.octets = [0; 255];
-        self.octets[..octets.len()].copy_from_slice(octets);
-        self.count = octets.len() as u8;
+        let count = octets.len();
+        self.octets[..count].copy_from_slice(octets);
+        self.octets[count..].fill(0);
+        self.count = count as u8;
     }
 }

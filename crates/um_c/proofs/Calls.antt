@@ -45,7 +45,7 @@ pub is_done : (effects : Effects) (n : End) (answer : ℕ) (after : PlainEnd) (t
     IsDone effects n answer after told
 is_done effects n answer after told is = (is.0, ap said_end is.1 ∙ end-plain (values_of n) n.window.few, is.2)
 
-pub written : {A : Type 0} (r : Result A Refused) (effects : Effects) (n : End) (answer : ℕ) (after : PlainEnd) (told : PlainEffects) →
+written : {A : Type 0} (r : Result A Refused) (effects : Effects) (n : End) (answer : ℕ) (after : PlainEnd) (told : PlainEffects) →
     OnOk r (IsWritten effects n answer after told) → OnOk r (IsDone effects n answer after told)
 written (Ok x) effects n answer after told is = is_done effects n answer after told is
 written (Err reason) effects n answer after told is = is
@@ -71,11 +71,11 @@ some_is h = cc
 none_is : {A : Type 0} {x : Refused} → None ≡ Some x → A
 none_is h = absurd (let h2 : None ≡ Some _ = h in cc)
 
-pub called_by : {A : Type 0} (call : Call) (before after : PlainEnd) (untold told : PlainEffects) (m n : End) (effects : Effects) (answer : ℕ)
+answered_by : {A : Type 0} (call : Call) (before after : PlainEnd) (untold told : PlainEffects) (m n : End) (effects : Effects) (answer : ℕ)
     (r : Result A Refused) → IsRead before m → ((e : EndState) → StandsFor before e → MayAsk e call) → IsRefusedAs call m r →
     OnOk r (Follows (after_call call) m effects n) → OnOk r (IsDone effects n answer after told) →
     IfErr r (λ reason. IsRefusal reason answer before after untold told) → IsCalledAs call answer before after untold told
-called_by call before after untold told m n effects answer (Ok x) read may refusal follows is refused =
+answered_by call before after untold told m n effects answer (Ok x) read may refusal follows is refused =
     record {
       done = λ e h asked none. let s = follows e (read.stands e h) in carried_out (after_call call e) e n effects answer after told s.0 s.1 is;
       refused = λ e h asked reason refuses. none_is (refusal e (read.stands e h) ∙ refuses);
@@ -83,7 +83,7 @@ called_by call before after untold told m n effects answer (Ok x) read may refus
       no_end = λ none. absurd (none read.one.0 read.one.1);
       unchanged = λ other. absurd (other is.0);
     }
-called_by call before after untold told m n effects answer (Err reason) read may refusal follows done is =
+answered_by call before after untold told m n effects answer (Err reason) read may refusal follows done is =
     record {
       done = λ e h asked none. none_is (sym none ∙ sym (refusal e (read.stands e h)));
       refused = λ e h asked other refuses. is.0 ∙ ap refused_number (some_is (refusal e (read.stands e h) ∙ refuses));
@@ -91,6 +91,13 @@ called_by call before after untold told m n effects answer (Err reason) read may
       no_end = λ none. absurd (none read.one.0 read.one.1);
       unchanged = λ other. (is.1, is.2);
     }
+
+pub called_by : {A : Type 0} (call : Call) (before after : PlainEnd) (untold told : PlainEffects) (m n : End) (effects : Effects) (answer : ℕ)
+    (r : Result A Refused) → IsRead before m → ((e : EndState) → StandsFor before e → MayAsk e call) → IsRefusedAs call m r →
+    OnOk r (Follows (after_call call) m effects n) → OnOk r (IsWritten effects n answer after told) →
+    IfErr r (λ reason. IsRefusal reason answer before after untold told) → IsCalledAs call answer before after untold told
+called_by call before after untold told m n effects answer r read may refusal follows is refused =
+    answered_by call before after untold told m n effects answer r read may refusal follows (written r effects n answer after told is) refused
 
 -- a call that may not be asked
 pub not_asked : (call : Call) (s : PlainEnd) (told : PlainEffects) (m : End) → IsRead s m →
@@ -121,7 +128,7 @@ pub told_by : {A : Type 0} (call : Call) (s : PlainEnd) (untold told : PlainEffe
     OnOk r ((answer ≡ 0) × (told ≡ plain_effects effects.frames effects.notices)) →
     IfErr r (λ reason. (answer ≡ refused_number reason) × (told ≡ untold)) → IsCalledAs call answer s s untold told
 told_by call s untold told m n effects answer r read said may refusal follows done refused =
-    called_by call s s untold told m n effects answer r read may refusal follows (told_done r n effects answer s told said done)
+    answered_by call s s untold told m n effects answer r read may refusal follows (told_done r n effects answer s told said done)
     (told_refusal r answer s untold told refused)
 
 -- a block that is a frame

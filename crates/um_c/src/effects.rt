@@ -3,7 +3,6 @@ ghost use Rattle.std.specs.Prelude.{◌≡◌, ◌≤◌, ◌-◌, ◌++◌, map
 ghost use Rattle.segmenting.specs.Pieces.{longest};
 ghost use Rattle.um_c.specs.Effects.{notice_of, plain_notice, plain_effects, nothing, reason_number};
 
-use crate::rooms::write_message;
 use lapdm_window::{Effects, Notice, Reason};
 use segmenting::PlainMessage;
 
@@ -98,7 +97,7 @@ impl PlainNotice {
         self.number = number;
         self.kind = kind;
         self.reason = reason;
-        write_message(octets, &mut self.message);
+        self.message.write(octets);
     }
 }
 

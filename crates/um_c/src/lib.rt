@@ -12,6 +12,5 @@ mod frames;
 mod layout;
 mod margins;
 mod repairs;
-mod rooms;
 mod soft;
 mod states;

@@ -10,7 +10,6 @@ ghost use Rattle.um_c.specs.Plain.{channel_of};
 ghost use Rattle.um_c.specs.States.{role_of, sapi_of, state_of, part_of, said_window, said_end, StandsFor, IsOfAnEnd, role_number, sapi_number, channel_number, state_number, part_number, rooms_for, plain_end};
 
 use crate::frames::channel_of;
-use crate::rooms::write_message;
 use lapdm_end::{End, EndParts, Role};
 use lapdm_frame::Channel;
 use lapdm_window::{Sapi, State, WindowParts};
@@ -170,8 +169,8 @@ pub(crate) fn write_end(end: &End, plain: &mut PlainEnd)
     plain.place = window.place as u8;
     plain.held_count = window.held.len() as u8;
     plain.part = part_number(window.part);
-    write_message(parts.kept, &mut plain.kept);
-    write_message(window.joined, &mut plain.joined);
+    plain.kept.write(parts.kept);
+    plain.joined.write(window.joined);
     write_rooms(window.held, &mut plain.held);
 }
 
@@ -182,7 +181,7 @@ fn write_rooms(messages: &[PlainMessage], rooms: &mut [PlainMessage; 8])
 {
     *rooms = [PlainMessage::empty(); 8];
     for (i, message) in messages.iter().enumerate() {
-        write_message(message.octets(), &mut rooms[i]);
+        rooms[i].write(message.octets());
     }
 }
 

@@ -8,5 +8,6 @@ pub returns : goal.returns
 returns c =
     let r : Result (Unit {0}) Refused = Ok tt in
     told_by Idles c.args.end.now c.args.effects.now c.tell.new.effects c.read_end.new.end c.read_end.new.end c.idle_into.new.effects
-    c.tell.result r (record { stands = c.read_end.ensures.stands c.if-not-read_end.false; one = c.read_end.ensures.known.0 c.if-not-read_end.false }) (c.read_end.ensures.said c.if-not-read_end.false) (λ e h. tt) (λ e h. refl) c.idle_into.ensures
-    c.tell.ensures.done tt
+    c.tell.result r
+    (record { stands = c.read_end.ensures.stands c.if-not-read_end.false; one = c.read_end.ensures.known.0 c.if-not-read_end.false })
+    (c.read_end.ensures.said c.if-not-read_end.false) (λ e h. tt) (λ e h. refl) c.idle_into.ensures c.tell.ensures.done tt

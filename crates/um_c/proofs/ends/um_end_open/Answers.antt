@@ -4,7 +4,7 @@ use Rattle.lapdm_window.specs.Ends.{Mobile, Network}
 use Rattle.lapdm_end.specs.Parts.{values_of}
 use Rattle.lapdm_window.specs.Calls.{Opens}
 use Rattle.um_c.specs.EndCalls.{IsCalledAs}
-use Rattle.um_c.proofs.Calls.{written, called_by, not_asked}
+use Rattle.um_c.proofs.Calls.{called_by, not_asked}
 use Rattle.um_c.proofs.ends.um_end_open.Goals as goal
 
 pub returns-in-Zero-clause-called : goal.returns-in-Zero-clause-called
@@ -16,11 +16,11 @@ returns-in-Zero-clause-called c =
     let answer = c.carry_out.result in
     subst (λ (m : List ℕ). IsCalledAs (Opens m) answer before after untold told) c.octets.ensures.value
     (called_by (Opens c.octets.result.now) before after untold told c.read_end.new.end c.open_into-answer.new.self
-    c.open_into-answer.new.effects answer c.open_into-answer.result (record { stands = c.read_end.ensures.stands c.if-not-read_end.false; one = c.read_end.ensures.known.0 c.if-not-read_end.false })
+    c.open_into-answer.new.effects answer c.open_into-answer.result
+    (record { stands = c.read_end.ensures.stands c.if-not-read_end.false; one = c.read_end.ensures.known.0 c.if-not-read_end.false })
     (λ e h. let stands = c.read_end.ensures.stands c.if-not-read_end.false e h in
     (sym (c.in-Zero.ensures.stands e stands), sym (c.in-Mobile.ensures e stands))) c.open_into-answer.ensures.refusal
-    c.open_into-answer.ensures.follows (written c.open_into-answer.result c.open_into-answer.new.effects c.open_into-answer.new.self c.carry_out.result c.carry_out.new.end
-    c.carry_out.new.effects c.carry_out.ensures.done) c.carry_out.ensures.refused)
+    c.open_into-answer.ensures.follows c.carry_out.ensures.done c.carry_out.ensures.refused)
 
 pub returns-in-Zero-clause-plain : goal.returns-in-Zero-clause-plain
 returns-in-Zero-clause-plain c = λ zero. (values_of c.open_into-answer.new.self, c.carry_out.ensures.plain zero)

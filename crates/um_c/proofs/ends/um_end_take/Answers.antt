@@ -7,8 +7,8 @@ pub returns-clause-given : goal.returns-clause-given
 returns-clause-given c =
     given_by c.args.octets.now c.channel.result (frame_of c.in-Ok.frame) c.args.end.now c.carry_out.new.end c.args.effects.now
     c.carry_out.new.effects c.read_end.new.end c.take_into.new.self c.carry_out.result c.take_into.new.effects
-    (record { stands = c.read_end.ensures.stands c.if-not-read_end.false; one = c.read_end.ensures.known.0 c.if-not-read_end.false }) c.channel.ensures.stands c.in-Ok.ensures.frame
-    c.take_into.ensures.follows
+    (record { stands = c.read_end.ensures.stands c.if-not-read_end.false; one = c.read_end.ensures.known.0 c.if-not-read_end.false })
+    c.channel.ensures.stands c.in-Ok.ensures.frame c.take_into.ensures.follows
     (is_done c.take_into.new.effects c.take_into.new.self c.carry_out.result c.carry_out.new.end c.carry_out.new.effects c.carry_out.ensures.done)
 
 pub returns-clause-plain : goal.returns-clause-plain
