@@ -25,7 +25,7 @@ use Rattle.segmenting.specs.Joining.{endings, messages, ended, open_after}
 use Rattle.segmenting.proofs.Lemmas.{endings-all, endings-append, ended-take, ended-endings, messages_of}
 use Rattle.lapdm_frame.specs.Layout.{n201}
 use Rattle.lapdm_window.specs.declared.Notice.{Notice}
-use Rattle.lapdm_link.proofs.Telling.{ending_in}
+use Rattle.lapdm_link.proofs.Told.{ending_in}
 use Rattle.lapdm_link.proofs.ByKind.{KnowsBy, by_kind}
 use Rattle.lapdm_link.proofs.Order.{AllStand, stand-asked, AllReported}
 use Rattle.lapdm_window.specs.declared.Notice.TheVariants as N

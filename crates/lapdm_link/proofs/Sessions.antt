@@ -10,9 +10,8 @@ use Rattle.lapdm_link.specs.Worlds.{World, start_on, refusal, answer, after, ans
 use Rattle.lapdm_link.specs.Ways.{IsAsSent}
 use Rattle.lapdm_link.proofs.Views.{end_of, way, without_first, other_twice}
 use Rattle.lapdm_link.proofs.Asked.{is_called}
-use Rattle.lapdm_link.specs.Claims.{Line, Told, answer_lines, lines, calls, notices, units_got, Claims, acked, got}
-use Rattle.lapdm_link.proofs.Told.{MaySay}
-use Rattle.lapdm_link.proofs.Order.{AllStand, stand-append, stands, AllReported, MayStand, Follows, in_order-step, start-reported, opened-most}
+use Rattle.lapdm_link.specs.Claims.{Line, Told, answer_lines, lines, units_got, Claims, acked, got}
+use Rattle.lapdm_link.proofs.Order.{AllStand, stand-append, stands, AllReported, in_order-step, start-reported, acknowledged}
 use Rattle.lapdm_link.proofs.ByKind.{by_kind}
 use Rattle.lapdm_link.proofs.Delivery.{AllCarried, start-carried, got_in_order, none_oversize, IsAfterGot, delivers-step, as_sent, acked_most}
 use Rattle.lapdm_link.proofs.Units.{sub-front, AllUnits, units-call, units-frame, units-lost, units-rival, start-units}
@@ -25,7 +24,6 @@ pub record IsSession (w : World) (ls : List Line) : Type 0 where
   pub carried : AllCarried w
   pub units : AllUnits w ls
   pub openings : AllOpenings w ls
-  pub in_order : AllStand MayStand [] ls
   pub after_got : AllStand IsAfterGot [] ls
   pub after_cause : AllStand IsOpenedAfter [] ls
 
@@ -63,15 +61,14 @@ pub session-step : (w : World) (ls : List Line) (event : Event) → IsHarmlessBy
     IsSession (after event w) (ls ++ answer_lines event (answer event w))
 session-step w ls event harmless h =
     let new : List Line = answer_lines event (answer event w) in
-    let told : Follows ls (after event w) new = in_order-step w ls event h.reported in
-    let carried = delivers-step w ls event harmless h.reported h.carried told.0 in
+    let told : AllReported (after event w) (ls ++ new) = in_order-step w ls event h.reported in
+    let carried = delivers-step w ls event harmless h.reported h.carried told in
     let n : IsNext ls (after event w) new = next w ls event harmless h in
     record {
-      reported = told.0;
+      reported = told;
       carried = carried.0;
       units = n.units;
       openings = n.openings;
-      in_order = stand-append MayStand [] ls new h.in_order told.1;
       after_got = stand-append IsAfterGot [] ls new h.after_got carried.1;
       after_cause = stand-append IsOpenedAfter [] ls new h.after_cause n.after_cause;
     }
@@ -90,7 +87,6 @@ start-session channel = record {
   carried = start-carried channel;
   units = start-units channel;
   openings = start-openings channel;
-  in_order = tt;
   after_got = tt;
   after_cause = tt;
 }
@@ -100,12 +96,10 @@ pub session-claims : (w : World) (ls : List Line) → IsSession w ls → Claims 
 session-claims w ls h = record {
   in_order = λ r s. got_in_order w ls h.reported h.carried r s;
   acknowledged = λ r s n before place.
-      (let m : MaySay (calls r s before) (notices r s before) (N.Acked n) = stands MayStand ls before
-      (Told r s (N.Acked n)) h.in_order place in
-      (m.0, stands IsAfterGot ls before (Told r s (N.Acked n)) h.after_got place));
+      ((acknowledged (h.reported r s) before n place).0, stands IsAfterGot ls before (Told r s (N.Acked n)) h.after_got place);
   units = λ r s. sub-front (units_got (other r) s ls) (units_on s (way r w)) _ (h.units r s);
   cause = λ r s info before place. stands IsOpenedAfter ls before (Told r s (N.Opened info)) h.after_cause place;
-  once = λ r s. opened-most _ _ _ _ (h.reported r s).told.phase;
+  once = λ r s. (h.reported r s).told.opened;
   no_oversize = λ r s before place. none_oversize w ls h.reported h.carried (other r) s before
       (subst (λ (q : Role). (more : List Line) × (before ++ Told q s N.Oversize ∷ more ≡ ls)) (sym (other_twice r)) place);
 }

@@ -1,173 +1,167 @@
--- How the calls and notices of an end tell what it took, handed up and counted, with whatever frames arrive.
-use Rattle.std.proofs.Common.{◌≡◌, sym, ◌∙◌, ap, subst, arith, ℕ, ◌+◌, ◌≤◌, List, [], ◌∷◌, ◌++◌, length, Option, Some, None, append_assoc}
-use Rattle.std.specs.List.{filter_map}
-use Rattle.std.proofs.lemmas.List.{append-nil, length-append}
-use Rattle.std.proofs.lemmas.List.Elements.{filter_map-append}
+-- What is known of an end by its calls and notices, one after another, with whatever frames arrive.
+use Rattle.std.specs.Prelude.{Contains}
+use Rattle.std.proofs.Common.{◌≡◌, refl, sym, ◌∙◌, subst, arith, ℕ, zero, suc, ◌+◌, ◌-◌, ◌≤◌, min, false, List, [], ◌∷◌, ◌++◌, map, length, Option, Some, None, append_assoc}
+use Rattle.std.specs.List.{filter_map, cons_option}
+use Rattle.std.proofs.lemmas.List.{append-nil}
+use Rattle.segmenting.specs.Pieces.{Message}
 use Rattle.segmenting.specs.Joining.{endings}
+use Rattle.lapdm_window.specs.declared.Sapi.{Sapi}
 use Rattle.lapdm_window.specs.declared.State.{State}
 use Rattle.lapdm_window.specs.declared.State.TheVariants as S
 use Rattle.lapdm_window.specs.declared.Notice.{Notice}
 use Rattle.lapdm_window.specs.declared.Notice.TheVariants as N
-use Rattle.lapdm_window.specs.Ends.{EndState, Outcome, KeepsWindow, IsUnopened, wholly_acked, capped}
-use Rattle.lapdm_window.specs.Steps.{IsSameLink}
-use Rattle.lapdm_window.specs.Calls.{Call, Closes}
-use Rattle.lapdm_window.proofs.Lemmas.{wholly_acked-most}
-use Rattle.lapdm_link.specs.Claims.{sent_in, acked_in, opened_in, closed_in}
-use Rattle.lapdm_link.proofs.Telling.{ending_in, Numbers, IsLive, MayTell, Walks, Tells}
+use Rattle.lapdm_window.specs.Ends.{Role, EndState, wholly_acked, capped}
+use Rattle.lapdm_window.specs.Calls.{Call, Sends, Closes}
+use Rattle.lapdm_link.specs.Claims.{Line, Told, StandsAfter, sent_in, acked_in, opened_in, closed_in, call_in, notice_in, calls, notices, sent, acked, opened, closed}
+use Rattle.lapdm_link.proofs.Views.{is_end, is_end-self, said}
 
-abbrev pub closes_in : Call → Option Call
-closes_in Closes = Some Closes
-closes_in other = None
+-- not open yet, open, closing, over
+abbrev pub stage_of : State → ℕ
+stage_of S.Open = 1
+stage_of S.Closing = 2
+stage_of S.Closed = 3
+stage_of other = 0
 
--- opened so often, closed so often, and so often asked to close
-abbrev pub Phase : State → ℕ → ℕ → ℕ → Type 0
-Phase S.Idle o c k = (o ≡ 0) × (c ≡ 0) × (k ≡ 0)
-Phase S.Opening o c k = (o ≡ 0) × (c ≡ 0) × (k ≡ 0)
-Phase S.Open o c k = (o ≡ 1) × (c ≡ 0) × (k ≡ 0)
-Phase S.Closing o c k = (o ≡ 1) × (c ≡ 0)
-Phase S.Closed o c k = (o ≤ 1) × (c ≡ 1)
+-- the stage of its link, the messages that it took, what its accepted pieces ended, and how many messages are acknowledged
+pub record Known : Type 0 where
+  pub stage : ℕ
+  pub taken : List Message
+  pub ended : List (Option Message)
+  pub acked : ℕ
 
-abbrev pub PhaseIn : State → List Call → List Notice → Type 0
-PhaseIn s cs ns = Phase s (length (filter_map opened_in ns)) (length (filter_map closed_in ns)) (length (filter_map closes_in cs))
+abbrev pub known : EndState → Known
+known x = record { stage = stage_of x.state; taken = x.taken; ended = endings [] x.accepted; acked = wholly_acked x }
 
--- the calls and notices of an end so far
-pub record HasTold (x : EndState) (cs : List Call) (ns : List Notice) : Type 0 where
-  pub taken : filter_map sent_in cs ≡ x.taken
-  pub got : filter_map ending_in ns ≡ endings [] x.accepted
-  pub acked : length (filter_map acked_in ns) ≡ wholly_acked x
-  pub phase : PhaseIn x.state cs ns
+abbrev pub nothing : Known
+nothing = record { stage = 0; taken = []; ended = []; acked = 0 }
 
-phase-same : (s : State) (o c k o' c' : ℕ) → o' ≡ o → c' ≡ c → Phase s o c k → Phase s o' c' k
-phase-same s o c k o' c' e f h = subst (λ (i : ℕ). Phase s i c' k) (sym e) (subst (λ (i : ℕ). Phase s o i k) (sym f) h)
+-- a call may be made, and what is known then
+abbrev pub MayAsk : Option Call → Known → Type 0
+MayAsk (Some Closes) m = m.stage ≡ 1
+MayAsk call m = Unit {0}
 
-phase-opens : (s : State) (u : State) (o c k : ℕ) → IsUnopened s × (u ≡ S.Open) → Phase s o c k → Phase u (o + 1) (c + 0) k
-phase-opens S.Idle u o c k may h = subst (λ (v : State). Phase v (o + 1) (c + 0) k) (sym may.1) (
-  omega (arith, h.0),
-  omega
-      (arith, h.1),
-  h.2,
-)
-phase-opens S.Opening u o c k may h =
-    subst (λ (v : State). Phase v (o + 1) (c + 0) k) (sym may.1) (omega (arith, h.0), omega (arith, h.1), h.2)
-phase-opens s u o c k may h = absurd may.0
+abbrev pub asked : Option Call → Known → Known
+asked (Some (Sends t)) m = record m { taken = m.taken ++ t ∷ [] }
+asked (Some Closes) m = record m { stage = 2 }
+asked call m = m
 
-phase-closes : (s : State) (u : State) (o c k : ℕ) → IsLive s × (u ≡ S.Closed) → Phase s o c k → Phase u (o + 0) (c + 1) k
-phase-closes S.Closed u o c k may h = absurd may.0
-phase-closes s u o c k may h =
-    subst (λ (v : State). Phase v (o + 0) (c + 1) k) (sym may.1) (omega (arith, h.0), omega (arith, h.1))
+-- a notice may come, and what is known then
+abbrev pub MayTell : Option Notice → Known → Type 0
+MayTell None m = Unit {0}
+MayTell (Some (N.Unit t)) m = Unit {0}
+MayTell (Some (N.Opened info)) m = m.stage ≡ 0
+MayTell (Some (N.Closed reason)) m = m.stage ≤ 2
+MayTell (Some (N.Acked n)) m = (m.stage ≡ 1) × (n ≡ capped (m.acked + 1)) × (m.acked + 1 ≤ length m.taken)
+MayTell (Some other) m = m.stage ≡ 1
 
-phase-may : (s : State) (n : Notice) (u : State) (o c k : ℕ) → MayTell s n u → Phase s o c k →
-    Phase u (o + length (filter_map opened_in (n ∷ []))) (c + length (filter_map closed_in (n ∷ []))) k
-phase-may s (N.Opened info) u o c k may h = phase-opens s u o c k may h
-phase-may s (N.Closed reason) u o c k may h = phase-closes s u o c k may h
-phase-may s (N.Unit m) u o c k may h =
-    phase-same u o c k (o + 0) (c + 0) (omega arith) (omega arith) (subst (λ (v : State). Phase v o c k) (sym may) h)
-phase-may s other u o c k may h =
-    phase-same u o c k (o + 0) (c + 0) (omega arith) (omega arith) (subst (λ (v : State). Phase v o c k) (may.0 ∙ sym may.1) h)
+abbrev pub told : Option Notice → Known → Known
+told (Some (N.Opened info)) m = record m { stage = 1 }
+told (Some (N.Closed reason)) m = record m { stage = 3 }
+told (Some (N.Acked n)) m = record m { acked = m.acked + 1 }
+told (Some (N.Got t)) m = record m { ended = m.ended ++ Some t ∷ [] }
+told (Some N.Oversize) m = record m { ended = m.ended ++ None ∷ [] }
+told other m = m
 
-phase-one : (s : State) (n : Notice) (u : State) (cs : List Call) (ns : List Notice) → MayTell s n u → PhaseIn s cs ns →
-    PhaseIn u cs (ns ++ n ∷ [])
-phase-one s n u cs ns may h =
-    phase-same u _ _ (length (filter_map closes_in cs)) (length (filter_map opened_in (ns ++ n ∷ [])))
-    (length (filter_map closed_in (ns ++ n ∷ [])))
-    (ap length (filter_map-append opened_in ns (n ∷ [])) ∙ length-append (filter_map opened_in ns) (filter_map opened_in (n ∷ [])))
-    (ap length (filter_map-append closed_in ns (n ∷ [])) ∙ length-append (filter_map closed_in ns) (filter_map closed_in (n ∷ [])))
-    (phase-may s n u _ _ (length (filter_map closes_in cs)) may h)
+-- these notices lead from what is known to that
+abbrev pub Tells : Known → List Notice → Known → Type 0
+Tells m [] k = k ≡ m
+Tells m (n ∷ ns) k = MayTell (Some n) m × Tells (told (Some n) m) ns k
 
-phase-walks : (s : State) (ms : List Notice) (t : State) (cs : List Call) (ns : List Notice) → Walks s ms t → PhaseIn s cs ns →
-    PhaseIn t cs (ns ++ ms)
-phase-walks s [] t cs ns w h =
-    subst (λ (v : State). PhaseIn v cs (ns ++ [])) (sym w) (subst (λ (xs : List Notice). PhaseIn s cs xs) (sym (append-nil ns)) h)
-phase-walks s (m ∷ ms) t cs ns w h =
-    subst (λ (xs : List Notice). PhaseIn t cs xs) (append_assoc ns (m ∷ []) ms)
-    (phase-walks w.0 ms t cs (ns ++ m ∷ []) w.2 (phase-one s m w.0 cs ns w.1 h))
+pub tells-append : (ns ms : List Notice) (m j k : Known) → Tells m ns j → Tells j ms k → Tells m (ns ++ ms) k
+tells-append [] ms m j k h g = subst (λ (i : Known). Tells i ms k) h g
+tells-append (n ∷ ns) ms m j k h g = (h.0, tells-append ns ms (told (Some n) m) j k h.1 g)
 
-pub has_told-more : (x z : EndState) (cs : List Call) (ns ms : List Notice) → Tells x ms z → HasTold x cs ns → HasTold z cs (ns ++ ms)
-has_told-more x z cs ns ms t h = record {
-  taken = h.taken ∙ sym t.taken;
-  got = filter_map-append ending_in ns ms ∙ ap (λ xs. xs ++ filter_map ending_in ms) h.got ∙ sym t.got;
-  acked = ap length (filter_map-append acked_in ns ms) ∙ length-append (filter_map acked_in ns) (filter_map acked_in ms)
-      ∙ ap (λ i. i + length (filter_map acked_in ms)) h.acked ∙ sym t.acked;
-  phase = phase-walks x.state ms z.state cs ns t.walks h.phase;
-}
+-- what a notice says that accepted pieces end: a message, or none where it is oversize
+abbrev pub ending_in : Notice → Option (Option Message)
+ending_in (N.Got m) = Some (Some m)
+ending_in N.Oversize = Some None
+ending_in other = None
 
--- what a notice has before it: calls and notices of its end
-abbrev pub MaySay : List Call → List Notice → Notice → Type 0
-MaySay cs ns (N.Acked n) =
-    (n ≡ capped (length (filter_map acked_in ns) + 1)) × (length (filter_map acked_in ns) + 1 ≤ length (filter_map sent_in cs)) × PhaseIn
-    S.Open cs ns
-MaySay cs ns (N.Got m) = PhaseIn S.Open cs ns
-MaySay cs ns N.Oversize = PhaseIn S.Open cs ns
-MaySay cs ns other = Unit {0}
+-- so often opened and closed between two stages
+abbrev Staged : ℕ → ℕ → ℕ → ℕ → Type 0
+Staged p o c q = (o + min 1 p ≤ 1) × (c + min 1 (p - 2) ≤ 1) × (q ≡ 1 → p + o ≡ 1)
 
-abbrev pub AllSaid : List Call → List Notice → List Notice → Type 0
-AllSaid cs ns [] = Unit {0}
-AllSaid cs ns (m ∷ ms) = MaySay cs ns m × AllSaid cs (ns ++ m ∷ []) ms
+-- these calls and notices are what leads from what is known to that
+abbrev Leads : Known → List Call → List Notice → Known → Type 0
+Leads m cs ns k = (m.taken ++ filter_map sent_in cs ≡ k.taken) × (m.ended ++ filter_map ending_in ns ≡ k.ended)
+    × (length (filter_map acked_in ns) + m.acked ≡ k.acked)
+    × Staged m.stage (length (filter_map opened_in ns)) (length (filter_map closed_in ns)) k.stage
 
-acked-push : (ns : List Notice) (n : Notice) → length (filter_map acked_in (ns ++ n ∷ [])) ≡ length (filter_map acked_in ns) + length
-    (filter_map acked_in (n ∷ []))
-acked-push ns n = ap length (filter_map-append acked_in ns (n ∷ [])) ∙ length-append (filter_map acked_in ns) (filter_map acked_in (n ∷ []))
+leads-asked : (c : Option Call) (m k : Known) (cs : List Call) (ns : List Notice) → MayAsk c m → Leads (asked c m) cs ns k →
+    Leads m (cons_option c cs) ns k
+leads-asked (Some (Sends t)) m k cs ns may h = (sym (append_assoc m.taken (t ∷ []) (filter_map sent_in cs)) ∙ h.0, h.1, h.2, h.3)
+leads-asked (Some Closes) m k cs ns may h = (h.0, h.1, h.2, (omega arith, omega arith, λ e. omega arith))
+leads-asked call m k cs ns may h = h
 
-may_say : (s : State) (n : Notice) (u : State) (ms : List Notice) (cs : List Call) (ns : List Notice) → MayTell s n u →
-    Numbers (length (filter_map acked_in ns)) (n ∷ ms) → length (filter_map acked_in ns) + length (filter_map acked_in (n ∷ ms)) ≤ length
-    (filter_map sent_in cs) → PhaseIn s cs ns → MaySay cs ns n
-may_say s (N.Acked n) u ms cs ns may numbers room h =
-    (numbers.0, omega (arith, room), subst (λ (v : State). PhaseIn v cs ns) may.0 h)
-may_say s (N.Got m) u ms cs ns may numbers room h = subst (λ (v : State). PhaseIn v cs ns) may.0 h
-may_say s N.Oversize u ms cs ns may numbers room h = subst (λ (v : State). PhaseIn v cs ns) may.0 h
-may_say s other u ms cs ns may numbers room h = tt
+leads-told : (n : Option Notice) (m k : Known) (cs : List Call) (ns : List Notice) → MayTell n m → Leads (told n m) cs ns k →
+    Leads m cs (cons_option n ns) k
+leads-told (Some (N.Opened info)) m k cs ns may h = (h.0, h.1, h.2, (omega arith, omega arith, λ e. omega arith))
+leads-told (Some (N.Closed reason)) m k cs ns may h = (h.0, h.1, h.2, (omega arith, omega arith, λ e. omega arith))
+leads-told (Some (N.Acked n)) m k cs ns may h = (h.0, h.1, omega arith, h.3)
+leads-told (Some (N.Got t)) m k cs ns may h = (h.0, sym (append_assoc m.ended (Some t ∷ []) (filter_map ending_in ns)) ∙ h.1, h.2, h.3)
+leads-told (Some N.Oversize) m k cs ns may h = (h.0, sym (append_assoc m.ended (None ∷ []) (filter_map ending_in ns)) ∙ h.1, h.2, h.3)
+leads-told other m k cs ns may h = h
 
-numbers-rest : (n : Notice) (ms ns : List Notice) → Numbers (length (filter_map acked_in ns)) (n ∷ ms) →
-    Numbers (length (filter_map acked_in (ns ++ n ∷ []))) ms
-numbers-rest (N.Acked i) ms ns h = subst (λ (k : ℕ). Numbers k ms) (sym (acked-push ns (N.Acked i))) h.1
-numbers-rest n ms ns h =
-    subst (λ (k : ℕ). Numbers k ms) (let e : length (filter_map acked_in ns) ≡ length (filter_map acked_in (ns ++ n ∷ [])) = omega
-    (arith, acked-push ns n) in e) h
+module _ (r : Role) (s : Sapi) where
+  -- so do these lines, of which an end reads its own
+  abbrev pub Runs : Known → List Line → Known → Type 0
+  Runs m [] k = k ≡ m
+  Runs m (l ∷ ls) k = MayAsk (call_in r s l) m × MayTell (notice_in r s l) (asked (call_in r s l) m)
+      × Runs (told (notice_in r s l) (asked (call_in r s l) m)) ls k
 
-room-rest : (n : Notice) (ms ns : List Notice) (most : ℕ) → length (filter_map acked_in ns) + length (filter_map acked_in (n ∷ ms)) ≤ most →
-    length (filter_map acked_in (ns ++ n ∷ [])) + length (filter_map acked_in ms) ≤ most
-room-rest n ms ns most h =
-    omega (
-      arith,
-      h,
-      acked-push ns n,
-      ap length (filter_map-append acked_in (n ∷ []) ms),
-      length-append (filter_map acked_in (n ∷ [])) (filter_map acked_in ms),
-    )
+  pub runs-append : (ls ms : List Line) (m j k : Known) → Runs m ls j → Runs j ms k → Runs m (ls ++ ms) k
+  runs-append [] ms m j k h g = subst (λ (i : Known). Runs i ms k) h g
+  runs-append (l ∷ ls) ms m j k h g = (h.0, h.1, runs-append ls ms _ j k h.2 g)
 
-all_said-walks : (s : State) (ms : List Notice) (t : State) (cs : List Call) (ns : List Notice) → Walks s ms t →
-    Numbers (length (filter_map acked_in ns)) ms → length (filter_map acked_in ns) + length (filter_map acked_in ms) ≤ length
-    (filter_map sent_in cs) → PhaseIn s cs ns → AllSaid cs ns ms
-all_said-walks s [] t cs ns w numbers room h = tt
-all_said-walks s (m ∷ ms) t cs ns w numbers room h = (
-  may_say s m w.0 ms cs ns w.1 numbers room h,
-  all_said-walks w.0 ms t cs (ns ++ m ∷ []) w.2 (numbers-rest m ms ns numbers) (room-rest m ms ns _ room) (phase-one s m w.0 cs ns w.1 h),
-)
+  runs-split : (ls ms : List Line) (m k : Known) → Runs m (ls ++ ms) k → (j : Known) × Runs m ls j × Runs j ms k
+  runs-split [] ms m k h = (m, refl, h)
+  runs-split (l ∷ ls) ms m k h = let g = runs-split ls ms _ k h.2 in (g.0, (h.0, h.1, g.1), g.2)
 
-pub all_said : (x z : EndState) (cs : List Call) (ns ms : List Notice) → KeepsWindow z → Tells x ms z → HasTold x cs ns → AllSaid cs ns ms
-all_said x z cs ns ms end t h =
-    all_said-walks x.state ms z.state cs ns t.walks (subst (λ (k : ℕ). Numbers k ms) (sym h.acked) t.numbers)
-    (omega (arith, h.acked, t.acked, wholly_acked-most z, ap length h.taken, ap length t.taken)) h.phase
+  pub runs-told : (ns : List Notice) (m k : Known) → Tells m ns k → Runs m (map (Told r s) ns) k
+  runs-told [] m k h = h
+  runs-told (n ∷ ns) m k h = rw (is_end-self r s) (tt, h.0, runs-told ns (told (Some n) m) k h.1)
 
--- after some calls an end goes on, and so do what it was asked and what it told
-pub record IsStep (x : EndState) (asks : List Call) (o : Outcome) : Type 0 where
-  pub link : IsSameLink x o.after
-  pub end : KeepsWindow o.after
-  pub told : (cs : List Call) (ns : List Notice) → HasTold x cs ns → HasTold o.after (cs ++ asks) (ns ++ o.notices)
-  pub said : (cs : List Call) (ns : List Notice) → HasTold x cs ns → AllSaid (cs ++ asks) ns o.notices
+  pub runs-else : (r' : Role) (s' : Sapi) → is_end r s r' s' ≡ false → (cs : List Call) (ns : List Notice) (m : Known) →
+      Runs m (said r' s' cs ns) m
+  runs-else r' s' e [] [] m = refl
+  runs-else r' s' e [] (n ∷ ns) m = rw e (tt, tt, runs-else r' s' e [] ns m)
+  runs-else r' s' e (c ∷ cs) ns m = rw e (tt, tt, runs-else r' s' e cs ns m)
 
--- it is asked, and then acts
-pub step-by : (x mid : EndState) (asks : List Call) (o : Outcome) → IsSameLink x o.after → KeepsWindow o.after →
-    Tells mid o.notices o.after →
-    ((cs : List Call) (ns : List Notice) → HasTold x cs ns → HasTold mid (cs ++ asks) ns) → IsStep x asks o
-step-by x mid asks o link end tells asked = record {
-  link = link;
-  end = end;
-  told = λ cs ns h. has_told-more mid o.after (cs ++ asks) ns o.notices tells (asked cs ns h);
-  said = λ cs ns h. all_said mid o.after (cs ++ asks) ns o.notices end tells (asked cs ns h);
-}
+  leads : (ls : List Line) (m k : Known) → Runs m ls k → Leads m (calls r s ls) (notices r s ls) k
+  leads [] m k h = rw h (append-nil m.taken, append-nil m.ended, omega arith, (omega arith, omega arith, λ e. omega arith))
+  leads (l ∷ ls) m k h = leads-asked (call_in r s l) m k (calls r s ls) (notices r s (l ∷ ls)) h.0
+      (leads-told (notice_in r s l) (asked (call_in r s l) m) k (calls r s ls) (notices r s ls) h.1 (leads ls _ k h.2))
 
--- or acts unasked
-pub step-unasked : (x : EndState) (o : Outcome) → IsSameLink x o.after → KeepsWindow o.after → Tells x o.notices o.after → IsStep x [] o
-step-unasked x o link end tells =
-    step-by x x [] o link end tells (λ cs ns h. subst (λ (asks : List Call). HasTold x asks ns) (sym (append-nil cs)) h)
+  -- where the link is open at the end, it was not beyond at any line
+  pub before_open : (ls : List Line) (m k : Known) → Runs m ls k → k.stage ≡ 1 → (l : Line) → Contains ls l →
+      (j : Known) × ((told (notice_in r s l) (asked (call_in r s l) j)).stage ≤ 1)
+  before_open [] m k h now l c = absurd (omega (arith, c.1))
+  before_open (x ∷ ls) m k h now l (zero, low, is) =
+      (m, subst (λ (y : Line). (told (notice_in r s y) (asked (call_in r s y) m)).stage ≤ 1) is (omega (arith, (leads ls _ k h.2).3.2 now)))
+  before_open (x ∷ ls) m k h now l (suc i, low, is) = before_open ls _ k h.2 now l (i, omega (arith, low), is)
+
+  -- what the lines of an end tell of it
+  pub record IsTold (ls : List Line) (m : Known) : Type 0 where
+    pub taken : sent r s ls ≡ m.taken
+    pub got : filter_map ending_in (notices r s ls) ≡ m.ended
+    pub acked : length (acked r s ls) ≡ m.acked
+    pub is_open : m.stage ≡ 1 → length (opened r s ls) ≡ 1
+    pub opened : length (opened r s ls) ≤ 1
+    pub closed : length (closed r s ls) ≤ 1
+
+  pub is_told : (ls : List Line) (m : Known) → Runs nothing ls m → IsTold ls m
+  is_told ls m h = let g = leads ls nothing m h in record {
+    taken = g.0;
+    got = g.1;
+    acked = omega (arith, g.2);
+    opened = omega (arith, g.3.0);
+    closed = omega (arith, g.3.1);
+    is_open = λ e. omega (arith, g.3.2 e);
+  }
+
+  -- a notice at its place
+  pub at_place : (ls : List Line) (k : Known) → Runs nothing ls k → (before : List Line) (n : Notice) → StandsAfter before (Told r s n) ls →
+      (j : Known) × Runs nothing before j × MayTell (Some n) j
+  at_place ls k h before n place =
+      let g = runs-split before (Told r s n ∷ place.0) nothing k (subst (λ (xs : List Line). Runs nothing xs k) (sym place.1) h) in
+      (g.0, g.1, rw (is_end-self r s) at g.2.1)
