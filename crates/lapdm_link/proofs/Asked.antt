@@ -1,5 +1,5 @@
 -- What an end does at a call that is not refused: what it tells and sends, and that both directions are kept.
-use Rattle.std.proofs.Common.{◌≡◌, refl, sym, ◌∙◌, ap, subst, arith, ℕ, ◌+◌, ◌≤◌, Bool, true, false, not, if◌then◌else◌, nat_eq, nat_lt, List, [], ◌∷◌, ◌++◌, length, Some, None, inl, inr}
+use Rattle.std.proofs.Common.{◌≡◌, refl, sym, ◌∙◌, ap, subst, arith, ℕ, ◌+◌, ◌≤◌, max, Bool, true, false, not, if◌then◌else◌, nat_eq, nat_lt, List, [], ◌∷◌, ◌++◌, length, Some, None, inl, inr}
 use Rattle.std.specs.Prelude.{◌⊎◌}
 use Rattle.std.specs.List.{filter_map, cons_option}
 use Rattle.std.proofs.lemmas.List.{append-nil}
@@ -24,7 +24,7 @@ use Rattle.lapdm_link.specs.Claims.{sent_in, unit_sent_in, unit_got_in, opened_i
 use Rattle.lapdm_link.proofs.Queues.{IsPlain, AllFrames, frames-as, where-all, all-where}
 use Rattle.lapdm_link.proofs.Directions.{waits_for_one, more_pieces}
 use Rattle.lapdm_link.proofs.Keeping.{IsBoth, After, sends_plain, quiet, moved, piece_sent, is_waiting, keeps-sends_next}
-use Rattle.lapdm_link.proofs.Told.{stage_of, known, MayAsk, asked, Tells}
+use Rattle.lapdm_link.proofs.Told.{stage_of, known, asked, Tells}
 use Rattle.lapdm_link.proofs.Telling.{SaysWell, InOpen, in-sends_next}
 use Rattle.lapdm_link.proofs.Taking.{unit_of, units_on, no-units}
 
@@ -52,7 +52,6 @@ LeftBy call x z = ((z.state ≡ S.Opening) × IsOpening call z.kept) ⊎ ((z.kep
 pub record IsCalled (x : EndState) (call : Call) (o : Outcome) : Type 0 where
   pub link : IsSameLink x o.after
   pub end : KeepsWindow o.after
-  pub may : MayAsk (Some call) (known x)
   pub tells : Tells (asked (Some call) (known x)) o.notices (known o.after)
   pub taken : o.after.taken ≡ x.taken ++ filter_map sent_in (call ∷ [])
   pub left : LeftBy call x o.after
@@ -86,16 +85,14 @@ taken-both m {t} {x} h = record { there = rw (all_pieces-taken x m) (more_pieces
 module _ (x : EndState) (w : KeepsWindow x) where
   -- one frame without numbers
   one_frame : (call : Call) (s : State) (k : Message) (r : ℕ) (f : Frame) → filter_map sent_in (call ∷ []) ≡ [] →
-      MayAsk (Some call) (known x) → (let z : EndState = record x { state = s; kept = k; retries = r } in
-      known z ≡ asked (Some call) (known x) → LeftBy call x z → AllFrames (Asks call z) x.sapi (f ∷ []) →
+      (let z : EndState = record x { state = s; kept = k; retries = r } in known z ≡ asked (Some call) (known x) → LeftBy call x z → AllFrames (Asks call z) x.sapi (f ∷ []) →
       IsPlain f.content → units_on x.sapi (f ∷ []) ≡ filter_map unit_sent_in (call ∷ []) → IsCalled x call (sends_frame f z))
-  one_frame call s k r f none may told left asks plain units =
+  one_frame call s k r f none told left asks plain units =
       let z : EndState = record x { state = s; kept = k; retries = r } in
       let taken : x.taken ≡ x.taken ++ filter_map sent_in (call ∷ []) = sym (append-nil x.taken) ∙ ap (λ ms. x.taken ++ ms) (sym none) in
       record {
         link = record { role = refl; sapi = refl; channel = refl };
         end = record { messages = w.messages; sent = w.sent; behind = w.behind; window = w.window };
-        may = may;
         tells = told;
         taken = taken;
         left = left;
@@ -114,16 +111,15 @@ module _ (x : EndState) (w : KeepsWindow x) where
       IsCalled x Ticks (sends_frame (repeated s x) (record x { retries = x.retries + 1 }))
   again S.Idle e due = absurd (false≢true due)
   again S.Closed e due = absurd (false≢true due)
-  again S.Opening e due = one_frame Ticks x.state x.kept (x.retries + 1) (repeated S.Opening x) refl tt refl (inr (refl, inl refl))
+  again S.Opening e due = one_frame Ticks x.state x.kept (x.retries + 1) (repeated S.Opening x) refl refl (inr (refl, inl refl))
       (inl refl, (e, refl), tt) tt refl
-  again S.Closing e due = one_frame Ticks x.state x.kept (x.retries + 1) (repeated S.Closing x) refl tt refl (inr (refl, inl refl))
+  again S.Closing e due = one_frame Ticks x.state x.kept (x.retries + 1) (repeated S.Closing x) refl refl (inr (refl, inl refl))
       (inl refl, tt, tt) tt refl
   again S.Open e due =
       let z : EndState = record x { retries = x.retries + 1 } in
       record {
         link = record { role = refl; sapi = refl; channel = refl };
         end = record { messages = w.messages; sent = w.sent; behind = w.behind; window = w.window };
-        may = tt;
         tells = refl;
         taken = sym (append-nil x.taken);
         left = inr (refl, inl refl);
@@ -143,7 +139,6 @@ module _ (x : EndState) (w : KeepsWindow x) where
   given_up may = record {
     link = record { role = refl; sapi = refl; channel = refl };
     end = record { messages = w.messages; sent = w.sent; behind = w.behind; window = w.window };
-    may = tt;
     tells = (may, refl);
     taken = sym (append-nil x.taken);
     left = inr (refl, inr (inl refl));
@@ -166,7 +161,6 @@ module _ (x : EndState) (w : KeepsWindow x) where
       record {
         link = record { role = ap (λ z. z.role) i.same; sapi = ap (λ z. z.sapi) i.same; channel = ap (λ z. z.channel) i.same };
         end = i.end;
-        may = tt;
         tells = subst (λ (a : ℕ). Tells (record (known mid) { acked = a }) (sends_next mid).notices (known (sends_next mid).after))
             (wholly_acked-taken x m w) i.tells;
         taken = ap (λ z. z.taken) i.same;
@@ -186,24 +180,24 @@ module _ (x : EndState) (w : KeepsWindow x) where
       let idle = passes (not (is_idle x.state)) No.NotIdle (frame_refusals info x) ok in
       let full : nat_eq (length info) 0 ≡ false = (passes _ _ _ idle.rest).no in
       let is_now : x.state ≡ S.Idle = is_idle-is x.state (not_false (is_idle x.state) idle.no) in
-      one_frame (Opens info) S.Opening info 0 _ refl tt (begins is_now) (inl (refl, (refl, grind (arith, nat_tests))))
+      one_frame (Opens info) S.Opening info 0 _ refl (begins is_now) (inl (refl, (refl, grind (arith, nat_tests))))
       (inl refl, (refl, refl), tt) tt refl
   is_called OpensBare ok =
       let is_now : x.state ≡ S.Idle = is_idle-is x.state (not_false (is_idle x.state) (passes (not
       (is_idle x.state)) No.NotIdle [] ok).no) in
-      one_frame OpensBare S.Opening [] 0 _ refl tt (begins is_now) (inl (refl, refl)) (inl refl, (refl, refl), tt) tt refl
+      one_frame OpensBare S.Opening [] 0 _ refl (begins is_now) (inl (refl, refl)) (inl refl, (refl, refl), tt) tt refl
   is_called (Sends m) ok =
       let now = passes (not (is_open x.state)) No.NotOpen (put_refusals m x) ok in
       takes m (is_message m x now.rest) (is_open-is x.state (not_false (is_open x.state) now.no))
   is_called (SendsUnit []) ok = absurd (false≢true (sym (passes true No.Empty ((nat_lt (n201 x.channel) 0, No.TooLong) ∷ []) ok).no))
-  is_called (SendsUnit (i ∷ is)) ok = one_frame (SendsUnit (i ∷ is)) x.state x.kept x.retries _ refl tt refl (inr (refl, inl refl))
+  is_called (SendsUnit (i ∷ is)) ok = one_frame (SendsUnit (i ∷ is)) x.state x.kept x.retries _ refl refl (inr (refl, inl refl))
       (inl refl, inl refl, tt) tt (here-unit x.sapi i is)
   is_called Closes ok =
       let is_now : x.state ≡ S.Open = is_open-is x.state (not_false (is_open x.state) (passes (not
       (is_open x.state)) No.NotOpen [] ok).no) in
-      one_frame Closes S.Closing x.kept 0 _ refl (ap stage_of is_now) refl (inr (refl, inr (inr (is_now, refl))))
+      one_frame Closes S.Closing x.kept 0 _ refl (ap (λ s. record (known x) { stage = max 2 (stage_of s) }) (sym is_now)) (inr (refl, inr (inr (is_now, refl))))
       (inl refl, tt, tt) tt refl
   is_called Ticks ok = ticks (nat_lt x.retries (n200 x.channel x.state)) (not_false (awaits x) (passes (not
       (awaits x)) No.NotRunning [] ok).no)
-  is_called Idles ok = one_frame Idles x.state x.kept x.retries _ refl tt refl (inr (refl, inl refl))
+  is_called Idles ok = one_frame Idles x.state x.kept x.retries _ refl refl (inr (refl, inl refl))
       (inr refl, inr refl, tt) tt refl

@@ -59,22 +59,47 @@ pub record IsReported (r : Role) (s : Sapi) (e : EndState) (ls : List Line) : Ty
 abbrev pub AllReported : World → List Line → Type 0
 AllReported w ls = (r : Role) (s : Sapi) → IsReported r s (end_of r s w) ls
 
-goes_on : {r : Role} {s : Sapi} {e : EndState} {ls : List Line} (z : EndState) (new : List Line) → IsSameLink e z → KeepsWindow z →
-    Runs r s (known e) new (known z) → IsReported r s e ls → IsReported r s z (ls ++ new)
-goes_on {r} {s} {e} {ls} z new link end run h =
-    let whole : Runs r s nothing (ls ++ new) (known z) = runs-append r s ls new nothing (known e) (known z) h.run run in
-    record {
-      role = link.role ∙ h.role;
-      sapi = link.sapi ∙ h.sapi;
-      end = end;
-      run = whole;
-      told = is_told r s (ls ++ new) (known z) whole;
-    }
+module _ {r : Role} {s : Sapi} {e : EndState} {ls : List Line} (h : IsReported r s e ls) where
+  goes_on : (z : EndState) (new : List Line) → IsSameLink e z → KeepsWindow z → Runs r s (known e) new (known z) →
+      IsReported r s z (ls ++ new)
+  goes_on z new link end run =
+      let whole : Runs r s nothing (ls ++ new) (known z) = runs-append r s ls new nothing (known e) (known z) h.run run in
+      record {
+        role = link.role ∙ h.role;
+        sapi = link.sapi ∙ h.sapi;
+        end = end;
+        run = whole;
+        told = is_told r s (ls ++ new) (known z) whole;
+      }
 
--- lines that tell nothing of an end
-unseen : {r : Role} {s : Sapi} {e : EndState} {ls : List Line} (new : List Line) → Runs r s (known e) new (known e) → IsReported r s e ls →
-    IsReported r s e (ls ++ new)
-unseen {e = e} new run h = goes_on e new (record { role = refl; sapi = refl; channel = refl }) h.end run h
+  -- lines that tell nothing of it
+  unseen : (new : List Line) → Runs r s (known e) new (known e) → IsReported r s e (ls ++ new)
+  unseen new run = goes_on e new (record { role = refl; sapi = refl; channel = refl }) h.end run
+
+  -- a notice at its place
+  pub acknowledged : (n : ℕ) (before : List Line) → StandsAfter before (Told r s (N.Acked n)) ls →
+      (n ≡ capped (length (acked r s before) + 1)) × (length (acked r s before) + 1 ≤ length (sent r s before))
+  acknowledged n before place =
+      let g = at_place r s ls (known e) h.run before (N.Acked n) place in
+      let t : IsTold r s before g.0 = is_told r s before g.0 g.1 in
+      (g.2.1 ∙ ap (λ k. capped (k + 1)) (sym t.acked), omega (arith, t.acked, ap length t.taken, g.2.2))
+
+  of_open : (m : Known) (n : Notice) → IsOfOpenEnd n → MayTell (Some n) m → m.stage ≡ 1
+  of_open m (N.Got t) of may = may
+  of_open m (N.Acked n) of may = may.0
+  of_open m N.Oversize of may = may
+  of_open m other of may = absurd of
+
+  inside : (n : Notice) (before : List Line) → IsOfOpenEnd n → StandsAfter before (Told r s n) ls → IsOpenEnd r s before
+  inside n before of place =
+      let g = at_place r s ls (known e) h.run before n place in
+      let now : g.0.stage ≡ 1 = of_open g.0 n of g.2 in
+      let past = before_open r s before nothing g.0 g.1 now in
+      record {
+        opened = (is_told r s before g.0 g.1).is_open now;
+        closed = λ reason c. (let low = rw (is_end-self r s) at (past (Told r s (N.Closed reason)) c).1 in absurd (omega arith));
+        asked = λ c. (let low = rw (is_end-self r s) at (past (Asked r s Closes) c).1 in absurd (omega arith));
+      }
 
 module _ (w : World) (ls : List Line) (h : AllReported w ls) where
   -- an end acts
@@ -83,9 +108,9 @@ module _ (w : World) (ls : List Line) (h : AllReported w ls) where
   acts r s cs o link end run =
       let new : List Line = said r s cs o.notices in
       each_end (λ r' s'. IsReported r' s' (end_of r' s' (acted r s o w)) (ls ++ new)) r s
-      (subst (λ (z : EndState). IsReported r s z (ls ++ new)) (sym (end_does r s o w)) (goes_on o.after new link end run (h r s)))
+      (subst (λ (z : EndState). IsReported r s z (ls ++ new)) (sym (end_does r s o w)) (goes_on (h r s) o.after new link end run))
       (λ r' s' n. subst (λ (z : EndState). IsReported r' s' z (ls ++ new)) (sym (end_does-else r s o w r' s' n))
-      (unseen new (runs-else r' s' r s n cs o.notices (known (end_of r' s' w))) (h r' s')))
+      (unseen (h r' s') new (runs-else r' s' r s n cs o.notices (known (end_of r' s' w)))))
 
 any_frame : (o : Option Why) (event : Event) → KnowsBy o (λ r f. Unit {0}) event
 any_frame None (Deliver sender (Some f)) = tt
@@ -94,19 +119,19 @@ any_frame o event = tt
 pub in_order-step : (w : World) (ls : List Line) (event : Event) → AllReported w ls →
     AllReported (after event w) (ls ++ answer_lines event (answer event w))
 in_order-step w ls event h =
-    by_kind w (λ z new. AllReported z (ls ++ new)) (λ r f. Unit {0}) (λ r s. unseen [] refl (h r s))
+    by_kind w (λ z new. AllReported z (ls ++ new)) (λ r f. Unit {0}) (λ r s. unseen (h r s) [] refl)
     (λ r s call placed ok.
     (let c = is_called (end_of r s w) (h r s).end call ok in
     acts w ls h r s (call ∷ []) (after_call call (end_of r s w)) c.link c.end
-    (rw (is_end-self r s) (c.may, tt, runs-told r s _ _ _ c.tells))))
+    (rw (is_end-self r s) (tt, runs-told r s _ _ _ c.tells))))
     (λ r s f known.
     (let t = taken-frame (end_of r s w) (h r s).end f in
     acts (without_first (other r) w) ls h r s [] (after_frame f (end_of r s w)) t.link t.end (runs-told r s _ _ _ t.tells)))
-    (λ sender r s. unseen [] refl (h r s)) (λ info ok r s. unseen _ (tt, tt, refl) (h r s)) event (any_frame (refusal event w) event)
+    (λ sender r s. unseen (h r s) [] refl) (λ info ok r s. unseen (h r s) _ (tt, refl)) event (any_frame (refusal event w) event)
 
 in_order-run : (events : List Event) (w : World) (ls : List Line) → AllReported w ls →
     ((z : World) × AllReported z (ls ++ lines events (answers events w)))
-in_order-run [] w ls h = (w, λ r s. unseen [] refl (h r s))
+in_order-run [] w ls h = (w, λ r s. unseen (h r s) [] refl)
 in_order-run (event ∷ events) w ls h =
     let new : List Line = answer_lines event (answer event w) in
     let run = in_order-run events (after event w) (ls ++ new) (in_order-step w ls event h) in
@@ -121,38 +146,12 @@ start-reported channel = each_start (λ r s e. IsReported r s e []) channel (λ 
   told = is_told r s [] nothing refl;
 })
 
--- a notice stands at its place among the lines
-module _ {r : Role} {s : Sapi} {e : EndState} {ls : List Line} (h : IsReported r s e ls) (before : List Line) where
-  pub acknowledged : (n : ℕ) → StandsAfter before (Told r s (N.Acked n)) ls →
-      (n ≡ capped (length (acked r s before) + 1)) × (length (acked r s before) + 1 ≤ length (sent r s before))
-  acknowledged n place =
-      let g = at_place r s ls (known e) h.run before (N.Acked n) place in
-      let t : IsTold r s before g.0 = is_told r s before g.0 g.1 in
-      (g.2.1 ∙ ap (λ k. capped (k + 1)) (sym t.acked), omega (arith, t.acked, ap length t.taken, g.2.2))
-
-  of_open : (m : Known) (n : Notice) → IsOfOpenEnd n → MayTell (Some n) m → m.stage ≡ 1
-  of_open m (N.Got t) of may = may
-  of_open m (N.Acked n) of may = may.0
-  of_open m N.Oversize of may = may
-  of_open m other of may = absurd of
-
-  inside : (n : Notice) → IsOfOpenEnd n → StandsAfter before (Told r s n) ls → IsOpenEnd r s before
-  inside n of place =
-      let g = at_place r s ls (known e) h.run before n place in
-      let now : g.0.stage ≡ 1 = of_open g.0 n of g.2 in
-      let past = before_open r s before nothing g.0 g.1 now in
-      record {
-        opened = (is_told r s before g.0 g.1).is_open now;
-        closed = λ reason c. (let low = rw (is_end-self r s) at (past (Told r s (N.Closed reason)) c).1 in absurd (omega arith));
-        asked = λ c. (let low = rw (is_end-self r s) at (past (Asked r s Closes) c).1 in absurd (omega arith));
-      }
-
 pub order_claims : (channel : Channel) (events : List Event) → OrderClaims (lines events (answers events (start_on channel)))
 order_claims channel events =
     let run = in_order-run events (start_on channel) [] (start-reported channel) in
     record {
-      acknowledged = λ r s n before place. acknowledged (run.1 r s) before n place;
+      acknowledged = λ r s n before place. acknowledged (run.1 r s) n before place;
       opened_once = λ r s. (run.1 r s).told.opened;
       closed_once = λ r s. (run.1 r s).told.closed;
-      inside = λ r s n before of place. inside (run.1 r s) before n of place;
+      inside = λ r s n before of place. inside (run.1 r s) n before of place;
     }

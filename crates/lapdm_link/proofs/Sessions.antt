@@ -96,7 +96,7 @@ pub session-claims : (w : World) (ls : List Line) → IsSession w ls → Claims 
 session-claims w ls h = record {
   in_order = λ r s. got_in_order w ls h.reported h.carried r s;
   acknowledged = λ r s n before place.
-      ((acknowledged (h.reported r s) before n place).0, stands IsAfterGot ls before (Told r s (N.Acked n)) h.after_got place);
+      ((acknowledged (h.reported r s) n before place).0, stands IsAfterGot ls before (Told r s (N.Acked n)) h.after_got place);
   units = λ r s. sub-front (units_got (other r) s ls) (units_on s (way r w)) _ (h.units r s);
   cause = λ r s info before place. stands IsOpenedAfter ls before (Told r s (N.Opened info)) h.after_cause place;
   once = λ r s. (h.reported r s).told.opened;

@@ -11,8 +11,9 @@ use Rattle.segmenting.specs.Joining.{within, endings, open_part}
 use Rattle.segmenting.proofs.Lemmas.{endings-more, endings-last}
 use Rattle.lapdm_window.specs.declared.State.TheVariants.{Open}
 use Rattle.lapdm_window.specs.declared.Notice.{Notice}
+use Rattle.lapdm_window.specs.declared.Notice.TheVariants.{Acked}
 use Rattle.lapdm_window.specs.Ends.{EndState, Outcome, KeepsWindow, stays, ◌then◌, response, all_pieces, next_piece, waits, wholly_acked, vr, capped}
-use Rattle.lapdm_window.specs.Rules.{waiting_frame, has_next, sends_piece, sends_next, acknowledges, with_acked, reports_acked, counts, notices_of, accepts, says_rr, answers_piece, reject_is_due, rejects, takes_i, answers_poll, takes_rr, sends_again, takes_rej}
+use Rattle.lapdm_window.specs.Rules.{waiting_frame, has_next, sends_piece, sends_next, acknowledges, with_acked, acked_number, reports_acked, counts, notices_of, accepts, says_rr, answers_piece, reject_is_due, rejects, takes_i, answers_poll, takes_rr, sends_again, takes_rej}
 use Rattle.lapdm_window.proofs.Lemmas.{wholly_acked-more, wholly_acked-last, wholly_acked-most, KeepsWindow-acked, three_bits, waits_within}
 use Rattle.lapdm_link.specs.Claims.{unit_got_in, opened_in}
 use Rattle.lapdm_link.proofs.Queues.{AllFrames, frames-append}
@@ -44,8 +45,8 @@ pub record InOpen (x : EndState) (o : Outcome) : Type 0 where
 abbrev Stays : (EndState → Outcome) → Type 0
 Stays rule = (x : EndState) → x.state ≡ Open → KeepsWindow x → InOpen x (rule x)
 
-in-then : (first rule : EndState → Outcome) → Stays first → Stays rule → Stays (λ x. first x then rule)
-in-then first rule stays_first stays x is_now e =
+in-then : {first rule : EndState → Outcome} → Stays first → Stays rule → Stays (λ x. first x then rule)
+in-then {first} {rule} stays_first stays x is_now e =
     let o : Outcome = first x in
     let h : InOpen x o = stays_first x is_now e in
     let p : Outcome = rule o.after in
@@ -66,16 +67,18 @@ in-if : {x : EndState} {o p : Outcome} (b : Bool) → (b ≡ true → InOpen x o
 in-if true h k = h refl
 in-if false h k = k
 
+-- the counts and what is accepted change, and the reject condition
+openly : (x : EndState) (a s : ℕ) (ps : List Piece) (b : Bool) (r : ℕ) (fs : List Frame) (ns : List Notice) →
+    (let z : EndState = record x { acked = a; sent = s; accepted = ps; rejecting = b; retries = r } in KeepsWindow z →
+    AllFrames (SaysWell (all_pieces x)) x.sapi fs → Tells (known x) ns (known z) × TellsOfOpen ns →
+    InOpen x (record { after = z; frames = fs; notices = ns }))
+openly x a s ps b r fs ns end frames told = record { same = refl; frames = frames; tells = told.0; of_open = told.1; end = end }
+
 -- only the reject condition and the retry count change
 plainly : (x : EndState) (b : Bool) (r : ℕ) (fs : List Frame) → KeepsWindow x → AllFrames (SaysWell (all_pieces x)) x.sapi fs →
     InOpen x (record { after = record x { rejecting = b; retries = r }; frames = fs; notices = [] })
-plainly x b r fs e h = record {
-  same = refl;
-  frames = h;
-  tells = refl;
-  of_open = (refl, refl);
-  end = record { messages = e.messages; sent = e.sent; behind = e.behind; window = e.window };
-}
+plainly x b r fs e h = openly x x.acked x.sent x.accepted b r fs []
+    (record { messages = e.messages; sent = e.sent; behind = e.behind; window = e.window }) h (refl, (refl, refl))
 
 in-stays : Stays stays
 in-stays x is_now e = plainly x x.rejecting x.retries [] e tt
@@ -93,13 +96,9 @@ has_left x h = (grind (arith, nat_tests), grind (arith, nat_tests))
 in-sends_piece : (x : EndState) → KeepsWindow x → has_next x ≡ true → InOpen x (sends_piece x)
 in-sends_piece x e has =
     let left : (x.sent ≡ x.acked) × (x.sent < length (all_pieces x)) = has_left x has in
-    record {
-      same = refl;
-      frames = (inl refl, (three_bits x.acked, three_bits (length x.accepted), (x.acked, omega arith, refl)), tt);
-      tells = refl;
-      of_open = (refl, refl);
-      end = record { messages = e.messages; sent = omega arith; behind = omega arith; window = omega arith };
-    }
+    openly x x.acked (x.sent + 1) x.accepted x.rejecting 0 (sends_piece x).frames []
+    (record { messages = e.messages; sent = omega arith; behind = omega arith; window = omega arith })
+    (inl refl, (three_bits x.acked, three_bits (length x.accepted), (x.acked, omega arith, refl)), tt) (refl, (refl, refl))
 
 pub in-sends_next : Stays sends_next
 in-sends_next x is_now e = in-if (has_next x) (in-sends_piece x e) (in-stays x is_now e)
@@ -113,7 +112,7 @@ in-answers_poll : (poll : Bool) → Stays (answers_poll poll)
 in-answers_poll poll x is_now e = in-if poll (λ p. in-says_rr true x is_now e) (in-stays x is_now e)
 
 in-answers_piece : (p : Bool) → Stays (answers_piece p)
-in-answers_piece true = in-then (says_rr true) sends_next (in-says_rr true) in-sends_next
+in-answers_piece true = in-then (in-says_rr true) in-sends_next
 in-answers_piece false = λ x is_now e. in-if (has_next x) (in-sends_piece x e) (in-says_rr false x is_now e)
 
 -- an N(R) is counted
@@ -125,25 +124,13 @@ acknowledges_next x nr h acks =
 
 reports-acked : (more : Bool) (x : EndState) → x.state ≡ Open → KeepsWindow x → (next_piece x).1 ≡ more → x.sent ≡ x.acked + 1 →
     InOpen x (reports_acked more x)
-reports-acked true x is_now e is one = record {
-  same = refl;
-  frames = tt;
-  tells = ap (λ a. record (known x) { acked = a }) (wholly_acked-more x one (omega (arith, e.sent)) is);
-  of_open = (refl, refl);
-  end = KeepsWindow-acked x e;
-}
+reports-acked true x is_now e is one = openly x x.sent x.sent x.accepted x.rejecting 0 [] [] (KeepsWindow-acked x e) tt
+    (ap (λ a. record (known x) { acked = a }) (wholly_acked-more x one (omega (arith, e.sent)) is), (refl, refl))
 reports-acked false x is_now e is one =
     let last : wholly_acked (with_acked x) ≡ wholly_acked x + 1 = wholly_acked-last x one (omega (arith, e.sent)) is in
-    record {
-      same = refl;
-      frames = tt;
-      tells = (
-        (ap stage_of is_now, ap capped last, omega (arith, last, wholly_acked-most (with_acked x))),
-        ap (λ a. record (known x) { acked = a }) last,
-      );
-      of_open = (refl, refl);
-      end = KeepsWindow-acked x e;
-    }
+    openly x x.sent x.sent x.accepted x.rejecting 0 [] (Acked (acked_number x) ∷ []) (KeepsWindow-acked x e) tt
+    (((ap stage_of is_now, ap capped last, omega (arith, last, wholly_acked-most (with_acked x))),
+    ap (λ a. record (known x) { acked = a }) last), (refl, refl))
 
 in-counts : (nr : ℕ) → Stays (counts nr)
 in-counts nr x is_now e = in-if (acknowledges nr x)
@@ -167,28 +154,18 @@ tells-got k false false m es now e = ((now, ap (λ xs. record k { ended = xs }) 
 in-accepts : (p : Piece) → Stays (accepts p)
 in-accepts p x is_now e =
     let m : Message = open_part x.accepted ++ p.0 in
-    let g = tells-got (known x) (nat_lt longest (length m)) p.1 m _ (ap stage_of is_now) (one_more x.accepted p) in
-    record {
-      same = refl;
-      frames = tt;
-      tells = g.0;
-      of_open = g.1;
-      end = record { messages = e.messages; sent = e.sent; behind = e.behind; window = e.window };
-    }
+    openly x x.acked x.sent (x.accepted ++ p ∷ []) false x.retries [] (accepts p x).notices
+    (record { messages = e.messages; sent = e.sent; behind = e.behind; window = e.window }) tt
+    (tells-got (known x) (nat_lt longest (length m)) p.1 m _ (ap stage_of is_now) (one_more x.accepted p))
 
 -- the rules as a whole
 pub in-takes_i : (nr ns : ℕ) (p : Bool) (piece : Piece) → Stays (takes_i ns nr p piece)
 in-takes_i nr ns p piece x is_now e = in-if (nat_eq ns (vr x))
-    (λ next. in-then (λ z. counts nr z then accepts piece) (answers_piece p)
-    (in-then (counts nr) (accepts piece) (in-counts nr) (in-accepts piece)) (in-answers_piece p) x is_now e)
-    (in-then (λ z. counts nr z then rejects p) sends_next (in-then (counts nr) (rejects p) (in-counts nr) (in-rejects p)) in-sends_next
-    x is_now e)
-
-in-polled : (nr : ℕ) (poll : Bool) → Stays (λ x. counts nr x then answers_poll poll)
-in-polled nr poll = in-then (counts nr) (answers_poll poll) (in-counts nr) (in-answers_poll poll)
+    (λ next. in-then (in-then (in-counts nr) (in-accepts piece)) (in-answers_piece p) x is_now e)
+    (in-then (in-then (in-counts nr) (in-rejects p)) in-sends_next x is_now e)
 
 pub in-takes_rr : (nr : ℕ) (poll : Bool) → Stays (takes_rr nr poll)
-in-takes_rr nr poll = in-then (λ x. counts nr x then answers_poll poll) sends_next (in-polled nr poll) in-sends_next
+in-takes_rr nr poll = in-then (in-then (in-counts nr) (in-answers_poll poll)) in-sends_next
 
 pub in-takes_rej : (nr : ℕ) (poll : Bool) → Stays (takes_rej nr poll)
-in-takes_rej nr poll = in-then (λ x. counts nr x then answers_poll poll) sends_again (in-polled nr poll) in-sends_again
+in-takes_rej nr poll = in-then (in-then (in-counts nr) (in-answers_poll poll)) in-sends_again

@@ -1,6 +1,6 @@
 -- What is known of an end by its calls and notices, one after another, with whatever frames arrive.
 use Rattle.std.specs.Prelude.{Contains}
-use Rattle.std.proofs.Common.{◌≡◌, refl, sym, ◌∙◌, subst, arith, ℕ, zero, suc, ◌+◌, ◌-◌, ◌≤◌, min, false, List, [], ◌∷◌, ◌++◌, map, length, Option, Some, None, append_assoc}
+use Rattle.std.proofs.Common.{◌≡◌, refl, sym, ◌∙◌, subst, arith, ℕ, zero, suc, ◌+◌, ◌-◌, ◌≤◌, max, min, false, List, [], ◌∷◌, ◌++◌, map, length, Option, Some, None, append_assoc}
 use Rattle.std.specs.List.{filter_map, cons_option}
 use Rattle.std.proofs.lemmas.List.{append-nil}
 use Rattle.segmenting.specs.Pieces.{Message}
@@ -35,14 +35,10 @@ known x = record { stage = stage_of x.state; taken = x.taken; ended = endings []
 abbrev pub nothing : Known
 nothing = record { stage = 0; taken = []; ended = []; acked = 0 }
 
--- a call may be made, and what is known then
-abbrev pub MayAsk : Option Call → Known → Type 0
-MayAsk (Some Closes) m = m.stage ≡ 1
-MayAsk call m = Unit {0}
-
+-- what is known after a call
 abbrev pub asked : Option Call → Known → Known
 asked (Some (Sends t)) m = record m { taken = m.taken ++ t ∷ [] }
-asked (Some Closes) m = record m { stage = 2 }
+asked (Some Closes) m = record m { stage = max 2 m.stage }
 asked call m = m
 
 -- a notice may come, and what is known then
@@ -87,11 +83,11 @@ Leads m cs ns k = (m.taken ++ filter_map sent_in cs ≡ k.taken) × (m.ended ++ 
     × (length (filter_map acked_in ns) + m.acked ≡ k.acked)
     × Staged m.stage (length (filter_map opened_in ns)) (length (filter_map closed_in ns)) k.stage
 
-leads-asked : (c : Option Call) (m k : Known) (cs : List Call) (ns : List Notice) → MayAsk c m → Leads (asked c m) cs ns k →
+leads-asked : (c : Option Call) (m k : Known) (cs : List Call) (ns : List Notice) → Leads (asked c m) cs ns k →
     Leads m (cons_option c cs) ns k
-leads-asked (Some (Sends t)) m k cs ns may h = (sym (append_assoc m.taken (t ∷ []) (filter_map sent_in cs)) ∙ h.0, h.1, h.2, h.3)
-leads-asked (Some Closes) m k cs ns may h = (h.0, h.1, h.2, (omega arith, omega arith, λ e. omega arith))
-leads-asked call m k cs ns may h = h
+leads-asked (Some (Sends t)) m k cs ns h = (sym (append_assoc m.taken (t ∷ []) (filter_map sent_in cs)) ∙ h.0, h.1, h.2, h.3)
+leads-asked (Some Closes) m k cs ns h = (h.0, h.1, h.2, (omega arith, omega arith, λ e. omega (arith, h.3.2 e)))
+leads-asked call m k cs ns h = h
 
 leads-told : (n : Option Notice) (m k : Known) (cs : List Call) (ns : List Notice) → MayTell n m → Leads (told n m) cs ns k →
     Leads m cs (cons_option n ns) k
@@ -106,39 +102,38 @@ module _ (r : Role) (s : Sapi) where
   -- so do these lines, of which an end reads its own
   abbrev pub Runs : Known → List Line → Known → Type 0
   Runs m [] k = k ≡ m
-  Runs m (l ∷ ls) k = MayAsk (call_in r s l) m × MayTell (notice_in r s l) (asked (call_in r s l) m)
-      × Runs (told (notice_in r s l) (asked (call_in r s l) m)) ls k
+  Runs m (l ∷ ls) k = (let j : Known = asked (call_in r s l) m in MayTell (notice_in r s l) j × Runs (told (notice_in r s l) j) ls k)
 
   pub runs-append : (ls ms : List Line) (m j k : Known) → Runs m ls j → Runs j ms k → Runs m (ls ++ ms) k
   runs-append [] ms m j k h g = subst (λ (i : Known). Runs i ms k) h g
-  runs-append (l ∷ ls) ms m j k h g = (h.0, h.1, runs-append ls ms _ j k h.2 g)
+  runs-append (l ∷ ls) ms m j k h g = (h.0, runs-append ls ms _ j k h.1 g)
 
   runs-split : (ls ms : List Line) (m k : Known) → Runs m (ls ++ ms) k → (j : Known) × Runs m ls j × Runs j ms k
   runs-split [] ms m k h = (m, refl, h)
-  runs-split (l ∷ ls) ms m k h = let g = runs-split ls ms _ k h.2 in (g.0, (h.0, h.1, g.1), g.2)
+  runs-split (l ∷ ls) ms m k h = let g = runs-split ls ms _ k h.1 in (g.0, (h.0, g.1), g.2)
 
   pub runs-told : (ns : List Notice) (m k : Known) → Tells m ns k → Runs m (map (Told r s) ns) k
   runs-told [] m k h = h
-  runs-told (n ∷ ns) m k h = rw (is_end-self r s) (tt, h.0, runs-told ns (told (Some n) m) k h.1)
+  runs-told (n ∷ ns) m k h = rw (is_end-self r s) (h.0, runs-told ns (told (Some n) m) k h.1)
 
   pub runs-else : (r' : Role) (s' : Sapi) → is_end r s r' s' ≡ false → (cs : List Call) (ns : List Notice) (m : Known) →
       Runs m (said r' s' cs ns) m
   runs-else r' s' e [] [] m = refl
-  runs-else r' s' e [] (n ∷ ns) m = rw e (tt, tt, runs-else r' s' e [] ns m)
-  runs-else r' s' e (c ∷ cs) ns m = rw e (tt, tt, runs-else r' s' e cs ns m)
+  runs-else r' s' e [] (n ∷ ns) m = rw e (tt, runs-else r' s' e [] ns m)
+  runs-else r' s' e (c ∷ cs) ns m = rw e (tt, runs-else r' s' e cs ns m)
 
   leads : (ls : List Line) (m k : Known) → Runs m ls k → Leads m (calls r s ls) (notices r s ls) k
   leads [] m k h = rw h (append-nil m.taken, append-nil m.ended, omega arith, (omega arith, omega arith, λ e. omega arith))
-  leads (l ∷ ls) m k h = leads-asked (call_in r s l) m k (calls r s ls) (notices r s (l ∷ ls)) h.0
-      (leads-told (notice_in r s l) (asked (call_in r s l) m) k (calls r s ls) (notices r s ls) h.1 (leads ls _ k h.2))
+  leads (l ∷ ls) m k h = leads-asked (call_in r s l) m k (calls r s ls) (notices r s (l ∷ ls))
+      (leads-told (notice_in r s l) (asked (call_in r s l) m) k (calls r s ls) (notices r s ls) h.0 (leads ls _ k h.1))
 
   -- where the link is open at the end, it was not beyond at any line
   pub before_open : (ls : List Line) (m k : Known) → Runs m ls k → k.stage ≡ 1 → (l : Line) → Contains ls l →
       (j : Known) × ((told (notice_in r s l) (asked (call_in r s l) j)).stage ≤ 1)
   before_open [] m k h now l c = absurd (omega (arith, c.1))
   before_open (x ∷ ls) m k h now l (zero, low, is) =
-      (m, subst (λ (y : Line). (told (notice_in r s y) (asked (call_in r s y) m)).stage ≤ 1) is (omega (arith, (leads ls _ k h.2).3.2 now)))
-  before_open (x ∷ ls) m k h now l (suc i, low, is) = before_open ls _ k h.2 now l (i, omega (arith, low), is)
+      (m, subst (λ (y : Line). (told (notice_in r s y) (asked (call_in r s y) m)).stage ≤ 1) is (omega (arith, (leads ls _ k h.1).3.2 now)))
+  before_open (x ∷ ls) m k h now l (suc i, low, is) = before_open ls _ k h.1 now l (i, omega (arith, low), is)
 
   -- what the lines of an end tell of it
   pub record IsTold (ls : List Line) (m : Known) : Type 0 where
@@ -164,4 +159,4 @@ module _ (r : Role) (s : Sapi) where
       (j : Known) × Runs nothing before j × MayTell (Some n) j
   at_place ls k h before n place =
       let g = runs-split before (Told r s n ∷ place.0) nothing k (subst (λ (xs : List Line). Runs nothing xs k) (sym place.1) h) in
-      (g.0, g.1, rw (is_end-self r s) at g.2.1)
+      (g.0, g.1, rw (is_end-self r s) at g.2.0)
