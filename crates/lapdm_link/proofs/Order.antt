@@ -11,13 +11,13 @@ use Rattle.lapdm_window.specs.Ends.{Role, EndState, Outcome, KeepsWindow, capped
 use Rattle.lapdm_window.specs.Calls.{Call, Closes, after_call}
 use Rattle.lapdm_window.specs.Tables.{after_frame}
 use Rattle.lapdm_window.specs.Steps.{IsSameLink}
-use Rattle.lapdm_link.specs.Claims.{Line, Asked, StandsAfter, Told, answer_lines, lines, sent, acked, IsOfOpenEnd, IsOpenEnd, OrderClaims}
+use Rattle.lapdm_link.specs.Claims.{Line, Asked, StandsAfter, Told, call_in, notice_in, answer_lines, lines, sent, acked, IsOfOpenEnd, IsOpenEnd, OrderClaims}
 use Rattle.lapdm_link.specs.Events.{Event, Deliver, Why, other}
 use Rattle.lapdm_link.specs.Worlds.{World, start_on, refusal, answer, after, answers}
-use Rattle.lapdm_link.proofs.Told.{Known, known, nothing, MayTell, Runs, runs-append, runs-told, runs-else, before_open, IsTold, is_told, at_place}
+use Rattle.lapdm_link.proofs.Told.{Known, known, nothing, MayTell, goes-append, Runs, runs-told, runs-else, IsTold, is_told, at_place, none_beyond}
 use Rattle.lapdm_link.proofs.Taking.{taken-frame}
 use Rattle.lapdm_link.proofs.Asked.{is_called}
-use Rattle.lapdm_link.proofs.Views.{is_end-self, end_of, without_first, acted, said, each_end, each_start, end_does, end_does-else}
+use Rattle.lapdm_link.proofs.Views.{is_end-self, end_of, without_first, acted, said, each_acted, each_start}
 use Rattle.lapdm_link.proofs.ByKind.{KnowsBy, by_kind}
 
 -- ---- what holds of each line by the lines before it
@@ -63,7 +63,7 @@ module _ {r : Role} {s : Sapi} {e : EndState} {ls : List Line} (h : IsReported r
   goes_on : (z : EndState) (new : List Line) → IsSameLink e z → KeepsWindow z → Runs r s (known e) new (known z) →
       IsReported r s z (ls ++ new)
   goes_on z new link end run =
-      let whole : Runs r s nothing (ls ++ new) (known z) = runs-append r s ls new nothing (known e) (known z) h.run run in
+      let whole : Runs r s nothing (ls ++ new) (known z) = goes-append (call_in r s) (notice_in r s) ls new nothing (known e) (known z) h.run run in
       record {
         role = link.role ∙ h.role;
         sapi = link.sapi ∙ h.sapi;
@@ -94,23 +94,19 @@ module _ {r : Role} {s : Sapi} {e : EndState} {ls : List Line} (h : IsReported r
   inside n before of place =
       let g = at_place r s ls (known e) h.run before n place in
       let now : g.0.stage ≡ 1 = of_open g.0 n of g.2 in
-      let past = before_open r s before nothing g.0 g.1 now in
+      let past = none_beyond r s before g.0 g.1 now in
       record {
         opened = (is_told r s before g.0 g.1).is_open now;
         closed = λ reason c. (let low = rw (is_end-self r s) at (past (Told r s (N.Closed reason)) c).1 in absurd (omega arith));
         asked = λ c. (let low = rw (is_end-self r s) at (past (Asked r s Closes) c).1 in absurd (omega arith));
       }
 
-module _ (w : World) (ls : List Line) (h : AllReported w ls) where
-  -- an end acts
-  acts : (r : Role) (s : Sapi) (cs : List Call) (o : Outcome) → IsSameLink (end_of r s w) o.after → KeepsWindow o.after →
-      Runs r s (known (end_of r s w)) (said r s cs o.notices) (known o.after) → AllReported (acted r s o w) (ls ++ said r s cs o.notices)
-  acts r s cs o link end run =
-      let new : List Line = said r s cs o.notices in
-      each_end (λ r' s'. IsReported r' s' (end_of r' s' (acted r s o w)) (ls ++ new)) r s
-      (subst (λ (z : EndState). IsReported r s z (ls ++ new)) (sym (end_does r s o w)) (goes_on (h r s) o.after new link end run))
-      (λ r' s' n. subst (λ (z : EndState). IsReported r' s' z (ls ++ new)) (sym (end_does-else r s o w r' s' n))
-      (unseen (h r' s') new (runs-else r' s' r s n cs o.notices (known (end_of r' s' w)))))
+acts : (w : World) (ls : List Line) → AllReported w ls → (r : Role) (s : Sapi) (cs : List Call) (o : Outcome) →
+    IsSameLink (end_of r s w) o.after → KeepsWindow o.after → Runs r s (known (end_of r s w)) (said r s cs o.notices) (known o.after) →
+    AllReported (acted r s o w) (ls ++ said r s cs o.notices)
+acts w ls h r s cs o link end run = each_acted (λ r' s' e. IsReported r' s' e (ls ++ said r s cs o.notices)) r s o w
+    (goes_on (h r s) o.after (said r s cs o.notices) link end run)
+    (λ r' s' n. unseen (h r' s') (said r s cs o.notices) (runs-else r' s' r s n cs o.notices (known (end_of r' s' w))))
 
 any_frame : (o : Option Why) (event : Event) → KnowsBy o (λ r f. Unit {0}) event
 any_frame None (Deliver sender (Some f)) = tt

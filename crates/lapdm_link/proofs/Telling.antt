@@ -17,7 +17,7 @@ use Rattle.lapdm_window.specs.Rules.{waiting_frame, has_next, sends_piece, sends
 use Rattle.lapdm_window.proofs.Lemmas.{wholly_acked-more, wholly_acked-last, wholly_acked-most, KeepsWindow-acked, three_bits, waits_within}
 use Rattle.lapdm_link.specs.Claims.{unit_got_in, opened_in}
 use Rattle.lapdm_link.proofs.Queues.{AllFrames, frames-append}
-use Rattle.lapdm_link.proofs.Told.{stage_of, Known, known, Tells, tells-append}
+use Rattle.lapdm_link.proofs.Told.{stage_of, Known, known, goes-append, Tells}
 
 -- numbers have three bits, and an I frame carries one of these pieces
 abbrev pub SaysWell : List Piece → Content → Type 0
@@ -55,7 +55,7 @@ in-then {first} {rule} stays_first stays x is_now e =
       same = g.same ∙ h.same;
       frames = frames-append (SaysWell (all_pieces x)) x.sapi o.frames p.frames h.frames
           (subst (λ (z : EndState). AllFrames (SaysWell (all_pieces z)) z.sapi p.frames) h.same g.frames);
-      tells = tells-append o.notices p.notices (known x) (known o.after) (known p.after) h.tells g.tells;
+      tells = goes-append (λ n. None) (λ n. Some n) o.notices p.notices (known x) (known o.after) (known p.after) h.tells g.tells;
       of_open = (
         filter_map-append unit_got_in o.notices p.notices ∙ rw (h.of_open.0, g.of_open.0) refl,
         filter_map-append opened_in o.notices p.notices ∙ rw (h.of_open.1, g.of_open.1) refl,

@@ -58,15 +58,6 @@ told (Some (N.Got t)) m = record m { ended = m.ended ++ Some t ∷ [] }
 told (Some N.Oversize) m = record m { ended = m.ended ++ None ∷ [] }
 told other m = m
 
--- these notices lead from what is known to that
-abbrev pub Tells : Known → List Notice → Known → Type 0
-Tells m [] k = k ≡ m
-Tells m (n ∷ ns) k = MayTell (Some n) m × Tells (told (Some n) m) ns k
-
-pub tells-append : (ns ms : List Notice) (m j k : Known) → Tells m ns j → Tells j ms k → Tells m (ns ++ ms) k
-tells-append [] ms m j k h g = subst (λ (i : Known). Tells i ms k) h g
-tells-append (n ∷ ns) ms m j k h g = (h.0, tells-append ns ms (told (Some n) m) j k h.1 g)
-
 -- what a notice says that accepted pieces end: a message, or none where it is oversize
 abbrev pub ending_in : Notice → Option (Option Message)
 ending_in (N.Got m) = Some (Some m)
@@ -98,19 +89,40 @@ leads-told (Some (N.Got t)) m k cs ns may h = (h.0, sym (append_assoc m.ended (S
 leads-told (Some N.Oversize) m k cs ns may h = (h.0, sym (append_assoc m.ended (None ∷ []) (filter_map ending_in ns)) ∙ h.1, h.2, h.3)
 leads-told other m k cs ns may h = h
 
+-- what is read in turn, a call or a notice or neither, leads from what is known to that
+module _ {A : Type 0} (call : A → Option Call) (notice : A → Option Notice) where
+  abbrev pub Goes : Known → List A → Known → Type 0
+  Goes m [] k = k ≡ m
+  Goes m (x ∷ xs) k = (let j : Known = asked (call x) m in MayTell (notice x) j × Goes (told (notice x) j) xs k)
+
+  pub goes-append : (xs ys : List A) (m j k : Known) → Goes m xs j → Goes j ys k → Goes m (xs ++ ys) k
+  goes-append [] ys m j k h g = subst (λ (i : Known). Goes i ys k) h g
+  goes-append (x ∷ xs) ys m j k h g = (h.0, goes-append xs ys _ j k h.1 g)
+
+  goes-split : (xs ys : List A) (m k : Known) → Goes m (xs ++ ys) k → (j : Known) × Goes m xs j × Goes j ys k
+  goes-split [] ys m k h = (m, refl, h)
+  goes-split (x ∷ xs) ys m k h = let g = goes-split xs ys _ k h.1 in (g.0, (h.0, g.1), g.2)
+
+  leads : (xs : List A) (m k : Known) → Goes m xs k → Leads m (filter_map call xs) (filter_map notice xs) k
+  leads [] m k h = rw h (append-nil m.taken, append-nil m.ended, omega arith, (omega arith, omega arith, λ e. omega arith))
+  leads (x ∷ xs) m k h = leads-asked (call x) m k (filter_map call xs) (filter_map notice (x ∷ xs))
+      (leads-told (notice x) (asked (call x) m) k (filter_map call xs) (filter_map notice xs) h.0 (leads xs _ k h.1))
+
+  -- where the link is open at the end, it was not beyond at any of these
+  before_open : (xs : List A) (m k : Known) → Goes m xs k → k.stage ≡ 1 → (y : A) → Contains xs y →
+      (j : Known) × ((told (notice y) (asked (call y) j)).stage ≤ 1)
+  before_open [] m k h now y c = absurd (omega (arith, c.1))
+  before_open (x ∷ xs) m k h now y (zero, low, is) =
+      (m, subst (λ (z : A). (told (notice z) (asked (call z) m)).stage ≤ 1) is (omega (arith, (leads xs _ k h.1).3.2 now)))
+  before_open (x ∷ xs) m k h now y (suc i, low, is) = before_open xs _ k h.1 now y (i, omega (arith, low), is)
+
+-- notices, and the lines of which an end reads its own
+abbrev pub Tells : Known → List Notice → Known → Type 0
+Tells = Goes (λ n. None) (λ n. Some n)
+
 module _ (r : Role) (s : Sapi) where
-  -- so do these lines, of which an end reads its own
   abbrev pub Runs : Known → List Line → Known → Type 0
-  Runs m [] k = k ≡ m
-  Runs m (l ∷ ls) k = (let j : Known = asked (call_in r s l) m in MayTell (notice_in r s l) j × Runs (told (notice_in r s l) j) ls k)
-
-  pub runs-append : (ls ms : List Line) (m j k : Known) → Runs m ls j → Runs j ms k → Runs m (ls ++ ms) k
-  runs-append [] ms m j k h g = subst (λ (i : Known). Runs i ms k) h g
-  runs-append (l ∷ ls) ms m j k h g = (h.0, runs-append ls ms _ j k h.1 g)
-
-  runs-split : (ls ms : List Line) (m k : Known) → Runs m (ls ++ ms) k → (j : Known) × Runs m ls j × Runs j ms k
-  runs-split [] ms m k h = (m, refl, h)
-  runs-split (l ∷ ls) ms m k h = let g = runs-split ls ms _ k h.1 in (g.0, (h.0, g.1), g.2)
+  Runs = Goes (call_in r s) (notice_in r s)
 
   pub runs-told : (ns : List Notice) (m k : Known) → Tells m ns k → Runs m (map (Told r s) ns) k
   runs-told [] m k h = h
@@ -122,19 +134,6 @@ module _ (r : Role) (s : Sapi) where
   runs-else r' s' e [] (n ∷ ns) m = rw e (tt, runs-else r' s' e [] ns m)
   runs-else r' s' e (c ∷ cs) ns m = rw e (tt, runs-else r' s' e cs ns m)
 
-  leads : (ls : List Line) (m k : Known) → Runs m ls k → Leads m (calls r s ls) (notices r s ls) k
-  leads [] m k h = rw h (append-nil m.taken, append-nil m.ended, omega arith, (omega arith, omega arith, λ e. omega arith))
-  leads (l ∷ ls) m k h = leads-asked (call_in r s l) m k (calls r s ls) (notices r s (l ∷ ls))
-      (leads-told (notice_in r s l) (asked (call_in r s l) m) k (calls r s ls) (notices r s ls) h.0 (leads ls _ k h.1))
-
-  -- where the link is open at the end, it was not beyond at any line
-  pub before_open : (ls : List Line) (m k : Known) → Runs m ls k → k.stage ≡ 1 → (l : Line) → Contains ls l →
-      (j : Known) × ((told (notice_in r s l) (asked (call_in r s l) j)).stage ≤ 1)
-  before_open [] m k h now l c = absurd (omega (arith, c.1))
-  before_open (x ∷ ls) m k h now l (zero, low, is) =
-      (m, subst (λ (y : Line). (told (notice_in r s y) (asked (call_in r s y) m)).stage ≤ 1) is (omega (arith, (leads ls _ k h.1).3.2 now)))
-  before_open (x ∷ ls) m k h now l (suc i, low, is) = before_open ls _ k h.1 now l (i, omega (arith, low), is)
-
   -- what the lines of an end tell of it
   pub record IsTold (ls : List Line) (m : Known) : Type 0 where
     pub taken : sent r s ls ≡ m.taken
@@ -144,19 +143,23 @@ module _ (r : Role) (s : Sapi) where
     pub opened : length (opened r s ls) ≤ 1
     pub closed : length (closed r s ls) ≤ 1
 
-  pub is_told : (ls : List Line) (m : Known) → Runs nothing ls m → IsTold ls m
-  is_told ls m h = let g = leads ls nothing m h in record {
-    taken = g.0;
-    got = g.1;
-    acked = omega (arith, g.2);
-    opened = omega (arith, g.3.0);
-    closed = omega (arith, g.3.1);
-    is_open = λ e. omega (arith, g.3.2 e);
-  }
+  module _ (ls : List Line) (m : Known) (run : Runs nothing ls m) where
+    pub is_told : IsTold ls m
+    is_told = let g = leads (call_in r s) (notice_in r s) ls nothing m run in record {
+      taken = g.0;
+      got = g.1;
+      acked = omega (arith, g.2);
+      is_open = λ e. omega (arith, g.3.2 e);
+      opened = omega (arith, g.3.0);
+      closed = omega (arith, g.3.1);
+    }
 
-  -- a notice at its place
-  pub at_place : (ls : List Line) (k : Known) → Runs nothing ls k → (before : List Line) (n : Notice) → StandsAfter before (Told r s n) ls →
-      (j : Known) × Runs nothing before j × MayTell (Some n) j
-  at_place ls k h before n place =
-      let g = runs-split before (Told r s n ∷ place.0) nothing k (subst (λ (xs : List Line). Runs nothing xs k) (sym place.1) h) in
-      (g.0, g.1, rw (is_end-self r s) at g.2.0)
+    -- a notice at its place
+    pub at_place : (before : List Line) (n : Notice) → StandsAfter before (Told r s n) ls →
+        (j : Known) × Runs nothing before j × MayTell (Some n) j
+    at_place before n place =
+        let g = goes-split (call_in r s) (notice_in r s) before (Told r s n ∷ place.0) nothing m (rw place.1 run) in
+        (g.0, g.1, rw (is_end-self r s) at g.2.0)
+
+    pub none_beyond : m.stage ≡ 1 → (l : Line) → Contains ls l → (j : Known) × ((told (notice_in r s l) (asked (call_in r s l) j)).stage ≤ 1)
+    none_beyond = before_open (call_in r s) (notice_in r s) ls nothing m run
