@@ -96,7 +96,7 @@ module _ {r : Role} {s : Sapi} {e : EndState} {ls : List Line} (h : IsReported r
       let now : g.0.stage ≡ 1 = of_open g.0 n of g.2 in
       let past = none_beyond r s before g.0 g.1 now in
       record {
-        opened = (is_told r s before g.0 g.1).is_open now;
+        opened = omega (arith, (is_told r s before g.0 g.1).staged.2 now);
         closed = λ reason c. (let low = rw (is_end-self r s) at (past (Told r s (N.Closed reason)) c).1 in absurd (omega arith));
         asked = λ c. (let low = rw (is_end-self r s) at (past (Asked r s Closes) c).1 in absurd (omega arith));
       }
@@ -147,7 +147,7 @@ order_claims channel events =
     let run = in_order-run events (start_on channel) [] (start-reported channel) in
     record {
       acknowledged = λ r s n before place. acknowledged (run.1 r s) n before place;
-      opened_once = λ r s. (run.1 r s).told.opened;
-      closed_once = λ r s. (run.1 r s).told.closed;
+      opened_once = λ r s. omega (arith, (run.1 r s).told.staged.0);
+      closed_once = λ r s. omega (arith, (run.1 r s).told.staged.1);
       inside = λ r s n before of place. inside (run.1 r s) n before of place;
     }

@@ -1,5 +1,5 @@
 -- Every harmless session: one event after another.
-use Rattle.std.proofs.Common.{◌≡◌, sym, subst, List, [], ◌∷◌, ◌++◌, Some, append_assoc, ◌≤◌, length}
+use Rattle.std.proofs.Common.{◌≡◌, sym, subst, List, [], ◌∷◌, ◌++◌, Some, append_assoc, arith, ◌≤◌, length}
 use Rattle.std.proofs.lemmas.List.{append-nil}
 use Rattle.lapdm_frame.specs.declared.Channel.{Channel}
 use Rattle.lapdm_window.specs.declared.Sapi.{Sapi}
@@ -99,7 +99,7 @@ session-claims w ls h = record {
       ((acknowledged (h.reported r s) n before place).0, stands IsAfterGot ls before (Told r s (N.Acked n)) h.after_got place);
   units = λ r s. sub-front (units_got (other r) s ls) (units_on s (way r w)) _ (h.units r s);
   cause = λ r s info before place. stands IsOpenedAfter ls before (Told r s (N.Opened info)) h.after_cause place;
-  once = λ r s. (h.reported r s).told.opened;
+  once = λ r s. omega (arith, (h.reported r s).told.staged.0);
   no_oversize = λ r s before place. none_oversize w ls h.reported h.carried (other r) s before
       (subst (λ (q : Role). (more : List Line) × (before ++ Told q s N.Oversize ∷ more ≡ ls)) (sym (other_twice r)) place);
 }

@@ -116,12 +116,6 @@ in-answers_piece true = in-then (in-says_rr true) in-sends_next
 in-answers_piece false = λ x is_now e. in-if (has_next x) (in-sends_piece x e) (in-says_rr false x is_now e)
 
 -- an N(R) is counted
-acknowledges_next : (x : EndState) (nr : ℕ) → KeepsWindow x → acknowledges nr x ≡ true → x.sent ≡ x.acked + 1
-acknowledges_next x nr h acks =
-    let low : x.acked ≤ x.sent = h.behind in
-    let high : x.sent ≤ x.acked + 1 = h.window in
-    grind (arith, nat_tests)
-
 reports-acked : (more : Bool) (x : EndState) → x.state ≡ Open → KeepsWindow x → (next_piece x).1 ≡ more → x.sent ≡ x.acked + 1 →
     InOpen x (reports_acked more x)
 reports-acked true x is_now e is one = openly x x.sent x.sent x.accepted x.rejecting 0 [] [] (KeepsWindow-acked x e) tt
@@ -134,7 +128,7 @@ reports-acked false x is_now e is one =
 
 in-counts : (nr : ℕ) → Stays (counts nr)
 in-counts nr x is_now e = in-if (acknowledges nr x)
-    (λ acks. reports-acked (next_piece x).1 x is_now e refl (acknowledges_next x nr e acks)) (in-stays x is_now e)
+    (λ acks. reports-acked (next_piece x).1 x is_now e refl (grind (arith, nat_tests, acks, e.behind, e.window))) (in-stays x is_now e)
 
 -- a piece is accepted
 one_more : (ps : List Piece) (p : Piece) →

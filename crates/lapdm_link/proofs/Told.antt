@@ -12,7 +12,7 @@ use Rattle.lapdm_window.specs.declared.Notice.{Notice}
 use Rattle.lapdm_window.specs.declared.Notice.TheVariants as N
 use Rattle.lapdm_window.specs.Ends.{Role, EndState, wholly_acked, capped}
 use Rattle.lapdm_window.specs.Calls.{Call, Sends, Closes}
-use Rattle.lapdm_link.specs.Claims.{Line, Told, StandsAfter, sent_in, acked_in, opened_in, closed_in, call_in, notice_in, calls, notices, sent, acked, opened, closed}
+use Rattle.lapdm_link.specs.Claims.{Line, Told, StandsAfter, sent_in, acked_in, opened_in, closed_in, call_in, notice_in, notices, sent, acked, opened, closed}
 use Rattle.lapdm_link.proofs.Views.{is_end, is_end-self, said}
 
 -- not open yet, open, closing, over
@@ -65,7 +65,7 @@ ending_in N.Oversize = Some None
 ending_in other = None
 
 -- so often opened and closed between two stages
-abbrev Staged : ℕ → ℕ → ℕ → ℕ → Type 0
+abbrev pub Staged : ℕ → ℕ → ℕ → ℕ → Type 0
 Staged p o c q = (o + min 1 p ≤ 1) × (c + min 1 (p - 2) ≤ 1) × (q ≡ 1 → p + o ≡ 1)
 
 -- these calls and notices are what leads from what is known to that
@@ -139,20 +139,12 @@ module _ (r : Role) (s : Sapi) where
     pub taken : sent r s ls ≡ m.taken
     pub got : filter_map ending_in (notices r s ls) ≡ m.ended
     pub acked : length (acked r s ls) ≡ m.acked
-    pub is_open : m.stage ≡ 1 → length (opened r s ls) ≡ 1
-    pub opened : length (opened r s ls) ≤ 1
-    pub closed : length (closed r s ls) ≤ 1
+    pub staged : Staged 0 (length (opened r s ls)) (length (closed r s ls)) m.stage
 
   module _ (ls : List Line) (m : Known) (run : Runs nothing ls m) where
     pub is_told : IsTold ls m
-    is_told = let g = leads (call_in r s) (notice_in r s) ls nothing m run in record {
-      taken = g.0;
-      got = g.1;
-      acked = omega (arith, g.2);
-      is_open = λ e. omega (arith, g.3.2 e);
-      opened = omega (arith, g.3.0);
-      closed = omega (arith, g.3.1);
-    }
+    is_told = let g = leads (call_in r s) (notice_in r s) ls nothing m run in
+        record { taken = g.0; got = g.1; acked = omega (arith, g.2); staged = g.3 }
 
     -- a notice at its place
     pub at_place : (before : List Line) (n : Notice) → StandsAfter before (Told r s n) ls →
