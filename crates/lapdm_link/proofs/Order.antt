@@ -17,7 +17,7 @@ use Rattle.lapdm_link.specs.Worlds.{World, start_on, refusal, answer, after, ans
 use Rattle.lapdm_link.proofs.Told.{Known, known, nothing, MayTell, goes-append, Runs, runs-told, runs-else, IsTold, is_told, at_place, none_beyond}
 use Rattle.lapdm_link.proofs.Taking.{taken-frame}
 use Rattle.lapdm_link.proofs.Asked.{is_called}
-use Rattle.lapdm_link.proofs.Views.{is_end-self, end_of, without_first, acted, said, each_acted, each_start}
+use Rattle.lapdm_link.proofs.Views.{is_end-self, end_of, without_first, acted, said, each_end, each_start, end_does, end_does-else}
 use Rattle.lapdm_link.proofs.ByKind.{KnowsBy, by_kind}
 
 -- ---- what holds of each line by the lines before it
@@ -104,9 +104,11 @@ module _ {r : Role} {s : Sapi} {e : EndState} {ls : List Line} (h : IsReported r
 acts : (w : World) (ls : List Line) → AllReported w ls → (r : Role) (s : Sapi) (cs : List Call) (o : Outcome) →
     IsSameLink (end_of r s w) o.after → KeepsWindow o.after → Runs r s (known (end_of r s w)) (said r s cs o.notices) (known o.after) →
     AllReported (acted r s o w) (ls ++ said r s cs o.notices)
-acts w ls h r s cs o link end run = each_acted (λ r' s' e. IsReported r' s' e (ls ++ said r s cs o.notices)) r s o w
-    (goes_on (h r s) o.after (said r s cs o.notices) link end run)
-    (λ r' s' n. unseen (h r' s') (said r s cs o.notices) (runs-else r' s' r s n cs o.notices (known (end_of r' s' w))))
+acts w ls h r s cs o link end run =
+    let new : List Line = said r s cs o.notices in
+    each_end (λ r' s'. IsReported r' s' (end_of r' s' (acted r s o w)) (ls ++ new)) r s
+    (rw (end_does r s o w) (goes_on (h r s) o.after new link end run))
+    (λ r' s' n. rw (end_does-else r s o w r' s' n) (unseen (h r' s') new (runs-else r' s' r s n cs o.notices (known (end_of r' s' w)))))
 
 any_frame : (o : Option Why) (event : Event) → KnowsBy o (λ r f. Unit {0}) event
 any_frame None (Deliver sender (Some f)) = tt
@@ -115,7 +117,7 @@ any_frame o event = tt
 pub in_order-step : (w : World) (ls : List Line) (event : Event) → AllReported w ls →
     AllReported (after event w) (ls ++ answer_lines event (answer event w))
 in_order-step w ls event h =
-    by_kind w (λ z new. AllReported z (ls ++ new)) (λ r f. Unit {0}) (λ r s. unseen (h r s) [] refl)
+    by_kind w (λ z new. AllReported z (ls ++ new)) (λ r f. Unit {0}) (rw append-nil h)
     (λ r s call placed ok.
     (let c = is_called (end_of r s w) (h r s).end call ok in
     acts w ls h r s (call ∷ []) (after_call call (end_of r s w)) c.link c.end
@@ -123,15 +125,12 @@ in_order-step w ls event h =
     (λ r s f known.
     (let t = taken-frame (end_of r s w) (h r s).end f in
     acts (without_first (other r) w) ls h r s [] (after_frame f (end_of r s w)) t.link t.end (runs-told r s _ _ _ t.tells)))
-    (λ sender r s. unseen (h r s) [] refl) (λ info ok r s. unseen (h r s) _ (tt, refl)) event (any_frame (refusal event w) event)
+    (λ sender. rw append-nil h) (λ info ok r s. unseen (h r s) _ (tt, refl)) event (any_frame (refusal event w) event)
 
 in_order-run : (events : List Event) (w : World) (ls : List Line) → AllReported w ls →
     ((z : World) × AllReported z (ls ++ lines events (answers events w)))
-in_order-run [] w ls h = (w, λ r s. unseen (h r s) [] refl)
-in_order-run (event ∷ events) w ls h =
-    let new : List Line = answer_lines event (answer event w) in
-    let run = in_order-run events (after event w) (ls ++ new) (in_order-step w ls event h) in
-    (run.0, subst (AllReported run.0) (append_assoc ls new (lines events (answers events (after event w)))) run.1)
+in_order-run [] w ls h = (w, rw append-nil h)
+in_order-run (event ∷ events) w ls h = rw (← append_assoc) (in_order-run events (after event w) _ (in_order-step w ls event h))
 
 pub start-reported : (channel : Channel) → AllReported (start_on channel) []
 start-reported channel = each_start (λ r s e. IsReported r s e []) channel (λ r s. record {

@@ -74,18 +74,6 @@ each_start P channel h Mobile Three = h Mobile Three
 each_start P channel h Network Zero = h Network Zero
 each_start P channel h Network Three = h Network Three
 
--- what holds of an end after what it did, and of each other end as it was, holds of all
-pub each_acted : (P : Role → Sapi → EndState → Type 0) (r : Role) (s : Sapi) (o : Outcome) (w : World) → P r s o.after →
-    ((r' : Role) (s' : Sapi) → is_end r' s' r s ≡ false → P r' s' (end_of r' s' w)) → (r' : Role) (s' : Sapi) →
-    P r' s' (end_of r' s' (acted r s o w))
-each_acted P Mobile Zero o w h g Mobile Zero = h
-each_acted P Mobile Three o w h g Mobile Three = h
-each_acted P Network Zero o w h g Network Zero = h
-each_acted P Network Three o w h g Network Three = h
-each_acted P Mobile s o w h g Network Zero = g Network Zero refl
-each_acted P Network s o w h g Mobile Zero = g Mobile Zero refl
-each_acted P r s o w h g r' s' = g r' s' refl
-
 -- after what an end did
 pub end_does : (r : Role) (s : Sapi) (o : Outcome) (w : World) → end_of r s (acted r s o w) ≡ o.after
 end_does Mobile Zero o w = refl
