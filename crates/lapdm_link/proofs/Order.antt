@@ -1,5 +1,5 @@
 -- The claims on every session, whatever frames arrive.
-use Rattle.std.proofs.Common.{sym, subst, List, [], ◌∷◌, ◌++◌, map, append_assoc, ◌≡◌, refl, ◌∙◌, ap, arith, ℕ, ◌+◌, ◌≤◌, length, Option, Some, None}
+use Rattle.std.proofs.Common.{sym, List, [], ◌∷◌, ◌++◌, map, append_assoc, ◌≡◌, refl, ◌∙◌, ap, arith, ℕ, ◌+◌, ◌≤◌, length, Option, Some, None}
 use Rattle.std.proofs.lemmas.List.{append-nil}
 use Rattle.std.proofs.lemmas.List.Elements.{All-nil}
 use Rattle.lapdm_frame.specs.declared.Channel.{Channel}

@@ -172,20 +172,13 @@ module _ (x : EndState) (w : KeepsWindow x) where
       (inr (record { info = info; notices = refl; state = refl; kept = e; cause = cause })) (inl refl)
 
   -- the tables
-  live : (s : State) → x.state ≡ s → stage_of s ≤ 2 → stage_of x.state ≤ 2
-  live s e h = omega (arith, ap stage_of e)
-
-  begun : (s : State) → x.state ≡ s → HasBegun s → HasBegun x.state
-  begun s e h = subst HasBegun (sym e) h
-
   taken-sabm_in_idle : (p : Bool) (s : Sapi) (r : Role) (info : Message) → x.state ≡ Idle → x.sapi ≡ s → x.role ≡ r →
       IsTaken (Sabm p info) x (sabm_in_idle s r info x)
   taken-sabm_in_idle p Zero Mobile info e a b = quietly _ _ (inl refl, tt, tt)
   taken-sabm_in_idle p Zero Network [] e a b = quietly _ _ tt
   taken-sabm_in_idle p Zero Network (i ∷ is) e a b = opened _ (i ∷ is) (i ∷ is) _ (ap stage_of e) refl (inl refl, inl (refl, refl), tt)
-      (refl, e, subst (λ (s : Sapi). MayOpen s x.role (i ∷ is)) (sym a) (subst (λ (r : Role). MayOpen Zero r (i ∷ is)) (sym b) tt))
-  taken-sabm_in_idle p Three r [] e a b = opened _ [] [] _ (ap stage_of e) refl (inl refl, inl (refl, refl), tt)
-      (refl, e, subst (λ (s : Sapi). MayOpen s x.role []) (sym a) tt)
+      (refl, e, rw (a, b) tt)
+  taken-sabm_in_idle p Three r [] e a b = opened _ [] [] _ (ap stage_of e) refl (inl refl, inl (refl, refl), tt) (refl, e, rw a tt)
   taken-sabm_in_idle p Three r (i ∷ is) e a b = quietly _ _ tt
 
   taken-dm_to_poll : (poll : Bool) (c : Content) → IsTaken c x (dm_to_poll poll x)
@@ -198,7 +191,7 @@ module _ (x : EndState) (w : KeepsWindow x) where
   taken-in_idle poll other e = taken-dm_to_poll poll other
 
   taken-sabm_in_opening : (p : Bool) (s : Sapi) (info : Message) → x.state ≡ Opening → IsTaken (Sabm p info) x (sabm_in_opening s info x)
-  taken-sabm_in_opening p Three [] e = quietly _ _ (inl refl, inr (refl, begun Opening e tt), tt)
+  taken-sabm_in_opening p Three [] e = quietly _ _ (inl refl, inr (refl, rw e tt), tt)
   taken-sabm_in_opening p s info e = quietly _ _ tt
 
   taken-ua_in_opening : (s : Sapi) (same : Bool) (info : Message) → x.state ≡ Opening → bytes_eq info x.kept ≡ same →
@@ -206,13 +199,13 @@ module _ (x : EndState) (w : KeepsWindow x) where
   taken-ua_in_opening s true info e same =
       let as_kept : info ≡ x.kept = (bytes_eq-Decides info x.kept).0 same in
       opened _ x.kept info [] (ap stage_of e) (sym as_kept) tt (refl, e, as_kept)
-  taken-ua_in_opening Zero false info e same = over _ R.Contention [] (live Opening e (omega arith)) tt
+  taken-ua_in_opening Zero false info e same = over _ R.Contention [] (rw e (omega arith)) tt
   taken-ua_in_opening Three false info e same = quietly _ _ tt
 
   taken-in_opening : (c : Content) → x.state ≡ Opening → IsTaken c x (in_opening c x)
   taken-in_opening (Sabm p info) e = taken-sabm_in_opening p x.sapi info e
   taken-in_opening (Ua true info) e = taken-ua_in_opening x.sapi (bytes_eq info x.kept) info e refl
-  taken-in_opening (Dm true) e = over _ R.Refused [] (live Opening e (omega arith)) tt
+  taken-in_opening (Dm true) e = over _ R.Refused [] (rw e (omega arith)) tt
   taken-in_opening (Disc p) e = quietly _ _ (inl refl, tt, tt)
   taken-in_opening other e = quietly other _ tt
 
@@ -229,14 +222,14 @@ module _ (x : EndState) (w : KeepsWindow x) where
   taken-in_open cmd (Rej nr pf) e = openly _ x _ (in-takes_rej nr (cmd && pf) x e w)
       (λ n cr t y out comes here h. after-takes_rej _ nr (λ k. where-in _ _ here) h (cmd && pf))
   taken-in_open cmd (Sabm p info) e = taken-ua_if p (answers_sabm x.sapi x.role) (bytes_eq info x.kept) info e refl
-  taken-in_open cmd (Disc p) e = over _ R.Released _ (live Open e (omega arith)) (inl refl, inr (refl, begun Open e tt), tt)
-  taken-in_open cmd (Dm f) e = over _ R.Failed [] (live Open e (omega arith)) tt
+  taken-in_open cmd (Disc p) e = over _ R.Released _ (rw e (omega arith)) (inl refl, inr (refl, rw e tt), tt)
+  taken-in_open cmd (Dm f) e = over _ R.Failed [] (rw e (omega arith)) tt
   taken-in_open cmd other e = quietly other _ tt
 
   taken-in_closing : (c : Content) → x.state ≡ Closing → IsTaken c x (in_closing c x)
-  taken-in_closing (Ua true []) e = over _ R.Released [] (live Closing e (omega arith)) tt
-  taken-in_closing (Dm true) e = over _ R.Released [] (live Closing e (omega arith)) tt
-  taken-in_closing (Disc p) e = quietly _ _ (inl refl, inr (refl, begun Closing e tt), tt)
+  taken-in_closing (Ua true []) e = over _ R.Released [] (rw e (omega arith)) tt
+  taken-in_closing (Dm true) e = over _ R.Released [] (rw e (omega arith)) tt
+  taken-in_closing (Disc p) e = quietly _ _ (inl refl, inr (refl, rw e tt), tt)
   taken-in_closing other e = quietly other _ tt
 
   taken-in_closed : (poll : Bool) (c : Content) → IsTaken c x (in_closed poll c x)
