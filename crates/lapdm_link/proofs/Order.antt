@@ -147,7 +147,7 @@ pub in_order-step : (w : World) (ls : List Line) (event : Event) → AllReported
 in_order-step w ls event h =
     by_kind w (Follows ls) (λ r f. Unit {0}) (refused w ls h)
     (λ r s call placed ok. acts w ls h r s (call ∷ []) _ (is_called (end_of r s w) (h r s).end call ok).step)
-    (λ r s f known. acts (without_first (other r) w) ls h r s [] _ (taken-step f (end_of r s w) (h r s).end))
+    (λ r s f on known. acts (without_first (other r) w) ls h r s [] _ (taken-step f (end_of r s w) (h r s).end))
     (λ sender. refused (without_first sender w) ls h)
     (λ info ok. rival w ls h info) event (any_frame (refusal event w) event)
 
