@@ -13,11 +13,11 @@ use Rattle.lapdm_window.specs.declared.Sapi.{Sapi}
 use Rattle.lapdm_window.specs.declared.Notice.{Notice}
 use Rattle.lapdm_window.specs.declared.Notice.TheVariants as N
 use Rattle.lapdm_window.specs.Ends.{Role, EndState}
-use Rattle.lapdm_window.specs.Calls.{Call}
-use Rattle.lapdm_link.specs.Claims.{IsPrefix, got_in, acked_in, sent_in}
+use Rattle.lapdm_link.specs.Claims.{IsPrefix, Line, Told, StandsAfter, notices, got_in, got, acked, sent}
+use Rattle.lapdm_link.proofs.Views.{notices-at}
 use Rattle.lapdm_link.proofs.Directions.{climbs-le}
 use Rattle.lapdm_link.proofs.Keeping.{IsBoth, sends_plain}
-use Rattle.lapdm_link.proofs.Telling.{ending_in}
+use Rattle.lapdm_link.proofs.Told.{ending_in}
 use Rattle.lapdm_link.proofs.Order.{IsReported}
 use Rattle.lapdm_link.proofs.Links.{Side, Act, IsActed, called, took, rival, after, other_after}
 
@@ -75,22 +75,22 @@ got-messages (N.Got m ∷ ns) = ap (λ ms. m ∷ ms) (got-messages ns)
 got-messages (n ∷ ns) = got-messages ns
 
 -- of both ends of a link, in any state of a harmless session
-module _ {r q : Role} {s t : Sapi} {x y : EndState} {cs ds : List Call} {ns ms : List Notice} {out comes hears : List Content}
-    (here : IsReported r s x cs ns) (there : IsReported q t y ds ms) (both : IsBoth x y out comes hears) where
-  got_is : filter_map got_in ms ≡ messages y.accepted
-  got_is = got-messages ms ∙ ap (filter_map (λ x. x)) there.told.got
+module _ {r q : Role} {s : Sapi} {x y : EndState} {ls : List Line} {out comes hears : List Content} (here : IsReported r s x ls)
+    (there : IsReported q s y ls) (both : IsBoth x y out comes hears) where
+  got_is : got q s ls ≡ messages y.accepted
+  got_is = got-messages (notices q s ls) ∙ ap (filter_map (λ x. x)) there.told.got
 
-  pub got_in_order : IsPrefix (filter_map got_in ms) (filter_map sent_in cs)
+  pub got_in_order : IsPrefix (got q s ls) (sent r s ls)
   got_in_order = rw (got_is, here.told.taken) (prefix (n201 x.channel) x.taken here.end.messages _ y.accepted both.there.in_order)
 
-  pub acked_most : length (filter_map acked_in ns) ≤ length (filter_map got_in ms)
+  pub acked_most : length (acked r s ls) ≤ length (got q s ls)
   acked_most =
       let most = counted (n201 x.channel) x.taken here.end.messages _ y.accepted both.there.in_order x.acked
       (climbs-le both.there.acknowledged) in omega (arith, most, here.told.acked, ap length got_is)
 
-  pub none_oversize : (before more : List Notice) → before ++ N.Oversize ∷ more ≡ ms → ⊥
-  none_oversize before more e =
+  pub none_oversize : (before : List Line) → ¬ StandsAfter before (Told q s N.Oversize) ls
+  none_oversize before place =
       let all = begins (n201 x.channel) x.taken here.end.messages _ y.accepted both.there.in_order in
-      no_oversize (filter_map ending_in before) (filter_map ending_in more) all.0 x.taken
-      (ap (λ es. es ++ all.0) (sym (filter_map-append ending_in before (N.Oversize ∷ more)) ∙ ap (filter_map ending_in) e ∙ there.told.got)
-      ∙ all.1)
+      no_oversize (filter_map ending_in (notices q s before)) (filter_map ending_in (notices q s place.0)) all.0 x.taken
+      (ap (λ es. es ++ all.0) (sym (filter_map-append ending_in (notices q s before) (N.Oversize ∷ notices q s place.0))
+      ∙ ap (filter_map ending_in) (sym (notices-at q s before N.Oversize place.0) ∙ ap (notices q s) place.1) ∙ there.told.got) ∙ all.1)

@@ -116,7 +116,7 @@ frame-octets f x octets e h =
     let t : IsTaken f.content x o = taken-frame x e f in
     let k : AreOctets o.after.kept = kept-octets f.content x o octets h.kept t.goes in
     record {
-      end = record { kept = k; taken = subst AllMessages (sym t.tells.taken) h.taken };
+      end = record { kept = k; taken = subst AllMessages (sym t.taken) h.taken };
       frames = frames-octets (Answers x o.after) (answer-octets x o.after h k) x.sapi o.frames t.frames;
     }
 

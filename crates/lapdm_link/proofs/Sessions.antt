@@ -16,11 +16,11 @@ use Rattle.lapdm_link.specs.Worlds.{World, start_on, refusal, answer, after, ans
 use Rattle.lapdm_link.specs.Ways.{IsAsSent}
 use Rattle.lapdm_link.specs.Claims.{Line, Asked, Told, OrderClaims, CountsAgree, is_sapi, answer_lines, lines, calls, notices, Claims, acked, got}
 use Rattle.lapdm_link.proofs.Queues.{is_on, content_of, content_on, contents_on, AllFrames, frames-as, contents-own, contents-else}
-use Rattle.lapdm_link.proofs.Views.{end_of, way, rest, without_first, acted, said, is_end, by_link, other_is, link_else, end_does, end_does-else, way_does, calls-said, calls-else, notices-said, notices-else, calls-rival, notices-rival, notices-at}
+use Rattle.lapdm_link.proofs.Views.{end_of, way, rest, without_first, acted, said, is_end, by_link, other_is, link_else, end_does, end_does-else, way_does, calls-said, calls-else, notices-said, notices-else, calls-rival, notices-rival}
 use Rattle.lapdm_link.proofs.ByKind.{KnowsBy, by_kind}
 use Rattle.lapdm_link.proofs.Taking.{taken-frame}
 use Rattle.lapdm_link.proofs.Asked.{is_called}
-use Rattle.lapdm_link.proofs.Order.{AllStand, stand-append, stands, AllReported, Follows, in_order-step, start-reported, order_claims}
+use Rattle.lapdm_link.proofs.Order.{AllStand, stand-append, stands, AllReported, in_order-step, start-reported, order_claims}
 use Rattle.lapdm_link.proofs.Directions.{start-direction}
 use Rattle.lapdm_link.proofs.Keeping.{gone}
 use Rattle.lapdm_link.proofs.Links as L
@@ -266,10 +266,10 @@ session-step : (w : World) (ls : List Line) (event : Event) → IsHarmlessBy (re
     IsSession (after event w) (ls ++ answer_lines event (answer event w))
 session-step w ls event harmless h =
     let new : List Line = answer_lines event (answer event w) in
-    let told : Follows ls (after event w) new = in_order-step w ls event h.reported in
-    let g = goes w ls event harmless h told.0 in
+    let reported : AllReported (after event w) (ls ++ new) = in_order-step w ls event h.reported in
+    let g = goes w ls event harmless h reported in
     record {
-      reported = told.0;
+      reported = reported;
       links = g.0;
       after_got = stand-append IsAfterGot [] ls new h.after_got g.1;
       after_cause = stand-append IsOpenedAfter [] ls new h.after_cause g.2;
@@ -323,6 +323,5 @@ claims channel events harmless =
       cause = λ r s info before place. stands IsOpenedAfter ls before (Told r s (N.Opened info)) h.after_cause place;
       once = in_order.opened_once;
       no_oversize = λ r s before place. none_oversize (h.reported (other r) s) (h.reported r s)
-          (let c = (h.links r s).carried in record { there = c.back; back = c.there }) (notices r s before) (notices r s place.0)
-          (sym (notices-at r s before N.Oversize place.0) ∙ ap (notices r s) place.1);
+          (let c = (h.links r s).carried in record { there = c.back; back = c.there }) before place;
     }

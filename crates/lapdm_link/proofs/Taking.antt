@@ -1,13 +1,11 @@
 -- What an end does at any frame: what it tells and sends, what opens it, and that both directions are kept.
-use Rattle.std.proofs.Common.{◌≡◌, refl, sym, ◌∙◌, ap, subst, arith, ◌≤◌, Bool, true, false, ◌&&◌, if◌then◌else◌, List, [], ◌∷◌, ◌++◌, length, Option, Some, None, inl, inr}
+use Rattle.std.proofs.Common.{◌≡◌, refl, sym, ap, subst, arith, ◌≤◌, Bool, true, false, ◌&&◌, if◌then◌else◌, List, [], ◌∷◌, Option, Some, None, inl, inr}
 use Rattle.std.specs.Prelude.{◌⊎◌}
 use Rattle.std.specs.Str.{bytes_eq}
 use Rattle.std.specs.List.{filter_map, cons_option}
-use Rattle.std.proofs.lemmas.List.{append-nil}
 use Rattle.std.proofs.lemmas.Slice.Eq.{bytes_eq-Decides}
 use Rattle.lapdm_frame.specs.Content.{Content, I, Rr, Rej, Sabm, Dm, Ui, Disc, Ua, Frame}
 use Rattle.segmenting.specs.Pieces.{Message}
-use Rattle.segmenting.specs.Joining.{endings}
 use Rattle.lapdm_window.specs.declared.Sapi.{Sapi}
 use Rattle.lapdm_window.specs.declared.Sapi.TheVariants.{Zero, Three}
 use Rattle.lapdm_window.specs.declared.State.{State}
@@ -16,12 +14,13 @@ use Rattle.lapdm_window.specs.declared.Reason.{Reason}
 use Rattle.lapdm_window.specs.declared.Reason.TheVariants as R
 use Rattle.lapdm_window.specs.declared.Notice.{Notice}
 use Rattle.lapdm_window.specs.declared.Notice.TheVariants as N
-use Rattle.lapdm_window.specs.Ends.{Role, Mobile, Network, EndState, Outcome, KeepsWindow, all_pieces, wholly_acked, stays, ◌then◌}
+use Rattle.lapdm_window.specs.Ends.{Role, Mobile, Network, EndState, Outcome, KeepsWindow, all_pieces, stays, ◌then◌}
 use Rattle.lapdm_window.specs.Steps.{IsSameLink}
 use Rattle.lapdm_window.specs.Tables.{is_command, is_poll, says_ua, becomes_open, sabm_in_idle, dm_to_poll, in_idle, other_ua, sabm_in_opening, in_opening, answers_sabm, in_open, in_closing, in_closed, in_state, after_content, after_frame}
-use Rattle.lapdm_link.specs.Claims.{acked_in, opened_in, unit_got_in}
+use Rattle.lapdm_link.specs.Claims.{opened_in, unit_got_in}
 use Rattle.lapdm_link.proofs.Queues.{content_of, IsPlain, AllFrames, frames-as, frames-say}
-use Rattle.lapdm_link.proofs.Telling.{ending_in, Numbers, MayTell, Tells, silent, SaysWell, InOpen, in-takes_i, in-takes_rr, in-takes_rej}
+use Rattle.lapdm_link.proofs.Told.{stage_of, known, Tells}
+use Rattle.lapdm_link.proofs.Telling.{SaysWell, InOpen, in-takes_i, in-takes_rr, in-takes_rej}
 use Rattle.lapdm_link.proofs.Keeping.{IsBoth, After, sends_plain, moved, gone, after-takes_i, after-takes_rr, after-takes_rej}
 
 -- the end asked for the link or has it
@@ -85,7 +84,8 @@ Arrives c x o = (y : EndState) (out comes : List Content) → IsBoth x y out (co
 pub record IsTaken (c : Content) (x : EndState) (o : Outcome) : Type 0 where
   pub link : IsSameLink x o.after
   pub end : KeepsWindow o.after
-  pub tells : Tells x o.notices o.after
+  pub taken : o.after.taken ≡ x.taken
+  pub tells : Tells (known x) o.notices (known o.after)
   pub frames : AllFrames (Answers x o.after) x.sapi o.frames
   pub goes : Remains x o ⊎ IsOpenedBy c x o
   pub unit : ReportsUnit c o.notices
@@ -100,11 +100,12 @@ well-answers x z other h = absurd h
 
 openly : (c : Content) (x : EndState) (o : Outcome) → InOpen x o → Arrives c x o → IsTaken c x o
 openly c x o h arrives = record {
-  link = h.link;
+  link = record { role = ap (λ z. z.role) h.same; sapi = ap (λ z. z.sapi) h.same; channel = ap (λ z. z.channel) h.same };
+  taken = ap (λ z. z.taken) h.same;
   end = h.end;
   tells = h.tells;
   frames = frames-as (SaysWell (all_pieces x)) (Answers x o.after) (well-answers x o.after) x.sapi o.frames h.frames;
-  goes = inl (record { state = inl h.state; kept = h.kept; none = h.of_open.1 });
+  goes = inl (record { state = inl (ap (λ z. z.state) h.same); kept = ap (λ z. z.kept) h.same; none = h.of_open.1 });
   unit = inl h.of_open.0;
   arrives = arrives;
 }
@@ -121,21 +122,9 @@ reply-plain x z (Dm f) h = tt
 reply-plain x z (Ua f info) h = tt
 reply-plain x z other h = absurd h
 
--- one notice that leads to another state
-pub one_told : (x : EndState) (s t : State) (k : Message) (n : Notice) → filter_map ending_in (n ∷ []) ≡ [] →
-    filter_map acked_in (n ∷ []) ≡ [] → Numbers (wholly_acked x) (n ∷ []) → x.state ≡ s → MayTell s n t →
-    Tells x (n ∷ []) (record x { state = t; kept = k })
-one_told x s t k n no_got no_acked numbers is may = record {
-  taken = refl;
-  got = sym (append-nil (endings [] x.accepted)) ∙ ap (λ ms. endings [] x.accepted ++ ms) (sym no_got);
-  acked = omega (arith, ap length no_acked);
-  numbers = numbers;
-  walks = (t, subst (λ (u : State). MayTell u n t) (sym is) may, refl);
-}
-
 module _ (x : EndState) (w : KeepsWindow x) where
   becomes : (c : Content) (s : State) (k : Message) (fs : List Frame) (ns : List Notice) →
-      (let z : EndState = record x { state = s; kept = k } in AllFrames (Replies x z) x.sapi fs → Tells x ns z →
+      (let z : EndState = record x { state = s; kept = k } in AllFrames (Replies x z) x.sapi fs → Tells (known x) ns (known z) →
       (let o : Outcome = record { after = z; frames = fs; notices = ns } in Remains x o ⊎ IsOpenedBy c x o → ReportsUnit c ns →
       IsTaken c x o))
   becomes c s k fs ns replies tells goes unit =
@@ -143,6 +132,7 @@ module _ (x : EndState) (w : KeepsWindow x) where
       record {
         link = record { role = refl; sapi = refl; channel = refl };
         end = record { messages = w.messages; sent = w.sent; behind = w.behind; window = w.window };
+        taken = refl;
         tells = tells;
         frames = frames-as (Replies x z) (Answers x z) (reply-answers x z) x.sapi fs replies;
         goes = goes;
@@ -153,22 +143,23 @@ module _ (x : EndState) (w : KeepsWindow x) where
 
   quietly : (c : Content) (fs : List Frame) → AllFrames (Replies x x) x.sapi fs →
       IsTaken c x (record { after = x; frames = fs; notices = [] })
-  quietly c fs h = becomes c x.state x.kept fs [] h (silent x x refl refl refl refl)
-      (inl (record { state = inl refl; kept = refl; none = refl })) (inl refl)
+  quietly c fs h = becomes c x.state x.kept fs [] h refl (inl (record { state = inl refl; kept = refl; none = refl })) (inl refl)
 
-  over : (c : Content) (s : State) (reason : Reason) (fs : List Frame) → x.state ≡ s → MayTell s (N.Closed reason) Closed →
-      AllFrames (Replies x (record x { state = Closed })) x.sapi fs →
+  over : (c : Content) (reason : Reason) (fs : List Frame) → stage_of x.state ≤ 2 → AllFrames (Replies x (record x { state = Closed })) x.sapi fs →
       IsTaken c x (record { after = record x { state = Closed }; frames = fs; notices = N.Closed reason ∷ [] })
-  over c s reason fs is may h = becomes c Closed x.kept fs _ h (one_told x s Closed x.kept _ refl refl tt is may)
+  over c reason fs live h = becomes c Closed x.kept fs _ h (live, refl)
       (inl (record { state = inr refl; kept = refl; none = refl })) (inl refl)
 
-  opened : (c : Content) (s : State) (k info : Message) (fs : List Frame) → x.state ≡ s → MayTell s (N.Opened info) Open → k ≡ info →
+  opened : (c : Content) (k info : Message) (fs : List Frame) → stage_of x.state ≡ 0 → k ≡ info →
       AllFrames (Replies x (record x { state = Open; kept = k })) x.sapi fs → OpensBy c x info →
       IsTaken c x (record { after = record x { state = Open; kept = k }; frames = fs; notices = N.Opened info ∷ [] })
-  opened c s k info fs is may e h cause = becomes c Open k fs _ h (one_told x s Open k _ refl refl tt is may)
+  opened c k info fs unopened e h cause = becomes c Open k fs _ h (unopened, refl)
       (inr (record { info = info; notices = refl; state = refl; kept = e; cause = cause })) (inl refl)
 
   -- the tables
+  live : (s : State) → x.state ≡ s → stage_of s ≤ 2 → stage_of x.state ≤ 2
+  live s e h = omega (arith, ap stage_of e)
+
   begun : (s : State) → x.state ≡ s → HasBegun s → HasBegun x.state
   begun s e h = subst HasBegun (sym e) h
 
@@ -176,9 +167,9 @@ module _ (x : EndState) (w : KeepsWindow x) where
       IsTaken (Sabm p info) x (sabm_in_idle s r info x)
   taken-sabm_in_idle p Zero Mobile info e a b = quietly _ _ (inl refl, tt, tt)
   taken-sabm_in_idle p Zero Network [] e a b = quietly _ _ tt
-  taken-sabm_in_idle p Zero Network (i ∷ is) e a b = opened _ Idle (i ∷ is) (i ∷ is) _ e (tt, refl) refl (inl refl, inl (refl, refl), tt)
+  taken-sabm_in_idle p Zero Network (i ∷ is) e a b = opened _ (i ∷ is) (i ∷ is) _ (ap stage_of e) refl (inl refl, inl (refl, refl), tt)
       (refl, e, subst (λ (s : Sapi). MayOpen s x.role (i ∷ is)) (sym a) (subst (λ (r : Role). MayOpen Zero r (i ∷ is)) (sym b) tt))
-  taken-sabm_in_idle p Three r [] e a b = opened _ Idle [] [] _ e (tt, refl) refl (inl refl, inl (refl, refl), tt)
+  taken-sabm_in_idle p Three r [] e a b = opened _ [] [] _ (ap stage_of e) refl (inl refl, inl (refl, refl), tt)
       (refl, e, subst (λ (s : Sapi). MayOpen s x.role []) (sym a) tt)
   taken-sabm_in_idle p Three r (i ∷ is) e a b = quietly _ _ tt
 
@@ -199,14 +190,14 @@ module _ (x : EndState) (w : KeepsWindow x) where
       IsTaken (Ua true info) x (if same then becomes_open info x else other_ua s x)
   taken-ua_in_opening s true info e same =
       let as_kept : info ≡ x.kept = (bytes_eq-Decides info x.kept).0 same in
-      opened _ Opening x.kept info [] e (tt, refl) (sym as_kept) tt (refl, e, as_kept)
-  taken-ua_in_opening Zero false info e same = over _ Opening R.Contention [] e (tt, refl) tt
+      opened _ x.kept info [] (ap stage_of e) (sym as_kept) tt (refl, e, as_kept)
+  taken-ua_in_opening Zero false info e same = over _ R.Contention [] (live Opening e (omega arith)) tt
   taken-ua_in_opening Three false info e same = quietly _ _ tt
 
   taken-in_opening : (c : Content) → x.state ≡ Opening → IsTaken c x (in_opening c x)
   taken-in_opening (Sabm p info) e = taken-sabm_in_opening p x.sapi info e
   taken-in_opening (Ua true info) e = taken-ua_in_opening x.sapi (bytes_eq info x.kept) info e refl
-  taken-in_opening (Dm true) e = over _ Opening R.Refused [] e (tt, refl) tt
+  taken-in_opening (Dm true) e = over _ R.Refused [] (live Opening e (omega arith)) tt
   taken-in_opening (Disc p) e = quietly _ _ (inl refl, tt, tt)
   taken-in_opening other e = quietly other _ tt
 
@@ -216,20 +207,20 @@ module _ (x : EndState) (w : KeepsWindow x) where
   taken-ua_if p answers same info e h = quietly _ _ tt
 
   taken-in_open : (cmd : Bool) (c : Content) → x.state ≡ Open → IsTaken c x (in_open cmd c x)
-  taken-in_open cmd (I ns nr p more info) e = openly _ x _ (in-takes_i nr x e w ns p (info, more))
+  taken-in_open cmd (I ns nr p more info) e = openly _ x _ (in-takes_i nr ns p (info, more) x e w)
       (λ y out comes h. after-takes_i (I ns nr p more info) nr (λ k e. e) h ns p (info, more) (λ k e. e))
-  taken-in_open cmd (Rr nr pf) e = openly _ x _ (in-takes_rr nr x e w (cmd && pf))
+  taken-in_open cmd (Rr nr pf) e = openly _ x _ (in-takes_rr nr (cmd && pf) x e w)
       (λ y out comes h. after-takes_rr (Rr nr pf) nr (λ k e. e) h (cmd && pf))
-  taken-in_open cmd (Rej nr pf) e = openly _ x _ (in-takes_rej nr x e w (cmd && pf))
+  taken-in_open cmd (Rej nr pf) e = openly _ x _ (in-takes_rej nr (cmd && pf) x e w)
       (λ y out comes h. after-takes_rej (Rej nr pf) nr (λ k e. e) h (cmd && pf))
   taken-in_open cmd (Sabm p info) e = taken-ua_if p (answers_sabm x.sapi x.role) (bytes_eq info x.kept) info e refl
-  taken-in_open cmd (Disc p) e = over _ Open R.Released _ e (tt, refl) (inl refl, inr (refl, begun Open e tt), tt)
-  taken-in_open cmd (Dm f) e = over _ Open R.Failed [] e (tt, refl) tt
+  taken-in_open cmd (Disc p) e = over _ R.Released _ (live Open e (omega arith)) (inl refl, inr (refl, begun Open e tt), tt)
+  taken-in_open cmd (Dm f) e = over _ R.Failed [] (live Open e (omega arith)) tt
   taken-in_open cmd other e = quietly other _ tt
 
   taken-in_closing : (c : Content) → x.state ≡ Closing → IsTaken c x (in_closing c x)
-  taken-in_closing (Ua true []) e = over _ Closing R.Released [] e (tt, refl) tt
-  taken-in_closing (Dm true) e = over _ Closing R.Released [] e (tt, refl) tt
+  taken-in_closing (Ua true []) e = over _ R.Released [] (live Closing e (omega arith)) tt
+  taken-in_closing (Dm true) e = over _ R.Released [] (live Closing e (omega arith)) tt
   taken-in_closing (Disc p) e = quietly _ _ (inl refl, inr (refl, begun Closing e tt), tt)
   taken-in_closing other e = quietly other _ tt
 
@@ -248,7 +239,7 @@ module _ (x : EndState) (w : KeepsWindow x) where
   taken-content : (cmd : Bool) (c : Content) → IsTaken c x (after_content cmd c x)
   taken-content cmd (Ui p []) = quietly _ _ tt
   taken-content cmd (Ui p (i ∷ is)) =
-      becomes _ x.state x.kept [] _ tt (one_told x x.state x.state x.kept (N.Unit (i ∷ is)) refl refl tt refl refl)
+      becomes _ x.state x.kept [] _ tt (tt, refl)
       (inl (record { state = inl refl; kept = refl; none = refl })) (inr refl)
   taken-content cmd other = taken-in_state x.state cmd other refl
 

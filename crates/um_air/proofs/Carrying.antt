@@ -55,7 +55,7 @@ module _ (a : AirState) (octets : Ways Octets) (fs : Ways Frame) (ls : List Line
       subst (IsFitting a.channel) seen-now.later (fits-step a.channel w e (knows _ _ (λ r f k. k.0)
       (W.refusal e w) e seen-now.known) h.fit) in
       let now : AllReported (world_of b seen-now.ways) (ls ++ answer_lines e (W.answer e w)) =
-      subst (λ (z : World). AllReported z (ls ++ answer_lines e (W.answer e w))) seen-now.later (in_order-step w ls e h.reported).0 in
+      subst (λ (z : World). AllReported z (ls ++ answer_lines e (W.answer e w))) seen-now.later (in_order-step w ls e h.reported) in
       record {
         carries = seen-now.carries;
         fit = subst (λ (c : Channel). IsFitting c (world_of b seen-now.ways)) (sym fit.on_channel) fit;
