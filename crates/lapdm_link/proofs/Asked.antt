@@ -1,32 +1,30 @@
 -- What an end does at a call that is not refused: what it tells and sends, and that both directions are kept.
 use Rattle.std.proofs.Common.{◌≡◌, refl, sym, ◌∙◌, ap, subst, arith, ℕ, ◌+◌, ◌≤◌, max, Bool, true, false, not, if◌then◌else◌, nat_eq, nat_lt, List, [], ◌∷◌, ◌++◌, length, Some, None, inl, inr}
 use Rattle.std.specs.Prelude.{◌⊎◌}
-use Rattle.std.specs.List.{filter_map, cons_option}
+use Rattle.std.specs.List.{filter_map}
 use Rattle.std.proofs.lemmas.List.{append-nil}
 use Rattle.std.proofs.lemmas.Bool.{false≢true}
 use Rattle.std.proofs.lemmas.Bool.Decides.{nat_tests}
 use Rattle.lapdm_frame.specs.Layout.{n201}
 use Rattle.lapdm_frame.specs.Content.{Content, I, Rr, Rej, Sabm, Ui, Disc, Frame}
 use Rattle.segmenting.specs.Pieces.{Message, Piece, IsMessage}
-use Rattle.lapdm_window.specs.declared.Sapi.{Sapi}
-use Rattle.lapdm_window.specs.declared.Sapi.TheVariants.{Zero, Three}
 use Rattle.lapdm_window.specs.declared.State.{State}
 use Rattle.lapdm_window.specs.declared.State.TheVariants as S
 use Rattle.lapdm_window.specs.declared.Reason.TheVariants as R
 use Rattle.lapdm_window.specs.declared.Refused.TheVariants as No
-use Rattle.lapdm_window.specs.Ends.{EndState, Outcome, KeepsWindow, sends_frame, waits, awaits, awaits_in, all_pieces, n200, sapi_number}
+use Rattle.lapdm_window.specs.Ends.{EndState, Outcome, KeepsWindow, sends_frame, waits, awaits, awaits_in, all_pieces, n200}
 use Rattle.lapdm_window.specs.Rules.{is_open, sends_next}
 use Rattle.lapdm_window.specs.Steps.{IsSameLink}
 use Rattle.lapdm_window.specs.Tables.{becomes_closed}
 use Rattle.lapdm_window.specs.Calls.{Call, Opens, OpensBare, Sends, SendsUnit, Closes, Ticks, Idles, is_idle, refusal_of, put_refusals, frame_refusals, with_taken, repeated, after_call}
 use Rattle.lapdm_window.proofs.Lemmas.{wholly_acked-taken, all_pieces-taken, KeepsWindow-taken, is_message, not_false, passes, is_idle-is, is_open-is, three_bits, waits_within}
 use Rattle.lapdm_link.specs.Claims.{sent_in, unit_sent_in, unit_got_in, opened_in}
-use Rattle.lapdm_link.proofs.Queues.{IsPlain, AllFrames, frames-as, where-all, all-where}
+use Rattle.lapdm_link.proofs.Queues.{contents, IsPlain, AllFrames, frames-as, frames-say, AllOf}
 use Rattle.lapdm_link.proofs.Directions.{waits_for_one, more_pieces}
 use Rattle.lapdm_link.proofs.Keeping.{IsBoth, After, sends_plain, quiet, moved, piece_sent, is_waiting, keeps-sends_next}
 use Rattle.lapdm_link.proofs.Told.{stage_of, known, asked, Tells}
 use Rattle.lapdm_link.proofs.Telling.{SaysWell, InOpen, in-sends_next}
-use Rattle.lapdm_link.proofs.Taking.{unit_of, units_on, no-units}
+use Rattle.lapdm_link.proofs.Taking.{unit_in}
 
 -- what an end sends at a call, which leaves it in this state
 abbrev pub Asks : Call → EndState → Content → Type 0
@@ -56,15 +54,10 @@ pub record IsCalled (x : EndState) (call : Call) (o : Outcome) : Type 0 where
   pub taken : o.after.taken ≡ x.taken ++ filter_map sent_in (call ∷ [])
   pub left : LeftBy call x o.after
   pub frames : AllFrames (Asks call o.after) x.sapi o.frames
-  pub units : units_on x.sapi o.frames ≡ filter_map unit_sent_in (call ∷ [])
+  pub units : filter_map unit_in (contents o.frames) ≡ filter_map unit_sent_in (call ∷ [])
   pub reports : filter_map unit_got_in o.notices ≡ []
   pub opened : filter_map opened_in o.notices ≡ []
-  pub keeps : (t : Sapi) (y : EndState) (out comes : List Frame) → IsBoth t x y out comes comes → After t o y out comes comes
-
-here-unit : (s : Sapi) (i : ℕ) (is : Message) → cons_option (unit_of (nat_eq (sapi_number s) (sapi_number s)) (Ui false (i ∷ is))) [] ≡
-    (i ∷ is) ∷ []
-here-unit Zero i is = refl
-here-unit Three i is = refl
+  pub keeps : (y : EndState) (out comes : List Content) → IsBoth x y out comes comes → After o y out comes comes
 
 well-asked : (call : Call) (x z : EndState) → all_pieces z ≡ all_pieces x → (c : Content) → SaysWell (all_pieces x) c → Asks call z c
 well-asked call x z e (I ns nr p more info) h = subst (λ ps. SaysWell ps (I ns nr p more info)) (sym e) h
@@ -72,21 +65,24 @@ well-asked call x z e (Rr nr pf) h = h
 well-asked call x z e (Rej nr pf) h = h
 well-asked call x z e other h = absurd h
 
-well-no_unit : (ps : List Piece) (c : Content) → SaysWell ps c → unit_of true c ≡ None
-well-no_unit ps (I ns nr p more info) h = refl
-well-no_unit ps (Rr nr pf) h = refl
-well-no_unit ps (Rej nr pf) h = refl
-well-no_unit ps other h = absurd h
+well-no_unit : (ps : List Piece) (c : Content) → SaysWell ps c → unit_in c ≡ None
+well-no_unit ps (Ui p m) h = absurd h
+well-no_unit ps other h = refl
 
-taken-both : (m : Message) {t : Sapi} {x y : EndState} {out comes hears : List Frame} → IsBoth t x y out comes hears →
-    IsBoth t (with_taken m x) y out comes hears
-taken-both m {t} {x} h = record { there = rw (all_pieces-taken x m) (more_pieces _ h.there); back = h.back }
+pub no-units : (cs : List Content) → AllOf (λ c. unit_in c ≡ None) cs → filter_map unit_in cs ≡ []
+no-units [] h = refl
+no-units (c ∷ cs) h = rw (h.0, no-units cs h.1) refl
+
+taken-both : (m : Message) {x y : EndState} {out comes hears : List Content} → IsBoth x y out comes hears →
+    IsBoth (with_taken m x) y out comes hears
+taken-both m {x} h = record { there = rw (all_pieces-taken x m) (more_pieces _ h.there); back = h.back }
 
 module _ (x : EndState) (w : KeepsWindow x) where
   -- one frame without numbers
   one_frame : (call : Call) (s : State) (k : Message) (r : ℕ) (f : Frame) → filter_map sent_in (call ∷ []) ≡ [] →
       (let z : EndState = record x { state = s; kept = k; retries = r } in known z ≡ asked (Some call) (known x) → LeftBy call x z → AllFrames (Asks call z) x.sapi (f ∷ []) →
-      IsPlain f.content → units_on x.sapi (f ∷ []) ≡ filter_map unit_sent_in (call ∷ []) → IsCalled x call (sends_frame f z))
+      AllOf IsPlain (contents (f ∷ [])) → filter_map unit_in (contents (f ∷ [])) ≡ filter_map unit_sent_in (call ∷ []) →
+      IsCalled x call (sends_frame f z))
   one_frame call s k r f none told left asks plain units =
       let z : EndState = record x { state = s; kept = k; retries = r } in
       let taken : x.taken ≡ x.taken ++ filter_map sent_in (call ∷ []) = sym (append-nil x.taken) ∙ ap (λ ms. x.taken ++ ms) (sym none) in
@@ -100,7 +96,7 @@ module _ (x : EndState) (w : KeepsWindow x) where
         units = units;
         reports = refl;
         opened = refl;
-        keeps = λ t y out comes h. sends_plain (f ∷ []) (where-all _ _ plain, tt) (moved s k x.rejecting r h);
+        keeps = λ y out comes h. sends_plain (contents (f ∷ [])) plain (moved s k x.rejecting r h);
       }
 
   begins : x.state ≡ S.Idle → record (known x) { stage = 0 } ≡ known x
@@ -112,9 +108,9 @@ module _ (x : EndState) (w : KeepsWindow x) where
   again S.Idle e due = absurd (false≢true due)
   again S.Closed e due = absurd (false≢true due)
   again S.Opening e due = one_frame Ticks x.state x.kept (x.retries + 1) (repeated S.Opening x) refl refl (inr (refl, inl refl))
-      (inl refl, (e, refl), tt) tt refl
+      (inl refl, (e, refl), tt) (tt, tt) refl
   again S.Closing e due = one_frame Ticks x.state x.kept (x.retries + 1) (repeated S.Closing x) refl refl (inr (refl, inl refl))
-      (inl refl, tt, tt) tt refl
+      (inl refl, tt, tt) (tt, tt) refl
   again S.Open e due =
       let z : EndState = record x { retries = x.retries + 1 } in
       record {
@@ -127,7 +123,7 @@ module _ (x : EndState) (w : KeepsWindow x) where
         units = refl;
         reports = refl;
         opened = refl;
-        keeps = λ t y out comes h.
+        keeps = λ y out comes h.
             piece_sent true (waits_for_one (is_waiting x due) h.there) (moved x.state x.kept x.rejecting (x.retries + 1) h);
       }
 
@@ -146,7 +142,7 @@ module _ (x : EndState) (w : KeepsWindow x) where
     units = refl;
     reports = refl;
     opened = refl;
-    keeps = λ t y out comes h. quiet (moved S.Closed x.kept x.rejecting x.retries h);
+    keeps = λ y out comes h. quiet (moved S.Closed x.kept x.rejecting x.retries h);
   }
 
   ticks : (b : Bool) → awaits_in x.state (waits x) ≡ true →
@@ -168,11 +164,10 @@ module _ (x : EndState) (w : KeepsWindow x) where
         frames = frames-as (SaysWell (all_pieces mid)) (Asks (Sends m) (sends_next mid).after)
             (well-asked (Sends m) mid (sends_next mid).after (ap all_pieces i.same)) x.sapi
             (sends_next mid).frames i.frames;
-        units = no-units x.sapi (sends_next mid).frames
-            (all-where (SaysWell (all_pieces mid)) (λ c. unit_of true c ≡ None) (well-no_unit (all_pieces mid)) x.sapi x.sapi _ i.frames);
+        units = no-units _ (frames-say (SaysWell (all_pieces mid)) (λ c. unit_in c ≡ None) (well-no_unit (all_pieces mid)) x.sapi _ i.frames);
         reports = i.of_open.0;
         opened = i.of_open.1;
-        keeps = λ t y out comes h. keeps-sends_next (taken-both m h);
+        keeps = λ y out comes h. keeps-sends_next (taken-both m h);
       }
 
   pub is_called : (call : Call) → refusal_of call x ≡ None → IsCalled x call (after_call call x)
@@ -181,22 +176,22 @@ module _ (x : EndState) (w : KeepsWindow x) where
       let full : nat_eq (length info) 0 ≡ false = (passes _ _ _ idle.rest).no in
       let is_now : x.state ≡ S.Idle = is_idle-is x.state (not_false (is_idle x.state) idle.no) in
       one_frame (Opens info) S.Opening info 0 _ refl (begins is_now) (inl (refl, (refl, grind (arith, nat_tests))))
-      (inl refl, (refl, refl), tt) tt refl
+      (inl refl, (refl, refl), tt) (tt, tt) refl
   is_called OpensBare ok =
       let is_now : x.state ≡ S.Idle = is_idle-is x.state (not_false (is_idle x.state) (passes (not
       (is_idle x.state)) No.NotIdle [] ok).no) in
-      one_frame OpensBare S.Opening [] 0 _ refl (begins is_now) (inl (refl, refl)) (inl refl, (refl, refl), tt) tt refl
+      one_frame OpensBare S.Opening [] 0 _ refl (begins is_now) (inl (refl, refl)) (inl refl, (refl, refl), tt) (tt, tt) refl
   is_called (Sends m) ok =
       let now = passes (not (is_open x.state)) No.NotOpen (put_refusals m x) ok in
       takes m (is_message m x now.rest) (is_open-is x.state (not_false (is_open x.state) now.no))
   is_called (SendsUnit []) ok = absurd (false≢true (sym (passes true No.Empty ((nat_lt (n201 x.channel) 0, No.TooLong) ∷ []) ok).no))
   is_called (SendsUnit (i ∷ is)) ok = one_frame (SendsUnit (i ∷ is)) x.state x.kept x.retries _ refl refl (inr (refl, inl refl))
-      (inl refl, inl refl, tt) tt (here-unit x.sapi i is)
+      (inl refl, inl refl, tt) (tt, tt) refl
   is_called Closes ok =
       let is_now : x.state ≡ S.Open = is_open-is x.state (not_false (is_open x.state) (passes (not
       (is_open x.state)) No.NotOpen [] ok).no) in
       one_frame Closes S.Closing x.kept 0 _ refl (ap (λ s. record (known x) { stage = max 2 (stage_of s) }) (sym is_now)) (inr (refl, inr (inr (is_now, refl))))
-      (inl refl, tt, tt) tt refl
+      (inl refl, tt, tt) (tt, tt) refl
   is_called Ticks ok = ticks (nat_lt x.retries (n200 x.channel x.state)) (not_false (awaits x) (passes (not
       (awaits x)) No.NotRunning [] ok).no)
   is_called Idles ok = one_frame Idles x.state x.kept x.retries _ refl refl (inr (refl, inl refl))

@@ -85,7 +85,7 @@ module _ (E : Sapi → EndState → Type 0) (F : Frame → Type 0) where
   holds-step Says Known channel w h called taken rival event known =
       by_kind w (λ z new. Says new → Holds channel z) Known (λ l. h)
       (λ r s call placed ok l. acts channel r s (after_call call (end_of r s w)) w h (called r s call placed ok l))
-      (λ r s f k l. acts channel r s (after_frame f (end_of r s w)) (without_first (other r) w) (lost channel w h (other r))
+      (λ r s f on k l. acts channel r s (after_frame f (end_of r s w)) (without_first (other r) w) (lost channel w h (other r))
       (taken r s f k))
       (λ sender l. lost channel w h sender)
       (λ info ok l. record {

@@ -122,7 +122,7 @@ in_order-step w ls event h =
     (let c = is_called (end_of r s w) (h r s).end call ok in
     acts w ls h r s (call ∷ []) (after_call call (end_of r s w)) c.link c.end
     (rw (is_end-self r s) (tt, runs-told r s _ _ _ c.tells))))
-    (λ r s f known.
+    (λ r s f on known.
     (let t = taken-frame (end_of r s w) (h r s).end f in
     acts (without_first (other r) w) ls h r s [] (after_frame f (end_of r s w)) t.link t.end (runs-told r s _ _ _ t.tells)))
     (λ sender. rw append-nil h) (λ info ok r s. unseen (h r s) _ (tt, refl)) event (any_frame (refusal event w) event)

@@ -1,119 +1,327 @@
 -- Every harmless session: one event after another.
-use Rattle.std.proofs.Common.{◌≡◌, sym, subst, List, [], ◌∷◌, ◌++◌, Some, append_assoc, arith, ◌≤◌, length}
-use Rattle.std.proofs.lemmas.List.{append-nil}
+use Rattle.std.proofs.Common.{◌≡◌, inl, refl, sym, ◌∙◌, ap, subst, arith, ◌+◌, ◌≤◌, true, false, List, [], ◌∷◌, ◌++◌, length, Option, Some, None, append_assoc}
+use Rattle.std.specs.List.{cons_option}
+use Rattle.std.proofs.lemmas.List.{append-nil, length-append}
+use Rattle.std.proofs.lemmas.List.Elements.{filter_map-append}
 use Rattle.lapdm_frame.specs.declared.Channel.{Channel}
+use Rattle.lapdm_frame.specs.Content.{Content, Frame}
 use Rattle.lapdm_window.specs.declared.Sapi.{Sapi}
+use Rattle.lapdm_window.specs.declared.Sapi.TheVariants.{Zero, Three}
+use Rattle.lapdm_window.specs.declared.Notice.{Notice}
 use Rattle.lapdm_window.specs.declared.Notice.TheVariants as N
-use Rattle.lapdm_window.specs.Ends.{Role}
-use Rattle.lapdm_link.specs.Events.{Event, other}
+use Rattle.lapdm_window.specs.Ends.{Role, Mobile, Network, EndState, Outcome, start}
+use Rattle.lapdm_window.specs.Calls.{Call}
+use Rattle.lapdm_link.specs.Events.{Event, Deliver, Why, other}
 use Rattle.lapdm_link.specs.Worlds.{World, start_on, refusal, answer, after, answers, IsHarmlessBy, IsHarmless}
 use Rattle.lapdm_link.specs.Ways.{IsAsSent}
-use Rattle.lapdm_link.proofs.Views.{end_of, way, without_first, other_twice}
+use Rattle.lapdm_link.specs.Claims.{Line, Asked, Told, OrderClaims, CountsAgree, is_sapi, answer_lines, lines, calls, notices, Claims, acked, got}
+use Rattle.lapdm_link.proofs.Queues.{is_on, content_of, content_on, contents_on, AllFrames, frames-as, contents-own, contents-else}
+use Rattle.lapdm_link.proofs.Views.{end_of, way, rest, without_first, acted, said, is_end, by_link, other_is, link_else, end_does, end_does-else, way_does, calls-said, calls-else, notices-said, notices-else, calls-rival, notices-rival}
+use Rattle.lapdm_link.proofs.ByKind.{KnowsBy, by_kind}
+use Rattle.lapdm_link.proofs.Taking.{taken-frame}
 use Rattle.lapdm_link.proofs.Asked.{is_called}
-use Rattle.lapdm_link.specs.Claims.{Line, Told, answer_lines, lines, units_got, Claims, acked, got}
-use Rattle.lapdm_link.proofs.Order.{AllStand, stand-append, stands, AllReported, in_order-step, start-reported, acknowledged}
-use Rattle.lapdm_link.proofs.ByKind.{by_kind}
-use Rattle.lapdm_link.proofs.Delivery.{AllCarried, start-carried, got_in_order, none_oversize, IsAfterGot, delivers-step, as_sent, acked_most}
-use Rattle.lapdm_link.proofs.Units.{sub-front, AllUnits, units-call, units-frame, units-lost, units-rival, start-units}
-use Rattle.lapdm_link.proofs.Taking.{units_on}
-use Rattle.lapdm_link.proofs.Openings.{AllOpenings, IsOpenedAfter, openings-call, openings-frame, openings-lost, openings-rival, start-openings}
+use Rattle.lapdm_link.proofs.Order.{AllStand, stand-append, stands, AllReported, in_order-step, start-reported, order_claims}
+use Rattle.lapdm_link.proofs.Directions.{start-direction}
+use Rattle.lapdm_link.proofs.Keeping.{gone}
+use Rattle.lapdm_link.proofs.Links as L
+use Rattle.lapdm_link.proofs.Links.{Side, side, Act, act, IsActed, called, took, rival, other_after}
+use Rattle.lapdm_link.proofs.Delivery.{IsCarried, carried-acts, got_in_order, acked_most, none_oversize}
+use Rattle.lapdm_link.proofs.Units.{none, HasUnits, units-here, units-there, units-lost, units-claim}
+use Rattle.lapdm_link.proofs.Openings.{HasOpenings, IsOpenedAfter, openings-more, openings-here, openings-there, openings-lost}
+
+-- ---- one link
+
+pub record IsLink (r q : Role) (s : Sapi) (x y : Side) (ls : List Line) : Type 0 where
+  pub carried : IsCarried x y
+  pub units : HasUnits x y
+  pub other_units : HasUnits y x
+  pub opens : HasOpenings r s x ls
+  pub other_opens : HasOpenings q s y ls
+
+turned : {r q : Role} {s : Sapi} {x y : Side} {ls : List Line} → IsLink r q s x y ls → IsLink q r s y x ls
+turned h = record {
+  carried = record { there = h.carried.back; back = h.carried.there };
+  units = h.other_units;
+  other_units = h.units;
+  opens = h.other_opens;
+  other_opens = h.opens;
+}
+
+link-acts : {x y : Side} {a : Act} (ls : List Line) → IsActed x y a → x.end.role ≡ a.role → x.end.sapi ≡ a.sapi →
+    IsLink a.role (other a.role) a.sapi x y ls →
+    IsLink a.role (other a.role) a.sapi (L.after a x) (other_after a y) (ls ++ a.lines) × AllStand IsOpenedAfter ls a.lines
+link-acts ls i role same h =
+    let opens = openings-here ls i role same h.opens h.other_opens in (
+      record {
+        carried = carried-acts i h.carried;
+        units = units-here i h.units;
+        other_units = units-there i h.other_units;
+        opens = opens.0;
+        other_opens = openings-there ls i h.other_opens;
+      },
+      opens.1,
+    )
+
+module _ {r q : Role} {s : Sapi} (x y : Side) {ls : List Line} where
+  -- there are more lines
+  more : (new : List Line) → IsLink r q s x y ls → IsLink r q s x y (ls ++ new)
+  more new h = record {
+    carried = h.carried;
+    units = h.units;
+    other_units = h.other_units;
+    opens = openings-more r s ls new x h.opens;
+    other_opens = openings-more q s ls new y h.other_opens;
+  }
+
+  -- the first that comes is lost
+  first_gone : (o : Option Content) (cs : List Content) → IsLink r q s x (record y { out = cons_option o cs }) ls →
+      IsLink r q s x (record y { out = cs }) ls
+  first_gone o cs h = record {
+    carried = gone o h.carried;
+    units = record { some = h.units.some };
+    other_units = units-lost y x o cs h.other_units;
+    opens = h.opens;
+    other_opens = openings-lost q s ls y o cs h.other_opens;
+  }
+
+  rest_gone : (fs : List Frame) → IsLink r q s x (record y { out = contents_on s fs }) ls →
+      IsLink r q s x (record y { out = contents_on s (rest fs) }) ls
+  rest_gone [] h = h
+  rest_gone (f ∷ fs) h = first_gone (content_on s f) (contents_on s fs) h
+
+-- ---- both links
+
+abbrev pub Links : Role → Sapi → World → List Line → Type 0
+Links r s w ls = IsLink r (other r) s (side r s w ls) (side (other r) s w ls) ls
+
+abbrev pub AllLinks : World → List Line → Type 0
+AllLinks w ls = (r : Role) (s : Sapi) → Links r s w ls
+
+seen_by : (r : Role) (w : World) (ls : List Line) → ((s : Sapi) → Links r s w ls) → AllLinks w ls
+seen_by Mobile w ls h Mobile s = h s
+seen_by Network w ls h Network s = h s
+seen_by Mobile w ls h r s = turned (h s)
+seen_by Network w ls h r s = turned (h s)
+
+first_lost : (r : Role) (s : Sapi) (w : World) (ls : List Line) → Links r s w ls → Links r s (without_first (other r) w) ls
+first_lost Mobile s w ls h = rest_gone _ (side Network s w ls) w.ways.down h
+first_lost Network s w ls h = rest_gone _ (side Mobile s w ls) w.ways.up h
+
+-- what an end does is seen at its end alone
+record IsSeen (ls : List Line) (a : Act) : Type 0 where
+  own_calls : calls a.role a.sapi (ls ++ a.lines) ≡ calls a.role a.sapi ls ++ a.asks
+  own_notices : notices a.role a.sapi (ls ++ a.lines) ≡ notices a.role a.sapi ls ++ a.does.notices
+  no_calls : (r : Role) (s : Sapi) → is_end r s a.role a.sapi ≡ false → calls r s (ls ++ a.lines) ≡ calls r s ls
+  no_notices : (r : Role) (s : Sapi) → is_end r s a.role a.sapi ≡ false → notices r s (ls ++ a.lines) ≡ notices r s ls
+  frames : AllFrames (λ c. Unit {0}) a.sapi a.does.frames
+
+said-seen : (ls : List Line) (r : Role) (s : Sapi) (cs : List Call) (o : Outcome) (left : List Content) →
+    AllFrames (λ c. Unit {0}) s o.frames → IsSeen ls (act r s cs o left)
+said-seen ls r s cs o left frames = record {
+  own_calls = calls-said r s ls cs o.notices;
+  own_notices = notices-said r s ls cs o.notices;
+  no_calls = λ r' s' n. calls-else r s r' s' n ls cs o.notices;
+  no_notices = λ r' s' n. notices-else r s r' s' n ls cs o.notices;
+  frames = frames;
+}
+
+seen : {x y : Side} {a : Act} (ls : List Line) → IsActed x y a → x.end.sapi ≡ a.sapi → IsSeen ls a
+seen {a = a} ls (called p c) same = said-seen ls _ _ _ _ _ (frames-as _ _ (λ u h. tt) a.sapi a.does.frames (rw same at c.frames))
+seen {a = a} ls (took e t) same = said-seen ls _ _ _ _ _ (frames-as _ _ (λ u h. tt) a.sapi a.does.frames (rw same at t.frames))
+seen ls (rival {info}) same = record {
+  own_calls = calls-rival Mobile Zero ls info ∙ sym (append-nil _);
+  own_notices = notices-rival Mobile Zero ls info ∙ sym (append-nil _);
+  no_calls = λ r s n. calls-rival r s ls info;
+  no_notices = λ r s n. notices-rival r s ls info;
+  frames = (inl refl, tt, tt);
+}
+
+own_sapi : (s : Sapi) → is_sapi s s ≡ true
+own_sapi Zero = refl
+own_sapi Three = refl
+
+sides : {e e' : EndState} {o o' : List Content} {c c' : List Call} {n n' : List Notice} → e ≡ e' → o ≡ o' → c ≡ c' → n ≡ n' →
+    ◌≡◌ {A = Side} (record { end = e; out = o; asked = c; told = n }) (record { end = e'; out = o'; asked = c'; told = n' })
+sides h g k l = cc
+
+module _ (v : World) (ls : List Line) (a : Act) (seen : IsSeen ls a) where
+  here : side a.role a.sapi (acted a.role a.sapi a.does v) (ls ++ a.lines) ≡ L.after a (side a.role a.sapi v ls)
+  here = sides (end_does a.role a.sapi a.does v) (ap (contents_on a.sapi) (way_does a.role a.sapi a.does v)
+      ∙ filter_map-append (content_on a.sapi) (way a.role v) a.does.frames
+      ∙ ap (λ cs. contents_on a.sapi (way a.role v) ++ cs) (contents-own a.sapi (own_sapi a.sapi) _ _ seen.frames)) seen.own_calls
+      seen.own_notices
+
+  out-else : (r' : Role) (r : Role) (s : Sapi) → is_end r s r' a.sapi ≡ false →
+      contents_on s (way r (acted r' a.sapi a.does v)) ≡ contents_on s (way r v)
+  out-else Mobile Mobile s n = filter_map-append (content_on s) v.ways.up a.does.frames
+      ∙ ap (λ cs. contents_on s v.ways.up ++ cs) (contents-else s a.sapi n _ _ seen.frames) ∙ append-nil _
+  out-else Network Network s n = filter_map-append (content_on s) v.ways.down a.does.frames
+      ∙ ap (λ cs. contents_on s v.ways.down ++ cs) (contents-else s a.sapi n _ _ seen.frames) ∙ append-nil _
+  out-else r' r s n = refl
+
+  elsewhere : (r : Role) (s : Sapi) → is_end r s a.role a.sapi ≡ false →
+      side r s (acted a.role a.sapi a.does v) (ls ++ a.lines) ≡ side r s v ls
+  elsewhere r s n =
+      sides (end_does-else a.role a.sapi a.does v r s n) (out-else a.role r s n) (seen.no_calls r s n) (seen.no_notices r s n)
+
+  links-act : {x y : Side} → side a.role a.sapi v ls ≡ x → side (other a.role) a.sapi v ls ≡ y →
+      IsLink a.role (other a.role) a.sapi (L.after a x) y (ls ++ a.lines) → ((s : Sapi) → is_sapi s a.sapi ≡ false → Links a.role s v ls) → AllLinks (acted a.role a.sapi a.does v) (ls ++ a.lines)
+  links-act e e' own others = seen_by a.role (acted a.role a.sapi a.does v) (ls ++ a.lines) (by_link (λ s. Links a.role s (acted a.role a.sapi a.does v) (ls ++ a.lines)) a.sapi
+      (rw (here ∙ ap (L.after a) e, elsewhere (other a.role) a.sapi (other_is a.role a.sapi) ∙ e') own)
+      (λ s n. rw (elsewhere a.role s (link_else a.role a.role s a.sapi n), elsewhere (other a.role) s (link_else (other a.role) a.role s a.sapi n))
+      (more _ _ a.lines (others s n))))
+
+-- ---- what stands before a notice, by the claim on acknowledgements
+
+abbrev pub IsAfterGot : List Line → Line → Type 0
+IsAfterGot before (Told r s (N.Acked n)) = length (acked r s before) + 1 ≤ length (got (other r) s before)
+IsAfterGot before other = Unit {0}
+
+after_got : (r : Role) (s : Sapi) (n : Notice) (ns : List Notice) (ls : List Line) →
+    length (acked r s (ls ++ said r s [] (n ∷ ns))) ≤ length (got (other r) s (ls ++ said r s [] (n ∷ ns))) → IsAfterGot ls (Told r s n)
+after_got r s (N.Acked i) ns ls h =
+    let g = rw (notices-said r s ls [] (N.Acked i ∷ ns), notices-else r s (other r) s (other_is r s) ls [] (N.Acked i ∷ ns)) at h in
+    omega (arith, simp (filter_map-append, length-append) at g)
+after_got r s n ns ls h = tt
+
+told-after : (r : Role) (s : Sapi) (ns : List Notice) (ls : List Line) →
+    length (acked r s (ls ++ said r s [] ns)) ≤ length (got (other r) s (ls ++ said r s [] ns)) → AllStand IsAfterGot ls (said r s [] ns)
+told-after r s [] ls h = tt
+told-after r s (n ∷ ns) ls h = (
+  after_got r s n ns ls h,
+  told-after r s ns (ls ++ Told r s n ∷ [])
+      (subst (λ xs. length (acked r s xs) ≤ length (got (other r) s xs)) (sym (append_assoc ls (Told r s n ∷ []) (said r s [] ns))) h),
+)
+
+acts-after : {x y : Side} {a : Act} (ls : List Line) → IsActed x y a →
+    length (acked a.role a.sapi (ls ++ a.lines)) ≤ length (got (other a.role) a.sapi (ls ++ a.lines)) → AllStand IsAfterGot ls a.lines
+acts-after {a = a} ls (called {r} {s} {call} p c) h = (
+  tt,
+  told-after r s a.does.notices (ls ++ Asked r s call ∷ [])
+      (subst (λ xs. length (acked r s xs) ≤ length (got (other r) s xs))
+      (sym (append_assoc ls (Asked r s call ∷ []) (said r s [] a.does.notices))) h),
+)
+acts-after {a = a} ls (took e t) h = told-after a.role a.sapi a.does.notices ls h
+acts-after ls rival h = (tt, tt)
+
+-- ---- a session
 
 -- what holds of the ends, the frames on their way and the lines
 pub record IsSession (w : World) (ls : List Line) : Type 0 where
   pub reported : AllReported w ls
-  pub carried : AllCarried w
-  pub units : AllUnits w ls
-  pub openings : AllOpenings w ls
+  pub links : AllLinks w ls
   pub after_got : AllStand IsAfterGot [] ls
   pub after_cause : AllStand IsOpenedAfter [] ls
 
-record IsNext (ls : List Line) (z : World) (new : List Line) : Type 0 where
-  units : AllUnits z (ls ++ new)
-  openings : AllOpenings z (ls ++ new)
-  after_cause : AllStand IsOpenedAfter ls new
+abbrev Goes : List Line → World → List Line → Type 0
+Goes ls z new = AllReported z (ls ++ new) → AllLinks z (ls ++ new) × AllStand IsAfterGot ls new × AllStand IsOpenedAfter ls new
 
-next_quiet : (w : World) (ls : List Line) → AllUnits w ls → AllOpenings w ls → IsNext ls w []
-next_quiet w ls u o = record {
-  units = subst (AllUnits w) (sym (append-nil ls)) u;
-  openings = subst (AllOpenings w) (sym (append-nil ls)) o;
-  after_cause = tt;
-}
+acts : (ls : List Line) (v : World) {x y : Side} {a : Act} → IsActed x y a → x.end.role ≡ a.role → x.end.sapi ≡ a.sapi →
+    side a.role a.sapi v ls ≡ x → side (other a.role) a.sapi v ls ≡ other_after a y → IsLink a.role (other a.role) a.sapi x y ls →
+    ((s : Sapi) → is_sapi s a.sapi ≡ false → Links a.role s v ls) → Goes ls (acted a.role a.sapi a.does v) a.lines
+acts ls v {x} {y} {a} i role same e e' h others reported =
+    let link = link-acts ls i role same h in
+    let all : AllLinks (acted a.role a.sapi a.does v) (ls ++ a.lines) = links-act v ls a (seen ls i same) e e' link.0 others in
+    (all, acts-after ls i (acked_most (reported a.role a.sapi) (reported (other a.role) a.sapi) (all a.role a.sapi).carried), link.1)
 
-next : (w : World) (ls : List Line) (event : Event) → IsHarmlessBy (refusal event w) event w → IsSession w ls →
-    IsNext ls (after event w) (answer_lines event (answer event w))
-next w ls event harmless h =
-    by_kind w (IsNext ls) (λ sender f. IsAsSent (Some f) (way sender w))
-    (next_quiet w ls h.units h.openings)
-    (λ r s call placed ok.
-    (let e = h.reported r s in
-    let c = is_called (end_of r s w) e.end call ok in
-    let o = openings-call w ls h.openings r s call placed e.sapi c in
-    record { units = units-call w ls h.units r s call e.sapi c; openings = o.0; after_cause = o.1 }))
-    (λ r s f known.
-    (let e = h.reported r s in
-    let o = openings-frame w ls h.openings r s f e.end e.role e.sapi known in
-    record { units = units-frame w ls h.units r s f e.end e.sapi known; openings = o.0; after_cause = o.1 }))
-    (λ sender. next_quiet (without_first sender w) ls (units-lost w ls h.units sender) (openings-lost w ls h.openings sender))
-    (λ info ok. record { units = units-rival w ls h.units info; openings = openings-rival w ls h.openings info; after_cause = (tt, tt) })
+-- the first that comes is the first that was sent
+comes-first : (s : Sapi) (f : Frame) (fs : List Frame) → is_on s f ≡ true → IsAsSent (Some f) fs →
+    contents_on s fs ≡ cons_option (content_of f.content) (contents_on s (rest fs))
+comes-first s f [] on sent = absurd sent
+comes-first s f (g ∷ gs) on sent = rw (← sent, on) refl
+
+left-here : (r : Role) (s : Sapi) (w : World) (ls : List Line) → side r s (without_first (other r) w) ls ≡ side r s w ls
+left-here Mobile s w ls = refl
+left-here Network s w ls = refl
+
+left-there : (r : Role) (s : Sapi) (w : World) (ls : List Line) → side (other r) s (without_first (other r) w) ls ≡
+    record (side (other r) s w ls) { out = contents_on s (rest (way (other r) w)) }
+left-there Mobile s w ls = refl
+left-there Network s w ls = refl
+
+lost : (sender : Role) (w : World) (ls : List Line) → AllLinks w ls → AllLinks (without_first sender w) ls
+lost Mobile w ls h = seen_by Network (without_first Mobile w) ls (λ s. first_lost Network s w ls (h Network s))
+lost Network w ls h = seen_by Mobile (without_first Network w) ls (λ s. first_lost Mobile s w ls (h Mobile s))
+
+as_sent : (o : Option Why) (event : Event) (w : World) → IsHarmlessBy o event w →
+    KnowsBy o (λ sender f. IsAsSent (Some f) (way sender w)) event
+as_sent None (Deliver sender (Some f)) w h = h
+as_sent o event w h = tt
+
+goes : (w : World) (ls : List Line) (event : Event) → IsHarmlessBy (refusal event w) event w → IsSession w ls →
+    Goes ls (after event w) (answer_lines event (answer event w))
+goes w ls event harmless h =
+    by_kind w (Goes ls) (λ sender f. IsAsSent (Some f) (way sender w))
+    (λ g. (rw append-nil h.links, tt, tt))
+    (λ r s call placed ok. (let x = h.reported r s in
+    acts ls w (called placed (is_called (end_of r s w) x.end call ok)) x.role x.sapi refl refl (h.links r s) (λ t n. h.links r t)))
+    (λ r s f on known. (let x = h.reported r s in
+    acts ls (without_first (other r) w) (took (comes-first s f (way (other r) w) on known) (taken-frame (end_of r s w) x.end f)) x.role x.sapi
+    (left-here r s w ls) (left-there r s w ls) (h.links r s) (λ t n. first_lost r t w ls (h.links r t))))
+    (λ sender g. (rw append-nil (lost sender w ls h.links), tt, tt))
+    (λ info ok. (let x = h.reported Mobile Zero in acts ls w rival x.role x.sapi refl refl (h.links Mobile Zero) (λ t n. h.links Mobile t)))
     event (as_sent (refusal event w) event w harmless)
 
-pub session-step : (w : World) (ls : List Line) (event : Event) → IsHarmlessBy (refusal event w) event w → IsSession w ls →
+session-step : (w : World) (ls : List Line) (event : Event) → IsHarmlessBy (refusal event w) event w → IsSession w ls →
     IsSession (after event w) (ls ++ answer_lines event (answer event w))
 session-step w ls event harmless h =
     let new : List Line = answer_lines event (answer event w) in
-    let told : AllReported (after event w) (ls ++ new) = in_order-step w ls event h.reported in
-    let carried = delivers-step w ls event harmless h.reported h.carried told in
-    let n : IsNext ls (after event w) new = next w ls event harmless h in
+    let reported : AllReported (after event w) (ls ++ new) = in_order-step w ls event h.reported in
+    let g = goes w ls event harmless h reported in
     record {
-      reported = told;
-      carried = carried.0;
-      units = n.units;
-      openings = n.openings;
-      after_got = stand-append IsAfterGot [] ls new h.after_got carried.1;
-      after_cause = stand-append IsOpenedAfter [] ls new h.after_cause n.after_cause;
+      reported = reported;
+      links = g.0;
+      after_got = stand-append IsAfterGot [] ls new h.after_got g.1;
+      after_cause = stand-append IsOpenedAfter [] ls new h.after_cause g.2;
     }
 
-pub session-run : (events : List Event) (w : World) (ls : List Line) → IsHarmless events w → IsSession w ls →
+session-run : (events : List Event) (w : World) (ls : List Line) → IsHarmless events w → IsSession w ls →
     ((z : World) × IsSession z (ls ++ lines events (answers events w)))
-session-run [] w ls harmless h = (w, subst (IsSession w) (sym (append-nil ls)) h)
+session-run [] w ls harmless h = (w, rw append-nil h)
 session-run (event ∷ events) w ls harmless h =
-    let new : List Line = answer_lines event (answer event w) in
-    let run = session-run events (after event w) (ls ++ new) harmless.1 (session-step w ls event harmless.0 h) in
-    (run.0, subst (IsSession run.0) (append_assoc ls new (lines events (answers events (after event w)))) run.1)
+    rw (← append_assoc) (session-run events (after event w) _ harmless.1 (session-step w ls event harmless.0 h))
 
-pub start-session : (channel : Channel) → IsSession (start_on channel) []
-start-session channel = record {
-  reported = start-reported channel;
-  carried = start-carried channel;
-  units = start-units channel;
-  openings = start-openings channel;
-  after_got = tt;
-  after_cause = tt;
+start-link : (r q : Role) (s : Sapi) (channel : Channel) →
+    (let first : Role → Side = λ p. record { end = start p s channel; out = []; asked = []; told = [] } in IsLink r q s (first r) (first q) [])
+start-link r q s channel = record {
+  carried = record { there = start-direction; back = start-direction };
+  units = record { some = none };
+  other_units = record { some = none };
+  opens = record { sent = tt; reached = tt };
+  other_opens = record { sent = tt; reached = tt };
 }
 
--- the claims hold in every state that a harmless session leads to
-pub session-claims : (w : World) (ls : List Line) → IsSession w ls → Claims ls
-session-claims w ls h = record {
-  in_order = λ r s. got_in_order w ls h.reported h.carried r s;
-  acknowledged = λ r s n before place.
-      ((acknowledged (h.reported r s) n before place).0, stands IsAfterGot ls before (Told r s (N.Acked n)) h.after_got place);
-  units = λ r s. sub-front (units_got (other r) s ls) (units_on s (way r w)) _ (h.units r s);
-  cause = λ r s info before place. stands IsOpenedAfter ls before (Told r s (N.Opened info)) h.after_cause place;
-  once = λ r s. omega (arith, (h.reported r s).told.staged.0);
-  no_oversize = λ r s before place. none_oversize w ls h.reported h.carried (other r) s before
-      (subst (λ (q : Role). (more : List Line) × (before ++ Told q s N.Oversize ∷ more ≡ ls)) (sym (other_twice r)) place);
-}
+start-links : (channel : Channel) → AllLinks (start_on channel) []
+start-links channel = seen_by Mobile (start_on channel) [] each
+  where
+    each : (s : Sapi) → Links Mobile s (start_on channel) []
+    each Zero = start-link Mobile Network Zero channel
+    each Three = start-link Mobile Network Three channel
+
+-- every harmless session leads to such a state
+harmless-session : (channel : Channel) (events : List Event) → IsHarmless events (start_on channel) →
+    ((z : World) × IsSession z (lines events (answers events (start_on channel))))
+harmless-session channel events harmless = session-run events (start_on channel) [] harmless
+    (record { reported = start-reported channel; links = start-links channel; after_got = tt; after_cause = tt })
+
+pub counts : (channel : Channel) (events : List Event) → IsHarmless events (start_on channel) →
+    CountsAgree (lines events (answers events (start_on channel)))
+counts channel events harmless r s =
+    let (z, h) = harmless-session channel events harmless in acked_most (h.reported r s) (h.reported (other r) s) (h.links r s).carried
 
 pub claims : (channel : Channel) (events : List Event) → IsHarmless events (start_on channel) →
     Claims (lines events (answers events (start_on channel)))
 claims channel events harmless =
-    let run = session-run events (start_on channel) [] harmless (start-session channel) in
-    session-claims run.0 (lines events (answers events (start_on channel))) run.1
-
--- no end counts more messages as acknowledged than the other handed up
-pub counts : (channel : Channel) (events : List Event) → IsHarmless events (start_on channel) → (r : Role) (s : Sapi) →
-    length (acked r s (lines events (answers events (start_on channel)))) ≤ length
-    (got (other r) s (lines events (answers events (start_on channel))))
-counts channel events harmless r s =
-    let run = session-run events (start_on channel) [] harmless (start-session channel) in
-    acked_most run.0 (lines events (answers events (start_on channel))) run.1.reported run.1.carried r s
+    let ls : List Line = lines events (answers events (start_on channel)) in
+    let in_order : OrderClaims ls = order_claims channel events in
+    let (z, h) = harmless-session channel events harmless in
+    record {
+      in_order = λ r s. got_in_order (h.reported r s) (h.reported (other r) s) (h.links r s).carried;
+      acknowledged = λ r s n before place.
+          ((in_order.acknowledged r s n before place).0, stands IsAfterGot ls before (Told r s (N.Acked n)) h.after_got place);
+      units = λ r s. units-claim (side r s z ls) (side (other r) s z ls) (h.links r s).units;
+      cause = λ r s info before place. stands IsOpenedAfter ls before (Told r s (N.Opened info)) h.after_cause place;
+      once = in_order.opened_once;
+      no_oversize = λ r s before place. none_oversize (h.reported (other r) s) (h.reported r s)
+          (let c = (h.links r s).carried in record { there = c.back; back = c.there }) before place;
+    }

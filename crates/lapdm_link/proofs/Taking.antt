@@ -1,5 +1,5 @@
 -- What an end does at any frame: what it tells and sends, what opens it, and that both directions are kept.
-use Rattle.std.proofs.Common.{◌≡◌, refl, sym, ◌∙◌, ap, subst, arith, ℕ, ◌≤◌, Bool, true, false, ◌&&◌, if◌then◌else◌, List, [], ◌∷◌, Option, Some, None, inl, inr}
+use Rattle.std.proofs.Common.{◌≡◌, refl, sym, ap, subst, arith, ◌≤◌, Bool, true, false, ◌&&◌, if◌then◌else◌, List, [], ◌∷◌, Option, Some, None, inl, inr}
 use Rattle.std.specs.Prelude.{◌⊎◌}
 use Rattle.std.specs.Str.{bytes_eq}
 use Rattle.std.specs.List.{filter_map, cons_option}
@@ -18,10 +18,10 @@ use Rattle.lapdm_window.specs.Ends.{Role, Mobile, Network, EndState, Outcome, Ke
 use Rattle.lapdm_window.specs.Steps.{IsSameLink}
 use Rattle.lapdm_window.specs.Tables.{is_command, is_poll, says_ua, becomes_open, sabm_in_idle, dm_to_poll, in_idle, other_ua, sabm_in_opening, in_opening, answers_sabm, in_open, in_closing, in_closed, in_state, after_content, after_frame}
 use Rattle.lapdm_link.specs.Claims.{opened_in, unit_got_in}
-use Rattle.lapdm_link.proofs.Queues.{is_on, Where, where-in, IsPlain, AllWhere, AllFrames, frames-as, all-where}
+use Rattle.lapdm_link.proofs.Queues.{content_of, IsPlain, AllFrames, frames-as, frames-say}
 use Rattle.lapdm_link.proofs.Told.{stage_of, known, Tells}
 use Rattle.lapdm_link.proofs.Telling.{SaysWell, InOpen, in-takes_i, in-takes_rr, in-takes_rej}
-use Rattle.lapdm_link.proofs.Keeping.{IsBoth, After, sends_plain, quiet, moved, gone, after-takes_i, after-takes_rr, after-takes_rej}
+use Rattle.lapdm_link.proofs.Keeping.{IsBoth, After, sends_plain, moved, gone, after-takes_i, after-takes_rr, after-takes_rej}
 
 -- the end asked for the link or has it
 abbrev pub HasBegun : State → Type 0
@@ -67,32 +67,19 @@ pub record IsOpenedBy (c : Content) (x : EndState) (o : Outcome) : Type 0 where
   pub kept : o.after.kept ≡ info
   pub cause : OpensBy c x info
 
--- what a frame says in a unit
-abbrev pub unit_of : Bool → Content → Option Message
-unit_of here (Ui p []) = None
-unit_of here (Ui p (i ∷ is)) = if here then Some (i ∷ is) else None
-unit_of here other = None
+-- the message of a unit
+abbrev pub unit_in : Content → Option Message
+unit_in (Ui p m) = Some m
+unit_in other = None
 
-abbrev pub units_on : Sapi → List Frame → List Message
-units_on s fs = filter_map (λ f. unit_of (is_on s f) f.content) fs
-
-unit-none : (here : Bool) (c : Content) → Where here (unit_of true c ≡ None) → unit_of here c ≡ None
-unit-none true c h = h
-unit-none false (Ui p (i ∷ is)) h = refl
-unit-none false other h = refl
-
-pub no-units : (s : Sapi) (fs : List Frame) → AllWhere (λ c. unit_of true c ≡ None) s fs → units_on s fs ≡ []
-no-units s [] h = refl
-no-units s (f ∷ fs) h = ap (λ o. cons_option o (units_on s fs)) (unit-none (is_on s f) f.content h.0) ∙ no-units s fs h.1
-
--- no unit is reported, or the one of the frame
+-- no unit is reported, or the one that comes first
 abbrev pub ReportsUnit : Content → List Notice → Type 0
-ReportsUnit c ns = (filter_map unit_got_in ns ≡ []) ⊎ ((m : Message) × (unit_of true c ≡ Some m) × (filter_map unit_got_in ns ≡ m ∷ []))
+ReportsUnit c ns = (filter_map unit_got_in ns ≡ []) ⊎ (filter_map unit_got_in ns ≡ filter_map unit_in (cons_option (content_of c) []))
 
--- the first frame that comes in is taken, and both directions go on
-abbrev pub Arrives : Frame → EndState → Outcome → Type 0
-Arrives f x o = (t : Sapi) (y : EndState) (out comes : List Frame) → is_on t f ≡ true → IsBoth t x y out (f ∷ comes) (f ∷ comes) →
-    After t o y out comes comes
+-- what comes first is taken, and both directions go on
+abbrev pub Arrives : Content → EndState → Outcome → Type 0
+Arrives c x o = (y : EndState) (out comes : List Content) → IsBoth x y out (cons_option (content_of c) comes)
+    (cons_option (content_of c) comes) → After o y out comes comes
 
 pub record IsTaken (c : Content) (x : EndState) (o : Outcome) : Type 0 where
   pub link : IsSameLink x o.after
@@ -102,7 +89,7 @@ pub record IsTaken (c : Content) (x : EndState) (o : Outcome) : Type 0 where
   pub frames : AllFrames (Answers x o.after) x.sapi o.frames
   pub goes : Remains x o ⊎ IsOpenedBy c x o
   pub unit : ReportsUnit c o.notices
-  pub arrives : (n : ℕ) (cr : Bool) → Arrives (record { sapi = n; cr = cr; content = c }) x o
+  pub arrives : Arrives c x o
 
 -- in Open
 well-answers : (x z : EndState) (c : Content) → SaysWell (all_pieces x) c → Answers x z c
@@ -111,8 +98,7 @@ well-answers x z (Rr nr pf) h = h
 well-answers x z (Rej nr pf) h = h
 well-answers x z other h = absurd h
 
-openly : (c : Content) (x : EndState) (o : Outcome) → InOpen x o →
-    ((n : ℕ) (cr : Bool) → Arrives (record { sapi = n; cr = cr; content = c }) x o) → IsTaken c x o
+openly : (c : Content) (x : EndState) (o : Outcome) → InOpen x o → Arrives c x o → IsTaken c x o
 openly c x o h arrives = record {
   link = record { role = ap (λ z. z.role) h.same; sapi = ap (λ z. z.sapi) h.same; channel = ap (λ z. z.channel) h.same };
   taken = ap (λ z. z.taken) h.same;
@@ -151,9 +137,8 @@ module _ (x : EndState) (w : KeepsWindow x) where
         frames = frames-as (Replies x z) (Answers x z) (reply-answers x z) x.sapi fs replies;
         goes = goes;
         unit = unit;
-        arrives = λ n cr t y out comes here h.
-            sends_plain fs (all-where (Replies x z) IsPlain (reply-plain x z) t x.sapi fs replies)
-            (moved s k x.rejecting x.retries (gone h));
+        arrives = λ y out comes h. sends_plain _ (frames-say (Replies x z) IsPlain (reply-plain x z) x.sapi fs replies)
+            (moved s k x.rejecting x.retries (gone (content_of c) h));
       }
 
   quietly : (c : Content) (fs : List Frame) → AllFrames (Replies x x) x.sapi fs →
@@ -216,11 +201,11 @@ module _ (x : EndState) (w : KeepsWindow x) where
 
   taken-in_open : (cmd : Bool) (c : Content) → x.state ≡ Open → IsTaken c x (in_open cmd c x)
   taken-in_open cmd (I ns nr p more info) e = openly _ x _ (in-takes_i nr ns p (info, more) x e w)
-      (λ n cr t y out comes here h. after-takes_i _ nr (λ k. where-in _ _ here) h ns p (info, more) (λ k. where-in _ _ here))
+      (λ y out comes h. after-takes_i (I ns nr p more info) nr (λ k e. e) h ns p (info, more) (λ k e. e))
   taken-in_open cmd (Rr nr pf) e = openly _ x _ (in-takes_rr nr (cmd && pf) x e w)
-      (λ n cr t y out comes here h. after-takes_rr _ nr (λ k. where-in _ _ here) h (cmd && pf))
+      (λ y out comes h. after-takes_rr (Rr nr pf) nr (λ k e. e) h (cmd && pf))
   taken-in_open cmd (Rej nr pf) e = openly _ x _ (in-takes_rej nr (cmd && pf) x e w)
-      (λ n cr t y out comes here h. after-takes_rej _ nr (λ k. where-in _ _ here) h (cmd && pf))
+      (λ y out comes h. after-takes_rej (Rej nr pf) nr (λ k e. e) h (cmd && pf))
   taken-in_open cmd (Sabm p info) e = taken-ua_if p (answers_sabm x.sapi x.role) (bytes_eq info x.kept) info e refl
   taken-in_open cmd (Disc p) e = over _ R.Released _ (rw e (omega arith)) (inl refl, inr (refl, rw e tt), tt)
   taken-in_open cmd (Dm f) e = over _ R.Failed [] (rw e (omega arith)) tt
@@ -248,7 +233,7 @@ module _ (x : EndState) (w : KeepsWindow x) where
   taken-content cmd (Ui p []) = quietly _ _ tt
   taken-content cmd (Ui p (i ∷ is)) =
       becomes _ x.state x.kept [] _ tt (tt, refl)
-      (inl (record { state = inl refl; kept = refl; none = refl })) (inr (i ∷ is, refl, refl))
+      (inl (record { state = inl refl; kept = refl; none = refl })) (inr refl)
   taken-content cmd other = taken-in_state x.state cmd other refl
 
   taken-if : (b cmd : Bool) (c : Content) → IsTaken c x (if b then after_content cmd c x else stays x)
@@ -257,17 +242,3 @@ module _ (x : EndState) (w : KeepsWindow x) where
 
   pub taken-frame : (f : Frame) → IsTaken f.content x (after_frame f x)
   taken-frame f = taken-if _ (is_command x f) f.content
-
--- a frame of another SAPI is ignored
-pub elsewhere : (f : Frame) (x : EndState) → is_on x.sapi f ≡ false → after_frame f x ≡ stays x
-elsewhere f x h = rw h refl
-
--- the first frame that comes in, of either SAPI
-pub arrived : (f : Frame) (t : Sapi) (x y : EndState) (out comes : List Frame) → KeepsWindow x → x.sapi ≡ t →
-    IsBoth t x y out (f ∷ comes) (f ∷ comes) → After t (after_frame f x) y out comes comes
-arrived f t x y out comes w same h = by_sapi (is_on t f) refl
-  where
-    by_sapi : (b : Bool) → is_on t f ≡ b → After t (after_frame f x) y out comes comes
-    by_sapi true e = (taken-frame x w f).arrives f.sapi f.cr t y out comes e h
-    by_sapi false e = subst (λ (o : Outcome). After t o y out comes comes)
-        (sym (elsewhere f x (ap (λ (s : Sapi). is_on s f) same ∙ e))) (quiet (gone h))

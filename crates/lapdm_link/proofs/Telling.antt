@@ -122,9 +122,13 @@ reports-acked true x is_now e is one = openly x x.sent x.sent x.accepted x.rejec
     (ap (λ a. record (known x) { acked = a }) (wholly_acked-more x one (omega (arith, e.sent)) is), (refl, refl))
 reports-acked false x is_now e is one =
     let last : wholly_acked (with_acked x) ≡ wholly_acked x + 1 = wholly_acked-last x one (omega (arith, e.sent)) is in
-    openly x x.sent x.sent x.accepted x.rejecting 0 [] (Acked (acked_number x) ∷ []) (KeepsWindow-acked x e) tt
-    (((ap stage_of is_now, ap capped last, omega (arith, last, wholly_acked-most (with_acked x))),
-    ap (λ a. record (known x) { acked = a }) last), (refl, refl))
+    openly x x.sent x.sent x.accepted x.rejecting 0 [] (Acked (acked_number x) ∷ []) (KeepsWindow-acked x e) tt (
+      (
+        (ap stage_of is_now, ap capped last, omega (arith, last, wholly_acked-most (with_acked x))),
+        ap (λ a. record (known x) { acked = a }) last,
+      ),
+      (refl, refl),
+    )
 
 in-counts : (nr : ℕ) → Stays (counts nr)
 in-counts nr x is_now e = in-if (acknowledges nr x)
