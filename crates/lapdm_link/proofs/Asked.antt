@@ -81,9 +81,10 @@ taken-both m {x} h = record { there = rw (all_pieces-taken x m) (more_pieces _ h
 module _ (x : EndState) (w : KeepsWindow x) where
   -- what it keeps changes, and no message is taken
   moves : (call : Call) (s : State) (k : Message) (r : ℕ) (fs : List Frame) (ns : List Notice) → filter_map sent_in (call ∷ []) ≡ [] →
-      (let z : EndState = record x { state = s; kept = k; retries = r } in let o : Outcome = record { after = z; frames = fs; notices = ns } in
-      Tells (asked (Some call) (known x)) ns (known z) → filter_map unit_got_in ns ≡ [] → filter_map opened_in ns ≡ [] → LeftBy call x z →
-      AllFrames (Asks call z) x.sapi fs → filter_map unit_in (contents fs) ≡ filter_map unit_sent_in (call ∷ []) →
+      (let z : EndState = record x { state = s; kept = k; retries = r } in
+      let o : Outcome = record { after = z; frames = fs; notices = ns } in Tells (asked (Some call) (known x)) ns (known z) →
+      filter_map unit_got_in ns ≡ [] → filter_map opened_in ns ≡ [] → LeftBy call x z → AllFrames (Asks call z) x.sapi fs →
+      filter_map unit_in (contents fs) ≡ filter_map unit_sent_in (call ∷ []) →
       ((y : EndState) (out comes : List Content) → IsBoth z y out comes comes → After o y out comes comes) → IsCalled x call o)
   moves call s k r fs ns none tells reports opened left frames units keeps = record {
     link = record { role = refl; sapi = refl; channel = refl };
@@ -149,7 +150,8 @@ module _ (x : EndState) (w : KeepsWindow x) where
         frames = frames-as (SaysWell (all_pieces mid)) (Asks (Sends m) (sends_next mid).after)
             (well-asked (Sends m) mid (sends_next mid).after (ap all_pieces i.same)) x.sapi
             (sends_next mid).frames i.frames;
-        units = no-units _ (frames-say (SaysWell (all_pieces mid)) (λ c. unit_in c ≡ None) (well-no_unit (all_pieces mid)) x.sapi _ i.frames);
+        units = no-units _
+            (frames-say (SaysWell (all_pieces mid)) (λ c. unit_in c ≡ None) (well-no_unit (all_pieces mid)) x.sapi _ i.frames);
         reports = i.of_open.0;
         opened = i.of_open.1;
         keeps = λ y out comes h. keeps-sends_next (taken-both m h);

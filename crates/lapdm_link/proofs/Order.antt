@@ -56,7 +56,8 @@ module _ {r : Role} {s : Sapi} {e : EndState} {ls : List Line} (h : IsReported r
   goes_on : (z : EndState) (new : List Line) → IsSameLink e z → KeepsWindow z → Runs r s (known e) new (known z) →
       IsReported r s z (ls ++ new)
   goes_on z new link end run =
-      let whole : Runs r s nothing (ls ++ new) (known z) = goes-append (call_in r s) (notice_in r s) ls new nothing (known e) (known z) h.run run in
+      let whole : Runs r s nothing (ls ++ new) (known z) =
+      goes-append (call_in r s) (notice_in r s) ls new nothing (known e) (known z) h.run run in
       record {
         role = link.role ∙ h.role;
         sapi = link.sapi ∙ h.sapi;

@@ -145,7 +145,8 @@ module _ (x : EndState) (w : KeepsWindow x) where
       IsTaken c x (record { after = x; frames = fs; notices = [] })
   quietly c fs h = becomes c x.state x.kept fs [] h refl (inl (record { state = inl refl; kept = refl; none = refl })) (inl refl)
 
-  over : (c : Content) (reason : Reason) (fs : List Frame) → stage_of x.state ≤ 2 → AllFrames (Replies x (record x { state = Closed })) x.sapi fs →
+  over : (c : Content) (reason : Reason) (fs : List Frame) → stage_of x.state ≤ 2 →
+      AllFrames (Replies x (record x { state = Closed })) x.sapi fs →
       IsTaken c x (record { after = record x { state = Closed }; frames = fs; notices = N.Closed reason ∷ [] })
   over c reason fs live h = becomes c Closed x.kept fs _ h (live, refl)
       (inl (record { state = inr refl; kept = refl; none = refl })) (inl refl)
