@@ -21,7 +21,7 @@ use Rattle.lapdm_link.proofs.ByKind.{IsPlaced}
 use Rattle.lapdm_link.proofs.Order.{AllStand}
 use Rattle.lapdm_link.proofs.Taking.{HasBegun, Answers, MayOpen, OpensBy, Remains, IsOpenedBy}
 use Rattle.lapdm_link.proofs.Asked.{Asks, IsOpening, LeftBy}
-use Rattle.lapdm_link.proofs.Links.{Side, Act, IsActed, called, took, rival, after, other_after}
+use Rattle.lapdm_link.proofs.Links.{Side, Act, lines, IsActed, called, took, rival, after, other_after}
 
 -- by what call an end may be asked to open its link with this information: on SAPI 0 the mobile with some, on SAPI 3
 -- either end with none
@@ -178,11 +178,11 @@ goes-on r s ls c x o left role same sent h (inr m) =
 -- an end acts
 pub openings-here : {x y : Side} {a : Act} (ls : List Line) → IsActed x y a → x.end.role ≡ a.role → x.end.sapi ≡ a.sapi →
     HasOpenings a.role a.sapi x ls → HasOpenings (other a.role) a.sapi y ls →
-    HasOpenings a.role a.sapi (after a x) (ls ++ a.lines) × AllStand IsOpenedAfter ls a.lines
+    HasOpenings a.role a.sapi (after a x) (ls ++ lines a) × AllStand IsOpenedAfter ls (lines a)
 openings-here {x} {y} {a} ls (called {r} {s} {call} p c) role same h g =
-    let new : List Line = ls ++ a.lines in
-    let asked : Contains new (Asked r s call) = Contains-append_right ls a.lines _ (0, omega arith, refl) in
-    let h' : HasOpenings r s x new = openings-more r s ls a.lines x h in
+    let new : List Line = ls ++ lines a in
+    let asked : Contains new (Asked r s call) = Contains-append_right ls (lines a) _ (0, omega arith, refl) in
+    let h' : HasOpenings r s x new = openings-more r s ls (lines a) x h in
     let to : IsReached r s new a.does.after.state a.does.after.kept = reached-by r s new call x.end a.does.after p asked c.left h'.reached in (
       record {
         sent = of-append _ x.out _ h'.sent
@@ -192,8 +192,8 @@ openings-here {x} {y} {a} ls (called {r} {s} {call} p c) role same h g =
       (tt, none-opened r s a.does.notices (ls ++ Asked r s call ∷ []) c.opened),
     )
 openings-here {x} {y} {a} ls (took {r} {s} {c} {o} {left} e t) role same h g =
-    let new : List Line = ls ++ a.lines in
-    let h' : HasOpenings r s x new = openings-more r s ls a.lines x h in
+    let new : List Line = ls ++ lines a in
+    let h' : HasOpenings r s x new = openings-more r s ls (lines a) x h in
     let to = goes-on r s ls c x.end o left role same (rw e at g.sent) h.reached t.goes in (
       record {
         sent = of-append _ x.out _ h'.sent
@@ -203,7 +203,7 @@ openings-here {x} {y} {a} ls (took {r} {s} {c} {o} {left} e t) role same h g =
       to.1,
     )
 openings-here {x} {y} {a} ls (rival {info}) role same h g =
-    let h' : HasOpenings Mobile Zero x (ls ++ a.lines) = openings-more Mobile Zero ls a.lines x h in (
+    let h' : HasOpenings Mobile Zero x (ls ++ lines a) = openings-more Mobile Zero ls (lines a) x h in (
       record { sent = of-append _ x.out _ h'.sent (inr (refl, Contains-push ls (Rivals info)), tt); reached = h'.reached },
       (tt, tt),
     )
@@ -214,8 +214,8 @@ openings-lost r s ls x None cs h = h
 openings-lost r s ls x (Some c) cs h = record { sent = h.sent.1; reached = h.reached }
 
 pub openings-there : {x y : Side} {a : Act} (ls : List Line) → IsActed x y a → HasOpenings (other a.role) a.sapi y ls →
-    HasOpenings (other a.role) a.sapi (other_after a y) (ls ++ a.lines)
-openings-there {a = a} ls i g = openings-more _ _ ls a.lines _ (without i g)
+    HasOpenings (other a.role) a.sapi (other_after a y) (ls ++ lines a)
+openings-there {a = a} ls i g = openings-more _ _ ls (lines a) _ (without i g)
   where
     without : {x y : Side} {a : Act} → IsActed x y a → HasOpenings (other a.role) a.sapi y ls →
         HasOpenings (other a.role) a.sapi (other_after a y) ls

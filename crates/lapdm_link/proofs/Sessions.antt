@@ -1,5 +1,5 @@
 -- Every harmless session: one event after another.
-use Rattle.std.proofs.Common.{◌≡◌, inl, refl, sym, ◌∙◌, ap, subst, arith, ◌+◌, ◌≤◌, true, false, List, [], ◌∷◌, ◌++◌, length, Option, Some, None, append_assoc}
+use Rattle.std.proofs.Common.{◌≡◌, refl, sym, ◌∙◌, ap, subst, arith, ◌+◌, ◌≤◌, true, false, List, [], ◌∷◌, ◌++◌, length, Option, Some, None, append_assoc}
 use Rattle.std.specs.List.{cons_option}
 use Rattle.std.proofs.lemmas.List.{append-nil, length-append}
 use Rattle.std.proofs.lemmas.List.Elements.{filter_map-append}
@@ -9,14 +9,14 @@ use Rattle.lapdm_window.specs.declared.Sapi.{Sapi}
 use Rattle.lapdm_window.specs.declared.Sapi.TheVariants.{Zero, Three}
 use Rattle.lapdm_window.specs.declared.Notice.{Notice}
 use Rattle.lapdm_window.specs.declared.Notice.TheVariants as N
-use Rattle.lapdm_window.specs.Ends.{Role, Mobile, Network, EndState, Outcome, start}
+use Rattle.lapdm_window.specs.Ends.{Role, Mobile, Network, EndState, start}
 use Rattle.lapdm_window.specs.Calls.{Call}
 use Rattle.lapdm_link.specs.Events.{Event, Deliver, Why, other}
 use Rattle.lapdm_link.specs.Worlds.{World, start_on, refusal, answer, after, answers, IsHarmlessBy, IsHarmless}
 use Rattle.lapdm_link.specs.Ways.{IsAsSent}
-use Rattle.lapdm_link.specs.Claims.{Line, Asked, Told, OrderClaims, CountsAgree, is_sapi, answer_lines, lines, calls, notices, Claims, acked, got}
-use Rattle.lapdm_link.proofs.Queues.{is_on, content_of, content_on, contents_on, AllFrames, frames-as, contents-own, contents-else}
-use Rattle.lapdm_link.proofs.Views.{end_of, way, rest, without_first, acted, said, is_end, by_link, other_is, link_else, end_does, end_does-else, way_does, calls-said, calls-else, notices-said, notices-else, calls-rival, notices-rival}
+use Rattle.lapdm_link.specs.Claims.{Line, Asked, Told, OrderClaims, CountsAgree, is_sapi, answer_lines, lines, notices, Claims, acked, got}
+use Rattle.lapdm_link.proofs.Queues.{is_on, content_of, content_on, contents_on, AllFrames, contents-own, contents-else}
+use Rattle.lapdm_link.proofs.Views.{end_of, way, rest, without_first, acted, said, is_end, by_link, other_is, link_else, end_does, end_does-else, way_does, calls-own, calls-else, notices-own, notices-else}
 use Rattle.lapdm_link.proofs.ByKind.{KnowsBy, by_kind}
 use Rattle.lapdm_link.proofs.Taking.{taken-frame}
 use Rattle.lapdm_link.proofs.Asked.{is_called}
@@ -24,65 +24,43 @@ use Rattle.lapdm_link.proofs.Order.{AllStand, stand-append, stands, AllReported,
 use Rattle.lapdm_link.proofs.Directions.{start-direction}
 use Rattle.lapdm_link.proofs.Keeping.{gone}
 use Rattle.lapdm_link.proofs.Links as L
-use Rattle.lapdm_link.proofs.Links.{Side, side, Act, act, IsActed, called, took, rival, other_after}
+use Rattle.lapdm_link.proofs.Links.{Side, side, Act, acts_own, IsActed, called, took, rival, other_after}
 use Rattle.lapdm_link.proofs.Delivery.{IsCarried, carried-acts, got_in_order, acked_most, none_oversize}
 use Rattle.lapdm_link.proofs.Units.{none, HasUnits, units-here, units-there, units-lost, units-claim}
 use Rattle.lapdm_link.proofs.Openings.{HasOpenings, IsOpenedAfter, openings-more, openings-here, openings-there, openings-lost}
 
 -- ---- one link
 
-pub record IsLink (r q : Role) (s : Sapi) (x y : Side) (ls : List Line) : Type 0 where
-  pub carried : IsCarried x y
-  pub units : HasUnits x y
-  pub other_units : HasUnits y x
-  pub opens : HasOpenings r s x ls
-  pub other_opens : HasOpenings q s y ls
+-- what holds of both sides of a link, by all lines
+pub data IsLink (r q : Role) (s : Sapi) (x y : Side) (ls : List Line) : Type 0 where
+  link : IsCarried x y → HasUnits x y → HasUnits y x → HasOpenings r s x ls → HasOpenings q s y ls → IsLink r q s x y ls
+
+carried : {r q : Role} {s : Sapi} {x y : Side} {ls : List Line} → IsLink r q s x y ls → IsCarried x y
+carried (link c u v o p) = c
+
+units : {r q : Role} {s : Sapi} {x y : Side} {ls : List Line} → IsLink r q s x y ls → HasUnits x y
+units (link c u v o p) = u
 
 turned : {r q : Role} {s : Sapi} {x y : Side} {ls : List Line} → IsLink r q s x y ls → IsLink q r s y x ls
-turned h = record {
-  carried = record { there = h.carried.back; back = h.carried.there };
-  units = h.other_units;
-  other_units = h.units;
-  opens = h.other_opens;
-  other_opens = h.opens;
-}
+turned (link c u v o p) = link (record { there = c.back; back = c.there }) v u p o
 
 link-acts : {x y : Side} {a : Act} (ls : List Line) → IsActed x y a → x.end.role ≡ a.role → x.end.sapi ≡ a.sapi →
     IsLink a.role (other a.role) a.sapi x y ls →
-    IsLink a.role (other a.role) a.sapi (L.after a x) (other_after a y) (ls ++ a.lines) × AllStand IsOpenedAfter ls a.lines
-link-acts ls i role same h =
-    let opens = openings-here ls i role same h.opens h.other_opens in (
-      record {
-        carried = carried-acts i h.carried;
-        units = units-here i h.units;
-        other_units = units-there i h.other_units;
-        opens = opens.0;
-        other_opens = openings-there ls i h.other_opens;
-      },
-      opens.1,
-    )
+    IsLink a.role (other a.role) a.sapi (L.after a x) (other_after a y) (ls ++ L.lines a) × AllStand IsOpenedAfter ls (L.lines a)
+link-acts ls i role same (link c u v o p) =
+    let opens = openings-here ls i role same o p in
+    (link (carried-acts i c) (units-here i u) (units-there i v) opens.0 (openings-there ls i p), opens.1)
+
+-- there are more lines
+more : {r q : Role} {s : Sapi} {x y : Side} {ls : List Line} (new : List Line) → IsLink r q s x y ls → IsLink r q s x y (ls ++ new)
+more {r} {q} {s} {x} {y} {ls} new (link c u v o p) = link c u v (openings-more r s ls new x o) (openings-more q s ls new y p)
 
 module _ {r q : Role} {s : Sapi} (x y : Side) {ls : List Line} where
-  -- there are more lines
-  more : (new : List Line) → IsLink r q s x y ls → IsLink r q s x y (ls ++ new)
-  more new h = record {
-    carried = h.carried;
-    units = h.units;
-    other_units = h.other_units;
-    opens = openings-more r s ls new x h.opens;
-    other_opens = openings-more q s ls new y h.other_opens;
-  }
-
   -- the first that comes is lost
   first_gone : (o : Option Content) (cs : List Content) → IsLink r q s x (record y { out = cons_option o cs }) ls →
       IsLink r q s x (record y { out = cs }) ls
-  first_gone o cs h = record {
-    carried = gone o h.carried;
-    units = record { some = h.units.some };
-    other_units = units-lost y x o cs h.other_units;
-    opens = h.opens;
-    other_opens = openings-lost q s ls y o cs h.other_opens;
-  }
+  first_gone d cs (link c u v o p) =
+      link (gone d c) (record { some = u.some }) (units-lost y x d cs v) o (openings-lost q s ls y d cs p)
 
   rest_gone : (fs : List Frame) → IsLink r q s x (record y { out = contents_on s fs }) ls →
       IsLink r q s x (record y { out = contents_on s (rest fs) }) ls
@@ -107,35 +85,6 @@ first_lost : (r : Role) (s : Sapi) (w : World) (ls : List Line) → Links r s w 
 first_lost Mobile s w ls h = rest_gone _ (side Network s w ls) w.ways.down h
 first_lost Network s w ls h = rest_gone _ (side Mobile s w ls) w.ways.up h
 
--- what an end does is seen at its end alone
-record IsSeen (ls : List Line) (a : Act) : Type 0 where
-  own_calls : calls a.role a.sapi (ls ++ a.lines) ≡ calls a.role a.sapi ls ++ a.asks
-  own_notices : notices a.role a.sapi (ls ++ a.lines) ≡ notices a.role a.sapi ls ++ a.does.notices
-  no_calls : (r : Role) (s : Sapi) → is_end r s a.role a.sapi ≡ false → calls r s (ls ++ a.lines) ≡ calls r s ls
-  no_notices : (r : Role) (s : Sapi) → is_end r s a.role a.sapi ≡ false → notices r s (ls ++ a.lines) ≡ notices r s ls
-  frames : AllFrames (λ c. Unit {0}) a.sapi a.does.frames
-
-said-seen : (ls : List Line) (r : Role) (s : Sapi) (cs : List Call) (o : Outcome) (left : List Content) →
-    AllFrames (λ c. Unit {0}) s o.frames → IsSeen ls (act r s cs o left)
-said-seen ls r s cs o left frames = record {
-  own_calls = calls-said r s ls cs o.notices;
-  own_notices = notices-said r s ls cs o.notices;
-  no_calls = λ r' s' n. calls-else r s r' s' n ls cs o.notices;
-  no_notices = λ r' s' n. notices-else r s r' s' n ls cs o.notices;
-  frames = frames;
-}
-
-seen : {x y : Side} {a : Act} (ls : List Line) → IsActed x y a → x.end.sapi ≡ a.sapi → IsSeen ls a
-seen {a = a} ls (called p c) same = said-seen ls _ _ _ _ _ (frames-as _ _ (λ u h. tt) a.sapi a.does.frames (rw same at c.frames))
-seen {a = a} ls (took e t) same = said-seen ls _ _ _ _ _ (frames-as _ _ (λ u h. tt) a.sapi a.does.frames (rw same at t.frames))
-seen ls (rival {info}) same = record {
-  own_calls = calls-rival Mobile Zero ls info ∙ sym (append-nil _);
-  own_notices = notices-rival Mobile Zero ls info ∙ sym (append-nil _);
-  no_calls = λ r s n. calls-rival r s ls info;
-  no_notices = λ r s n. notices-rival r s ls info;
-  frames = (inl refl, tt, tt);
-}
-
 own_sapi : (s : Sapi) → is_sapi s s ≡ true
 own_sapi Zero = refl
 own_sapi Three = refl
@@ -144,32 +93,30 @@ sides : {e e' : EndState} {o o' : List Content} {c c' : List Call} {n n' : List 
     ◌≡◌ {A = Side} (record { end = e; out = o; asked = c; told = n }) (record { end = e'; out = o'; asked = c'; told = n' })
 sides h g k l = cc
 
-module _ (v : World) (ls : List Line) (a : Act) (seen : IsSeen ls a) where
-  here : side a.role a.sapi (acted a.role a.sapi a.does v) (ls ++ a.lines) ≡ L.after a (side a.role a.sapi v ls)
-  here = sides (end_does a.role a.sapi a.does v) (ap (contents_on a.sapi) (way_does a.role a.sapi a.does v)
-      ∙ filter_map-append (content_on a.sapi) (way a.role v) a.does.frames
-      ∙ ap (λ cs. contents_on a.sapi (way a.role v) ++ cs) (contents-own a.sapi (own_sapi a.sapi) _ _ seen.frames)) seen.own_calls
-      seen.own_notices
+-- what an end does is seen at its end alone
+module _ (v : World) (ls : List Line) (a : Act) (own : AllFrames (λ c. Unit {0}) a.sapi a.does.frames) where
+  here : side a.role a.sapi (acted a.role a.sapi a.does v) (ls ++ L.lines a) ≡ L.after a (side a.role a.sapi v ls)
+  here = sides (end_does a.role a.sapi a.does v)
+      (rw (way_does a.role a.sapi a.does v, filter_map-append (content_on a.sapi) (way a.role v) a.does.frames, contents-own a.sapi (own_sapi a.sapi) (λ c. Unit {0}) a.does.frames own) refl)
+      (calls-own a.role a.sapi ls a.rivals a.asks a.does.notices) (notices-own a.role a.sapi ls a.rivals a.asks a.does.notices)
 
   out-else : (r' : Role) (r : Role) (s : Sapi) → is_end r s r' a.sapi ≡ false →
       contents_on s (way r (acted r' a.sapi a.does v)) ≡ contents_on s (way r v)
-  out-else Mobile Mobile s n = filter_map-append (content_on s) v.ways.up a.does.frames
-      ∙ ap (λ cs. contents_on s v.ways.up ++ cs) (contents-else s a.sapi n _ _ seen.frames) ∙ append-nil _
-  out-else Network Network s n = filter_map-append (content_on s) v.ways.down a.does.frames
-      ∙ ap (λ cs. contents_on s v.ways.down ++ cs) (contents-else s a.sapi n _ _ seen.frames) ∙ append-nil _
+  out-else Mobile Mobile s n = rw (filter_map-append (content_on s) v.ways.up a.does.frames, contents-else s a.sapi n (λ c. Unit {0}) a.does.frames own, append-nil) refl
+  out-else Network Network s n = rw (filter_map-append (content_on s) v.ways.down a.does.frames, contents-else s a.sapi n (λ c. Unit {0}) a.does.frames own, append-nil) refl
   out-else r' r s n = refl
 
   elsewhere : (r : Role) (s : Sapi) → is_end r s a.role a.sapi ≡ false →
-      side r s (acted a.role a.sapi a.does v) (ls ++ a.lines) ≡ side r s v ls
-  elsewhere r s n =
-      sides (end_does-else a.role a.sapi a.does v r s n) (out-else a.role r s n) (seen.no_calls r s n) (seen.no_notices r s n)
+      side r s (acted a.role a.sapi a.does v) (ls ++ L.lines a) ≡ side r s v ls
+  elsewhere r s n = sides (end_does-else a.role a.sapi a.does v r s n) (out-else a.role r s n)
+      (calls-else a.role a.sapi ls a.rivals a.asks a.does.notices r s n) (notices-else a.role a.sapi ls a.rivals a.asks a.does.notices r s n)
 
   links-act : {x y : Side} → side a.role a.sapi v ls ≡ x → side (other a.role) a.sapi v ls ≡ y →
-      IsLink a.role (other a.role) a.sapi (L.after a x) y (ls ++ a.lines) → ((s : Sapi) → is_sapi s a.sapi ≡ false → Links a.role s v ls) → AllLinks (acted a.role a.sapi a.does v) (ls ++ a.lines)
-  links-act e e' own others = seen_by a.role (acted a.role a.sapi a.does v) (ls ++ a.lines) (by_link (λ s. Links a.role s (acted a.role a.sapi a.does v) (ls ++ a.lines)) a.sapi
+      IsLink a.role (other a.role) a.sapi (L.after a x) y (ls ++ L.lines a) → ((s : Sapi) → is_sapi s a.sapi ≡ false → Links a.role s v ls) → AllLinks (acted a.role a.sapi a.does v) (ls ++ L.lines a)
+  links-act e e' own others = seen_by a.role (acted a.role a.sapi a.does v) (ls ++ L.lines a) (by_link (λ s. Links a.role s (acted a.role a.sapi a.does v) (ls ++ L.lines a)) a.sapi
       (rw (here ∙ ap (L.after a) e, elsewhere (other a.role) a.sapi (other_is a.role a.sapi) ∙ e') own)
       (λ s n. rw (elsewhere a.role s (link_else a.role a.role s a.sapi n), elsewhere (other a.role) s (link_else (other a.role) a.role s a.sapi n))
-      (more _ _ a.lines (others s n))))
+      (more (L.lines a) (others s n))))
 
 -- ---- what stands before a notice, by the claim on acknowledgements
 
@@ -180,7 +127,7 @@ IsAfterGot before other = Unit {0}
 after_got : (r : Role) (s : Sapi) (n : Notice) (ns : List Notice) (ls : List Line) →
     length (acked r s (ls ++ said r s [] (n ∷ ns))) ≤ length (got (other r) s (ls ++ said r s [] (n ∷ ns))) → IsAfterGot ls (Told r s n)
 after_got r s (N.Acked i) ns ls h =
-    let g = rw (notices-said r s ls [] (N.Acked i ∷ ns), notices-else r s (other r) s (other_is r s) ls [] (N.Acked i ∷ ns)) at h in
+    let g = rw (notices-own r s ls [] [] (N.Acked i ∷ ns), notices-else r s ls [] [] (N.Acked i ∷ ns) (other r) s (other_is r s)) at h in
     omega (arith, simp (filter_map-append, length-append) at g)
 after_got r s n ns ls h = tt
 
@@ -194,7 +141,7 @@ told-after r s (n ∷ ns) ls h = (
 )
 
 acts-after : {x y : Side} {a : Act} (ls : List Line) → IsActed x y a →
-    length (acked a.role a.sapi (ls ++ a.lines)) ≤ length (got (other a.role) a.sapi (ls ++ a.lines)) → AllStand IsAfterGot ls a.lines
+    length (acked a.role a.sapi (ls ++ L.lines a)) ≤ length (got (other a.role) a.sapi (ls ++ L.lines a)) → AllStand IsAfterGot ls (L.lines a)
 acts-after {a = a} ls (called {r} {s} {call} p c) h = (
   tt,
   told-after r s a.does.notices (ls ++ Asked r s call ∷ [])
@@ -218,11 +165,11 @@ Goes ls z new = AllReported z (ls ++ new) → AllLinks z (ls ++ new) × AllStand
 
 acts : (ls : List Line) (v : World) {x y : Side} {a : Act} → IsActed x y a → x.end.role ≡ a.role → x.end.sapi ≡ a.sapi →
     side a.role a.sapi v ls ≡ x → side (other a.role) a.sapi v ls ≡ other_after a y → IsLink a.role (other a.role) a.sapi x y ls →
-    ((s : Sapi) → is_sapi s a.sapi ≡ false → Links a.role s v ls) → Goes ls (acted a.role a.sapi a.does v) a.lines
+    ((s : Sapi) → is_sapi s a.sapi ≡ false → Links a.role s v ls) → Goes ls (acted a.role a.sapi a.does v) (L.lines a)
 acts ls v {x} {y} {a} i role same e e' h others reported =
     let link = link-acts ls i role same h in
-    let all : AllLinks (acted a.role a.sapi a.does v) (ls ++ a.lines) = links-act v ls a (seen ls i same) e e' link.0 others in
-    (all, acts-after ls i (acked_most (reported a.role a.sapi) (reported (other a.role) a.sapi) (all a.role a.sapi).carried), link.1)
+    let all : AllLinks (acted a.role a.sapi a.does v) (ls ++ L.lines a) = links-act v ls a (acts_own i same) e e' link.0 others in
+    (all, acts-after ls i (acked_most (reported a.role a.sapi) (reported (other a.role) a.sapi) (carried (all a.role a.sapi))), link.1)
 
 -- the first that comes is the first that was sent
 comes-first : (s : Sapi) (f : Frame) (fs : List Frame) → is_on s f ≡ true → IsAsSent (Some f) fs →
@@ -283,13 +230,8 @@ session-run (event ∷ events) w ls harmless h =
 
 start-link : (r q : Role) (s : Sapi) (channel : Channel) →
     (let first : Role → Side = λ p. record { end = start p s channel; out = []; asked = []; told = [] } in IsLink r q s (first r) (first q) [])
-start-link r q s channel = record {
-  carried = record { there = start-direction; back = start-direction };
-  units = record { some = none };
-  other_units = record { some = none };
-  opens = record { sent = tt; reached = tt };
-  other_opens = record { sent = tt; reached = tt };
-}
+start-link r q s channel = link (record { there = start-direction; back = start-direction }) (record { some = none })
+    (record { some = none }) (record { sent = tt; reached = tt }) (record { sent = tt; reached = tt })
 
 start-links : (channel : Channel) → AllLinks (start_on channel) []
 start-links channel = seen_by Mobile (start_on channel) [] each
@@ -307,7 +249,7 @@ harmless-session channel events harmless = session-run events (start_on channel)
 pub counts : (channel : Channel) (events : List Event) → IsHarmless events (start_on channel) →
     CountsAgree (lines events (answers events (start_on channel)))
 counts channel events harmless r s =
-    let (z, h) = harmless-session channel events harmless in acked_most (h.reported r s) (h.reported (other r) s) (h.links r s).carried
+    let (z, h) = harmless-session channel events harmless in acked_most (h.reported r s) (h.reported (other r) s) (carried (h.links r s))
 
 pub claims : (channel : Channel) (events : List Event) → IsHarmless events (start_on channel) →
     Claims (lines events (answers events (start_on channel)))
@@ -316,12 +258,12 @@ claims channel events harmless =
     let in_order : OrderClaims ls = order_claims channel events in
     let (z, h) = harmless-session channel events harmless in
     record {
-      in_order = λ r s. got_in_order (h.reported r s) (h.reported (other r) s) (h.links r s).carried;
+      in_order = λ r s. got_in_order (h.reported r s) (h.reported (other r) s) (carried (h.links r s));
       acknowledged = λ r s n before place.
           ((in_order.acknowledged r s n before place).0, stands IsAfterGot ls before (Told r s (N.Acked n)) h.after_got place);
-      units = λ r s. units-claim (side r s z ls) (side (other r) s z ls) (h.links r s).units;
+      units = λ r s. units-claim (side r s z ls) (side (other r) s z ls) (units (h.links r s));
       cause = λ r s info before place. stands IsOpenedAfter ls before (Told r s (N.Opened info)) h.after_cause place;
       once = in_order.opened_once;
       no_oversize = λ r s before place. none_oversize (h.reported (other r) s) (h.reported r s)
-          (let c = (h.links r s).carried in record { there = c.back; back = c.there }) before place;
+          (let c = (carried (h.links r s)) in record { there = c.back; back = c.there }) before place;
     }
