@@ -28,8 +28,7 @@ one_read channel (Some octets) (Some f) (Some g) h k = ap Some (same_frame chann
 one_read channel (Some octets) (Some f) None h k = absurd (never_both channel octets f k.0 h k.1)
 one_read channel (Some octets) None (Some f) h k = absurd (never_both channel octets f h.0 k h.1)
 one_read channel o None None h k = refl
-one_read channel None (Some f) g h k = absurd h
-one_read channel None None (Some f) h k = absurd k
+one_read channel o f g h k = absurd assumption
 
 one_hearing : (a : AirState) (sender : Role) (places : List ℕ) (r s : Received) (f g : Option Frame) → Hears a sender places r f →
     Hears a sender places s g → (r ≡ s) × (f ≡ g)
@@ -43,11 +42,9 @@ one_arrival : (a : AirState) (event : Event) (o p : Option Received) (f g : Opti
 one_arrival a (Deliver sender places) (Some r) (Some s) f g h k =
     let same : (r ≡ s) × (f ≡ g) = one_hearing a sender places r s f g h k in
     (ap Some same.0, ap (Deliver sender) same.1)
-one_arrival a (Deliver sender places) (Some r) None f g h k = absurd k
-one_arrival a (Deliver sender places) None p f g h k = absurd h
+one_arrival a (Deliver sender places) o p f g h k = absurd assumption
 one_arrival a event None None f g h k = (refl, refl)
-one_arrival a event (Some r) p f g h k = absurd h
-one_arrival a event None (Some s) f g h k = absurd k
+one_arrival a event o p f g h k = absurd assumption
 
 same_blocks : (channel : Channel) (tsc : ℕ) (fs : List Frame) (bs cs : List Block) → AreSent channel tsc fs bs → AreSent channel tsc fs cs →
     bs ≡ cs

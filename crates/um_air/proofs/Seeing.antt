@@ -1,7 +1,7 @@
--- What is coded, received and read on the air is what frames on two ways are: one step.
-use Rattle.std.proofs.Common.{◌≡◌, refl, sym, ◌∙◌, ap, subst, ℕ, suc, ◌+◌, ◌-◌, ◌<◌, List, [], ◌∷◌, ◌++◌, map, length, drop, Option, Some, None}
+-- One step over the air is one step of frames on two ways: an event of blocks is an event of the frames that are read.
+use Rattle.std.proofs.Common.{◌≡◌, refl, sym, ◌∙◌, ap, subst, ℕ, suc, ◌+◌, ◌-◌, ◌<◌, ◌≤◌, List, [], ◌∷◌, ◌++◌, map, length, drop, Option, Some, None}
 use Rattle.std.specs.Prelude.{IfSome}
-use Rattle.std.proofs.lemmas.List.{map-append}
+use Rattle.std.specs.List.{AllZip}
 use Rattle.std.proofs.lemmas.List.Elements.{All-take, All-drop}
 use Rattle.lapdm_frame.specs.declared.Channel.{Channel}
 use Rattle.lapdm_frame.specs.Layout.{header}
@@ -11,109 +11,100 @@ use Rattle.lapdm_frame.proofs.Canonical.{octets_canonical}
 use Rattle.lapdm_frame.proofs.Uniqueness.{same_frame}
 use Rattle.lapdm_window.specs.Ends.{Role, Mobile, Network}
 use Rattle.um_block.specs.declared.received.Received.{Received}
-use Rattle.um_block.specs.Received.{softened}
+use Rattle.um_block.specs.Sent.{IsSentBlock}
+use Rattle.um_block.specs.Received.{softened, IsReceivedBlock}
 use Rattle.um_block.proofs.Lemmas.{accepted_octets}
-use Rattle.lapdm_link.specs.Ways.{Ways, way, with_way, with_more, count, IsAsSent}
+use Rattle.lapdm_link.specs.Ways.{Ways, no_ways, way, without_first, with_more, count, IsAsSent}
 use Rattle.lapdm_link.specs.Events as E
-use Rattle.lapdm_link.specs.Events.{Open, OpenBare, Ask, Deliver, Lose, Rival, Ends, Who, sender_of, Deed, deed, taken, Why, AirFull, Nothing, unless, is_full, is_empty, refusal_by}
+use Rattle.lapdm_link.specs.Events.{Deliver, Lose, Ends, Deed, deed, taken, sender_of, Why, refusal_by}
 use Rattle.lapdm_link.specs.Worlds.{World, answer_by, after_by}
 use Rattle.lapdm_link.specs.Worlds as W
-use Rattle.lapdm_link.specs.Claims.{event_lines, notice_lines, answer_lines}
-use Rattle.lapdm_link.proofs.Lemmas.{Knows, KnowsBy, AllFit}
-use Rattle.um_air.specs.Air.{Octets, Block, Event, as_read, AirState, Reads, Arrives, AreSent, Step, Answer, Refuses, Does, Happens, refusal, AirStep, turned}
-use Rattle.um_air.specs.Sessions.{told, after, IsHarmlessStep, AreOctets}
+use Rattle.lapdm_link.specs.Claims.{Line, event_lines, notice_lines, answer_lines}
+use Rattle.lapdm_link.proofs.Lemmas.{Knows, KnowsBy, AllFit, IsFitting, fits-step, AllReported, in_order-step}
+use Rattle.um_air.specs.Air.{Octets, Block, Event, as_read, AirState, Reads, Arrives, AreSent, Answer, Refuses, Does, refusal, AirStep, turned}
+use Rattle.um_air.specs.Sessions.{told, after, IsHarmlessStep, AreOctets, IsKindEvent}
+use Rattle.um_air.proofs.Determined.{left, done, is_done}
+use Rattle.um_air.proofs.FewTurned.{accepted_as_sent}
 
--- ---- two pairs of ways, alike way by way
+-- ---- lists that correspond item by item, and ways of such lists
 
-abbrev pub AreAlike : {X Y : Type 0} → (List X → List Y → Type 0) → Ways X → Ways Y → Type 0
-AreAlike R xs ys = (r : Role) → R (way r xs) (way r ys)
+module _ {X Y : Type 0} (R : X → Y → Type 0) where
+  zip-rest : (xs : List X) (ys : List Y) → AllZip R xs ys → AllZip R (drop 1 xs) (drop 1 ys)
+  zip-rest [] [] h = h
+  zip-rest (x ∷ xs) (y ∷ ys) h = h.1
+  zip-rest xs ys h = absurd assumption
 
-module _ {X Y : Type 0} (R : List X → List Y → Type 0) where
-  alike-with : (sender : Role) (x : List X) (y : List Y) (xs : Ways X) (ys : Ways Y) → R x y → AreAlike R xs ys →
-      AreAlike R (with_way sender x xs) (with_way sender y ys)
-  alike-with Mobile x y xs ys h g Mobile = h
-  alike-with Network x y xs ys h g Network = h
-  alike-with sender x y xs ys h g r = g r
+  zip-append : (xs xs' : List X) (ys ys' : List Y) → AllZip R xs ys → AllZip R xs' ys' → AllZip R (xs ++ xs') (ys ++ ys')
+  zip-append [] xs' [] ys' h g = g
+  zip-append (x ∷ xs) xs' (y ∷ ys) ys' h g = (h.0, zip-append xs xs' ys ys' h.1 g)
+  zip-append xs xs' ys ys' h g = absurd assumption
 
-  alike-taken : ((x : List X) (y : List Y) → R x y → R (drop 1 x) (drop 1 y)) → (read : Option Frame) (event : Event) (xs : Ways X)
-      (ys : Ways Y) → AreAlike R xs ys →
-      AreAlike R (taken (as_read read event) xs) (taken event ys)
-  alike-taken shorter read (Deliver sender places) xs ys h = alike-with sender _ _ xs ys (shorter _ _ (h sender)) h
-  alike-taken shorter read (Lose sender) xs ys h = alike-with sender _ _ xs ys (shorter _ _ (h sender)) h
-  alike-taken shorter read event xs ys h = h
+  zip-length : (xs : List X) (ys : List Y) → AllZip R xs ys → length xs ≡ length ys
+  zip-length [] [] h = refl
+  zip-length (x ∷ xs) (y ∷ ys) h = ap suc (zip-length xs ys h.1)
+  zip-length xs ys h = absurd assumption
 
--- the blocks are the frames, coded
-sent-drop : (channel : Channel) (tsc : ℕ) (fs : List Frame) (bs : List Block) → AreSent channel tsc fs bs →
-    AreSent channel tsc (drop 1 fs) (drop 1 bs)
-sent-drop channel tsc [] [] h = h
-sent-drop channel tsc (f ∷ fs) (b ∷ bs) h = h.1
-sent-drop channel tsc fs bs h = absurd h
+  abbrev pub AreAlike : Ways X → Ways Y → Type 0
+  AreAlike xs ys = (r : Role) → AllZip R (way r xs) (way r ys)
 
-sent-append : (channel : Channel) (tsc : ℕ) (fs gs : List Frame) (bs cs : List Block) → AreSent channel tsc fs bs →
-    AreSent channel tsc gs cs → AreSent channel tsc (fs ++ gs) (bs ++ cs)
-sent-append channel tsc [] gs [] cs h g = g
-sent-append channel tsc (f ∷ fs) gs (b ∷ bs) cs h g = (h.0, sent-append channel tsc fs gs bs cs h.1 g)
-sent-append channel tsc fs gs bs cs h g = absurd h
+  pub alike-none : AreAlike no_ways no_ways
+  alike-none Mobile = tt
+  alike-none Network = tt
 
-sent-length : (channel : Channel) (tsc : ℕ) (fs : List Frame) (bs : List Block) → AreSent channel tsc fs bs → length bs ≡ length fs
-sent-length channel tsc [] [] h = refl
-sent-length channel tsc (f ∷ fs) (b ∷ bs) h = ap suc (sent-length channel tsc fs bs h.1)
-sent-length channel tsc fs bs h = absurd h
+  alike-more : (sender : Role) (x : List X) (y : List Y) (xs : Ways X) (ys : Ways Y) → AreAlike xs ys → AllZip R x y →
+      AreAlike (with_more sender x xs) (with_more sender y ys)
+  alike-more Mobile x y xs ys h g Mobile = zip-append xs.up x ys.up y (h Mobile) g
+  alike-more Network x y xs ys h g Network = zip-append xs.down x ys.down y (h Network) g
+  alike-more sender x y xs ys h g r = h r
 
--- the octets are those of the frames
-abbrev pub AreOctetsOf : Channel → List Frame → List Octets → Type 0
-AreOctetsOf channel fs os = os ≡ map (octets_of channel) fs
+  alike-rest : (sender : Role) (xs : Ways X) (ys : Ways Y) → AreAlike xs ys →
+      AreAlike (without_first sender xs) (without_first sender ys)
+  alike-rest Mobile xs ys h Mobile = zip-rest xs.up ys.up (h Mobile)
+  alike-rest Network xs ys h Network = zip-rest xs.down ys.down (h Network)
+  alike-rest sender xs ys h r = h r
 
-octets-drop : (channel : Channel) (fs : List Frame) (os : List Octets) → AreOctetsOf channel fs os →
-    AreOctetsOf channel (drop 1 fs) (drop 1 os)
-octets-drop channel [] os h = ap (drop 1) h
-octets-drop channel (f ∷ fs) os h = ap (drop 1) h
-
-octets-append : (channel : Channel) (fs gs : List Frame) (os ps : List Octets) → AreOctetsOf channel fs os → AreOctetsOf channel gs ps →
-    AreOctetsOf channel (fs ++ gs) (os ++ ps)
-octets-append channel fs gs os ps h g = ap (λ xs. xs ++ ps) h ∙ ap (λ xs. map (octets_of channel) fs ++ xs) g
-    ∙ sym (map-append (octets_of channel) fs gs)
+  alike-taken : (read : Option Frame) (event : Event) (xs : Ways X) (ys : Ways Y) → AreAlike xs ys →
+      AreAlike (taken (as_read read event) xs) (taken event ys)
+  alike-taken read (Deliver sender places) xs ys h = alike-rest sender xs ys h
+  alike-taken read (Lose sender) xs ys h = alike-rest sender xs ys h
+  alike-taken read event xs ys h = h
 
 -- ---- an air, as the session of the frames on its ways
 
 abbrev pub world_of : AirState → Ways Frame → World
 world_of a fs = record { channel = a.channel; ends = a.ends; ways = fs }
 
-pub record Carries (a : AirState) (octets : Ways Octets) (fs : Ways Frame) : Type 0 where
-  pub blocks : AreAlike (AreSent a.channel a.tsc) fs a.ways
-  pub written : AreAlike (AreOctetsOf a.channel) fs octets
+abbrev pub Coded : Channel → ℕ → Ways Frame → Ways Block → Type 0
+Coded channel tsc fs blocks = AreAlike (λ f block. IsSentBlock (octets_of channel f) tsc block) fs blocks
 
--- the refusals are the same
+abbrev pub Written : Channel → Ways Frame → Ways Octets → Type 0
+Written channel fs octets = AreAlike (λ f o. o ≡ octets_of channel f) fs octets
+
+-- what holds between two steps: these frames are on their way, each fits, and the ends are as these lines tell
+pub record IsSeenAt (a : AirState) (octets : Ways Octets) : Type 0 where
+  pub frames : Ways Frame
+  pub ls : List Line
+  pub blocks : Coded a.channel a.tsc frames a.ways
+  pub written : Written a.channel frames octets
+  pub fit : IsFitting a.channel (world_of a frames)
+  pub reported : AllReported (world_of a frames) ls
+
+-- neither the refusal nor the lines of an event hang on what is read
 refusal-read : (read : Option Frame) (event : Event) (channel : Channel) (n : Role → ℕ) (es : Ends) →
     refusal_by channel n (as_read read event) es ≡ refusal_by channel n event es
 refusal-read read (Deliver sender places) channel n es = refl
 refusal-read read event channel n es = refl
 
-full : (k m : ℕ) (o : Option Why) → k ≡ m → unless (is_full k) AirFull o ≡ unless (is_full m) AirFull o
-full k m o e = ap (λ i. unless (is_full i) AirFull o) e
+lines-read : (read : Option Frame) (event : Event) → event_lines event ≡ event_lines (as_read read event)
+lines-read read (Deliver sender places) = refl
+lines-read read event = refl
 
-refusal-count : (event : Event) (channel : Channel) (n m : Role → ℕ) (es : Ends) → ((r : Role) → n r ≡ m r) →
-    refusal_by channel n event es ≡ refusal_by channel m event es
-refusal-count (Open info) channel n m es h = full _ _ _ (h Mobile)
-refusal-count (OpenBare r) channel n m es h = full _ _ _ (h r)
-refusal-count (Ask r s request) channel n m es h = full _ _ _ (h r)
-refusal-count (Deliver sender places) channel n m es h =
-    ap (λ i. unless (is_empty i) Nothing (unless (is_full (n (E.other sender))) AirFull None)) (h sender)
-    ∙ ap (λ o. unless (is_empty (m sender)) Nothing o) (full (n (E.other sender)) (m (E.other sender)) None (h (E.other sender)))
-refusal-count (Lose sender) channel n m es h = ap (λ i. unless (is_empty i) Nothing None) (h sender)
-refusal-count (Rival info) channel n m es h = full _ _ _ (h Mobile)
-
-pub refusal-same : (a : AirState) (fs : Ways Frame) (read : Option Frame) (event : Event) → AreAlike (AreSent a.channel a.tsc) fs a.ways →
+pub refusal-same : (a : AirState) (fs : Ways Frame) (read : Option Frame) (event : Event) → Coded a.channel a.tsc fs a.ways →
     W.refusal (as_read read event) (world_of a fs) ≡ refusal event a
 refusal-same a fs read event h =
     refusal-read read event a.channel (count fs) a.ends
-    ∙ refusal-count event a.channel (count fs) (count a.ways) a.ends
-    (λ r. sym (sent-length a.channel a.tsc (way r fs) (way r a.ways) (h r)))
-
--- the lines of an event do not hang on what is read
-same_lines : (read : Option Frame) (event : Event) → event_lines event ≡ event_lines (as_read read event)
-same_lines read (Deliver sender places) = refl
-same_lines read event = refl
+    ∙ (λ i. refusal_by a.channel (λ r. zip-length (λ f block. IsSentBlock (octets_of a.channel f) a.tsc block) (way r fs) (way r a.ways)
+    (h r) i) event a.ends)
 
 -- ---- what is read
 
@@ -144,106 +135,115 @@ known-read a (Deliver sender places) None read h = absurd h
 known-read a event report read h = tt
 
 -- a frame that was sent is read as itself
-read_back : (channel : Channel) (accepted : Option Octets) (read : Option Frame) (fs : List Frame) → Reads channel accepted read →
-    AllFit channel fs →
-    IsAsSent accepted (map (octets_of channel) fs) → IsAsSent read fs
-read_back channel None None fs h fit s = tt
-read_back channel None (Some f) fs h fit s = absurd h
-read_back channel (Some octets) None fs h fit s = tt
-read_back channel (Some octets) (Some f) [] h fit s = absurd s
-read_back channel (Some octets) (Some f) (g ∷ gs) h fit s =
-    let sent : IsFrame channel g (octets_of channel g) = (octets_canonical channel g fit.0).frame in
-    same_frame channel (octets_of channel g) f g (subst (IsFrame channel f) s h) sent
+read_back : (channel : Channel) (accepted : Option Octets) (read : Option Frame) (fs : List Frame) (os : List Octets) →
+    AllZip (λ f o. o ≡ octets_of channel f) fs os → AllFit channel fs → Reads channel accepted read → IsAsSent accepted os →
+    IsAsSent read fs
+read_back channel (Some octets) (Some f) (g ∷ gs) (o ∷ os) z fit h s =
+    same_frame channel (octets_of channel g) f g (subst (IsFrame channel f) (s ∙ z.0) h) (octets_canonical channel g fit.0).frame
+read_back channel (Some octets) (Some f) fs [] z fit h s = absurd s
+read_back channel accepted None fs os z fit h s = tt
+read_back channel accepted read fs os z fit h s = absurd assumption
 
-harmless-read : (a : AirState) (octets : Ways Octets) (fs : Ways Frame) (sender : Role) (places : List ℕ) (report : Option Received)
-    (read : Option Frame) → AreAlike (AreOctetsOf a.channel) fs octets → ((r : Role) → AllFit a.channel (way r fs)) →
-    Arrives a (Deliver sender places) report read → IfSome report (λ r. IsAsSent r.accepted (way sender octets)) →
-    IsAsSent read (way sender fs)
-harmless-read a octets fs sender places (Some report) read on_way fit t h =
-    read_back a.channel report.accepted read (way sender fs) t.reads (fit sender)
-    (subst (λ (os : List Octets). IsAsSent report.accepted os) (on_way sender) h)
-harmless-read a octets fs sender places None read on_way fit t h = absurd t
-
-harmless-done : (a : AirState) (octets : Ways Octets) (fs : Ways Frame) (event : Event) (step : Step) (read : Option Frame) →
-    AreAlike (AreOctetsOf a.channel) fs octets → ((r : Role) → AllFit a.channel (way r fs)) → Arrives a event step.received read →
-    IsHarmlessStep event (Does step) octets → W.IsHarmlessBy None (as_read read event) (world_of a fs)
-harmless-done a octets fs (Deliver sender places) step read on_way fit t h =
-    harmless-read a octets fs sender places step.received read on_way fit t h
-harmless-done a octets fs event step read on_way fit t h = tt
+-- a block of few turned bits is accepted as it was sent
+kind_block : (channel : Channel) (tsc : ℕ) (fs : List Frame) (os : List Octets) (blocks others : List Block) (places : List ℕ)
+    (report : Received) (block : Block) → AllZip (λ f o. o ≡ octets_of channel f) fs os → AreSent channel tsc fs blocks →
+    blocks ≡ block ∷ others → length places ≤ 3 → IsReceivedBlock (map softened (turned places block)) report →
+    IsAsSent report.accepted os
+kind_block channel tsc (f ∷ fs) (o ∷ os) (b ∷ bs) others places report block z sent e few received =
+    let same : b ≡ block = cc in
+    rw (accepted_as_sent (octets_of channel f) tsc block places report (rw same at sent.0) few received) (sym z.0)
+kind_block channel tsc fs os [] others places report block z sent e few received = absurd (cc e)
+kind_block channel tsc fs os blocks others places report block z sent e few received = absurd assumption
 
 -- ---- one step
 
-pub record IsSeenStep (a : AirState) (octets : Ways Octets) (fs : Ways Frame) (event : Event) (answer : Answer)
-    (b : AirState) : Type 0 where
-  pub read : Option Frame
-  pub ways : Ways Frame
-  pub later : W.after (as_read read event) (world_of a fs) ≡ world_of b ways
-  pub carries : Carries b (after event answer octets) ways
+-- the frames that go out are written
+written-frames : (channel : Channel) (fs : List Frame) → AllZip (λ f o. o ≡ octets_of channel f) fs (map (octets_of channel) fs)
+written-frames channel [] = tt
+written-frames channel (f ∷ fs) = (refl, written-frames channel fs)
+
+harmless-refused : (event : Event) (why : Why) (octets : Ways Octets) → IsHarmlessStep event (Refuses why) octets
+harmless-refused (Deliver sender places) why octets = tt
+harmless-refused event why octets = tt
+
+-- the step is one of frames, where that event is refused or not
+pub record IsSeenBy (a : AirState) (octets : Ways Octets) (fs : Ways Frame) (event : Event) (answer : Answer) (b : AirState)
+    (read : Option Frame) (o : Option Why) : Type 0 where
+  pub next : IsSeenAt b (after event answer octets)
+  pub later : after_by o (as_read read event) (world_of a fs) ≡ world_of b next.frames
   pub tsc : b.tsc ≡ a.tsc
-  pub same : answer_lines event (told answer) ≡ answer_lines (as_read read event) (W.answer (as_read read event) (world_of a fs))
-  pub known : KnowsBy (W.refusal (as_read read event) (world_of a fs)) (ReadsWell a.channel) (as_read read event)
-  pub harmless : IsHarmlessStep event answer octets → W.IsHarmlessBy (W.refusal (as_read read event) (world_of a fs)) (as_read read event)
-      (world_of a fs)
+  pub same : answer_lines event (told answer) ≡ answer_lines (as_read read event) (answer_by o (deed (as_read read event) a.ends))
+  pub known : KnowsBy o (ReadsWell a.channel) (as_read read event)
+  pub harmless : IsHarmlessStep event answer octets → W.IsHarmlessBy o (as_read read event) (world_of a fs)
+  pub kind : IsKindEvent event → IsHarmlessStep event answer octets
 
-module _ (a : AirState) (octets : Ways Octets) (fs : Ways Frame) (event : Event) (h : Carries a octets fs) where
-  seen-refused : (why : Why) → refusal event a ≡ Some why → IsSeenStep a octets fs event (Refuses why) a
-  seen-refused why is =
-      let e : E.Event = as_read None event in
-      let w : World = world_of a fs in
-      let refused : W.refusal e w ≡ Some why = refusal-same a fs None event h.blocks ∙ is in
-      record {
-        read = None;
-        ways = fs;
-        later = ap (λ o. after_by o e w) refused;
-        carries = h;
-        tsc = refl;
-        same = sym (ap (λ o. answer_lines e (answer_by o (deed e w.ends))) refused);
-        known = subst (λ (o : Option Why). KnowsBy o (ReadsWell a.channel) e) (sym refused) tt;
-        harmless = λ q. subst (λ (o : Option Why). W.IsHarmlessBy o e w) (sym refused) tt;
-      }
+module _ (a : AirState) (octets : Ways Octets) (h : IsSeenAt a octets) where
+  -- where a block arrives: what is read of it, if it was accepted as it was sent, and that it was, if few bits were turned
+  arrived : (event : Event) (report : Option Received) (read : Option Frame) → Arrives a event report read →
+      (let now = IsHarmlessStep event (Does (done a (as_read read event) report)) octets in
+      (now → W.IsHarmlessBy None (as_read read event) (world_of a h.frames)) × (IsKindEvent event → now))
+  arrived (Deliver sender places) (Some report) read t = (
+    read_back a.channel report.accepted read (way sender h.frames) (way sender octets) (h.written sender) (h.fit.ways sender) t.reads,
+    λ few. kind_block a.channel a.tsc (way sender h.frames) (way sender octets) (way sender a.ways) t.others places report t.block
+        (h.written sender) (h.blocks sender) t.first few t.received,
+  )
+  arrived (Deliver sender places) None read t = absurd t
+  arrived event report read t = (λ q. tt, λ k. tt)
 
-  seen-done : (step : Step) (b : AirState) → ((r : Role) → AllFit a.channel (way r fs)) → refusal event a ≡ None → Happens a event b step →
-      IsSeenStep a octets fs event (Does step) b
-  seen-done step b fit is t =
-      let e : E.Event = as_read t.read event in
-      let w : World = world_of a fs in
-      let d : Deed = deed e a.ends in
-      let r : Role = sender_of d.who in
-      let none : W.refusal e w ≡ None = refusal-same a fs t.read event h.blocks ∙ is in
-      let fs' : Ways Frame = with_more r d.frames (taken e fs) in
-      let b' : AirState = record a { ends = d.after; ways = with_more r t.blocks (taken event a.ways) } in
-      let blocks : AreAlike (AreSent a.channel a.tsc) (taken e fs) (taken event a.ways) =
-      alike-taken (AreSent a.channel a.tsc) (sent-drop a.channel a.tsc) t.read event fs a.ways h.blocks in
-      let os : AreAlike (AreOctetsOf a.channel) (taken e fs) (taken event octets) =
-      alike-taken (AreOctetsOf a.channel) (octets-drop a.channel) t.read event fs octets h.written in
-      let octets' : AreAlike (AreOctetsOf a.channel) fs' (with_more r step.frames (taken event octets)) =
-      alike-with (AreOctetsOf a.channel) r _ _ (taken e fs) (taken event octets)
-      (octets-append a.channel (way r (taken e fs)) d.frames (way r (taken event octets)) step.frames (os r) t.frames) os in
-      let blocks' : AreAlike (AreSent a.channel a.tsc) fs' b'.ways =
-      alike-with (AreSent a.channel a.tsc) r _ _ (taken e fs) (taken event a.ways)
-      (sent-append a.channel a.tsc (way r (taken e fs)) d.frames (way r (taken event a.ways)) t.blocks (blocks r) t.sent) blocks in
-      subst (IsSeenStep a octets fs event (Does step)) (sym t.after) (record {
-        read = t.read;
-        ways = fs';
-        later = ap (λ o. after_by o e w) none;
-        carries = record {
-          blocks = blocks';
-          written = subst (λ (q : Who). AreAlike (AreOctetsOf a.channel) fs' (with_more (sender_of q) step.frames (taken event octets)))
-              (sym t.who) octets';
-        };
-        tsc = refl;
-        same = ap (λ ls. ls ++ notice_lines step.who step.sapi step.notices) (same_lines t.read event)
-            ∙ ap (λ (q : Who). event_lines e ++ notice_lines q step.sapi step.notices) t.who
-            ∙ ap (λ q. event_lines e ++ notice_lines d.who q step.notices) t.sapi
-            ∙ ap (λ q. event_lines e ++ notice_lines d.who d.sapi q) t.notices
-            ∙ sym (ap (λ o. answer_lines e (answer_by o d)) none);
-        known = subst (λ (o : Option Why). KnowsBy o (ReadsWell a.channel) e) (sym none)
-            (known-read a event step.received t.read t.arrives);
-        harmless = λ q. subst (λ (o : Option Why). W.IsHarmlessBy o e w) (sym none)
-            (harmless-done a octets fs event step t.read h.written fit t.arrives q);
-      })
+  module _ (event : Event) where
+    seen-refused : (why : Why) → IsSeenBy a octets h.frames event (Refuses why) a None (Some why)
+    seen-refused why = record {
+      next = h;
+      later = refl;
+      tsc = refl;
+      same = refl;
+      known = tt;
+      harmless = λ q. tt;
+      kind = λ k. harmless-refused event why octets;
+    }
 
-  pub seen-step : (answer : Answer) (b : AirState) → ((r : Role) → AllFit a.channel (way r fs)) → AirStep a event b answer →
-      IsSeenStep a octets fs event answer b
-  seen-step (Refuses why) b fit t = subst (IsSeenStep a octets fs event (Refuses why)) (sym t.1) (seen-refused why t.0)
-  seen-step (Does step) b fit t = seen-done step b fit t.0 t.1
+    seen-done : (read : Option Frame) (report : Option Received) (blocks : List Block) → Arrives a event report read →
+        (let e : E.Event = as_read read event in W.refusal e (world_of a h.frames) ≡ None →
+        AreSent a.channel a.tsc (deed e a.ends).frames blocks →
+        IsSeenBy a octets h.frames event (Does (done a e report)) (left a event e blocks) read None)
+    seen-done read report blocks t none sent =
+        let e : E.Event = as_read read event in
+        let w : World = world_of a h.frames in
+        let d : Deed = deed e a.ends in
+        let r : Role = sender_of d.who in
+        let known = known-read a event report read t in
+        let fits = knows (ReadsWell a.channel) (λ r f. Fits a.channel f) (λ r f k. k.0) None e known in
+        let now = arrived event report read t in
+        record {
+          next = record {
+            frames = with_more r d.frames (taken e h.frames);
+            ls = h.ls ++ answer_lines e (answer_by None d);
+            blocks = alike-more _ r d.frames blocks _ _ (alike-taken _ read event h.frames a.ways h.blocks) sent;
+            written = alike-more _ r d.frames _ _ _ (alike-taken _ read event h.frames octets h.written) (written-frames a.channel d.frames);
+            fit = subst (λ (o : Option Why). IsFitting a.channel (after_by o e w)) none
+                (fits-step a.channel w e (subst (λ (o : Option Why). KnowsBy o (λ r f. Fits a.channel f) e) (sym none) fits) h.fit);
+            reported = subst (λ (o : Option Why). AllReported (after_by o e w) (h.ls ++ answer_lines e (answer_by o d))) none
+                (in_order-step w h.ls e h.reported).0;
+          };
+          later = refl;
+          tsc = refl;
+          same = ap (λ ls. ls ++ notice_lines d.who d.sapi d.notices) (lines-read read event);
+          known = known;
+          harmless = now.0;
+          kind = now.1;
+        }
+
+    pub seen-step : (answer : Answer) (b : AirState) → AirStep a event b answer →
+        (read : Option Frame) × IsSeenBy a octets h.frames event answer b read (W.refusal (as_read read event) (world_of a h.frames))
+    seen-step (Refuses why) b t = (
+      None,
+      subst (IsSeenBy a octets h.frames event (Refuses why) b None) (sym (refusal-same a h.frames None event h.blocks ∙ t.0))
+          (rw t.1 (seen-refused why)),
+    )
+    seen-step (Does step) b t =
+        let s = t.1 in
+        let none = refusal-same a h.frames s.read event h.blocks ∙ t.0 in (
+          s.read,
+          subst (IsSeenBy a octets h.frames event (Does step) b s.read) (sym none)
+              (rw (is_done a event b step s, s.after) (seen-done s.read step.received s.blocks s.arrives none s.sent)),
+        )

@@ -1,6 +1,7 @@
 -- The air: the blocks on their way between the ends, and what becomes of them. What a frame is as octets, octets as a
 -- block, and a block when it is received, say lapdm_frame (GSM 04.06, section 3) and um_block (GSM 05.03, section 4.1).
 use Rattle.std.specs.Prelude.{◌≡◌, ℕ, ◌-◌, ◌/◌, ◌%◌, List, [], ◌∷◌, map, slice_index_or, slice_set, Option, Some, None}
+use Rattle.std.specs.List.{AllZip}
 use Rattle.lapdm_frame.specs.declared.Channel.{Channel}
 use Rattle.lapdm_frame.specs.declared.Refusal.{Refusal}
 use Rattle.lapdm_frame.specs.Content.{Frame}
@@ -79,9 +80,7 @@ Arrives a event report read = ⊥
 
 -- each frame is coded as a block
 abbrev pub AreSent : Channel → ℕ → List Frame → List Block → Type 0
-AreSent channel tsc [] [] = Unit {0}
-AreSent channel tsc (f ∷ fs) (block ∷ blocks) = IsSentBlock (octets_of channel f) tsc block × AreSent channel tsc fs blocks
-AreSent channel tsc fs blocks = ⊥
+AreSent channel tsc fs blocks = AllZip (λ f block. IsSentBlock (octets_of channel f) tsc block) fs blocks
 
 -- what came of an event: as at the ends, with what was received, and the frames as octets
 pub record Step : Type 0 where
