@@ -1,6 +1,7 @@
 -- Every frame on its way can be written.
 use Rattle.std.proofs.Common.{◌≡◌, sym, subst, List, [], ◌∷◌, ◌++◌, drop, None, All, refl, ◌∙◌, ap, arith, false, nat_eq, nat_lt, length, ◌≤◌, Bool, true, if◌then◌else◌, Option, Some}
-use Rattle.std.proofs.lemmas.List.Elements.{All-nil, All-cons, All-head, All-tail}
+use Rattle.std.specs.List.{AllByRecursion}
+use Rattle.std.proofs.lemmas.List.Elements.{All-nil, All-cons, All-head, All-tail, All-from_recursion, recursion_from_All}
 use Rattle.lapdm_frame.specs.declared.Channel.{Channel}
 use Rattle.lapdm_frame.specs.Content.{Frame}
 use Rattle.segmenting.specs.Pieces.{Message}
@@ -25,8 +26,7 @@ use Rattle.lapdm_window.specs.declared.Refused.TheVariants as No
 -- ---- what holds of each end and of each frame on its way, step by step
 
 abbrev pub AllOf : {T : Type 0} → (T → Type 0) → List T → Type 0
-AllOf P [] = Unit {0}
-AllOf P (x ∷ xs) = P x × AllOf P xs
+AllOf P xs = AllByRecursion P xs
 
 module _ {T : Type 0} (P : T → Type 0) where
   pub of-append : (xs ys : List T) → AllOf P xs → AllOf P ys → AllOf P (xs ++ ys)
@@ -42,12 +42,10 @@ module _ {T : Type 0} (P : T → Type 0) where
   of-later (x ∷ xs) ys h = of-later xs ys h.1
 
   pub of-all : (xs : List T) → All P xs → AllOf P xs
-  of-all [] h = tt
-  of-all (x ∷ xs) h = (All-head P x xs h, of-all xs (All-tail P x xs h))
+  of-all xs h = recursion_from_All P xs h
 
   pub all-of : (xs : List T) → AllOf P xs → All P xs
-  all-of [] h = All-nil P
-  all-of (x ∷ xs) h = All-cons P x xs h.0 (all-of xs h.1)
+  all-of xs h = All-from_recursion P xs h
 
 module _ (E : Sapi → EndState → Type 0) (F : Frame → Type 0) where
   pub record Holds (channel : Channel) (w : World) : Type 0 where
@@ -97,11 +95,11 @@ module _ (E : Sapi → EndState → Type 0) (F : Frame → Type 0) where
       event known
 
   pub holds-start : (channel : Channel) → ((r : Role) (s : Sapi) → E s (start r s channel)) → Holds channel (start_on channel)
-  holds-start channel h = record { on_channel = λ i. channel; ends = each_start (λ r s e. E s e) channel h; ways = none }
-    where
-      none : (r : Role) → AllOf F (way r (start_on channel))
-      none Mobile = tt
-      none Network = tt
+  holds-start channel h = record {
+    on_channel = refl;
+    ends = each_start (λ r s e. E s e) channel h;
+    ways = each_way (λ r. AllOf F (way r (start_on channel))) Mobile tt tt;
+  }
 
 -- an end of this channel and link
 pub record FitsEnd (channel : Channel) (s : Sapi) (e : EndState) : Type 0 where
@@ -152,42 +150,17 @@ pub start-fits : (channel : Channel) → IsFitting channel (start_on channel)
 start-fits channel = holds-start (FitsEnd channel) (Fits channel) channel
     (λ r s. record { on_channel = refl; on_sapi = refl; end = IsEnd-start r s channel })
 
--- ---- a step gives at most two frames and two notices, and each frame fits its channel
-
-record IsFew (d : Deed) : Type 0 where
-  frames : length d.frames ≤ 2
-  notices : length d.notices ≤ 2
-
-few-does : (r : Role) (s : Sapi) {x : EndState} (o : Outcome) (es : Ends) → AtMost 2 2 x o → IsFew (does r s o es)
-few-does r s o es h = record { frames = h.frames; notices = h.notices }
-
-few-takes : (r : Role) (f : Frame) (es : Ends) (zero three : Bool) →
-    IsFew (if zero then does r Zero (after_frame f (end_in r Zero es)) es else
-    (if three then does r Three (after_frame f (end_in r Three es)) es else does_nothing (End r) es))
-few-takes r f es true three = few-does r Zero _ es (few-frame f (end_in r Zero es))
-few-takes r f es false true = few-does r Three _ es (few-frame f (end_in r Three es))
-few-takes r f es false false = record { frames = omega arith; notices = omega arith }
-
-few-deed : (event : Event) (es : Ends) → IsFew (deed event es)
-few-deed (Open info) es = few-does Mobile Zero _ es (few-call (Opens info) (end_in Mobile Zero es))
-few-deed (OpenBare r) es = few-does r Three _ es (few-call OpensBare (end_in r Three es))
-few-deed (Ask r s request) es = few-does r s _ es (few-call (call_of request) (end_in r s es))
-few-deed (Deliver sender (Some f)) es = few-takes (other sender) f es (nat_eq f.sapi 0) (nat_eq f.sapi 3)
-few-deed event es = record { frames = omega arith; notices = omega arith }
-
 -- what holds of all frames on their way holds of those that went out
-way_more : (r : Role) (fs : List Frame) (ws : Ways Frame) → W.way r (with_more r fs ws) ≡ W.way r ws ++ fs
-way_more Mobile fs ws = refl
-way_more Network fs ws = refl
+went_out : (F : Frame → Type 0) (r : Role) (fs : List Frame) (ws : Ways Frame) →
+    ((r' : Role) → AllOf F (W.way r' (with_more r fs ws))) → AllOf F fs
+went_out F Mobile fs ws h = of-later F ws.up fs (h Mobile)
+went_out F Network fs ws h = of-later F ws.down fs (h Network)
 
 pub deed-holds : (E : Sapi → EndState → Type 0) (F : Frame → Type 0) (channel : Channel) (w : World) (event : Event) (o : Option Why) →
     o ≡ None → Holds E F channel (after_by o event w) → AllOf F (deed event w.ends).frames
 deed-holds E F channel w event o none h =
-    let d : Deed = deed event w.ends in
-    let g : Holds E F channel (next d (record w { ways = taken event w.ways })) =
-    subst (λ (q : Option Why). Holds E F channel (after_by q event w)) none h in
-    of-later F (W.way (sender_of d.who) (taken event w.ways)) d.frames
-    (subst (AllOf F) (way_more (sender_of d.who) d.frames (taken event w.ways)) (g.ways (sender_of d.who)))
+    let g : Holds E F channel (after_by None event w) = subst (λ (q : Option Why). Holds E F channel (after_by q event w)) none h in
+    went_out F (sender_of (deed event w.ends).who) (deed event w.ends).frames (taken event w.ways) g.ways
 
 -- the frames of a deed fit, where what is read does
 pub deed-fits : (channel : Channel) (w : World) (event : Event) → KnowsBy (refusal event w)
@@ -196,26 +169,45 @@ pub deed-fits : (channel : Channel) (w : World) (event : Event) → KnowsBy (ref
 deed-fits channel w event known h none =
     deed-holds (FitsEnd channel) (Fits channel) channel w event (refusal event w) none (fits-step channel w event known h)
 
+-- ---- a step gives at most two frames and two notices, and each frame fits its channel
+
+abbrev IsFew : Deed → Type 0
+IsFew d = (length d.frames ≤ 2) × (length d.notices ≤ 2)
+
+few-does : (r : Role) (s : Sapi) {x : EndState} (o : Outcome) (es : Ends) → AtMost 2 2 x o → IsFew (does r s o es)
+few-does r s o es h = (h.frames, h.notices)
+
+few-takes : (r : Role) (f : Frame) (es : Ends) (zero three : Bool) →
+    IsFew (if zero then does r Zero (after_frame f (end_in r Zero es)) es else
+    (if three then does r Three (after_frame f (end_in r Three es)) es else does_nothing (End r) es))
+few-takes r f es true three = few-does r Zero _ es (few-frame f (end_in r Zero es))
+few-takes r f es false true = few-does r Three _ es (few-frame f (end_in r Three es))
+few-takes r f es false false = (omega arith, omega arith)
+
+few-deed : (event : Event) (es : Ends) → IsFew (deed event es)
+few-deed (Open info) es = few-does Mobile Zero _ es (few-call (Opens info) (end_in Mobile Zero es))
+few-deed (OpenBare r) es = few-does r Three _ es (few-call OpensBare (end_in r Three es))
+few-deed (Ask r s request) es = few-does r s _ es (few-call (call_of request) (end_in r s es))
+few-deed (Deliver sender (Some f)) es = few-takes (other sender) f es (nat_eq f.sapi 0) (nat_eq f.sapi 3)
+few-deed event es = (omega arith, omega arith)
+
 sendable : (channel : Channel) (w : World) (event : Event) (o : Option Why) → IsFitting channel (after_by o event w) →
     IsSendable channel (answer_by o (deed event w.ends))
 sendable channel w event (Some why) h = tt
-sendable channel w event None h = (
-  (few-deed event w.ends).frames,
-  all-of (Fits channel) _ (deed-holds (FitsEnd channel) (Fits channel) channel w event None refl h),
-  (few-deed event w.ends).notices,
-)
+sendable channel w event None h =
+    let few : IsFew (deed event w.ends) = few-deed event w.ends in
+    let fit = deed-holds (FitsEnd channel) (Fits channel) channel w event None refl h in
+    (few.0, all-of (Fits channel) _ fit, few.1)
 
-readable : (channel : Channel) (event : Event) (o : Option Why) → IsReadable channel event → KnowsBy o (λ sender f. Fits channel f) event
-readable channel event (Some why) h = tt
-readable channel (Deliver sender (Some f)) None h = h
-readable channel (Deliver sender None) None h = tt
-readable channel event None h = tt
+readable : (channel : Channel) (o : Option Why) (event : Event) → IsReadable channel event → KnowsBy o (λ sender f. Fits channel f) event
+readable channel None (Deliver sender (Some f)) h = h
+readable channel o event h = tt
 
 small-run : (channel : Channel) (events : List Event) (w : World) → All (IsReadable channel) events → IsFitting channel w →
     All (IsSendable channel) (answers events w)
 small-run channel [] w h fit = All-nil (IsSendable channel)
 small-run channel (event ∷ events) w h fit =
-    let known = readable channel event (refusal event w) (All-head (IsReadable channel) event events h) in
+    let known = readable channel (refusal event w) event (All-head (IsReadable channel) event events h) in
     let fit' : IsFitting channel (after event w) = fits-step channel w event known fit in
     All-cons (IsSendable channel) (answer event w) (answers events (after event w)) (sendable channel w event (refusal event w) fit')
     (small-run channel events (after event w) (All-tail (IsReadable channel) event events h) fit')

@@ -2,7 +2,7 @@
 use Rattle.std.proofs.Common.{◌≡◌, sym, ap, subst, arith, ℕ, zero, suc, ◌<◌, Bool, false, List, [], ◌∷◌, length, drop, get_or, None, All, inl, inr}
 use Rattle.std.specs.Prelude.{◌⊎◌}
 use Rattle.std.specs.List.{filter_map, flat_map}
-use Rattle.std.proofs.lemmas.List.Elements.{All-nil, All-take, All-drop}
+use Rattle.std.proofs.lemmas.List.Elements.{All-nil, All-cons, All-append, All-take, All-drop}
 use Rattle.lapdm_frame.specs.declared.Channel.{Channel}
 use Rattle.lapdm_frame.specs.Layout.{n201}
 use Rattle.lapdm_frame.specs.Content.{Content, I, Sabm, Ui, Ua, Frame, information}
@@ -41,8 +41,8 @@ LineOctets (Told r s n ∷ ls) = LineOctets ls
 abbrev pub AllMessages : List Message → Type 0
 AllMessages ms = AllOf AreOctets ms
 
-abbrev AllPieces : List Piece → Type 0
-AllPieces ps = AllOf (λ p. AreOctets p.0) ps
+abbrev PieceOctets : Piece → Type 0
+PieceOctets p = AreOctets p.0
 
 pub record EndOctets (e : EndState) : Type 0 where
   pub kept : AreOctets e.kept
@@ -61,24 +61,20 @@ none : AreOctets []
 none = All-nil (λ octet. octet < 256)
 
 -- pieces
-cut-octets : (n k : ℕ) (m : Message) → AreOctets m → AllPieces (cut n k m)
-cut-octets n zero m h = (h, tt)
-cut-octets n (suc k) m h = (All-take (λ octet. octet < 256) n m h, cut-octets n k (drop n m) (All-drop (λ octet. octet < 256) n m h))
+cut-octets : (n k : ℕ) (m : Message) → AreOctets m → All PieceOctets (cut n k m)
+cut-octets n zero m h = All-cons PieceOctets _ [] h (All-nil PieceOctets)
+cut-octets n (suc k) m h =
+    All-cons PieceOctets _ _ (All-take (λ octet. octet < 256) n m h) (cut-octets n k (drop n m) (All-drop (λ octet. octet < 256) n m h))
 
-all-octets : (n : ℕ) (ms : List Message) → AllMessages ms → AllPieces (flat_map (pieces n) ms)
-all-octets n [] h = tt
-all-octets n (m ∷ ms) h = of-append (λ (p : Piece). AreOctets p.0) (pieces n m) (flat_map (pieces n) ms) (cut-octets n _ m h.0)
-    (all-octets n ms h.1)
-
-piece-octets : (ps : List Piece) (i : ℕ) → AllPieces ps → i < length ps → AreOctets (get_or ps i ([], false)).0
-piece-octets [] i h l = absurd (omega (arith, l))
-piece-octets (p ∷ ps) zero h l = h.0
-piece-octets (p ∷ ps) (suc i) h l = piece-octets ps i h.1 (omega (arith, l))
+all-octets : (n : ℕ) (ms : List Message) → AllMessages ms → All PieceOctets (flat_map (pieces n) ms)
+all-octets n [] h = All-nil PieceOctets
+all-octets n (m ∷ ms) h =
+    All-append PieceOctets (pieces n m) (flat_map (pieces n) ms) (cut-octets n _ m h.0) (all-octets n ms h.1)
 
 carried : (x : EndState) (info : List ℕ) (more : Bool) (i : ℕ) → EndOctets x → i < length (all_pieces x) →
     get_or (all_pieces x) i ([], false) ≡ (info, more) → AreOctets info
 carried x info more i h l e =
-    subst AreOctets (ap (λ (p : Piece). p.0) e) (piece-octets (all_pieces x) i (all-octets (n201 x.channel) x.taken h.taken) l)
+    subst AreOctets (ap (λ (p : Piece). p.0) e) (all-octets (n201 x.channel) x.taken h.taken i ([], false) l)
 
 -- answers
 answer-octets : (x z : EndState) → EndOctets x → AreOctets z.kept → (c : Content) → Answers x z c → AreOctets (information c)
@@ -124,7 +120,7 @@ frame-octets f x octets e h =
 asked-octets : (call : Call) (z : EndState) → CallOctets call → EndOctets z → (c : Content) → Asks call z c → AreOctets (information c)
 asked-octets call z said h (I ns nr p more info) a = carried z info more a.2.0 h a.2.1 a.2.2
 asked-octets call z said h (Sabm p info) a = subst AreOctets a.1 h.kept
-asked-octets call z said h (Ui p info) (inl e) = (let g : CallOctets (SendsUnit info) = subst CallOctets e said in g)
+asked-octets call z said h (Ui p info) (inl e) = subst CallOctets e said
 asked-octets call z said h (Ui p info) (inr e) = subst AreOctets (sym e) none
 asked-octets call z said h (Ua f info) a = absurd a
 asked-octets call z said h other a = none

@@ -61,16 +61,13 @@ same_step s t who sapi received frames notices =
 -- the air that an event leaves where it is one of frames, and what is reported of it
 abbrev pub left : AirState → Event → E.Event → List Block → AirState
 left a event e blocks =
-    let d : Deed = deed e a.ends in record a { ends = d.after; ways = with_more (sender_of d.who) blocks (taken event a.ways) }
+    let d : Deed = deed e a.ends in
+    record a { ends = d.after; ways = with_more (sender_of d.who) blocks (taken event a.ways) }
 
 abbrev pub done : AirState → E.Event → Option Received → Step
 done a e report =
     let d : Deed = deed e a.ends in
     record { who = d.who; sapi = d.sapi; received = report; frames = map (octets_of a.channel) d.frames; notices = d.notices }
-
-pub is_done : (a : AirState) (event : Event) (b : AirState) (step : Step) (h : Happens a event b step) →
-    step ≡ done a (as_read h.read event) step.received
-is_done a event b step h = same_step step (done a (as_read h.read event) step.received) h.who h.sapi refl h.frames h.notices
 
 one_happening : (a : AirState) (event : Event) (b c : AirState) (s t : Step) → Happens a event b s → Happens a event c t → (b ≡ c) × (s ≡ t)
 one_happening a event b c s t h k =
@@ -78,7 +75,7 @@ one_happening a event b c s t h k =
     let blocks : h.blocks ≡ k.blocks = same_blocks a.channel a.tsc (deed (as_read k.read event) a.ends).frames h.blocks k.blocks
     (rw same.1 at h.sent) k.sent in (
       h.after ∙ ap₂ (left a event) same.1 blocks ∙ sym k.after,
-      is_done a event b s h ∙ ap₂ (done a) same.1 same.0 ∙ sym (is_done a event c t k),
+      h.step_is ∙ ap₂ (done a) same.1 same.0 ∙ sym (k.step_is),
     )
 
 pub one_answer : (a : AirState) (event : Event) (b c : AirState) (x y : Answer) → AirStep a event b x → AirStep a event c y →

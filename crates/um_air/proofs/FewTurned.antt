@@ -1,5 +1,5 @@
 -- A block of which at most three bits were turned over is accepted with the octets that were sent.
-use Rattle.std.proofs.Common.{◌≡◌, ◌≢◌, refl, sym, ◌∙◌, ap, arith, ℕ, ◌+◌, ◌-◌, ◌*◌, ◌/◌, ◌%◌, ◌<◌, ◌≤◌, Bool, true, false, ◌||◌, ◌==◌, if◌then◌else◌, nat_eq, ℤ, pos, negsuc, List, [], ◌∷◌, ◌++◌, map, length, get_or, set, take, drop, All, Some, inl, inr}
+use Rattle.std.proofs.Common.{◌≡◌, ◌≢◌, refl, sym, ◌∙◌, ap, arith, ℕ, ◌+◌, ◌*◌, ◌/◌, ◌%◌, ◌<◌, ◌≤◌, Bool, true, false, ◌||◌, ◌==◌, if◌then◌else◌, nat_eq, ℤ, pos, negsuc, List, [], ◌∷◌, map, length, get_or, take, drop, All, Some, inl, inr}
 use Rattle.std.specs.Prelude.{unsigned_abs}
 use Rattle.std.proofs.lemmas.Bool.{false≢true, cases_eq}
 use Rattle.std.proofs.lemmas.Bool.Decides.{nat_tests}
@@ -70,8 +70,14 @@ module _ (block : Block) (soft : List ℤ) (gathered : IsInterleaved soft (map c
       get_or-map coded_places (map softened block) b [] ∙ ap coded_places (get_or-map softened block b []) in
       let long : length (coded_places s) ≡ 114 = ap length (sym here)
       ∙ gathered.each_count b [] (omega (arith, burst_of-below k, gathered.burst_count)) in
-      let first : length (N.first_half s) ≡ 57 = omega (arith, long, length-append (N.first_half s) (N.second_half s), length-take 57
-      (drop 3 s), length-take 57 (drop 88 s)) in
+      let first : length (N.first_half s) ≡ 57 = omega (
+        arith,
+        long,
+        length-append (N.first_half s) (N.second_half s),
+        length-take 57
+            (drop 3 s),
+        length-take 57 (drop 88 s),
+      ) in
       sym (gathered.places k (pos 127) h) ∙ ap (λ xs. get_or xs (place_of k) (pos 127)) here
       ∙ halves-at (N.first_half s) (N.second_half s) k (pos 127) (soft_value (bit_at block (burst_place k))) first
       (λ i l e. part_at block b 3 i (burst_place k) l (omega arith) (omega (arith, e, l, burst_place-lower k (omega (arith, e, l)))))
@@ -81,12 +87,9 @@ module _ (block : Block) (soft : List ℤ) (gathered : IsInterleaved soft (map c
 
 module _ (octets : List ℕ) (tsc : ℕ) (block : Block) (places : List ℕ) (r : Received) (s : IsSentBlock octets tsc block)
     (few : length places ≤ 3) (h : IsReceivedBlock (map softened (turned places block)) r) where
-  count : length h.soft ≡ 456
-  count = h.gathered.coded_count
-
   same_value : (k : ℕ) → k < 456 → listed (burst_place k) places ≡ false → get_or h.soft k (pos 0) ≡ soft_value (get_or s.coded_bits k 0)
   same_value k l no_turn =
-      get_or_default h.soft k (pos 0) (pos 127) (omega (arith, l, count))
+      get_or_default h.soft k (pos 0) (pos 127) (omega (arith, l, h.gathered.coded_count))
       ∙ soft_at (turned places block) h.soft h.gathered k l
       ∙ ap soft_value (turned-other places block (burst_place k) no_turn)
       ∙ sym (soft_at block (softened s.coded_bits) (clean_gathered octets tsc block s) k l)
@@ -95,14 +98,14 @@ module _ (octets : List ℕ) (tsc : ℕ) (block : Block) (places : List ℕ) (r 
   few_wrong : wrong_places h.soft s.coded_bits ≤ 3
   few_wrong =
       let bits : AreBits 456 s.coded_bits = coded_block_bits octets s.coded_bits s.code in
-      omega (arith, few, few_spoilt h.soft s.coded_bits places count bits.many bits.each same_value)
+      omega (arith, few, few_spoilt h.soft s.coded_bits places h.gathered.coded_count bits.many bits.each same_value)
 
   strong : All (λ value. unsigned_abs value ≡ 127) h.soft
   strong k d l =
       ap unsigned_abs (get_or_default h.soft k d (pos 127) l
-      ∙ soft_at (turned places block) h.soft h.gathered k (omega (arith, l, count)))
+      ∙ soft_at (turned places block) h.soft h.gathered k (omega (arith, l, h.gathered.coded_count)))
       ∙ soft_value-strength (bit_at (turned places block) (burst_place k))
 
   pub accepted_as_sent : r.accepted ≡ Some octets
   accepted_as_sent = restored_block (map softened (turned places block)) octets s.coded_bits h.soft r s.code h.gathered
-      (IsLightlyDamaged-equal h.soft s.coded_bits 127 (omega (arith, count)) (omega arith) strong few_wrong) h
+      (IsLightlyDamaged-equal h.soft s.coded_bits 127 (omega (arith, h.gathered.coded_count)) (omega arith) strong few_wrong) h

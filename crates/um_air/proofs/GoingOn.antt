@@ -1,7 +1,6 @@
 -- There is an answer to every event, where messages are octets: a session can always go on.
-use Rattle.std.proofs.Common.{◌≡◌, refl, sym, subst, arith, ℕ, ◌-◌, ◌<◌, ◌≤◌, List, [], ◌∷◌, length, Option, None, ◌∙◌, ap, ◌/◌, ◌%◌, map, get_or, set, Some, All, inl, inr}
+use Rattle.std.proofs.Common.{◌≡◌, refl, sym, subst, arith, ℕ, ◌-◌, ◌<◌, ◌≤◌, List, [], ◌∷◌, length, Option, None, ◌∙◌, ◌/◌, ◌%◌, map, get_or, set, nat_eq, Some, All, inl, inr}
 use Rattle.std.specs.Prelude.{IfSome}
-use Rattle.std.specs.List.{AllZip}
 use Rattle.std.proofs.lemmas.Bool.{cases_lt}
 use Rattle.std.proofs.lemmas.List.{length-set, length-map, set_past}
 use Rattle.std.proofs.lemmas.List.Elements.{All-append, All-replicate, All-set, All-map}
@@ -17,13 +16,12 @@ use Rattle.lapdm_frame.proofs.Uniqueness.{information_bound}
 use Rattle.lapdm_window.specs.declared.Sapi.{Sapi}
 use Rattle.lapdm_window.specs.declared.Notice.{Notice}
 use Rattle.lapdm_window.specs.Ends.{Role}
-use Rattle.um_block.specs.Sent.{IsSentBlock}
 use Rattle.um_block.specs.declared.received.Received.{Received}
 use Rattle.um_block.specs.Received.{softened, IsReceivedBlock}
 use Rattle.um_block.proofs.Lemmas.{some_sent_block, sent_block_bits, some_received_block, accepted_count}
 use Rattle.lapdm_link.specs.Ways.{Ways, way, no_ways}
 use Rattle.lapdm_link.specs.Events as E
-use Rattle.lapdm_link.specs.Events.{Ask, Deliver, Lose, Send, Who, End, Why, deed, Nothing, unless, is_empty}
+use Rattle.lapdm_link.specs.Events.{Ask, Deliver, Lose, Send, Who, End, Why, deed, Nothing, unless}
 use Rattle.lapdm_link.specs.Worlds.{World}
 use Rattle.lapdm_link.specs.Worlds as W
 use Rattle.lapdm_link.specs.Claims.{notice_lines, answer_lines}
@@ -31,8 +29,7 @@ use Rattle.lapdm_link.proofs.Lemmas.{KnowsBy, LineOctets, AllSay, AllOf, EndOcte
 use Rattle.um_air.specs.Air.{Octets, Event, as_read, AirState, start_on, Answer, AirStep, AirRun, Block, Reads, Hears, Arrives, AreSent, Refuses, Does, refusal, turned_at, turned}
 use Rattle.um_air.specs.Sessions.{AreOctets, IsOctetEvent, after}
 use Rattle.um_air.proofs.Determined.{left, done}
-use Rattle.um_air.proofs.Seeing.{Coded, ReadsWell, knows, world_of, refusal-same, known-read, IsSeenAt, seen-step}
-use Rattle.um_air.proofs.Carrying.{start-seen}
+use Rattle.um_air.proofs.Carrying.{Coded, world_of, refusal-same, known-read, IsSeenAt, seen-step, start-seen}
 
 -- ---- the octets of a frame
 
@@ -90,7 +87,7 @@ some_reading channel (Some octets) h = elim (one_reading channel octets h) [
 ]
 
 some_hearing : (a : AirState) (sender : Role) (places : List ℕ) (fs : List Frame) (blocks : List Block) (more : Option Why) →
-    AreSent a.channel a.tsc fs blocks → way sender a.ways ≡ blocks → unless (is_empty (length blocks)) Nothing more ≡ None →
+    AreSent a.channel a.tsc fs blocks → way sender a.ways ≡ blocks → unless (nat_eq (length blocks) 0) Nothing more ≡ None →
     (report : Received) × (read : Option Frame) × Hears a sender places report read
 some_hearing a sender places fs [] more sent is none = absurd (cc none)
 some_hearing a sender places (f ∷ fs) (block ∷ others) more sent is none =
@@ -146,11 +143,11 @@ start-spoken tsc channel known =
 
 module _ (a : AirState) (h : IsSpoken a) (event : Event) (says : IsOctetEvent event) where
   octets-next : (read : Option Frame) → (let e : E.Event = as_read read event in
-      let w : World = world_of a h.at.frames in KnowsBy (W.refusal e w) (ReadsWell a.channel) e → WorldOctets (W.after e w))
+      let w : World = world_of a h.at.frames in KnowsBy (W.refusal e w) (λ r f. SaysOctets f) e → WorldOctets (W.after e w))
   octets-next read reads =
       let e : E.Event = as_read read event in
       let w : World = world_of a h.at.frames in
-      octets-step w h.at.ls e h.at.reported (knows _ _ (λ r f k. k.1) (W.refusal e w) e reads) h.small
+      octets-step w h.at.ls e h.at.reported reads h.small
       (line_octets read event (W.answer e w) says)
 
   spoken-next : (answer : Answer) (b : AirState) → AirStep a event b answer → IsSpoken b
@@ -171,23 +168,25 @@ module _ (a : AirState) (h : IsSpoken a) (event : Event) (says : IsOctetEvent ev
       let e : E.Event = as_read t.1 event in
       let w : World = world_of a fs in
       let none : W.refusal e w ≡ None = refusal-same a fs t.1 event h.at.blocks ∙ is in
-      let reads : KnowsBy (W.refusal e w) (ReadsWell a.channel) e =
-      subst (λ (q : Option Why). KnowsBy q (ReadsWell a.channel) e) (sym none) (known-read a event t.0 t.1 t.2) in
-      let next = octets-next t.1 reads in
+      let known = known-read a event t.0 t.1 t.2 in
+      let next = octets-next t.1 (subst (λ (q : Option Why). KnowsBy q (λ r f. SaysOctets f) e) (sym none) known.1) in
       let bs = some_blocks a.channel a.tsc (deed e a.ends).frames h.known
-      (deed-fits a.channel w e (knows _ _ (λ r f k. k.0) (W.refusal e w) e reads) h.at.fit none)
-      (deed-holds (λ s x. EndOctets x) SaysOctets next.0 w e (W.refusal e w) none next.1) in
-      (left a event e bs.0, Does (done a e t.0), (is, record {
-        read = t.1;
-        blocks = bs.0;
-        arrives = t.2;
-        sent = bs.1;
-        after = refl;
-        who = refl;
-        sapi = refl;
-        frames = refl;
-        notices = refl;
-      }))
+      (deed-fits a.channel w e (subst (λ (q : Option Why). KnowsBy q (λ r f. Fits a.channel f) e) (sym none) known.0) h.at.fit none)
+      (deed-holds (λ s x. EndOctets x) SaysOctets next.0 w e (W.refusal e w) none next.1) in (
+        left a event e bs.0,
+        Does (done a e t.0),
+        (
+          is,
+          record {
+            read = t.1;
+            blocks = bs.0;
+            arrives = t.2;
+            sent = bs.1;
+            after = refl;
+            step_is = refl;
+          },
+        ),
+      )
 
 spoken-run : (events : List Event) (answers : List Answer) (a b : AirState) → IsSpoken a → AllOf IsOctetEvent events →
     AirRun a events answers b → IsSpoken b

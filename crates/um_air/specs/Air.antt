@@ -102,10 +102,8 @@ pub record Happens (a : AirState) (event : Event) (b : AirState) (step : Step) :
   pub sent : AreSent a.channel a.tsc (deed (as_read read event) a.ends).frames blocks
   pub after : let d = deed (as_read read event) a.ends in
       b ≡ record a { ends = d.after; ways = with_more (sender_of d.who) blocks (taken event a.ways) }
-  pub who : step.who ≡ (deed (as_read read event) a.ends).who
-  pub sapi : step.sapi ≡ (deed (as_read read event) a.ends).sapi
-  pub frames : step.frames ≡ map (octets_of a.channel) (deed (as_read read event) a.ends).frames
-  pub notices : step.notices ≡ (deed (as_read read event) a.ends).notices
+  pub step_is : let d = deed (as_read read event) a.ends in
+      step ≡ record step { who = d.who; sapi = d.sapi; frames = map (octets_of a.channel) d.frames; notices = d.notices }
 
 -- the first refusal that holds
 abbrev pub refusal : Event → AirState → Option Why
