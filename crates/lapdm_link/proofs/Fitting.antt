@@ -1,7 +1,7 @@
 -- Every frame on its way can be written.
 use Rattle.std.proofs.Common.{◌≡◌, sym, subst, List, [], ◌∷◌, ◌++◌, drop, None, All, refl, ◌∙◌, ap, arith, false, nat_eq, nat_lt, length, ◌≤◌, Bool, true, if◌then◌else◌, Option, Some}
-use Rattle.std.specs.List.{AllByRecursion}
-use Rattle.std.proofs.lemmas.List.Elements.{All-nil, All-cons, All-head, All-tail, All-from_recursion, recursion_from_All}
+use Rattle.std.proofs.lemmas.List.Elements.{All-nil, All-cons, All-head, All-tail, All-append, All-drop}
+use Rattle.std.proofs.Math.Seq.{drop-append_seam}
 use Rattle.lapdm_frame.specs.declared.Channel.{Channel}
 use Rattle.lapdm_frame.specs.Content.{Frame}
 use Rattle.segmenting.specs.Pieces.{Message}
@@ -25,59 +25,37 @@ use Rattle.lapdm_window.specs.declared.Refused.TheVariants as No
 
 -- ---- what holds of each end and of each frame on its way, step by step
 
-abbrev pub AllOf : {T : Type 0} → (T → Type 0) → List T → Type 0
-AllOf P xs = AllByRecursion P xs
-
-module _ {T : Type 0} (P : T → Type 0) where
-  pub of-append : (xs ys : List T) → AllOf P xs → AllOf P ys → AllOf P (xs ++ ys)
-  of-append [] ys h g = g
-  of-append (x ∷ xs) ys h g = (h.0, of-append xs ys h.1 g)
-
-  pub of-rest : (xs : List T) → AllOf P xs → AllOf P (drop 1 xs)
-  of-rest [] h = tt
-  of-rest (x ∷ xs) h = h.1
-
-  pub of-later : (xs ys : List T) → AllOf P (xs ++ ys) → AllOf P ys
-  of-later [] ys h = h
-  of-later (x ∷ xs) ys h = of-later xs ys h.1
-
-  pub of-all : (xs : List T) → All P xs → AllOf P xs
-  of-all xs h = recursion_from_All P xs h
-
-  pub all-of : (xs : List T) → AllOf P xs → All P xs
-  all-of xs h = All-from_recursion P xs h
-
 module _ (E : Sapi → EndState → Type 0) (F : Frame → Type 0) where
   pub record Holds (channel : Channel) (w : World) : Type 0 where
     pub on_channel : w.channel ≡ channel
     pub ends : (r : Role) (s : Sapi) → E s (end_of r s w)
-    pub ways : (r : Role) → AllOf F (way r w)
+    pub ways : (r : Role) → All F (way r w)
 
-  acts : (channel : Channel) (r : Role) (s : Sapi) (o : Outcome) (w : World) → Holds channel w → E s o.after × AllOf F o.frames →
+  acts : (channel : Channel) (r : Role) (s : Sapi) (o : Outcome) (w : World) → Holds channel w → E s o.after × All F o.frames →
       Holds channel (acted r s o w)
   acts channel r s o w h g = record {
     on_channel = h.on_channel;
     ends = each_end (λ r' s'. E s' (end_of r' s' (acted r s o w))) r s
         (subst (E s) (sym (end_does r s o w)) g.0)
         (λ r' s' n. subst (E s') (sym (end_does-else r s o w r' s' n)) (h.ends r' s'));
-    ways = each_way (λ r'. AllOf F (way r' (acted r s o w))) r
-        (subst (AllOf F) (sym (way_does r s o w)) (of-append F (way r w) o.frames (h.ways r) g.1))
-        (subst (AllOf F) (sym (way_does-other r s o w)) (h.ways (other r)));
+    ways = each_way (λ r'. All F (way r' (acted r s o w))) r
+        (subst (All F) (sym (way_does r s o w)) (All-append F (way r w) o.frames (h.ways r) g.1))
+        (subst (All F) (sym (way_does-other r s o w)) (h.ways (other r)));
   }
 
   lost : (channel : Channel) (w : World) → Holds channel w → (sender : Role) → Holds channel (without_first sender w)
   lost channel w h sender = record {
     on_channel = h.on_channel;
     ends = h.ends;
-    ways = each_lost (λ r fs. AllOf F fs) (λ r fs g. of-rest F fs g) sender w h.ways;
+    ways = each_lost (λ r fs. All F fs) (λ r fs g. All-drop F 1 fs g) sender w h.ways;
   }
 
   -- where it holds of what each end does, at calls whose lines are such, and at frames of which such is known
   pub holds-step : (Says : List Line → Type 0) (Known : Role → Frame → Type 0) (channel : Channel) (w : World) → Holds channel w →
       ((r : Role) (s : Sapi) (call : Call) → IsPlaced r s call → refusal_of call (end_of r s w) ≡ None →
-      (let o : Outcome = after_call call (end_of r s w) in Says (said r s (call ∷ []) o.notices) → E s o.after × AllOf F o.frames)) →
+      (let o : Outcome = after_call call (end_of r s w) in Says (said r s (call ∷ []) o.notices) → E s o.after × All F o.frames)) →
       ((r : Role) (s : Sapi) (f : Frame) → Known (other r) f →
-      (let o : Outcome = after_frame f (end_of r s w) in E s o.after × AllOf F o.frames)) →
+      (let o : Outcome = after_frame f (end_of r s w) in E s o.after × All F o.frames)) →
       ((info : Message) → rival_refusal w.channel info ≡ None → Says (Rivals info ∷ []) → F (rival_frame info)) →
       (event : Event) → KnowsBy (refusal event w) Known event → Says (answer_lines event (answer event w)) → Holds channel (after event w)
   holds-step Says Known channel w h called taken rival event known =
@@ -89,8 +67,8 @@ module _ (E : Sapi → EndState → Type 0) (F : Frame → Type 0) where
       (λ info ok l. record {
         on_channel = h.on_channel;
         ends = h.ends;
-        ways = each_way (λ r. AllOf F (way r (with_frames Mobile (rival_frame info ∷ []) w))) Mobile
-            (of-append F w.ways.up (rival_frame info ∷ []) (h.ways Mobile) (rival info ok l, tt)) (h.ways Network);
+        ways = each_way (λ r. All F (way r (with_frames Mobile (rival_frame info ∷ []) w))) Mobile
+            (All-append F w.ways.up (rival_frame info ∷ []) (h.ways Mobile) (All-cons F _ [] (rival info ok l) (All-nil F))) (h.ways Network);
       })
       event known
 
@@ -98,7 +76,7 @@ module _ (E : Sapi → EndState → Type 0) (F : Frame → Type 0) where
   holds-start channel h = record {
     on_channel = refl;
     ends = each_start (λ r s e. E s e) channel h;
-    ways = each_way (λ r. AllOf F (way r (start_on channel))) Mobile tt tt;
+    ways = each_way (λ r. All F (way r (start_on channel))) Mobile (All-nil F) (All-nil F);
   }
 
 -- an end of this channel and link
@@ -108,7 +86,7 @@ pub record FitsEnd (channel : Channel) (s : Sapi) (e : EndState) : Type 0 where
   pub end : IsEnd e
 
 abbrev pub AllFit : Channel → List Frame → Type 0
-AllFit channel fs = AllOf (Fits channel) fs
+AllFit channel fs = All (Fits channel) fs
 
 -- of all ends and ways
 abbrev pub IsFitting : Channel → World → Type 0
@@ -124,7 +102,7 @@ fits-kept : (channel : Channel) (s : Sapi) (e : EndState) (o : Outcome) → Fits
     FitsEnd channel s o.after × AllFit channel o.frames
 fits-kept channel s e o h g = (
   record { on_channel = g.channel ∙ h.on_channel; on_sapi = g.sapi ∙ h.on_sapi; end = g.end },
-  of-all (Fits channel) o.frames (subst (λ (c : Channel). All (Fits c) o.frames) h.on_channel g.frames),
+  subst (λ (c : Channel). All (Fits c) o.frames) h.on_channel g.frames,
 )
 
 rival_fits : (channel : Channel) (w : World) (info : Message) → w.channel ≡ channel → rival_refusal w.channel info ≡ None →
@@ -152,12 +130,12 @@ start-fits channel = holds-start (FitsEnd channel) (Fits channel) channel
 
 -- what holds of all frames on their way holds of those that went out
 went_out : (F : Frame → Type 0) (r : Role) (fs : List Frame) (ws : Ways Frame) →
-    ((r' : Role) → AllOf F (W.way r' (with_more r fs ws))) → AllOf F fs
-went_out F Mobile fs ws h = of-later F ws.up fs (h Mobile)
-went_out F Network fs ws h = of-later F ws.down fs (h Network)
+    ((r' : Role) → All F (W.way r' (with_more r fs ws))) → All F fs
+went_out F Mobile fs ws h = subst (All F) (drop-append_seam ws.up fs) (All-drop F (length ws.up) (ws.up ++ fs) (h Mobile))
+went_out F Network fs ws h = subst (All F) (drop-append_seam ws.down fs) (All-drop F (length ws.down) (ws.down ++ fs) (h Network))
 
 pub deed-holds : (E : Sapi → EndState → Type 0) (F : Frame → Type 0) (channel : Channel) (w : World) (event : Event) (o : Option Why) →
-    o ≡ None → Holds E F channel (after_by o event w) → AllOf F (deed event w.ends).frames
+    o ≡ None → Holds E F channel (after_by o event w) → All F (deed event w.ends).frames
 deed-holds E F channel w event o none h =
     let g : Holds E F channel (after_by None event w) = subst (λ (q : Option Why). Holds E F channel (after_by q event w)) none h in
     went_out F (sender_of (deed event w.ends).who) (deed event w.ends).frames (taken event w.ways) g.ways
@@ -196,8 +174,7 @@ sendable : (channel : Channel) (w : World) (event : Event) (o : Option Why) → 
 sendable channel w event (Some why) h = tt
 sendable channel w event None h =
     let few : IsFew (deed event w.ends) = few-deed event w.ends in
-    let fit = deed-holds (FitsEnd channel) (Fits channel) channel w event None refl h in
-    (few.0, all-of (Fits channel) _ fit, few.1)
+    (few.0, deed-holds (FitsEnd channel) (Fits channel) channel w event None refl h, few.1)
 
 readable : (channel : Channel) (o : Option Why) (event : Event) → IsReadable channel event → KnowsBy o (λ sender f. Fits channel f) event
 readable channel None (Deliver sender (Some f)) h = h

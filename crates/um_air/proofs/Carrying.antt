@@ -3,7 +3,7 @@
 use Rattle.std.proofs.Common.{◌≡◌, refl, sym, ◌∙◌, ap, subst, ℕ, suc, ◌+◌, ◌-◌, ◌<◌, ◌≤◌, List, [], ◌∷◌, ◌++◌, map, length, drop, Option, Some, None, ap₂}
 use Rattle.std.specs.Prelude.{IfSome}
 use Rattle.std.specs.List.{AllZip}
-use Rattle.std.proofs.lemmas.List.Elements.{All-take, All-drop}
+use Rattle.std.proofs.lemmas.List.Elements.{All-head, All-take, All-drop}
 use Rattle.lapdm_frame.specs.declared.Channel.{Channel}
 use Rattle.lapdm_frame.specs.Layout.{header}
 use Rattle.lapdm_frame.specs.Content.{Frame, information}
@@ -128,7 +128,7 @@ read_back : (channel : Channel) (accepted : Option Octets) (read : Option Frame)
     AllZip (λ f o. o ≡ octets_of channel f) fs os → AllFit channel fs → Reads channel accepted read → IsAsSent accepted os →
     IsAsSent read fs
 read_back channel (Some octets) (Some f) (g ∷ gs) (o ∷ os) z fit h s =
-    same_frame channel (octets_of channel g) f g (subst (IsFrame channel f) (s ∙ z.0) h) (octets_canonical channel g fit.0).frame
+    same_frame channel (octets_of channel g) f g (subst (IsFrame channel f) (s ∙ z.0) h) (octets_canonical channel g (All-head (Fits channel) g gs fit)).frame
 read_back channel (Some octets) (Some f) fs [] z fit h s = absurd s
 read_back channel accepted None fs os z fit h s = tt
 read_back channel accepted read fs os z fit h s = absurd assumption

@@ -3,7 +3,7 @@ use Rattle.std.proofs.Common.{◌≡◌, refl, sym, subst, arith, ℕ, ◌-◌, 
 use Rattle.std.specs.Prelude.{IfSome}
 use Rattle.std.proofs.lemmas.Bool.{cases_lt}
 use Rattle.std.proofs.lemmas.List.{length-set, length-map, set_past}
-use Rattle.std.proofs.lemmas.List.Elements.{All-append, All-replicate, All-set, All-map}
+use Rattle.std.proofs.lemmas.List.Elements.{All-nil, All-cons, All-head, All-tail, All-append, All-replicate, All-set, All-map}
 use Rattle.lapdm_frame.specs.declared.Channel.{Channel}
 use Rattle.lapdm_frame.specs.declared.Channel.TheVariants.{Sdcch, Sacch}
 use Rattle.lapdm_frame.specs.Layout.{header, n201}
@@ -25,7 +25,7 @@ use Rattle.lapdm_link.specs.Events.{Ask, Deliver, Lose, Send, Who, End, Why, dee
 use Rattle.lapdm_link.specs.Worlds.{World}
 use Rattle.lapdm_link.specs.Worlds as W
 use Rattle.lapdm_link.specs.Claims.{notice_lines, answer_lines}
-use Rattle.lapdm_link.proofs.Lemmas.{KnowsBy, LineOctets, AllSay, AllOf, EndOctets, SaysOctets, WorldOctets, octets-step, start-octets, AllFit, deed-fits, deed-holds, of-all, all-of}
+use Rattle.lapdm_link.proofs.Lemmas.{KnowsBy, LineOctets, AllSay, EndOctets, SaysOctets, WorldOctets, octets-step, start-octets, AllFit, deed-fits, deed-holds}
 use Rattle.um_air.specs.Air.{Octets, Event, as_read, AirState, start_on, Answer, AirStep, AirRun, Block, Reads, Hears, Arrives, AreSent, Refuses, Does, refusal, turned_at, turned}
 use Rattle.um_air.specs.Sessions.{AreOctets, IsOctetEvent, after}
 use Rattle.um_air.proofs.Determined.{left, done}
@@ -45,11 +45,10 @@ pub octets_small : (channel : Channel) (f : Frame) → Fits channel f → AreOct
 octets_small channel f h info =
     let small : ℕ → Type 0 = λ octet. octet < 256 in
     let most : length (information f.content) ≤ n201 channel = information_bound channel f.content h.information in
-    let head : AreOctets (address f ∷ control f.content ∷ length_octet f.content ∷ []) =
-    all-of small (address f ∷ control f.content ∷ length_octet f.content ∷ []) (
-      omega (arith, h.sapi, bit_bound f.cr),
-      (control_small f.content h.numbers, (omega (arith, most, room_small channel, bit_bound (goes_on f.content)), tt)),
-    ) in
+    let last : length_octet f.content < 256 = omega (arith, most, room_small channel, bit_bound (goes_on f.content)) in
+    let head = All-cons small (address f) (control f.content ∷ length_octet f.content ∷ []) (omega (arith, h.sapi, bit_bound f.cr))
+    (All-cons small (control f.content) (length_octet f.content ∷ []) (control_small f.content h.numbers)
+    (All-cons small (length_octet f.content) [] last (All-nil small))) in
     All-append small _ _ (All-append small _ _ (All-append small _ _ (All-replicate small (header channel) 0 (omega arith)) head) info)
     (All-replicate small (n201 channel - length (information f.content)) 0x2b (omega arith))
 
@@ -109,9 +108,10 @@ some_blocks : (channel : Channel) (tsc : ℕ) (fs : List Frame) → tsc ≤ 7 �
     (bs : List Block) × AreSent channel tsc fs bs
 some_blocks channel tsc [] known h said = ([], tt)
 some_blocks channel tsc (f ∷ fs) known h said =
-    let b = some_sent_block (octets_of channel f) tsc (octets_canonical channel f h.0).frame.count (octets_small channel f h.0 said.0) known
-    in
-    let bs = some_blocks channel tsc fs known h.1 said.1 in
+    let fits : Fits channel f = All-head (Fits channel) f fs h in
+    let small = octets_small channel f fits (All-head SaysOctets f fs said) in
+    let b = some_sent_block (octets_of channel f) tsc (octets_canonical channel f fits).frame.count small known in
+    let bs = some_blocks channel tsc fs known (All-tail (Fits channel) f fs h) (All-tail SaysOctets f fs said) in
     (b.0 ∷ bs.0, (b.1, bs.1))
 
 -- ---- a session whose messages are octets
@@ -188,29 +188,29 @@ module _ (a : AirState) (h : IsSpoken a) (event : Event) (says : IsOctetEvent ev
         ),
       )
 
-spoken-run : (events : List Event) (answers : List Answer) (a b : AirState) → IsSpoken a → AllOf IsOctetEvent events →
+spoken-run : (events : List Event) (answers : List Answer) (a b : AirState) → IsSpoken a → All IsOctetEvent events →
     AirRun a events answers b → IsSpoken b
 spoken-run [] [] a b h says run = rw run h
 spoken-run (event ∷ events) (answer ∷ answers) a b h says run =
-    spoken-run events answers run.0 b (spoken-next a h event says.0 answer run.0 run.1) says.1 run.2
+    spoken-run events answers run.0 b (spoken-next a h event (All-head IsOctetEvent event events says) answer run.0 run.1) (All-tail IsOctetEvent event events says) run.2
 spoken-run events answers a b h says run = absurd assumption
 
 pub some_answer : (tsc : ℕ) (channel : Channel) (events : List Event) (answers : List Answer) (a : AirState) → tsc ≤ 7 →
     All IsOctetEvent events → AirRun (start_on tsc channel) events answers a →
     (event : Event) → IsOctetEvent event → (b : AirState) × (answer : Answer) × AirStep a event b answer
 some_answer tsc channel events answers a known said run event says =
-    some_answer_at a (spoken-run events answers (start_on tsc channel) a (start-spoken tsc channel known) (of-all IsOctetEvent events said) run)
+    some_answer_at a (spoken-run events answers (start_on tsc channel) a (start-spoken tsc channel known) said run)
     event says (refusal event a) refl
 
-going_on : (events : List Event) (a : AirState) → IsSpoken a → AllOf IsOctetEvent events →
+going_on : (events : List Event) (a : AirState) → IsSpoken a → All IsOctetEvent events →
     (answers : List Answer) × (b : AirState) × AirRun a events answers b
 going_on [] a h says = ([], a, refl)
 going_on (event ∷ events) a h says =
-    let s = some_answer_at a h event says.0 (refusal event a) refl in
-    let r = going_on events s.0 (spoken-next a h event says.0 s.1 s.0 s.2) says.1 in
+    let s = some_answer_at a h event (All-head IsOctetEvent event events says) (refusal event a) refl in
+    let r = going_on events s.0 (spoken-next a h event (All-head IsOctetEvent event events says) s.1 s.0 s.2) (All-tail IsOctetEvent event events says) in
     (s.1 ∷ r.0, r.1, (s.0, s.2, r.2))
 
 pub some_run : (tsc : ℕ) (channel : Channel) (events : List Event) → tsc ≤ 7 → All IsOctetEvent events →
     (answers : List Answer) × (b : AirState) × AirRun (start_on tsc channel) events answers b
 some_run tsc channel events known said =
-    going_on events (start_on tsc channel) (start-spoken tsc channel known) (of-all IsOctetEvent events said)
+    going_on events (start_on tsc channel) (start-spoken tsc channel known) said
