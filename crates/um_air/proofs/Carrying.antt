@@ -181,15 +181,8 @@ module _ (a : AirState) (octets : Ways Octets) (h : IsSeenAt a octets) where
 
   module _ (event : Event) where
     seen-refused : (why : Why) → IsSeenBy a octets h.frames event (Refuses why) a None (Some why)
-    seen-refused why = record {
-      next = h;
-      later = refl;
-      tsc = refl;
-      same = refl;
-      known = tt;
-      harmless = λ q. tt;
-      kind = λ k. harmless-refused event why octets;
-    }
+    seen-refused why = (let k = harmless-refused event why octets in
+        record { next = h; later = refl; tsc = refl; same = refl; known = tt; harmless = λ q. tt; kind = λ q. k })
 
     seen-done : (read : Option Frame) (report : Option Received) (blocks : List Block) → Arrives a event report read →
         (let e : E.Event = as_read read event in W.refusal e (world_of a h.frames) ≡ None →
@@ -239,14 +232,8 @@ module _ (a : AirState) (octets : Ways Octets) (h : IsSeenAt a octets) where
 -- ---- a session
 
 abbrev pub start-seen : (tsc : ℕ) (channel : Channel) → IsSeenAt (start_on tsc channel) no_ways
-start-seen tsc channel = record {
-  frames = no_ways;
-  ls = [];
-  blocks = alike-none _;
-  written = alike-none _;
-  fit = start-fits channel;
-  reported = start-reported channel;
-}
+start-seen tsc channel = (let fit = start-fits channel in let reported = start-reported channel in
+    record { frames = no_ways; ls = []; blocks = alike-none _; written = alike-none _; fit = fit; reported = reported })
 
 -- a session, as one of frames
 pub record IsSeen (a : AirState) (octets : Ways Octets) (h : IsSeenAt a octets) (events : List Event) (answers : List Answer) : Type 0 where

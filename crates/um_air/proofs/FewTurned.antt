@@ -70,14 +70,7 @@ module _ (block : Block) (soft : List ℤ) (gathered : IsInterleaved soft (map c
       get_or-map coded_places (map softened block) b [] ∙ ap coded_places (get_or-map softened block b []) in
       let long : length (coded_places s) ≡ 114 = ap length (sym here)
       ∙ gathered.each_count b [] (omega (arith, burst_of-below k, gathered.burst_count)) in
-      let first : length (N.first_half s) ≡ 57 = omega (
-        arith,
-        long,
-        length-append (N.first_half s) (N.second_half s),
-        length-take 57
-            (drop 3 s),
-        length-take 57 (drop 88 s),
-      ) in
+      let first : length (N.first_half s) ≡ 57 = omega (arith, long, length-append {A = ℤ}, length-take {A = ℤ}) in
       sym (gathered.places k (pos 127) h) ∙ ap (λ xs. get_or xs (place_of k) (pos 127)) here
       ∙ halves-at (N.first_half s) (N.second_half s) k (pos 127) (soft_value (bit_at block (burst_place k))) first
       (λ i l e. part_at block b 3 i (burst_place k) l (omega arith) (omega (arith, e, l, burst_place-lower k (omega (arith, e, l)))))

@@ -26,7 +26,7 @@ use Rattle.lapdm_link.specs.Worlds.{World}
 use Rattle.lapdm_link.specs.Worlds as W
 use Rattle.lapdm_link.specs.Claims.{notice_lines, answer_lines}
 use Rattle.lapdm_link.proofs.Lemmas.{KnowsBy, LineOctets, AllSay, EndOctets, SaysOctets, WorldOctets, octets-step, start-octets, AllFit, deed-fits, deed-holds}
-use Rattle.um_air.specs.Air.{Octets, Event, as_read, AirState, start_on, Answer, AirStep, AirRun, Block, Reads, Hears, Arrives, AreSent, Refuses, Does, refusal, turned_at, turned}
+use Rattle.um_air.specs.Air.{Octets, Event, as_read, AirState, start_on, Answer, AirStep, AirRun, Block, Reads, Hears, Arrives, AreSent, Happens, Refuses, Does, refusal, turned_at, turned}
 use Rattle.um_air.specs.Sessions.{AreOctets, IsOctetEvent, after}
 use Rattle.um_air.proofs.Determined.{left, done}
 use Rattle.um_air.proofs.Carrying.{Coded, world_of, refusal-same, known-read, IsSeenAt, seen-step, start-seen}
@@ -147,18 +147,13 @@ module _ (a : AirState) (h : IsSpoken a) (event : Event) (says : IsOctetEvent ev
   octets-next read reads =
       let e : E.Event = as_read read event in
       let w : World = world_of a h.at.frames in
-      octets-step w h.at.ls e h.at.reported reads h.small
-      (line_octets read event (W.answer e w) says)
+      octets-step w h.at.ls e h.at.reported reads h.small (line_octets read event (W.answer e w) says)
 
   spoken-next : (answer : Answer) (b : AirState) → AirStep a event b answer → IsSpoken b
   spoken-next answer b t =
       let s = seen-step a h.octets h.at event answer b t in
-      record {
-        octets = after event answer h.octets;
-        at = s.1.next;
-        small = subst WorldOctets s.1.later (octets-next s.0 s.1.known);
-        known = rw s.1.tsc h.known;
-      }
+      let small = subst WorldOctets s.1.later (octets-next s.0 s.1.known) in
+      record { octets = after event answer h.octets; at = s.1.next; small = small; known = rw s.1.tsc h.known }
 
   some_answer_at : (o : Option Why) → refusal event a ≡ o → (b : AirState) × (answer : Answer) × AirStep a event b answer
   some_answer_at (Some why) is = (a, Refuses why, (is, refl))
@@ -172,27 +167,17 @@ module _ (a : AirState) (h : IsSpoken a) (event : Event) (says : IsOctetEvent ev
       let next = octets-next t.1 (subst (λ (q : Option Why). KnowsBy q (λ r f. SaysOctets f) e) (sym none) known.1) in
       let bs = some_blocks a.channel a.tsc (deed e a.ends).frames h.known
       (deed-fits a.channel w e (subst (λ (q : Option Why). KnowsBy q (λ r f. Fits a.channel f) e) (sym none) known.0) h.at.fit none)
-      (deed-holds (λ s x. EndOctets x) SaysOctets next.0 w e (W.refusal e w) none next.1) in (
-        left a event e bs.0,
-        Does (done a e t.0),
-        (
-          is,
-          record {
-            read = t.1;
-            blocks = bs.0;
-            arrives = t.2;
-            sent = bs.1;
-            after = refl;
-            step_is = refl;
-          },
-        ),
-      )
+      (deed-holds (λ s x. EndOctets x) SaysOctets next.0 w e (W.refusal e w) none next.1) in
+      let happens : Happens a event (left a event e bs.0) (done a e t.0) =
+      record { read = t.1; blocks = bs.0; arrives = t.2; sent = bs.1; after = refl; step_is = refl } in
+      (left a event e bs.0, Does (done a e t.0), (is, happens))
 
 spoken-run : (events : List Event) (answers : List Answer) (a b : AirState) → IsSpoken a → All IsOctetEvent events →
     AirRun a events answers b → IsSpoken b
 spoken-run [] [] a b h says run = rw run h
 spoken-run (event ∷ events) (answer ∷ answers) a b h says run =
-    spoken-run events answers run.0 b (spoken-next a h event (All-head IsOctetEvent event events says) answer run.0 run.1) (All-tail IsOctetEvent event events says) run.2
+    let next = spoken-next a h event (All-head IsOctetEvent event events says) answer run.0 run.1 in
+    spoken-run events answers run.0 b next (All-tail IsOctetEvent event events says) run.2
 spoken-run events answers a b h says run = absurd assumption
 
 pub some_answer : (tsc : ℕ) (channel : Channel) (events : List Event) (answers : List Answer) (a : AirState) → tsc ≤ 7 →
@@ -206,8 +191,9 @@ going_on : (events : List Event) (a : AirState) → IsSpoken a → All IsOctetEv
     (answers : List Answer) × (b : AirState) × AirRun a events answers b
 going_on [] a h says = ([], a, refl)
 going_on (event ∷ events) a h says =
-    let s = some_answer_at a h event (All-head IsOctetEvent event events says) (refusal event a) refl in
-    let r = going_on events s.0 (spoken-next a h event (All-head IsOctetEvent event events says) s.1 s.0 s.2) (All-tail IsOctetEvent event events says) in
+    let now : IsOctetEvent event = All-head IsOctetEvent event events says in
+    let s = some_answer_at a h event now (refusal event a) refl in
+    let r = going_on events s.0 (spoken-next a h event now s.1 s.0 s.2) (All-tail IsOctetEvent event events says) in
     (s.1 ∷ r.0, r.1, (s.0, s.2, r.2))
 
 pub some_run : (tsc : ℕ) (channel : Channel) (events : List Event) → tsc ≤ 7 → All IsOctetEvent events →
