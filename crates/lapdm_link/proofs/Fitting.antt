@@ -1,5 +1,5 @@
 -- Every frame on its way can be written.
-use Rattle.std.proofs.Common.{◌≡◌, sym, subst, List, [], ◌∷◌, ◌++◌, drop, None, All, refl, ◌∙◌, ap, arith, false, nat_eq, nat_lt, length, ◌≤◌, Bool, true, if◌then◌else◌, Option, Some}
+use Rattle.std.proofs.Common.{◌≡◌, sym, subst, List, [], ◌∷◌, ◌++◌, None, All, refl, ◌∙◌, ap, arith, false, nat_eq, nat_lt, length, ◌≤◌, Bool, true, if◌then◌else◌, Option, Some}
 use Rattle.std.proofs.lemmas.List.Elements.{All-nil, All-cons, All-head, All-tail, All-append, All-drop}
 use Rattle.std.proofs.Math.Seq.{drop-append_seam}
 use Rattle.lapdm_frame.specs.declared.Channel.{Channel}
@@ -10,7 +10,7 @@ use Rattle.lapdm_window.specs.Ends.{Role, Mobile, Network, EndState, Outcome, st
 use Rattle.lapdm_window.specs.Calls.{Call, refusal_of, after_call, Opens, OpensBare, HasCall}
 use Rattle.lapdm_window.specs.Tables.{after_frame}
 use Rattle.lapdm_link.specs.Events.{Event, other, rival_frame, rival_refusal, Open, OpenBare, Ask, Deliver, Ends, end_in, sender_of, Deed, does, does_nothing, deed, call_of, End, taken, Why}
-use Rattle.lapdm_link.specs.Worlds.{World, start_on, refusal, answer, after, answer_by, next, after_by, answers, IsReadable, IsSendable}
+use Rattle.lapdm_link.specs.Worlds.{World, start_on, refusal, answer, after, answer_by, after_by, answers, IsReadable, IsSendable}
 use Rattle.lapdm_link.specs.Claims.{Line, Rivals, answer_lines}
 use Rattle.lapdm_link.proofs.Views.{end_of, way, without_first, with_frames, acted, said, each_end, each_way, each_lost, each_start, end_does, end_does-else, way_does, way_does-other}
 use Rattle.lapdm_link.proofs.ByKind.{IsPlaced, KnowsBy, by_kind}

@@ -14,7 +14,7 @@ use Rattle.lapdm_window.specs.Calls.{Call}
 use Rattle.lapdm_link.specs.Events.{Event, Deliver, Why, other}
 use Rattle.lapdm_link.specs.Worlds.{World, start_on, refusal, answer, after, answers, IsHarmlessBy, IsHarmless}
 use Rattle.lapdm_link.specs.Ways.{IsAsSent}
-use Rattle.lapdm_link.specs.Claims.{Line, Asked, Told, OrderClaims, CountsAgree, is_sapi, answer_lines, lines, notices, Claims, acked, got}
+use Rattle.lapdm_link.specs.Claims.{Line, Asked, Told, OrderClaims, CountsAgree, is_sapi, answer_lines, lines, Claims, acked, got}
 use Rattle.lapdm_link.proofs.Queues.{is_on, content_of, content_on, contents_on, AllFrames, contents-own, contents-else}
 use Rattle.lapdm_link.proofs.Views.{end_of, way, rest, without_first, acted, said, is_end, by_link, other_is, link_else, end_does, end_does-else, way_does, calls-own, calls-else, notices-own, notices-else}
 use Rattle.lapdm_link.proofs.ByKind.{KnowsBy, by_kind}
