@@ -1,35 +1,31 @@
 -- What an end does at a call that is not refused: what it tells and sends, and that both directions are kept.
-use Rattle.std.proofs.Common.{◌≡◌, refl, sym, ◌∙◌, ap, subst, arith, ℕ, ◌+◌, ◌≤◌, Bool, true, false, not, if◌then◌else◌, nat_eq, nat_lt, List, [], ◌∷◌, ◌++◌, length, None, inl, inr}
+use Rattle.std.proofs.Common.{◌≡◌, refl, sym, ap, subst, arith, ℕ, ◌+◌, ◌≤◌, max, Bool, true, false, not, if◌then◌else◌, nat_eq, nat_lt, List, [], ◌∷◌, ◌++◌, length, Some, None, inl, inr}
 use Rattle.std.specs.Prelude.{◌⊎◌}
-use Rattle.std.specs.List.{filter_map, cons_option}
-use Rattle.std.proofs.lemmas.List.{append-nil, length-append}
-use Rattle.std.proofs.lemmas.List.Elements.{filter_map-append}
+use Rattle.std.specs.List.{filter_map}
+use Rattle.std.proofs.lemmas.List.{append-nil}
 use Rattle.std.proofs.lemmas.Bool.{false≢true}
 use Rattle.std.proofs.lemmas.Bool.Decides.{nat_tests}
 use Rattle.lapdm_frame.specs.Layout.{n201}
 use Rattle.lapdm_frame.specs.Content.{Content, I, Rr, Rej, Sabm, Ui, Disc, Frame}
 use Rattle.segmenting.specs.Pieces.{Message, Piece, IsMessage}
-use Rattle.segmenting.specs.Joining.{endings}
-use Rattle.lapdm_window.specs.declared.Sapi.{Sapi}
-use Rattle.lapdm_window.specs.declared.Sapi.TheVariants.{Zero, Three}
 use Rattle.lapdm_window.specs.declared.State.{State}
 use Rattle.lapdm_window.specs.declared.State.TheVariants as S
 use Rattle.lapdm_window.specs.declared.Reason.TheVariants as R
 use Rattle.lapdm_window.specs.declared.Notice.{Notice}
-use Rattle.lapdm_window.specs.declared.Notice.TheVariants as N
 use Rattle.lapdm_window.specs.declared.Refused.TheVariants as No
-use Rattle.lapdm_window.specs.Ends.{EndState, Outcome, KeepsWindow, sends_frame, waits, awaits, awaits_in, wholly_acked, all_pieces, n200, sapi_number}
-use Rattle.lapdm_window.specs.Rules.{is_open, sends_next, waiting_frame}
+use Rattle.lapdm_window.specs.Ends.{EndState, Outcome, KeepsWindow, sends_frame, waits, awaits, awaits_in, all_pieces, n200}
+use Rattle.lapdm_window.specs.Rules.{is_open, sends_next}
+use Rattle.lapdm_window.specs.Steps.{IsSameLink}
 use Rattle.lapdm_window.specs.Tables.{becomes_closed}
 use Rattle.lapdm_window.specs.Calls.{Call, Opens, OpensBare, Sends, SendsUnit, Closes, Ticks, Idles, is_idle, refusal_of, put_refusals, frame_refusals, with_taken, repeated, after_call}
 use Rattle.lapdm_window.proofs.Lemmas.{wholly_acked-taken, all_pieces-taken, KeepsWindow-taken, is_message, not_false, passes, is_idle-is, is_open-is, three_bits, waits_within}
-use Rattle.lapdm_link.specs.Claims.{sent_in, unit_sent_in, unit_got_in, opened_in, closed_in}
-use Rattle.lapdm_link.proofs.Queues.{IsPlain, AllFrames, frames-as, where-all, all-where}
+use Rattle.lapdm_link.specs.Claims.{sent_in, unit_sent_in, unit_got_in, opened_in}
+use Rattle.lapdm_link.proofs.Queues.{contents, IsPlain, AllFrames, frames-as, frames-say, AllOf}
 use Rattle.lapdm_link.proofs.Directions.{waits_for_one, more_pieces}
 use Rattle.lapdm_link.proofs.Keeping.{IsBoth, After, sends_plain, quiet, moved, piece_sent, is_waiting, keeps-sends_next}
-use Rattle.lapdm_link.proofs.Telling.{IsLive, silent, SaysWell, InOpen, in-sends_next, same_pieces}
-use Rattle.lapdm_link.proofs.Taking.{one_told, unit_of, units_on, no-units}
-use Rattle.lapdm_link.proofs.Told.{closes_in, Phase, HasTold, IsStep, step-by}
+use Rattle.lapdm_link.proofs.Told.{stage_of, known, asked, Tells}
+use Rattle.lapdm_link.proofs.Telling.{SaysWell, InOpen, in-sends_next}
+use Rattle.lapdm_link.proofs.Taking.{unit_in}
 
 -- what an end sends at a call, which leaves it in this state
 abbrev pub Asks : Call → EndState → Content → Type 0
@@ -53,46 +49,16 @@ LeftBy call x z = ((z.state ≡ S.Opening) × IsOpening call z.kept) ⊎ ((z.kep
     ((x.state ≡ S.Open) × (z.state ≡ S.Closing)))))
 
 pub record IsCalled (x : EndState) (call : Call) (o : Outcome) : Type 0 where
-  pub step : IsStep x (call ∷ []) o
+  pub link : IsSameLink x o.after
+  pub end : KeepsWindow o.after
+  pub tells : Tells (asked (Some call) (known x)) o.notices (known o.after)
   pub taken : o.after.taken ≡ x.taken ++ filter_map sent_in (call ∷ [])
   pub left : LeftBy call x o.after
   pub frames : AllFrames (Asks call o.after) x.sapi o.frames
-  pub units : units_on x.sapi o.frames ≡ filter_map unit_sent_in (call ∷ [])
+  pub units : filter_map unit_in (contents o.frames) ≡ filter_map unit_sent_in (call ∷ [])
   pub reports : filter_map unit_got_in o.notices ≡ []
   pub opened : filter_map opened_in o.notices ≡ []
-  pub keeps : (t : Sapi) (y : EndState) (out comes : List Frame) → IsBoth t x y out comes comes → After t o y out comes comes
-
--- the call is asked, and the end is as before or takes its message
-asked-told : (x mid : EndState) (call : Call) → mid.taken ≡ x.taken ++ filter_map sent_in (call ∷ []) → mid.accepted ≡ x.accepted →
-    wholly_acked mid ≡ wholly_acked x →
-    ((o c k : ℕ) → Phase x.state o c k → Phase mid.state o c (k + length (filter_map closes_in (call ∷ [])))) → (cs : List Call)
-    (ns : List Notice) → HasTold x cs ns → HasTold mid (cs ++ call ∷ []) ns
-asked-told x mid call taken accepted acked phase cs ns h =
-    let closes-more : length (filter_map closes_in cs) + length (filter_map closes_in (call ∷ [])) ≡ length
-    (filter_map closes_in (cs ++ call ∷ [])) =
-    sym (ap length (filter_map-append closes_in cs (call ∷ []))
-    ∙ length-append (filter_map closes_in cs) (filter_map closes_in (call ∷ []))) in
-    record {
-      taken = filter_map-append sent_in cs (call ∷ []) ∙ ap (λ ms. ms ++ filter_map sent_in (call ∷ [])) h.taken ∙ sym taken;
-      got = h.got ∙ ap (endings []) (sym accepted);
-      acked = h.acked ∙ sym acked;
-      phase = subst (λ (k : ℕ). Phase mid.state (length (filter_map opened_in ns)) (length (filter_map closed_in ns)) k) closes-more
-          (phase _ _ _ h.phase);
-    }
-
-no_more : (s : State) (o c k : ℕ) → Phase s o c k → Phase s o c (k + 0)
-no_more s o c k h = subst (λ (i : ℕ). Phase s o c i) (let e : k ≡ k + 0 = omega arith in e) h
-
-begins-phase : (s : State) → s ≡ S.Idle → (o c k : ℕ) → Phase s o c k → Phase S.Opening o c (k + 0)
-begins-phase s e o c k h = let g : Phase S.Idle o c k = subst (λ (t : State). Phase t o c k) e h in (g.0, g.1, omega (arith, g.2))
-
-ends-phase : (s : State) → s ≡ S.Open → (o c k : ℕ) → Phase s o c k → Phase S.Closing o c (k + 1)
-ends-phase s e o c k h = let g : Phase S.Open o c k = subst (λ (t : State). Phase t o c k) e h in (g.0, g.1)
-
-here-unit : (s : Sapi) (i : ℕ) (is : Message) → cons_option (unit_of (nat_eq (sapi_number s) (sapi_number s)) (Ui false (i ∷ is))) [] ≡
-    (i ∷ is) ∷ []
-here-unit Zero i is = refl
-here-unit Three i is = refl
+  pub keeps : (y : EndState) (out comes : List Content) → IsBoth x y out comes comes → After o y out comes comes
 
 well-asked : (call : Call) (x z : EndState) → all_pieces z ≡ all_pieces x → (c : Content) → SaysWell (all_pieces x) c → Asks call z c
 well-asked call x z e (I ns nr p more info) h = subst (λ ps. SaysWell ps (I ns nr p more info)) (sym e) h
@@ -100,107 +66,95 @@ well-asked call x z e (Rr nr pf) h = h
 well-asked call x z e (Rej nr pf) h = h
 well-asked call x z e other h = absurd h
 
-well-no_unit : (ps : List Piece) (c : Content) → SaysWell ps c → unit_of true c ≡ None
-well-no_unit ps (I ns nr p more info) h = refl
-well-no_unit ps (Rr nr pf) h = refl
-well-no_unit ps (Rej nr pf) h = refl
-well-no_unit ps other h = absurd h
+well-no_unit : (ps : List Piece) (c : Content) → SaysWell ps c → unit_in c ≡ None
+well-no_unit ps (Ui p m) h = absurd h
+well-no_unit ps other h = refl
 
-taken-both : (m : Message) {t : Sapi} {x y : EndState} {out comes hears : List Frame} → IsBoth t x y out comes hears →
-    IsBoth t (with_taken m x) y out comes hears
-taken-both m {t} {x} h = record { there = rw (all_pieces-taken x m) (more_pieces _ h.there); back = h.back }
+pub no-units : (cs : List Content) → AllOf (λ c. unit_in c ≡ None) cs → filter_map unit_in cs ≡ []
+no-units [] h = refl
+no-units (c ∷ cs) h = rw (h.0, no-units cs h.1) refl
+
+taken-both : (m : Message) {x y : EndState} {out comes hears : List Content} → IsBoth x y out comes hears →
+    IsBoth (with_taken m x) y out comes hears
+taken-both m {x} h = record { there = rw (all_pieces-taken x m) (more_pieces _ h.there); back = h.back }
 
 module _ (x : EndState) (w : KeepsWindow x) where
+  -- what it keeps changes, and no message is taken
+  moves : (call : Call) (s : State) (k : Message) (r : ℕ) (fs : List Frame) (ns : List Notice) → filter_map sent_in (call ∷ []) ≡ [] →
+      (let z : EndState = record x { state = s; kept = k; retries = r } in
+      let o : Outcome = record { after = z; frames = fs; notices = ns } in Tells (asked (Some call) (known x)) ns (known z) →
+      filter_map unit_got_in ns ≡ [] → filter_map opened_in ns ≡ [] → LeftBy call x z → AllFrames (Asks call z) x.sapi fs →
+      filter_map unit_in (contents fs) ≡ filter_map unit_sent_in (call ∷ []) →
+      ((y : EndState) (out comes : List Content) → IsBoth z y out comes comes → After o y out comes comes) → IsCalled x call o)
+  moves call s k r fs ns none tells reports opened left frames units keeps = record {
+    link = record { role = refl; sapi = refl; channel = refl };
+    end = record { messages = w.messages; sent = w.sent; behind = w.behind; window = w.window };
+    tells = tells;
+    taken = rw (none, append-nil) refl;
+    left = left;
+    frames = frames;
+    units = units;
+    reports = reports;
+    opened = opened;
+    keeps = λ y out comes h. keeps y out comes (moved s k x.rejecting r h);
+  }
+
   -- one frame without numbers
   one_frame : (call : Call) (s : State) (k : Message) (r : ℕ) (f : Frame) → filter_map sent_in (call ∷ []) ≡ [] →
-      ((o c j : ℕ) → Phase x.state o c j → Phase s o c (j + length (filter_map closes_in (call ∷ [])))) →
-      (let z : EndState = record x { state = s; kept = k; retries = r } in LeftBy call x z → AllFrames (Asks call z) x.sapi (f ∷ []) →
-      IsPlain f.content → units_on x.sapi (f ∷ []) ≡ filter_map unit_sent_in (call ∷ []) → IsCalled x call (sends_frame f z))
-  one_frame call s k r f none phase left asks plain units =
-      let z : EndState = record x { state = s; kept = k; retries = r } in
-      let taken : x.taken ≡ x.taken ++ filter_map sent_in (call ∷ []) = sym (append-nil x.taken) ∙ ap (λ ms. x.taken ++ ms) (sym none) in
-      record {
-        step = step-by x z (call ∷ []) (sends_frame f z) (record { role = refl; sapi = refl; channel = refl })
-            (record { messages = w.messages; sent = w.sent; behind = w.behind; window = w.window }) (silent z z refl refl refl refl)
-            (asked-told x z call taken refl refl phase);
-        taken = taken;
-        left = left;
-        frames = asks;
-        units = units;
-        reports = refl;
-        opened = refl;
-        keeps = λ t y out comes h. sends_plain (f ∷ []) (where-all _ _ plain, tt) (moved s k x.rejecting r h);
-      }
+      (let z : EndState = record x { state = s; kept = k; retries = r } in known z ≡ asked (Some call) (known x) → LeftBy call x z →
+      AllFrames (Asks call z) x.sapi (f ∷ []) → AllOf IsPlain (contents (f ∷ [])) →
+      filter_map unit_in (contents (f ∷ [])) ≡ filter_map unit_sent_in (call ∷ []) → IsCalled x call (sends_frame f z))
+  one_frame call s k r f none told left asks plain units = moves call s k r (f ∷ []) [] none told refl refl left asks units
+      (λ y out comes h. sends_plain (contents (f ∷ [])) plain h)
+
+  begins : x.state ≡ S.Idle → record (known x) { stage = 0 } ≡ known x
+  begins is_now = ap (λ s. record (known x) { stage = stage_of s }) (sym is_now)
 
   -- the timer has run out
   again : (s : State) → x.state ≡ s → awaits_in s (waits x) ≡ true →
       IsCalled x Ticks (sends_frame (repeated s x) (record x { retries = x.retries + 1 }))
   again S.Idle e due = absurd (false≢true due)
   again S.Closed e due = absurd (false≢true due)
-  again S.Opening e due = one_frame Ticks x.state x.kept (x.retries + 1) (repeated S.Opening x) refl (no_more x.state) (inr
-      (refl, inl refl))
-      (inl refl, (e, refl), tt) tt refl
-  again S.Closing e due = one_frame Ticks x.state x.kept (x.retries + 1) (repeated S.Closing x) refl (no_more x.state) (inr
-      (refl, inl refl))
-      (inl refl, tt, tt) tt refl
-  again S.Open e due =
-      let z : EndState = record x { retries = x.retries + 1 } in
-      record {
-        step = step-by x z (Ticks ∷ []) (sends_frame (waiting_frame true x) z) (record { role = refl; sapi = refl; channel = refl })
-            (record { messages = w.messages; sent = w.sent; behind = w.behind; window = w.window }) (silent z z refl refl refl refl)
-            (asked-told x z Ticks (sym (append-nil x.taken)) refl refl (no_more x.state));
-        taken = sym (append-nil x.taken);
-        left = inr (refl, inl refl);
-        frames = (inl refl, (three_bits x.acked, three_bits (length x.accepted), (x.acked, waits_within x w due, refl)), tt);
-        units = refl;
-        reports = refl;
-        opened = refl;
-        keeps = λ t y out comes h.
-            piece_sent true (waits_for_one (is_waiting x due) h.there) (moved x.state x.kept x.rejecting (x.retries + 1) h);
-      }
+  again S.Opening e due = one_frame Ticks x.state x.kept (x.retries + 1) (repeated S.Opening x) refl refl (inr (refl, inl refl))
+      (inl refl, (e, refl), tt) (tt, tt) refl
+  again S.Closing e due = one_frame Ticks x.state x.kept (x.retries + 1) (repeated S.Closing x) refl refl (inr (refl, inl refl))
+      (inl refl, tt, tt) (tt, tt) refl
+  again S.Open e due = moves Ticks x.state x.kept (x.retries + 1) _ [] refl refl refl refl (inr (refl, inl refl))
+      (inl refl, (three_bits x.acked, three_bits (length x.accepted), (x.acked, waits_within x w due, refl)), tt) refl
+      (λ y out comes h. piece_sent true (waits_for_one (is_waiting x due) h.there) h)
 
-  live : (s : State) → x.state ≡ s → awaits_in s (waits x) ≡ true → IsLive x.state
-  live S.Closed e due = absurd (false≢true due)
-  live s e due = subst IsLive (sym e) tt
+  live : (s : State) → awaits_in s (waits x) ≡ true → stage_of s ≤ 2
+  live S.Closed due = absurd (false≢true due)
+  live s due = omega arith
 
-  given_up : IsLive x.state → IsCalled x Ticks (becomes_closed R.Failed x)
-  given_up may = record {
-    step = step-by x x (Ticks ∷ []) (becomes_closed R.Failed x) (record { role = refl; sapi = refl; channel = refl })
-        (record { messages = w.messages; sent = w.sent; behind = w.behind; window = w.window })
-        (one_told x x.state S.Closed x.kept (N.Closed R.Failed) refl refl tt refl (may, refl))
-        (asked-told x x Ticks (sym (append-nil x.taken)) refl refl (no_more x.state));
-    taken = sym (append-nil x.taken);
-    left = inr (refl, inr (inl refl));
-    frames = tt;
-    units = refl;
-    reports = refl;
-    opened = refl;
-    keeps = λ t y out comes h. quiet (moved S.Closed x.kept x.rejecting x.retries h);
-  }
+  given_up : stage_of x.state ≤ 2 → IsCalled x Ticks (becomes_closed R.Failed x)
+  given_up may = moves Ticks S.Closed x.kept x.retries [] _ refl (may, refl) refl refl (inr (refl, inr (inl refl))) tt refl
+      (λ y out comes h. quiet h)
 
   ticks : (b : Bool) → awaits_in x.state (waits x) ≡ true →
       IsCalled x Ticks (if b then sends_frame (repeated x.state x) (record x { retries = x.retries + 1 }) else becomes_closed R.Failed x)
   ticks true due = again x.state refl due
-  ticks false due = given_up (live x.state refl due)
+  ticks false due = given_up (live x.state due)
 
-  takes : (m : Message) → IsMessage m → IsCalled x (Sends m) (sends_next (with_taken m x))
-  takes m good =
+  takes : (m : Message) → IsMessage m → x.state ≡ S.Open → IsCalled x (Sends m) (sends_next (with_taken m x))
+  takes m good is_now =
       let mid : EndState = with_taken m x in
-      let i : InOpen mid (sends_next mid) = in-sends_next mid (KeepsWindow-taken x m w good) in
+      let i : InOpen mid (sends_next mid) = in-sends_next mid is_now (KeepsWindow-taken x m w good) in
       record {
-        step = step-by x mid (Sends m ∷ []) (sends_next mid)
-            (record { role = i.link.role; sapi = i.link.sapi; channel = i.link.channel }) i.end
-            i.tells (asked-told x mid (Sends m) refl refl (wholly_acked-taken x m w) (no_more x.state));
-        taken = i.tells.taken;
-        left = inr (i.kept, inl i.state);
+        link = record { role = ap (λ z. z.role) i.same; sapi = ap (λ z. z.sapi) i.same; channel = ap (λ z. z.channel) i.same };
+        end = i.end;
+        tells = subst (λ (a : ℕ). Tells (record (known mid) { acked = a }) (sends_next mid).notices (known (sends_next mid).after))
+            (wholly_acked-taken x m w) i.tells;
+        taken = ap (λ z. z.taken) i.same;
+        left = inr (ap (λ z. z.kept) i.same, inl (ap (λ z. z.state) i.same));
         frames = frames-as (SaysWell (all_pieces mid)) (Asks (Sends m) (sends_next mid).after)
-            (well-asked (Sends m) mid (sends_next mid).after (same_pieces mid (sends_next mid) i.link.channel i.tells.taken)) x.sapi
+            (well-asked (Sends m) mid (sends_next mid).after (ap all_pieces i.same)) x.sapi
             (sends_next mid).frames i.frames;
-        units = no-units x.sapi (sends_next mid).frames
-            (all-where (SaysWell (all_pieces mid)) (λ c. unit_of true c ≡ None) (well-no_unit (all_pieces mid)) x.sapi x.sapi _ i.frames);
+        units = no-units _
+            (frames-say (SaysWell (all_pieces mid)) (λ c. unit_in c ≡ None) (well-no_unit (all_pieces mid)) x.sapi _ i.frames);
         reports = i.of_open.0;
         opened = i.of_open.1;
-        keeps = λ t y out comes h. keeps-sends_next (taken-both m h);
+        keeps = λ y out comes h. keeps-sends_next (taken-both m h);
       }
 
   pub is_called : (call : Call) → refusal_of call x ≡ None → IsCalled x call (after_call call x)
@@ -208,23 +162,24 @@ module _ (x : EndState) (w : KeepsWindow x) where
       let idle = passes (not (is_idle x.state)) No.NotIdle (frame_refusals info x) ok in
       let full : nat_eq (length info) 0 ≡ false = (passes _ _ _ idle.rest).no in
       let is_now : x.state ≡ S.Idle = is_idle-is x.state (not_false (is_idle x.state) idle.no) in
-      one_frame (Opens info) S.Opening info 0 _ refl (begins-phase x.state is_now) (inl (refl, (refl, grind (arith, nat_tests))))
-      (inl refl, (refl, refl), tt) tt refl
+      one_frame (Opens info) S.Opening info 0 _ refl (begins is_now) (inl (refl, (refl, grind (arith, nat_tests))))
+      (inl refl, (refl, refl), tt) (tt, tt) refl
   is_called OpensBare ok =
       let is_now : x.state ≡ S.Idle = is_idle-is x.state (not_false (is_idle x.state) (passes (not
       (is_idle x.state)) No.NotIdle [] ok).no) in
-      one_frame OpensBare S.Opening [] 0 _ refl (begins-phase x.state is_now) (inl (refl, refl)) (inl refl, (refl, refl), tt) tt refl
-  is_called (Sends m) ok = takes m (is_message m x (passes (not (is_open x.state)) No.NotOpen (put_refusals m x) ok).rest)
+      one_frame OpensBare S.Opening [] 0 _ refl (begins is_now) (inl (refl, refl)) (inl refl, (refl, refl), tt) (tt, tt) refl
+  is_called (Sends m) ok =
+      let now = passes (not (is_open x.state)) No.NotOpen (put_refusals m x) ok in
+      takes m (is_message m x now.rest) (is_open-is x.state (not_false (is_open x.state) now.no))
   is_called (SendsUnit []) ok = absurd (false≢true (sym (passes true No.Empty ((nat_lt (n201 x.channel) 0, No.TooLong) ∷ []) ok).no))
-  is_called (SendsUnit (i ∷ is)) ok = one_frame (SendsUnit (i ∷ is)) x.state x.kept x.retries _ refl (no_more x.state) (inr
-      (refl, inl refl))
-      (inl refl, inl refl, tt) tt (here-unit x.sapi i is)
+  is_called (SendsUnit (i ∷ is)) ok = one_frame (SendsUnit (i ∷ is)) x.state x.kept x.retries _ refl refl (inr (refl, inl refl))
+      (inl refl, inl refl, tt) (tt, tt) refl
   is_called Closes ok =
       let is_now : x.state ≡ S.Open = is_open-is x.state (not_false (is_open x.state) (passes (not
       (is_open x.state)) No.NotOpen [] ok).no) in
-      one_frame Closes S.Closing x.kept 0 _ refl (ends-phase x.state is_now) (inr (refl, inr (inr (is_now, refl))))
-      (inl refl, tt, tt) tt refl
+      one_frame Closes S.Closing x.kept 0 _ refl (ap (λ s. record (known x) { stage = max 2 (stage_of s) }) (sym is_now))
+      (inr (refl, inr (inr (is_now, refl)))) (inl refl, tt, tt) (tt, tt) refl
   is_called Ticks ok = ticks (nat_lt x.retries (n200 x.channel x.state)) (not_false (awaits x) (passes (not
       (awaits x)) No.NotRunning [] ok).no)
-  is_called Idles ok = one_frame Idles x.state x.kept x.retries _ refl (no_more x.state) (inr (refl, inl refl))
+  is_called Idles ok = one_frame Idles x.state x.kept x.retries _ refl refl (inr (refl, inl refl))
       (inr refl, inr refl, tt) tt refl

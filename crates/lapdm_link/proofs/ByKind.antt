@@ -6,7 +6,7 @@ use Rattle.segmenting.specs.Pieces.{Message}
 use Rattle.lapdm_window.specs.declared.Sapi.{Sapi}
 use Rattle.lapdm_window.specs.declared.Sapi.TheVariants.{Zero, Three}
 use Rattle.lapdm_window.specs.declared.Refused.{Refused}
-use Rattle.lapdm_window.specs.Ends.{Role, Mobile, Network}
+use Rattle.lapdm_window.specs.Ends.{Role, Mobile, Network, sapi_number}
 use Rattle.lapdm_window.specs.Calls.{Call, Opens, OpensBare, refusal_of, after_call}
 use Rattle.lapdm_window.specs.Tables.{after_frame}
 use Rattle.lapdm_link.specs.Events.{Request, Send, Event, Open, OpenBare, Ask, Deliver, Lose, Rival, other, rival_frame, Deed, does, does_nothing, deed, End, Why, AirFull, because, unless, rival_refusal, call_of}
@@ -47,7 +47,7 @@ module _ (w : World) (P : World → List Line → Type 0) (Known : Role → Fram
     (refused : P w [])
     (called : (r : Role) (s : Sapi) (call : Call) → IsPlaced r s call → refusal_of call (end_of r s w) ≡ None →
     P (acted r s (after_call call (end_of r s w)) w) (Asked r s call ∷ map (Told r s) (after_call call (end_of r s w)).notices))
-    (taken : (r : Role) (s : Sapi) (f : Frame) → Known (other r) f →
+    (taken : (r : Role) (s : Sapi) (f : Frame) → nat_eq f.sapi (sapi_number s) ≡ true → Known (other r) f →
     P (acted r s (after_frame f (end_of r s (without_first (other r) w))) (without_first (other r) w))
     (map (Told r s) (after_frame f (end_of r s (without_first (other r) w))).notices))
     (lost : (sender : Role) → P (without_first sender w) [])
@@ -63,13 +63,13 @@ module _ (w : World) (P : World → List Line → Type 0) (Known : Role → Fram
     quietly : (sender r : Role) → P (with_frames r [] (without_first sender w)) []
     quietly sender r = subst (λ (z : World). P z []) (sym (none_sent r (without_first sender w))) (lost sender)
 
-    taken_by : (r : Role) (f : Frame) → Known (other r) f → (zero three : Bool) →
+    taken_by : (r : Role) (f : Frame) → Known (other r) f → (zero three : Bool) → nat_eq f.sapi 0 ≡ zero → nat_eq f.sapi 3 ≡ three →
         (let d : Deed = (if zero then does r Zero (after_frame f (end_of r Zero w)) w.ends else
         (if three then does r Three (after_frame f (end_of r Three w)) w.ends else does_nothing (End r) w.ends)) in P
         (next d (without_first (other r) w)) (notice_lines d.who d.sapi d.notices))
-    taken_by r f known true three = taken r Zero f known
-    taken_by r f known false true = taken r Three f known
-    taken_by r f known false false = quietly (other r) r
+    taken_by r f known true three on e = taken r Zero f on known
+    taken_by r f known false true e on = taken r Three f on known
+    taken_by r f known false false e e' = quietly (other r) r
 
     pub by_kind : (event : Event) → KnowsBy (refusal event w) Known event → P (after event w) (answer_lines event (answer event w))
     by_kind (Open info) known =
@@ -78,9 +78,9 @@ module _ (w : World) (P : World → List Line → Type 0) (Known : Role → Fram
     by_kind (Ask r s request) known =
         either _ (Ask r s request) known (λ e k. called r s (call_of request) (placed-request r s request) (no_refusal _ _ e))
     by_kind (Deliver Mobile (Some f)) known =
-        either _ (Deliver Mobile (Some f)) known (λ e k. taken_by Network f k (nat_eq f.sapi 0) (nat_eq f.sapi 3))
+        either _ (Deliver Mobile (Some f)) known (λ e k. taken_by Network f k (nat_eq f.sapi 0) (nat_eq f.sapi 3) refl refl)
     by_kind (Deliver Network (Some f)) known =
-        either _ (Deliver Network (Some f)) known (λ e k. taken_by Mobile f k (nat_eq f.sapi 0) (nat_eq f.sapi 3))
+        either _ (Deliver Network (Some f)) known (λ e k. taken_by Mobile f k (nat_eq f.sapi 0) (nat_eq f.sapi 3) refl refl)
     by_kind (Deliver sender None) known = either _ (Deliver sender None) known (λ e k. quietly sender (other sender))
     by_kind (Lose sender) known = either _ (Lose sender) known (λ e k. quietly sender Mobile)
     by_kind (Rival info) known = either _ (Rival info) known (λ e k. rival info (no_refusal _ _ e))

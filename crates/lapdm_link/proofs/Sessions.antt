@@ -1,125 +1,269 @@
 -- Every harmless session: one event after another.
-use Rattle.std.proofs.Common.{◌≡◌, sym, subst, List, [], ◌∷◌, ◌++◌, Some, append_assoc, ◌≤◌, length}
-use Rattle.std.proofs.lemmas.List.{append-nil}
+use Rattle.std.proofs.Common.{◌≡◌, refl, sym, ◌∙◌, ap, subst, arith, ◌+◌, ◌≤◌, true, false, List, [], ◌∷◌, ◌++◌, length, Option, Some, None, append_assoc}
+use Rattle.std.specs.List.{cons_option}
+use Rattle.std.proofs.lemmas.List.{append-nil, length-append}
+use Rattle.std.proofs.lemmas.List.Elements.{filter_map-append}
 use Rattle.lapdm_frame.specs.declared.Channel.{Channel}
+use Rattle.lapdm_frame.specs.Content.{Content, Frame}
 use Rattle.lapdm_window.specs.declared.Sapi.{Sapi}
+use Rattle.lapdm_window.specs.declared.Sapi.TheVariants.{Zero, Three}
+use Rattle.lapdm_window.specs.declared.Notice.{Notice}
 use Rattle.lapdm_window.specs.declared.Notice.TheVariants as N
-use Rattle.lapdm_window.specs.Ends.{Role}
-use Rattle.lapdm_link.specs.Events.{Event, other}
+use Rattle.lapdm_window.specs.Ends.{Role, Mobile, Network, EndState, start}
+use Rattle.lapdm_window.specs.Calls.{Call}
+use Rattle.lapdm_link.specs.Events.{Event, Deliver, Why, other}
 use Rattle.lapdm_link.specs.Worlds.{World, start_on, refusal, answer, after, answers, IsHarmlessBy, IsHarmless}
 use Rattle.lapdm_link.specs.Ways.{IsAsSent}
-use Rattle.lapdm_link.proofs.Views.{end_of, way, without_first, other_twice}
+use Rattle.lapdm_link.specs.Claims.{Line, Asked, Told, OrderClaims, CountsAgree, is_sapi, answer_lines, lines, Claims, acked, got}
+use Rattle.lapdm_link.proofs.Queues.{is_on, content_of, content_on, contents_on, AllFrames, contents-own, contents-else}
+use Rattle.lapdm_link.proofs.Views.{end_of, way, rest, without_first, acted, said, is_end, by_link, other_is, link_else, end_does, end_does-else, way_does, calls-own, calls-else, notices-own, notices-else}
+use Rattle.lapdm_link.proofs.ByKind.{KnowsBy, by_kind}
+use Rattle.lapdm_link.proofs.Taking.{taken-frame}
 use Rattle.lapdm_link.proofs.Asked.{is_called}
-use Rattle.lapdm_link.specs.Claims.{Line, Told, answer_lines, lines, calls, notices, units_got, Claims, acked, got}
-use Rattle.lapdm_link.proofs.Told.{MaySay}
-use Rattle.lapdm_link.proofs.Order.{AllStand, stand-append, stands, AllReported, MayStand, Follows, in_order-step, start-reported, opened-most}
-use Rattle.lapdm_link.proofs.ByKind.{by_kind}
-use Rattle.lapdm_link.proofs.Delivery.{AllCarried, start-carried, got_in_order, none_oversize, IsAfterGot, delivers-step, as_sent, acked_most}
-use Rattle.lapdm_link.proofs.Units.{sub-front, AllUnits, units-call, units-frame, units-lost, units-rival, start-units}
-use Rattle.lapdm_link.proofs.Taking.{units_on}
-use Rattle.lapdm_link.proofs.Openings.{AllOpenings, IsOpenedAfter, openings-call, openings-frame, openings-lost, openings-rival, start-openings}
+use Rattle.lapdm_link.proofs.Order.{AllStand, stand-append, stands, AllReported, in_order-step, start-reported, order_claims}
+use Rattle.lapdm_link.proofs.Directions.{start-direction}
+use Rattle.lapdm_link.proofs.Keeping.{gone}
+use Rattle.lapdm_link.proofs.Links as L
+use Rattle.lapdm_link.proofs.Links.{Side, side, Act, acts_own, IsActed, called, took, rival, other_after}
+use Rattle.lapdm_link.proofs.Delivery.{IsCarried, carried-acts, got_in_order, acked_most, none_oversize}
+use Rattle.lapdm_link.proofs.Units.{none, HasUnits, units-here, units-there, units-lost, units-claim}
+use Rattle.lapdm_link.proofs.Openings.{HasOpenings, IsOpenedAfter, openings-more, openings-here, openings-there, openings-lost}
+
+-- ---- one link
+
+-- what holds of both sides of a link, by all lines
+pub data IsLink (r q : Role) (s : Sapi) (x y : Side) (ls : List Line) : Type 0 where
+  link : IsCarried x y → HasUnits x y → HasUnits y x → HasOpenings r s x ls → HasOpenings q s y ls → IsLink r q s x y ls
+
+carried : {r q : Role} {s : Sapi} {x y : Side} {ls : List Line} → IsLink r q s x y ls → IsCarried x y
+carried (link c u v o p) = c
+
+units : {r q : Role} {s : Sapi} {x y : Side} {ls : List Line} → IsLink r q s x y ls → HasUnits x y
+units (link c u v o p) = u
+
+turned : {r q : Role} {s : Sapi} {x y : Side} {ls : List Line} → IsLink r q s x y ls → IsLink q r s y x ls
+turned (link c u v o p) = link (record { there = c.back; back = c.there }) v u p o
+
+link-acts : {x y : Side} {a : Act} (ls : List Line) → IsActed x y a → x.end.role ≡ a.role → x.end.sapi ≡ a.sapi →
+    IsLink a.role (other a.role) a.sapi x y ls →
+    IsLink a.role (other a.role) a.sapi (L.after a x) (other_after a y) (ls ++ L.lines a) × AllStand IsOpenedAfter ls (L.lines a)
+link-acts ls i role same (link c u v o p) =
+    let opens = openings-here ls i role same o p in
+    (link (carried-acts i c) (units-here i u) (units-there i v) opens.0 (openings-there ls i p), opens.1)
+
+-- there are more lines
+more : {r q : Role} {s : Sapi} {x y : Side} {ls : List Line} (new : List Line) → IsLink r q s x y ls → IsLink r q s x y (ls ++ new)
+more {r} {q} {s} {x} {y} {ls} new (link c u v o p) = link c u v (openings-more r s ls new x o) (openings-more q s ls new y p)
+
+module _ {r q : Role} {s : Sapi} (x y : Side) {ls : List Line} where
+  -- the first that comes is lost
+  first_gone : (o : Option Content) (cs : List Content) → IsLink r q s x (record y { out = cons_option o cs }) ls →
+      IsLink r q s x (record y { out = cs }) ls
+  first_gone d cs (link c u v o p) =
+      link (gone d c) (record { some = u.some }) (units-lost y x d cs v) o (openings-lost q s ls y d cs p)
+
+  rest_gone : (fs : List Frame) → IsLink r q s x (record y { out = contents_on s fs }) ls →
+      IsLink r q s x (record y { out = contents_on s (rest fs) }) ls
+  rest_gone [] h = h
+  rest_gone (f ∷ fs) h = first_gone (content_on s f) (contents_on s fs) h
+
+-- ---- both links
+
+abbrev pub Links : Role → Sapi → World → List Line → Type 0
+Links r s w ls = IsLink r (other r) s (side r s w ls) (side (other r) s w ls) ls
+
+abbrev pub AllLinks : World → List Line → Type 0
+AllLinks w ls = (r : Role) (s : Sapi) → Links r s w ls
+
+seen_by : (r : Role) (w : World) (ls : List Line) → ((s : Sapi) → Links r s w ls) → AllLinks w ls
+seen_by Mobile w ls h Mobile s = h s
+seen_by Network w ls h Network s = h s
+seen_by Mobile w ls h r s = turned (h s)
+seen_by Network w ls h r s = turned (h s)
+
+first_lost : (r : Role) (s : Sapi) (w : World) (ls : List Line) → Links r s w ls → Links r s (without_first (other r) w) ls
+first_lost Mobile s w ls h = rest_gone _ (side Network s w ls) w.ways.down h
+first_lost Network s w ls h = rest_gone _ (side Mobile s w ls) w.ways.up h
+
+own_sapi : (s : Sapi) → is_sapi s s ≡ true
+own_sapi Zero = refl
+own_sapi Three = refl
+
+sides : {e e' : EndState} {o o' : List Content} {c c' : List Call} {n n' : List Notice} → e ≡ e' → o ≡ o' → c ≡ c' → n ≡ n' →
+    ◌≡◌ {A = Side} (record { end = e; out = o; asked = c; told = n }) (record { end = e'; out = o'; asked = c'; told = n' })
+sides h g k l = cc
+
+-- what an end does is seen at its end alone
+module _ (v : World) (ls : List Line) (a : Act) (own : AllFrames (λ c. Unit {0}) a.sapi a.does.frames) where
+  here : side a.role a.sapi (acted a.role a.sapi a.does v) (ls ++ L.lines a) ≡ L.after a (side a.role a.sapi v ls)
+  here = sides (end_does a.role a.sapi a.does v)
+      (rw (way_does a.role a.sapi a.does v, filter_map-append (content_on a.sapi) (way a.role v) a.does.frames, contents-own a.sapi (own_sapi a.sapi) (λ c. Unit {0}) a.does.frames own) refl)
+      (calls-own a.role a.sapi ls a.rivals a.asks a.does.notices) (notices-own a.role a.sapi ls a.rivals a.asks a.does.notices)
+
+  out-else : (r' : Role) (r : Role) (s : Sapi) → is_end r s r' a.sapi ≡ false →
+      contents_on s (way r (acted r' a.sapi a.does v)) ≡ contents_on s (way r v)
+  out-else Mobile Mobile s n = rw (filter_map-append (content_on s) v.ways.up a.does.frames, contents-else s a.sapi n (λ c. Unit {0}) a.does.frames own, append-nil) refl
+  out-else Network Network s n = rw (filter_map-append (content_on s) v.ways.down a.does.frames, contents-else s a.sapi n (λ c. Unit {0}) a.does.frames own, append-nil) refl
+  out-else r' r s n = refl
+
+  elsewhere : (r : Role) (s : Sapi) → is_end r s a.role a.sapi ≡ false →
+      side r s (acted a.role a.sapi a.does v) (ls ++ L.lines a) ≡ side r s v ls
+  elsewhere r s n = sides (end_does-else a.role a.sapi a.does v r s n) (out-else a.role r s n)
+      (calls-else a.role a.sapi ls a.rivals a.asks a.does.notices r s n) (notices-else a.role a.sapi ls a.rivals a.asks a.does.notices r s n)
+
+  links-act : {x y : Side} → side a.role a.sapi v ls ≡ x → side (other a.role) a.sapi v ls ≡ y →
+      IsLink a.role (other a.role) a.sapi (L.after a x) y (ls ++ L.lines a) → ((s : Sapi) → is_sapi s a.sapi ≡ false → Links a.role s v ls) → AllLinks (acted a.role a.sapi a.does v) (ls ++ L.lines a)
+  links-act e e' own others = seen_by a.role (acted a.role a.sapi a.does v) (ls ++ L.lines a) (by_link (λ s. Links a.role s (acted a.role a.sapi a.does v) (ls ++ L.lines a)) a.sapi
+      (rw (here ∙ ap (L.after a) e, elsewhere (other a.role) a.sapi (other_is a.role a.sapi) ∙ e') own)
+      (λ s n. rw (elsewhere a.role s (link_else a.role a.role s a.sapi n), elsewhere (other a.role) s (link_else (other a.role) a.role s a.sapi n))
+      (more (L.lines a) (others s n))))
+
+-- ---- what stands before a notice, by the claim on acknowledgements
+
+abbrev pub IsAfterGot : List Line → Line → Type 0
+IsAfterGot before (Told r s (N.Acked n)) = length (acked r s before) + 1 ≤ length (got (other r) s before)
+IsAfterGot before other = Unit {0}
+
+after_got : (r : Role) (s : Sapi) (n : Notice) (ns : List Notice) (ls : List Line) →
+    length (acked r s (ls ++ said r s [] (n ∷ ns))) ≤ length (got (other r) s (ls ++ said r s [] (n ∷ ns))) → IsAfterGot ls (Told r s n)
+after_got r s (N.Acked i) ns ls h =
+    let g = rw (notices-own r s ls [] [] (N.Acked i ∷ ns), notices-else r s ls [] [] (N.Acked i ∷ ns) (other r) s (other_is r s)) at h in
+    omega (arith, simp (filter_map-append, length-append) at g)
+after_got r s n ns ls h = tt
+
+told-after : (r : Role) (s : Sapi) (ns : List Notice) (ls : List Line) →
+    length (acked r s (ls ++ said r s [] ns)) ≤ length (got (other r) s (ls ++ said r s [] ns)) → AllStand IsAfterGot ls (said r s [] ns)
+told-after r s [] ls h = tt
+told-after r s (n ∷ ns) ls h = (
+  after_got r s n ns ls h,
+  told-after r s ns (ls ++ Told r s n ∷ [])
+      (subst (λ xs. length (acked r s xs) ≤ length (got (other r) s xs)) (sym (append_assoc ls (Told r s n ∷ []) (said r s [] ns))) h),
+)
+
+acts-after : {x y : Side} {a : Act} (ls : List Line) → IsActed x y a →
+    length (acked a.role a.sapi (ls ++ L.lines a)) ≤ length (got (other a.role) a.sapi (ls ++ L.lines a)) → AllStand IsAfterGot ls (L.lines a)
+acts-after {a = a} ls (called {r} {s} {call} p c) h = (
+  tt,
+  told-after r s a.does.notices (ls ++ Asked r s call ∷ [])
+      (subst (λ xs. length (acked r s xs) ≤ length (got (other r) s xs))
+      (sym (append_assoc ls (Asked r s call ∷ []) (said r s [] a.does.notices))) h),
+)
+acts-after {a = a} ls (took e t) h = told-after a.role a.sapi a.does.notices ls h
+acts-after ls rival h = (tt, tt)
+
+-- ---- a session
 
 -- what holds of the ends, the frames on their way and the lines
 pub record IsSession (w : World) (ls : List Line) : Type 0 where
   pub reported : AllReported w ls
-  pub carried : AllCarried w
-  pub units : AllUnits w ls
-  pub openings : AllOpenings w ls
-  pub in_order : AllStand MayStand [] ls
+  pub links : AllLinks w ls
   pub after_got : AllStand IsAfterGot [] ls
   pub after_cause : AllStand IsOpenedAfter [] ls
 
-record IsNext (ls : List Line) (z : World) (new : List Line) : Type 0 where
-  units : AllUnits z (ls ++ new)
-  openings : AllOpenings z (ls ++ new)
-  after_cause : AllStand IsOpenedAfter ls new
+abbrev Goes : List Line → World → List Line → Type 0
+Goes ls z new = AllReported z (ls ++ new) → AllLinks z (ls ++ new) × AllStand IsAfterGot ls new × AllStand IsOpenedAfter ls new
 
-next_quiet : (w : World) (ls : List Line) → AllUnits w ls → AllOpenings w ls → IsNext ls w []
-next_quiet w ls u o = record {
-  units = subst (AllUnits w) (sym (append-nil ls)) u;
-  openings = subst (AllOpenings w) (sym (append-nil ls)) o;
-  after_cause = tt;
-}
+acts : (ls : List Line) (v : World) {x y : Side} {a : Act} → IsActed x y a → x.end.role ≡ a.role → x.end.sapi ≡ a.sapi →
+    side a.role a.sapi v ls ≡ x → side (other a.role) a.sapi v ls ≡ other_after a y → IsLink a.role (other a.role) a.sapi x y ls →
+    ((s : Sapi) → is_sapi s a.sapi ≡ false → Links a.role s v ls) → Goes ls (acted a.role a.sapi a.does v) (L.lines a)
+acts ls v {x} {y} {a} i role same e e' h others reported =
+    let link = link-acts ls i role same h in
+    let all : AllLinks (acted a.role a.sapi a.does v) (ls ++ L.lines a) = links-act v ls a (acts_own i same) e e' link.0 others in
+    (all, acts-after ls i (acked_most (reported a.role a.sapi) (reported (other a.role) a.sapi) (carried (all a.role a.sapi))), link.1)
 
-next : (w : World) (ls : List Line) (event : Event) → IsHarmlessBy (refusal event w) event w → IsSession w ls →
-    IsNext ls (after event w) (answer_lines event (answer event w))
-next w ls event harmless h =
-    by_kind w (IsNext ls) (λ sender f. IsAsSent (Some f) (way sender w))
-    (next_quiet w ls h.units h.openings)
-    (λ r s call placed ok.
-    (let e = h.reported r s in
-    let c = is_called (end_of r s w) e.end call ok in
-    let o = openings-call w ls h.openings r s call placed e.sapi c in
-    record { units = units-call w ls h.units r s call e.sapi c; openings = o.0; after_cause = o.1 }))
-    (λ r s f known.
-    (let e = h.reported r s in
-    let o = openings-frame w ls h.openings r s f e.end e.role e.sapi known in
-    record { units = units-frame w ls h.units r s f e.end e.sapi known; openings = o.0; after_cause = o.1 }))
-    (λ sender. next_quiet (without_first sender w) ls (units-lost w ls h.units sender) (openings-lost w ls h.openings sender))
-    (λ info ok. record { units = units-rival w ls h.units info; openings = openings-rival w ls h.openings info; after_cause = (tt, tt) })
+-- the first that comes is the first that was sent
+comes-first : (s : Sapi) (f : Frame) (fs : List Frame) → is_on s f ≡ true → IsAsSent (Some f) fs →
+    contents_on s fs ≡ cons_option (content_of f.content) (contents_on s (rest fs))
+comes-first s f [] on sent = absurd sent
+comes-first s f (g ∷ gs) on sent = rw (← sent, on) refl
+
+left-here : (r : Role) (s : Sapi) (w : World) (ls : List Line) → side r s (without_first (other r) w) ls ≡ side r s w ls
+left-here Mobile s w ls = refl
+left-here Network s w ls = refl
+
+left-there : (r : Role) (s : Sapi) (w : World) (ls : List Line) → side (other r) s (without_first (other r) w) ls ≡
+    record (side (other r) s w ls) { out = contents_on s (rest (way (other r) w)) }
+left-there Mobile s w ls = refl
+left-there Network s w ls = refl
+
+lost : (sender : Role) (w : World) (ls : List Line) → AllLinks w ls → AllLinks (without_first sender w) ls
+lost Mobile w ls h = seen_by Network (without_first Mobile w) ls (λ s. first_lost Network s w ls (h Network s))
+lost Network w ls h = seen_by Mobile (without_first Network w) ls (λ s. first_lost Mobile s w ls (h Mobile s))
+
+as_sent : (o : Option Why) (event : Event) (w : World) → IsHarmlessBy o event w →
+    KnowsBy o (λ sender f. IsAsSent (Some f) (way sender w)) event
+as_sent None (Deliver sender (Some f)) w h = h
+as_sent o event w h = tt
+
+goes : (w : World) (ls : List Line) (event : Event) → IsHarmlessBy (refusal event w) event w → IsSession w ls →
+    Goes ls (after event w) (answer_lines event (answer event w))
+goes w ls event harmless h =
+    by_kind w (Goes ls) (λ sender f. IsAsSent (Some f) (way sender w))
+    (λ g. (rw append-nil h.links, tt, tt))
+    (λ r s call placed ok. (let x = h.reported r s in
+    acts ls w (called placed (is_called (end_of r s w) x.end call ok)) x.role x.sapi refl refl (h.links r s) (λ t n. h.links r t)))
+    (λ r s f on known. (let x = h.reported r s in
+    acts ls (without_first (other r) w) (took (comes-first s f (way (other r) w) on known) (taken-frame (end_of r s w) x.end f)) x.role x.sapi
+    (left-here r s w ls) (left-there r s w ls) (h.links r s) (λ t n. first_lost r t w ls (h.links r t))))
+    (λ sender g. (rw append-nil (lost sender w ls h.links), tt, tt))
+    (λ info ok. (let x = h.reported Mobile Zero in acts ls w rival x.role x.sapi refl refl (h.links Mobile Zero) (λ t n. h.links Mobile t)))
     event (as_sent (refusal event w) event w harmless)
 
-pub session-step : (w : World) (ls : List Line) (event : Event) → IsHarmlessBy (refusal event w) event w → IsSession w ls →
+session-step : (w : World) (ls : List Line) (event : Event) → IsHarmlessBy (refusal event w) event w → IsSession w ls →
     IsSession (after event w) (ls ++ answer_lines event (answer event w))
 session-step w ls event harmless h =
     let new : List Line = answer_lines event (answer event w) in
-    let told : Follows ls (after event w) new = in_order-step w ls event h.reported in
-    let carried = delivers-step w ls event harmless h.reported h.carried told.0 in
-    let n : IsNext ls (after event w) new = next w ls event harmless h in
+    let reported : AllReported (after event w) (ls ++ new) = in_order-step w ls event h.reported in
+    let g = goes w ls event harmless h reported in
     record {
-      reported = told.0;
-      carried = carried.0;
-      units = n.units;
-      openings = n.openings;
-      in_order = stand-append MayStand [] ls new h.in_order told.1;
-      after_got = stand-append IsAfterGot [] ls new h.after_got carried.1;
-      after_cause = stand-append IsOpenedAfter [] ls new h.after_cause n.after_cause;
+      reported = reported;
+      links = g.0;
+      after_got = stand-append IsAfterGot [] ls new h.after_got g.1;
+      after_cause = stand-append IsOpenedAfter [] ls new h.after_cause g.2;
     }
 
-pub session-run : (events : List Event) (w : World) (ls : List Line) → IsHarmless events w → IsSession w ls →
+session-run : (events : List Event) (w : World) (ls : List Line) → IsHarmless events w → IsSession w ls →
     ((z : World) × IsSession z (ls ++ lines events (answers events w)))
-session-run [] w ls harmless h = (w, subst (IsSession w) (sym (append-nil ls)) h)
+session-run [] w ls harmless h = (w, rw append-nil h)
 session-run (event ∷ events) w ls harmless h =
-    let new : List Line = answer_lines event (answer event w) in
-    let run = session-run events (after event w) (ls ++ new) harmless.1 (session-step w ls event harmless.0 h) in
-    (run.0, subst (IsSession run.0) (append_assoc ls new (lines events (answers events (after event w)))) run.1)
+    rw (← append_assoc) (session-run events (after event w) _ harmless.1 (session-step w ls event harmless.0 h))
 
-pub start-session : (channel : Channel) → IsSession (start_on channel) []
-start-session channel = record {
-  reported = start-reported channel;
-  carried = start-carried channel;
-  units = start-units channel;
-  openings = start-openings channel;
-  in_order = tt;
-  after_got = tt;
-  after_cause = tt;
-}
+start-link : (r q : Role) (s : Sapi) (channel : Channel) →
+    (let first : Role → Side = λ p. record { end = start p s channel; out = []; asked = []; told = [] } in IsLink r q s (first r) (first q) [])
+start-link r q s channel = link (record { there = start-direction; back = start-direction }) (record { some = none })
+    (record { some = none }) (record { sent = tt; reached = tt }) (record { sent = tt; reached = tt })
 
--- the claims hold in every state that a harmless session leads to
-pub session-claims : (w : World) (ls : List Line) → IsSession w ls → Claims ls
-session-claims w ls h = record {
-  in_order = λ r s. got_in_order w ls h.reported h.carried r s;
-  acknowledged = λ r s n before place.
-      (let m : MaySay (calls r s before) (notices r s before) (N.Acked n) = stands MayStand ls before
-      (Told r s (N.Acked n)) h.in_order place in
-      (m.0, stands IsAfterGot ls before (Told r s (N.Acked n)) h.after_got place));
-  units = λ r s. sub-front (units_got (other r) s ls) (units_on s (way r w)) _ (h.units r s);
-  cause = λ r s info before place. stands IsOpenedAfter ls before (Told r s (N.Opened info)) h.after_cause place;
-  once = λ r s. opened-most _ _ _ _ (h.reported r s).told.phase;
-  no_oversize = λ r s before place. none_oversize w ls h.reported h.carried (other r) s before
-      (subst (λ (q : Role). (more : List Line) × (before ++ Told q s N.Oversize ∷ more ≡ ls)) (sym (other_twice r)) place);
-}
+start-links : (channel : Channel) → AllLinks (start_on channel) []
+start-links channel = seen_by Mobile (start_on channel) [] each
+  where
+    each : (s : Sapi) → Links Mobile s (start_on channel) []
+    each Zero = start-link Mobile Network Zero channel
+    each Three = start-link Mobile Network Three channel
+
+-- every harmless session leads to such a state
+harmless-session : (channel : Channel) (events : List Event) → IsHarmless events (start_on channel) →
+    ((z : World) × IsSession z (lines events (answers events (start_on channel))))
+harmless-session channel events harmless = session-run events (start_on channel) [] harmless
+    (record { reported = start-reported channel; links = start-links channel; after_got = tt; after_cause = tt })
+
+pub counts : (channel : Channel) (events : List Event) → IsHarmless events (start_on channel) →
+    CountsAgree (lines events (answers events (start_on channel)))
+counts channel events harmless r s =
+    let (z, h) = harmless-session channel events harmless in acked_most (h.reported r s) (h.reported (other r) s) (carried (h.links r s))
 
 pub claims : (channel : Channel) (events : List Event) → IsHarmless events (start_on channel) →
     Claims (lines events (answers events (start_on channel)))
 claims channel events harmless =
-    let run = session-run events (start_on channel) [] harmless (start-session channel) in
-    session-claims run.0 (lines events (answers events (start_on channel))) run.1
-
--- no end counts more messages as acknowledged than the other handed up
-pub counts : (channel : Channel) (events : List Event) → IsHarmless events (start_on channel) → (r : Role) (s : Sapi) →
-    length (acked r s (lines events (answers events (start_on channel)))) ≤ length
-    (got (other r) s (lines events (answers events (start_on channel))))
-counts channel events harmless r s =
-    let run = session-run events (start_on channel) [] harmless (start-session channel) in
-    acked_most run.0 (lines events (answers events (start_on channel))) run.1.reported run.1.carried r s
+    let ls : List Line = lines events (answers events (start_on channel)) in
+    let in_order : OrderClaims ls = order_claims channel events in
+    let (z, h) = harmless-session channel events harmless in
+    record {
+      in_order = λ r s. got_in_order (h.reported r s) (h.reported (other r) s) (carried (h.links r s));
+      acknowledged = λ r s n before place.
+          ((in_order.acknowledged r s n before place).0, stands IsAfterGot ls before (Told r s (N.Acked n)) h.after_got place);
+      units = λ r s. units-claim (side r s z ls) (side (other r) s z ls) (units (h.links r s));
+      cause = λ r s info before place. stands IsOpenedAfter ls before (Told r s (N.Opened info)) h.after_cause place;
+      once = in_order.opened_once;
+      no_oversize = λ r s before place. none_oversize (h.reported (other r) s) (h.reported r s)
+          (let c = (carried (h.links r s)) in record { there = c.back; back = c.there }) before place;
+    }

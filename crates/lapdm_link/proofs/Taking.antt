@@ -1,13 +1,11 @@
 -- What an end does at any frame: what it tells and sends, what opens it, and that both directions are kept.
-use Rattle.std.proofs.Common.{◌≡◌, refl, sym, ◌∙◌, ap, subst, arith, ℕ, ◌≤◌, Bool, true, false, ◌&&◌, if◌then◌else◌, List, [], ◌∷◌, ◌++◌, length, Option, Some, None, inl, inr}
+use Rattle.std.proofs.Common.{◌≡◌, refl, sym, ap, arith, ◌≤◌, Bool, true, false, ◌&&◌, if◌then◌else◌, List, [], ◌∷◌, Option, Some, None, inl, inr}
 use Rattle.std.specs.Prelude.{◌⊎◌}
 use Rattle.std.specs.Str.{bytes_eq}
 use Rattle.std.specs.List.{filter_map, cons_option}
-use Rattle.std.proofs.lemmas.List.{append-nil}
 use Rattle.std.proofs.lemmas.Slice.Eq.{bytes_eq-Decides}
 use Rattle.lapdm_frame.specs.Content.{Content, I, Rr, Rej, Sabm, Dm, Ui, Disc, Ua, Frame}
 use Rattle.segmenting.specs.Pieces.{Message}
-use Rattle.segmenting.specs.Joining.{endings}
 use Rattle.lapdm_window.specs.declared.Sapi.{Sapi}
 use Rattle.lapdm_window.specs.declared.Sapi.TheVariants.{Zero, Three}
 use Rattle.lapdm_window.specs.declared.State.{State}
@@ -16,13 +14,14 @@ use Rattle.lapdm_window.specs.declared.Reason.{Reason}
 use Rattle.lapdm_window.specs.declared.Reason.TheVariants as R
 use Rattle.lapdm_window.specs.declared.Notice.{Notice}
 use Rattle.lapdm_window.specs.declared.Notice.TheVariants as N
-use Rattle.lapdm_window.specs.Ends.{Role, Mobile, Network, EndState, Outcome, KeepsWindow, all_pieces, wholly_acked, stays, ◌then◌}
+use Rattle.lapdm_window.specs.Ends.{Role, Mobile, Network, EndState, Outcome, KeepsWindow, all_pieces, stays, ◌then◌}
 use Rattle.lapdm_window.specs.Steps.{IsSameLink}
 use Rattle.lapdm_window.specs.Tables.{is_command, is_poll, says_ua, becomes_open, sabm_in_idle, dm_to_poll, in_idle, other_ua, sabm_in_opening, in_opening, answers_sabm, in_open, in_closing, in_closed, in_state, after_content, after_frame}
-use Rattle.lapdm_link.specs.Claims.{acked_in, opened_in, unit_got_in}
-use Rattle.lapdm_link.proofs.Queues.{is_on, Where, where-in, IsPlain, AllWhere, AllFrames, frames-as, all-where}
-use Rattle.lapdm_link.proofs.Telling.{ending_in, Numbers, MayTell, Tells, silent, SaysWell, InOpen, in-takes_i, in-takes_rr, in-takes_rej}
-use Rattle.lapdm_link.proofs.Keeping.{IsBoth, After, sends_plain, quiet, moved, gone, after-takes_i, after-takes_rr, after-takes_rej}
+use Rattle.lapdm_link.specs.Claims.{opened_in, unit_got_in}
+use Rattle.lapdm_link.proofs.Queues.{content_of, IsPlain, AllFrames, frames-as, frames-say}
+use Rattle.lapdm_link.proofs.Told.{stage_of, known, Tells}
+use Rattle.lapdm_link.proofs.Telling.{SaysWell, InOpen, in-takes_i, in-takes_rr, in-takes_rej}
+use Rattle.lapdm_link.proofs.Keeping.{IsBoth, After, sends_plain, moved, gone, after-takes_i, after-takes_rr, after-takes_rej}
 
 -- the end asked for the link or has it
 abbrev pub HasBegun : State → Type 0
@@ -68,41 +67,29 @@ pub record IsOpenedBy (c : Content) (x : EndState) (o : Outcome) : Type 0 where
   pub kept : o.after.kept ≡ info
   pub cause : OpensBy c x info
 
--- what a frame says in a unit
-abbrev pub unit_of : Bool → Content → Option Message
-unit_of here (Ui p []) = None
-unit_of here (Ui p (i ∷ is)) = if here then Some (i ∷ is) else None
-unit_of here other = None
+-- the message of a unit
+abbrev pub unit_in : Content → Option Message
+unit_in (Ui p m) = Some m
+unit_in other = None
 
-abbrev pub units_on : Sapi → List Frame → List Message
-units_on s fs = filter_map (λ f. unit_of (is_on s f) f.content) fs
-
-unit-none : (here : Bool) (c : Content) → Where here (unit_of true c ≡ None) → unit_of here c ≡ None
-unit-none true c h = h
-unit-none false (Ui p (i ∷ is)) h = refl
-unit-none false other h = refl
-
-pub no-units : (s : Sapi) (fs : List Frame) → AllWhere (λ c. unit_of true c ≡ None) s fs → units_on s fs ≡ []
-no-units s [] h = refl
-no-units s (f ∷ fs) h = ap (λ o. cons_option o (units_on s fs)) (unit-none (is_on s f) f.content h.0) ∙ no-units s fs h.1
-
--- no unit is reported, or the one of the frame
+-- no unit is reported, or the one that comes first
 abbrev pub ReportsUnit : Content → List Notice → Type 0
-ReportsUnit c ns = (filter_map unit_got_in ns ≡ []) ⊎ ((m : Message) × (unit_of true c ≡ Some m) × (filter_map unit_got_in ns ≡ m ∷ []))
+ReportsUnit c ns = (filter_map unit_got_in ns ≡ []) ⊎ (filter_map unit_got_in ns ≡ filter_map unit_in (cons_option (content_of c) []))
 
--- the first frame that comes in is taken, and both directions go on
-abbrev pub Arrives : Frame → EndState → Outcome → Type 0
-Arrives f x o = (t : Sapi) (y : EndState) (out comes : List Frame) → is_on t f ≡ true → IsBoth t x y out (f ∷ comes) (f ∷ comes) →
-    After t o y out comes comes
+-- what comes first is taken, and both directions go on
+abbrev pub Arrives : Content → EndState → Outcome → Type 0
+Arrives c x o = (y : EndState) (out comes : List Content) → IsBoth x y out (cons_option (content_of c) comes)
+    (cons_option (content_of c) comes) → After o y out comes comes
 
 pub record IsTaken (c : Content) (x : EndState) (o : Outcome) : Type 0 where
   pub link : IsSameLink x o.after
   pub end : KeepsWindow o.after
-  pub tells : Tells x o.notices o.after
+  pub taken : o.after.taken ≡ x.taken
+  pub tells : Tells (known x) o.notices (known o.after)
   pub frames : AllFrames (Answers x o.after) x.sapi o.frames
   pub goes : Remains x o ⊎ IsOpenedBy c x o
   pub unit : ReportsUnit c o.notices
-  pub arrives : (n : ℕ) (cr : Bool) → Arrives (record { sapi = n; cr = cr; content = c }) x o
+  pub arrives : Arrives c x o
 
 -- in Open
 well-answers : (x z : EndState) (c : Content) → SaysWell (all_pieces x) c → Answers x z c
@@ -111,14 +98,14 @@ well-answers x z (Rr nr pf) h = h
 well-answers x z (Rej nr pf) h = h
 well-answers x z other h = absurd h
 
-openly : (c : Content) (x : EndState) (o : Outcome) → InOpen x o →
-    ((n : ℕ) (cr : Bool) → Arrives (record { sapi = n; cr = cr; content = c }) x o) → IsTaken c x o
+openly : (c : Content) (x : EndState) (o : Outcome) → InOpen x o → Arrives c x o → IsTaken c x o
 openly c x o h arrives = record {
-  link = h.link;
+  link = record { role = ap (λ z. z.role) h.same; sapi = ap (λ z. z.sapi) h.same; channel = ap (λ z. z.channel) h.same };
+  taken = ap (λ z. z.taken) h.same;
   end = h.end;
   tells = h.tells;
   frames = frames-as (SaysWell (all_pieces x)) (Answers x o.after) (well-answers x o.after) x.sapi o.frames h.frames;
-  goes = inl (record { state = inl h.state; kept = h.kept; none = h.of_open.1 });
+  goes = inl (record { state = inl (ap (λ z. z.state) h.same); kept = ap (λ z. z.kept) h.same; none = h.of_open.1 });
   unit = inl h.of_open.0;
   arrives = arrives;
 }
@@ -135,21 +122,9 @@ reply-plain x z (Dm f) h = tt
 reply-plain x z (Ua f info) h = tt
 reply-plain x z other h = absurd h
 
--- one notice that leads to another state
-pub one_told : (x : EndState) (s t : State) (k : Message) (n : Notice) → filter_map ending_in (n ∷ []) ≡ [] →
-    filter_map acked_in (n ∷ []) ≡ [] → Numbers (wholly_acked x) (n ∷ []) → x.state ≡ s → MayTell s n t →
-    Tells x (n ∷ []) (record x { state = t; kept = k })
-one_told x s t k n no_got no_acked numbers is may = record {
-  taken = refl;
-  got = sym (append-nil (endings [] x.accepted)) ∙ ap (λ ms. endings [] x.accepted ++ ms) (sym no_got);
-  acked = omega (arith, ap length no_acked);
-  numbers = numbers;
-  walks = (t, subst (λ (u : State). MayTell u n t) (sym is) may, refl);
-}
-
 module _ (x : EndState) (w : KeepsWindow x) where
   becomes : (c : Content) (s : State) (k : Message) (fs : List Frame) (ns : List Notice) →
-      (let z : EndState = record x { state = s; kept = k } in AllFrames (Replies x z) x.sapi fs → Tells x ns z →
+      (let z : EndState = record x { state = s; kept = k } in AllFrames (Replies x z) x.sapi fs → Tells (known x) ns (known z) →
       (let o : Outcome = record { after = z; frames = fs; notices = ns } in Remains x o ⊎ IsOpenedBy c x o → ReportsUnit c ns →
       IsTaken c x o))
   becomes c s k fs ns replies tells goes unit =
@@ -157,44 +132,39 @@ module _ (x : EndState) (w : KeepsWindow x) where
       record {
         link = record { role = refl; sapi = refl; channel = refl };
         end = record { messages = w.messages; sent = w.sent; behind = w.behind; window = w.window };
+        taken = refl;
         tells = tells;
         frames = frames-as (Replies x z) (Answers x z) (reply-answers x z) x.sapi fs replies;
         goes = goes;
         unit = unit;
-        arrives = λ n cr t y out comes here h.
-            sends_plain fs (all-where (Replies x z) IsPlain (reply-plain x z) t x.sapi fs replies)
-            (moved s k x.rejecting x.retries (gone h));
+        arrives = λ y out comes h. sends_plain _ (frames-say (Replies x z) IsPlain (reply-plain x z) x.sapi fs replies)
+            (moved s k x.rejecting x.retries (gone (content_of c) h));
       }
 
   quietly : (c : Content) (fs : List Frame) → AllFrames (Replies x x) x.sapi fs →
       IsTaken c x (record { after = x; frames = fs; notices = [] })
-  quietly c fs h = becomes c x.state x.kept fs [] h (silent x x refl refl refl refl)
-      (inl (record { state = inl refl; kept = refl; none = refl })) (inl refl)
+  quietly c fs h = becomes c x.state x.kept fs [] h refl (inl (record { state = inl refl; kept = refl; none = refl })) (inl refl)
 
-  over : (c : Content) (s : State) (reason : Reason) (fs : List Frame) → x.state ≡ s → MayTell s (N.Closed reason) Closed →
+  over : (c : Content) (reason : Reason) (fs : List Frame) → stage_of x.state ≤ 2 →
       AllFrames (Replies x (record x { state = Closed })) x.sapi fs →
       IsTaken c x (record { after = record x { state = Closed }; frames = fs; notices = N.Closed reason ∷ [] })
-  over c s reason fs is may h = becomes c Closed x.kept fs _ h (one_told x s Closed x.kept _ refl refl tt is may)
+  over c reason fs live h = becomes c Closed x.kept fs _ h (live, refl)
       (inl (record { state = inr refl; kept = refl; none = refl })) (inl refl)
 
-  opened : (c : Content) (s : State) (k info : Message) (fs : List Frame) → x.state ≡ s → MayTell s (N.Opened info) Open → k ≡ info →
+  opened : (c : Content) (k info : Message) (fs : List Frame) → stage_of x.state ≡ 0 → k ≡ info →
       AllFrames (Replies x (record x { state = Open; kept = k })) x.sapi fs → OpensBy c x info →
       IsTaken c x (record { after = record x { state = Open; kept = k }; frames = fs; notices = N.Opened info ∷ [] })
-  opened c s k info fs is may e h cause = becomes c Open k fs _ h (one_told x s Open k _ refl refl tt is may)
+  opened c k info fs unopened e h cause = becomes c Open k fs _ h (unopened, refl)
       (inr (record { info = info; notices = refl; state = refl; kept = e; cause = cause })) (inl refl)
 
   -- the tables
-  begun : (s : State) → x.state ≡ s → HasBegun s → HasBegun x.state
-  begun s e h = subst HasBegun (sym e) h
-
   taken-sabm_in_idle : (p : Bool) (s : Sapi) (r : Role) (info : Message) → x.state ≡ Idle → x.sapi ≡ s → x.role ≡ r →
       IsTaken (Sabm p info) x (sabm_in_idle s r info x)
   taken-sabm_in_idle p Zero Mobile info e a b = quietly _ _ (inl refl, tt, tt)
   taken-sabm_in_idle p Zero Network [] e a b = quietly _ _ tt
-  taken-sabm_in_idle p Zero Network (i ∷ is) e a b = opened _ Idle (i ∷ is) (i ∷ is) _ e (tt, refl) refl (inl refl, inl (refl, refl), tt)
-      (refl, e, subst (λ (s : Sapi). MayOpen s x.role (i ∷ is)) (sym a) (subst (λ (r : Role). MayOpen Zero r (i ∷ is)) (sym b) tt))
-  taken-sabm_in_idle p Three r [] e a b = opened _ Idle [] [] _ e (tt, refl) refl (inl refl, inl (refl, refl), tt)
-      (refl, e, subst (λ (s : Sapi). MayOpen s x.role []) (sym a) tt)
+  taken-sabm_in_idle p Zero Network (i ∷ is) e a b = opened _ (i ∷ is) (i ∷ is) _ (ap stage_of e) refl (inl refl, inl (refl, refl), tt)
+      (refl, e, rw (a, b) tt)
+  taken-sabm_in_idle p Three r [] e a b = opened _ [] [] _ (ap stage_of e) refl (inl refl, inl (refl, refl), tt) (refl, e, rw a tt)
   taken-sabm_in_idle p Three r (i ∷ is) e a b = quietly _ _ tt
 
   taken-dm_to_poll : (poll : Bool) (c : Content) → IsTaken c x (dm_to_poll poll x)
@@ -207,21 +177,21 @@ module _ (x : EndState) (w : KeepsWindow x) where
   taken-in_idle poll other e = taken-dm_to_poll poll other
 
   taken-sabm_in_opening : (p : Bool) (s : Sapi) (info : Message) → x.state ≡ Opening → IsTaken (Sabm p info) x (sabm_in_opening s info x)
-  taken-sabm_in_opening p Three [] e = quietly _ _ (inl refl, inr (refl, begun Opening e tt), tt)
+  taken-sabm_in_opening p Three [] e = quietly _ _ (inl refl, inr (refl, rw e tt), tt)
   taken-sabm_in_opening p s info e = quietly _ _ tt
 
   taken-ua_in_opening : (s : Sapi) (same : Bool) (info : Message) → x.state ≡ Opening → bytes_eq info x.kept ≡ same →
       IsTaken (Ua true info) x (if same then becomes_open info x else other_ua s x)
   taken-ua_in_opening s true info e same =
       let as_kept : info ≡ x.kept = (bytes_eq-Decides info x.kept).0 same in
-      opened _ Opening x.kept info [] e (tt, refl) (sym as_kept) tt (refl, e, as_kept)
-  taken-ua_in_opening Zero false info e same = over _ Opening R.Contention [] e (tt, refl) tt
+      opened _ x.kept info [] (ap stage_of e) (sym as_kept) tt (refl, e, as_kept)
+  taken-ua_in_opening Zero false info e same = over _ R.Contention [] (rw e (omega arith)) tt
   taken-ua_in_opening Three false info e same = quietly _ _ tt
 
   taken-in_opening : (c : Content) → x.state ≡ Opening → IsTaken c x (in_opening c x)
   taken-in_opening (Sabm p info) e = taken-sabm_in_opening p x.sapi info e
   taken-in_opening (Ua true info) e = taken-ua_in_opening x.sapi (bytes_eq info x.kept) info e refl
-  taken-in_opening (Dm true) e = over _ Opening R.Refused [] e (tt, refl) tt
+  taken-in_opening (Dm true) e = over _ R.Refused [] (rw e (omega arith)) tt
   taken-in_opening (Disc p) e = quietly _ _ (inl refl, tt, tt)
   taken-in_opening other e = quietly other _ tt
 
@@ -231,21 +201,21 @@ module _ (x : EndState) (w : KeepsWindow x) where
   taken-ua_if p answers same info e h = quietly _ _ tt
 
   taken-in_open : (cmd : Bool) (c : Content) → x.state ≡ Open → IsTaken c x (in_open cmd c x)
-  taken-in_open cmd (I ns nr p more info) e = openly _ x _ (in-takes_i nr x e w ns p (info, more))
-      (λ n cr t y out comes here h. after-takes_i _ nr (λ k. where-in _ _ here) h ns p (info, more) (λ k. where-in _ _ here))
-  taken-in_open cmd (Rr nr pf) e = openly _ x _ (in-takes_rr nr x e w (cmd && pf))
-      (λ n cr t y out comes here h. after-takes_rr _ nr (λ k. where-in _ _ here) h (cmd && pf))
-  taken-in_open cmd (Rej nr pf) e = openly _ x _ (in-takes_rej nr x e w (cmd && pf))
-      (λ n cr t y out comes here h. after-takes_rej _ nr (λ k. where-in _ _ here) h (cmd && pf))
+  taken-in_open cmd (I ns nr p more info) e = openly _ x _ (in-takes_i nr ns p (info, more) x e w)
+      (λ y out comes h. after-takes_i (I ns nr p more info) nr (λ k e. e) h ns p (info, more) (λ k e. e))
+  taken-in_open cmd (Rr nr pf) e = openly _ x _ (in-takes_rr nr (cmd && pf) x e w)
+      (λ y out comes h. after-takes_rr (Rr nr pf) nr (λ k e. e) h (cmd && pf))
+  taken-in_open cmd (Rej nr pf) e = openly _ x _ (in-takes_rej nr (cmd && pf) x e w)
+      (λ y out comes h. after-takes_rej (Rej nr pf) nr (λ k e. e) h (cmd && pf))
   taken-in_open cmd (Sabm p info) e = taken-ua_if p (answers_sabm x.sapi x.role) (bytes_eq info x.kept) info e refl
-  taken-in_open cmd (Disc p) e = over _ Open R.Released _ e (tt, refl) (inl refl, inr (refl, begun Open e tt), tt)
-  taken-in_open cmd (Dm f) e = over _ Open R.Failed [] e (tt, refl) tt
+  taken-in_open cmd (Disc p) e = over _ R.Released _ (rw e (omega arith)) (inl refl, inr (refl, rw e tt), tt)
+  taken-in_open cmd (Dm f) e = over _ R.Failed [] (rw e (omega arith)) tt
   taken-in_open cmd other e = quietly other _ tt
 
   taken-in_closing : (c : Content) → x.state ≡ Closing → IsTaken c x (in_closing c x)
-  taken-in_closing (Ua true []) e = over _ Closing R.Released [] e (tt, refl) tt
-  taken-in_closing (Dm true) e = over _ Closing R.Released [] e (tt, refl) tt
-  taken-in_closing (Disc p) e = quietly _ _ (inl refl, inr (refl, begun Closing e tt), tt)
+  taken-in_closing (Ua true []) e = over _ R.Released [] (rw e (omega arith)) tt
+  taken-in_closing (Dm true) e = over _ R.Released [] (rw e (omega arith)) tt
+  taken-in_closing (Disc p) e = quietly _ _ (inl refl, inr (refl, rw e tt), tt)
   taken-in_closing other e = quietly other _ tt
 
   taken-in_closed : (poll : Bool) (c : Content) → IsTaken c x (in_closed poll c x)
@@ -263,8 +233,8 @@ module _ (x : EndState) (w : KeepsWindow x) where
   taken-content : (cmd : Bool) (c : Content) → IsTaken c x (after_content cmd c x)
   taken-content cmd (Ui p []) = quietly _ _ tt
   taken-content cmd (Ui p (i ∷ is)) =
-      becomes _ x.state x.kept [] _ tt (one_told x x.state x.state x.kept (N.Unit (i ∷ is)) refl refl tt refl refl)
-      (inl (record { state = inl refl; kept = refl; none = refl })) (inr (i ∷ is, refl, refl))
+      becomes _ x.state x.kept [] _ tt (tt, refl)
+      (inl (record { state = inl refl; kept = refl; none = refl })) (inr refl)
   taken-content cmd other = taken-in_state x.state cmd other refl
 
   taken-if : (b cmd : Bool) (c : Content) → IsTaken c x (if b then after_content cmd c x else stays x)
@@ -273,17 +243,3 @@ module _ (x : EndState) (w : KeepsWindow x) where
 
   pub taken-frame : (f : Frame) → IsTaken f.content x (after_frame f x)
   taken-frame f = taken-if _ (is_command x f) f.content
-
--- a frame of another SAPI is ignored
-pub elsewhere : (f : Frame) (x : EndState) → is_on x.sapi f ≡ false → after_frame f x ≡ stays x
-elsewhere f x h = rw h refl
-
--- the first frame that comes in, of either SAPI
-pub arrived : (f : Frame) (t : Sapi) (x y : EndState) (out comes : List Frame) → KeepsWindow x → x.sapi ≡ t →
-    IsBoth t x y out (f ∷ comes) (f ∷ comes) → After t (after_frame f x) y out comes comes
-arrived f t x y out comes w same h = by_sapi (is_on t f) refl
-  where
-    by_sapi : (b : Bool) → is_on t f ≡ b → After t (after_frame f x) y out comes comes
-    by_sapi true e = (taken-frame x w f).arrives f.sapi f.cr t y out comes e h
-    by_sapi false e = subst (λ (o : Outcome). After t o y out comes comes)
-        (sym (elsewhere f x (ap (λ (s : Sapi). is_on s f) same ∙ e))) (quiet (gone h))

@@ -1,173 +1,158 @@
--- How the calls and notices of an end tell what it took, handed up and counted, with whatever frames arrive.
-use Rattle.std.proofs.Common.{◌≡◌, sym, ◌∙◌, ap, subst, arith, ℕ, ◌+◌, ◌≤◌, List, [], ◌∷◌, ◌++◌, length, Option, Some, None, append_assoc}
-use Rattle.std.specs.List.{filter_map}
-use Rattle.std.proofs.lemmas.List.{append-nil, length-append}
-use Rattle.std.proofs.lemmas.List.Elements.{filter_map-append}
+-- What is known of an end by its calls and notices, one after another, with whatever frames arrive.
+use Rattle.std.specs.Prelude.{Contains}
+use Rattle.std.proofs.Common.{◌≡◌, refl, sym, ◌∙◌, subst, arith, ℕ, zero, suc, ◌+◌, ◌-◌, ◌≤◌, max, min, false, List, [], ◌∷◌, ◌++◌, map, length, Option, Some, None, append_assoc}
+use Rattle.std.specs.List.{filter_map, cons_option}
+use Rattle.std.proofs.lemmas.List.{append-nil}
+use Rattle.segmenting.specs.Pieces.{Message}
 use Rattle.segmenting.specs.Joining.{endings}
+use Rattle.lapdm_window.specs.declared.Sapi.{Sapi}
 use Rattle.lapdm_window.specs.declared.State.{State}
 use Rattle.lapdm_window.specs.declared.State.TheVariants as S
 use Rattle.lapdm_window.specs.declared.Notice.{Notice}
 use Rattle.lapdm_window.specs.declared.Notice.TheVariants as N
-use Rattle.lapdm_window.specs.Ends.{EndState, Outcome, KeepsWindow, IsUnopened, wholly_acked, capped}
-use Rattle.lapdm_window.specs.Steps.{IsSameLink}
-use Rattle.lapdm_window.specs.Calls.{Call, Closes}
-use Rattle.lapdm_window.proofs.Lemmas.{wholly_acked-most}
-use Rattle.lapdm_link.specs.Claims.{sent_in, acked_in, opened_in, closed_in}
-use Rattle.lapdm_link.proofs.Telling.{ending_in, Numbers, IsLive, MayTell, Walks, Tells}
+use Rattle.lapdm_window.specs.Ends.{Role, EndState, wholly_acked, capped}
+use Rattle.lapdm_window.specs.Calls.{Call, Sends, Closes}
+use Rattle.lapdm_link.specs.Claims.{Line, Told, StandsAfter, sent_in, acked_in, opened_in, closed_in, call_in, notice_in, notices, sent, acked, opened, closed}
+use Rattle.lapdm_link.proofs.Views.{is_end, is_end-self, said}
 
-abbrev pub closes_in : Call → Option Call
-closes_in Closes = Some Closes
-closes_in other = None
+-- not open yet, open, closing, over
+abbrev pub stage_of : State → ℕ
+stage_of S.Open = 1
+stage_of S.Closing = 2
+stage_of S.Closed = 3
+stage_of other = 0
 
--- opened so often, closed so often, and so often asked to close
-abbrev pub Phase : State → ℕ → ℕ → ℕ → Type 0
-Phase S.Idle o c k = (o ≡ 0) × (c ≡ 0) × (k ≡ 0)
-Phase S.Opening o c k = (o ≡ 0) × (c ≡ 0) × (k ≡ 0)
-Phase S.Open o c k = (o ≡ 1) × (c ≡ 0) × (k ≡ 0)
-Phase S.Closing o c k = (o ≡ 1) × (c ≡ 0)
-Phase S.Closed o c k = (o ≤ 1) × (c ≡ 1)
+-- the stage of its link, the messages that it took, what its accepted pieces ended, and how many messages are acknowledged
+pub record Known : Type 0 where
+  pub stage : ℕ
+  pub taken : List Message
+  pub ended : List (Option Message)
+  pub acked : ℕ
 
-abbrev pub PhaseIn : State → List Call → List Notice → Type 0
-PhaseIn s cs ns = Phase s (length (filter_map opened_in ns)) (length (filter_map closed_in ns)) (length (filter_map closes_in cs))
+abbrev pub known : EndState → Known
+known x = record { stage = stage_of x.state; taken = x.taken; ended = endings [] x.accepted; acked = wholly_acked x }
 
--- the calls and notices of an end so far
-pub record HasTold (x : EndState) (cs : List Call) (ns : List Notice) : Type 0 where
-  pub taken : filter_map sent_in cs ≡ x.taken
-  pub got : filter_map ending_in ns ≡ endings [] x.accepted
-  pub acked : length (filter_map acked_in ns) ≡ wholly_acked x
-  pub phase : PhaseIn x.state cs ns
+abbrev pub nothing : Known
+nothing = record { stage = 0; taken = []; ended = []; acked = 0 }
 
-phase-same : (s : State) (o c k o' c' : ℕ) → o' ≡ o → c' ≡ c → Phase s o c k → Phase s o' c' k
-phase-same s o c k o' c' e f h = subst (λ (i : ℕ). Phase s i c' k) (sym e) (subst (λ (i : ℕ). Phase s o i k) (sym f) h)
+-- what is known after a call
+abbrev pub asked : Option Call → Known → Known
+asked (Some (Sends t)) m = record m { taken = m.taken ++ t ∷ [] }
+asked (Some Closes) m = record m { stage = max 2 m.stage }
+asked call m = m
 
-phase-opens : (s : State) (u : State) (o c k : ℕ) → IsUnopened s × (u ≡ S.Open) → Phase s o c k → Phase u (o + 1) (c + 0) k
-phase-opens S.Idle u o c k may h = subst (λ (v : State). Phase v (o + 1) (c + 0) k) (sym may.1) (
-  omega (arith, h.0),
-  omega
-      (arith, h.1),
-  h.2,
-)
-phase-opens S.Opening u o c k may h =
-    subst (λ (v : State). Phase v (o + 1) (c + 0) k) (sym may.1) (omega (arith, h.0), omega (arith, h.1), h.2)
-phase-opens s u o c k may h = absurd may.0
+-- a notice may come, and what is known then
+abbrev pub MayTell : Option Notice → Known → Type 0
+MayTell None m = Unit {0}
+MayTell (Some (N.Unit t)) m = Unit {0}
+MayTell (Some (N.Opened info)) m = m.stage ≡ 0
+MayTell (Some (N.Closed reason)) m = m.stage ≤ 2
+MayTell (Some (N.Acked n)) m = (m.stage ≡ 1) × (n ≡ capped (m.acked + 1)) × (m.acked + 1 ≤ length m.taken)
+MayTell (Some other) m = m.stage ≡ 1
 
-phase-closes : (s : State) (u : State) (o c k : ℕ) → IsLive s × (u ≡ S.Closed) → Phase s o c k → Phase u (o + 0) (c + 1) k
-phase-closes S.Closed u o c k may h = absurd may.0
-phase-closes s u o c k may h =
-    subst (λ (v : State). Phase v (o + 0) (c + 1) k) (sym may.1) (omega (arith, h.0), omega (arith, h.1))
+abbrev pub told : Option Notice → Known → Known
+told (Some (N.Opened info)) m = record m { stage = 1 }
+told (Some (N.Closed reason)) m = record m { stage = 3 }
+told (Some (N.Acked n)) m = record m { acked = m.acked + 1 }
+told (Some (N.Got t)) m = record m { ended = m.ended ++ Some t ∷ [] }
+told (Some N.Oversize) m = record m { ended = m.ended ++ None ∷ [] }
+told other m = m
 
-phase-may : (s : State) (n : Notice) (u : State) (o c k : ℕ) → MayTell s n u → Phase s o c k →
-    Phase u (o + length (filter_map opened_in (n ∷ []))) (c + length (filter_map closed_in (n ∷ []))) k
-phase-may s (N.Opened info) u o c k may h = phase-opens s u o c k may h
-phase-may s (N.Closed reason) u o c k may h = phase-closes s u o c k may h
-phase-may s (N.Unit m) u o c k may h =
-    phase-same u o c k (o + 0) (c + 0) (omega arith) (omega arith) (subst (λ (v : State). Phase v o c k) (sym may) h)
-phase-may s other u o c k may h =
-    phase-same u o c k (o + 0) (c + 0) (omega arith) (omega arith) (subst (λ (v : State). Phase v o c k) (may.0 ∙ sym may.1) h)
+-- what a notice says that accepted pieces end: a message, or none where it is oversize
+abbrev pub ending_in : Notice → Option (Option Message)
+ending_in (N.Got m) = Some (Some m)
+ending_in N.Oversize = Some None
+ending_in other = None
 
-phase-one : (s : State) (n : Notice) (u : State) (cs : List Call) (ns : List Notice) → MayTell s n u → PhaseIn s cs ns →
-    PhaseIn u cs (ns ++ n ∷ [])
-phase-one s n u cs ns may h =
-    phase-same u _ _ (length (filter_map closes_in cs)) (length (filter_map opened_in (ns ++ n ∷ [])))
-    (length (filter_map closed_in (ns ++ n ∷ [])))
-    (ap length (filter_map-append opened_in ns (n ∷ [])) ∙ length-append (filter_map opened_in ns) (filter_map opened_in (n ∷ [])))
-    (ap length (filter_map-append closed_in ns (n ∷ [])) ∙ length-append (filter_map closed_in ns) (filter_map closed_in (n ∷ [])))
-    (phase-may s n u _ _ (length (filter_map closes_in cs)) may h)
+-- so often opened and closed between two stages
+abbrev pub Staged : ℕ → ℕ → ℕ → ℕ → Type 0
+Staged p o c q = (o + min 1 p ≤ 1) × (c + min 1 (p - 2) ≤ 1) × (q ≡ 1 → p + o ≡ 1)
 
-phase-walks : (s : State) (ms : List Notice) (t : State) (cs : List Call) (ns : List Notice) → Walks s ms t → PhaseIn s cs ns →
-    PhaseIn t cs (ns ++ ms)
-phase-walks s [] t cs ns w h =
-    subst (λ (v : State). PhaseIn v cs (ns ++ [])) (sym w) (subst (λ (xs : List Notice). PhaseIn s cs xs) (sym (append-nil ns)) h)
-phase-walks s (m ∷ ms) t cs ns w h =
-    subst (λ (xs : List Notice). PhaseIn t cs xs) (append_assoc ns (m ∷ []) ms)
-    (phase-walks w.0 ms t cs (ns ++ m ∷ []) w.2 (phase-one s m w.0 cs ns w.1 h))
+-- these calls and notices are what leads from what is known to that
+abbrev Leads : Known → List Call → List Notice → Known → Type 0
+Leads m cs ns k = (m.taken ++ filter_map sent_in cs ≡ k.taken) × (m.ended ++ filter_map ending_in ns ≡ k.ended)
+    × (length (filter_map acked_in ns) + m.acked ≡ k.acked)
+    × Staged m.stage (length (filter_map opened_in ns)) (length (filter_map closed_in ns)) k.stage
 
-pub has_told-more : (x z : EndState) (cs : List Call) (ns ms : List Notice) → Tells x ms z → HasTold x cs ns → HasTold z cs (ns ++ ms)
-has_told-more x z cs ns ms t h = record {
-  taken = h.taken ∙ sym t.taken;
-  got = filter_map-append ending_in ns ms ∙ ap (λ xs. xs ++ filter_map ending_in ms) h.got ∙ sym t.got;
-  acked = ap length (filter_map-append acked_in ns ms) ∙ length-append (filter_map acked_in ns) (filter_map acked_in ms)
-      ∙ ap (λ i. i + length (filter_map acked_in ms)) h.acked ∙ sym t.acked;
-  phase = phase-walks x.state ms z.state cs ns t.walks h.phase;
-}
+leads-asked : (c : Option Call) (m k : Known) (cs : List Call) (ns : List Notice) → Leads (asked c m) cs ns k →
+    Leads m (cons_option c cs) ns k
+leads-asked (Some (Sends t)) m k cs ns h = (sym (append_assoc m.taken (t ∷ []) (filter_map sent_in cs)) ∙ h.0, h.1, h.2, h.3)
+leads-asked (Some Closes) m k cs ns h = (h.0, h.1, h.2, (omega arith, omega arith, λ e. omega (arith, h.3.2 e)))
+leads-asked call m k cs ns h = h
 
--- what a notice has before it: calls and notices of its end
-abbrev pub MaySay : List Call → List Notice → Notice → Type 0
-MaySay cs ns (N.Acked n) =
-    (n ≡ capped (length (filter_map acked_in ns) + 1)) × (length (filter_map acked_in ns) + 1 ≤ length (filter_map sent_in cs)) × PhaseIn
-    S.Open cs ns
-MaySay cs ns (N.Got m) = PhaseIn S.Open cs ns
-MaySay cs ns N.Oversize = PhaseIn S.Open cs ns
-MaySay cs ns other = Unit {0}
+leads-told : (n : Option Notice) (m k : Known) (cs : List Call) (ns : List Notice) → MayTell n m → Leads (told n m) cs ns k →
+    Leads m cs (cons_option n ns) k
+leads-told (Some (N.Opened info)) m k cs ns may h = (h.0, h.1, h.2, (omega arith, omega arith, λ e. omega arith))
+leads-told (Some (N.Closed reason)) m k cs ns may h = (h.0, h.1, h.2, (omega arith, omega arith, λ e. omega arith))
+leads-told (Some (N.Acked n)) m k cs ns may h = (h.0, h.1, omega arith, h.3)
+leads-told (Some (N.Got t)) m k cs ns may h = (h.0, sym (append_assoc m.ended (Some t ∷ []) (filter_map ending_in ns)) ∙ h.1, h.2, h.3)
+leads-told (Some N.Oversize) m k cs ns may h = (h.0, sym (append_assoc m.ended (None ∷ []) (filter_map ending_in ns)) ∙ h.1, h.2, h.3)
+leads-told other m k cs ns may h = h
 
-abbrev pub AllSaid : List Call → List Notice → List Notice → Type 0
-AllSaid cs ns [] = Unit {0}
-AllSaid cs ns (m ∷ ms) = MaySay cs ns m × AllSaid cs (ns ++ m ∷ []) ms
+-- what is read in turn, a call or a notice or neither, leads from what is known to that
+module _ {A : Type 0} (call : A → Option Call) (notice : A → Option Notice) where
+  abbrev pub Goes : Known → List A → Known → Type 0
+  Goes m [] k = k ≡ m
+  Goes m (x ∷ xs) k = (let j : Known = asked (call x) m in MayTell (notice x) j × Goes (told (notice x) j) xs k)
 
-acked-push : (ns : List Notice) (n : Notice) → length (filter_map acked_in (ns ++ n ∷ [])) ≡ length (filter_map acked_in ns) + length
-    (filter_map acked_in (n ∷ []))
-acked-push ns n = ap length (filter_map-append acked_in ns (n ∷ [])) ∙ length-append (filter_map acked_in ns) (filter_map acked_in (n ∷ []))
+  pub goes-append : (xs ys : List A) (m j k : Known) → Goes m xs j → Goes j ys k → Goes m (xs ++ ys) k
+  goes-append [] ys m j k h g = subst (λ (i : Known). Goes i ys k) h g
+  goes-append (x ∷ xs) ys m j k h g = (h.0, goes-append xs ys _ j k h.1 g)
 
-may_say : (s : State) (n : Notice) (u : State) (ms : List Notice) (cs : List Call) (ns : List Notice) → MayTell s n u →
-    Numbers (length (filter_map acked_in ns)) (n ∷ ms) → length (filter_map acked_in ns) + length (filter_map acked_in (n ∷ ms)) ≤ length
-    (filter_map sent_in cs) → PhaseIn s cs ns → MaySay cs ns n
-may_say s (N.Acked n) u ms cs ns may numbers room h =
-    (numbers.0, omega (arith, room), subst (λ (v : State). PhaseIn v cs ns) may.0 h)
-may_say s (N.Got m) u ms cs ns may numbers room h = subst (λ (v : State). PhaseIn v cs ns) may.0 h
-may_say s N.Oversize u ms cs ns may numbers room h = subst (λ (v : State). PhaseIn v cs ns) may.0 h
-may_say s other u ms cs ns may numbers room h = tt
+  goes-split : (xs ys : List A) (m k : Known) → Goes m (xs ++ ys) k → (j : Known) × Goes m xs j × Goes j ys k
+  goes-split [] ys m k h = (m, refl, h)
+  goes-split (x ∷ xs) ys m k h = let g = goes-split xs ys _ k h.1 in (g.0, (h.0, g.1), g.2)
 
-numbers-rest : (n : Notice) (ms ns : List Notice) → Numbers (length (filter_map acked_in ns)) (n ∷ ms) →
-    Numbers (length (filter_map acked_in (ns ++ n ∷ []))) ms
-numbers-rest (N.Acked i) ms ns h = subst (λ (k : ℕ). Numbers k ms) (sym (acked-push ns (N.Acked i))) h.1
-numbers-rest n ms ns h =
-    subst (λ (k : ℕ). Numbers k ms) (let e : length (filter_map acked_in ns) ≡ length (filter_map acked_in (ns ++ n ∷ [])) = omega
-    (arith, acked-push ns n) in e) h
+  leads : (xs : List A) (m k : Known) → Goes m xs k → Leads m (filter_map call xs) (filter_map notice xs) k
+  leads [] m k h = rw h (append-nil m.taken, append-nil m.ended, omega arith, (omega arith, omega arith, λ e. omega arith))
+  leads (x ∷ xs) m k h = leads-asked (call x) m k (filter_map call xs) (filter_map notice (x ∷ xs))
+      (leads-told (notice x) (asked (call x) m) k (filter_map call xs) (filter_map notice xs) h.0 (leads xs _ k h.1))
 
-room-rest : (n : Notice) (ms ns : List Notice) (most : ℕ) → length (filter_map acked_in ns) + length (filter_map acked_in (n ∷ ms)) ≤ most →
-    length (filter_map acked_in (ns ++ n ∷ [])) + length (filter_map acked_in ms) ≤ most
-room-rest n ms ns most h =
-    omega (
-      arith,
-      h,
-      acked-push ns n,
-      ap length (filter_map-append acked_in (n ∷ []) ms),
-      length-append (filter_map acked_in (n ∷ [])) (filter_map acked_in ms),
-    )
+  -- where the link is open at the end, it was not beyond at any of these
+  before_open : (xs : List A) (m k : Known) → Goes m xs k → k.stage ≡ 1 → (y : A) → Contains xs y →
+      (j : Known) × ((told (notice y) (asked (call y) j)).stage ≤ 1)
+  before_open [] m k h now y c = absurd (omega (arith, c.1))
+  before_open (x ∷ xs) m k h now y (zero, low, is) =
+      (m, subst (λ (z : A). (told (notice z) (asked (call z) m)).stage ≤ 1) is (omega (arith, (leads xs _ k h.1).3.2 now)))
+  before_open (x ∷ xs) m k h now y (suc i, low, is) = before_open xs _ k h.1 now y (i, omega (arith, low), is)
 
-all_said-walks : (s : State) (ms : List Notice) (t : State) (cs : List Call) (ns : List Notice) → Walks s ms t →
-    Numbers (length (filter_map acked_in ns)) ms → length (filter_map acked_in ns) + length (filter_map acked_in ms) ≤ length
-    (filter_map sent_in cs) → PhaseIn s cs ns → AllSaid cs ns ms
-all_said-walks s [] t cs ns w numbers room h = tt
-all_said-walks s (m ∷ ms) t cs ns w numbers room h = (
-  may_say s m w.0 ms cs ns w.1 numbers room h,
-  all_said-walks w.0 ms t cs (ns ++ m ∷ []) w.2 (numbers-rest m ms ns numbers) (room-rest m ms ns _ room) (phase-one s m w.0 cs ns w.1 h),
-)
+-- notices, and the lines of which an end reads its own
+abbrev pub Tells : Known → List Notice → Known → Type 0
+Tells = Goes (λ n. None) (λ n. Some n)
 
-pub all_said : (x z : EndState) (cs : List Call) (ns ms : List Notice) → KeepsWindow z → Tells x ms z → HasTold x cs ns → AllSaid cs ns ms
-all_said x z cs ns ms end t h =
-    all_said-walks x.state ms z.state cs ns t.walks (subst (λ (k : ℕ). Numbers k ms) (sym h.acked) t.numbers)
-    (omega (arith, h.acked, t.acked, wholly_acked-most z, ap length h.taken, ap length t.taken)) h.phase
+module _ (r : Role) (s : Sapi) where
+  abbrev pub Runs : Known → List Line → Known → Type 0
+  Runs = Goes (call_in r s) (notice_in r s)
 
--- after some calls an end goes on, and so do what it was asked and what it told
-pub record IsStep (x : EndState) (asks : List Call) (o : Outcome) : Type 0 where
-  pub link : IsSameLink x o.after
-  pub end : KeepsWindow o.after
-  pub told : (cs : List Call) (ns : List Notice) → HasTold x cs ns → HasTold o.after (cs ++ asks) (ns ++ o.notices)
-  pub said : (cs : List Call) (ns : List Notice) → HasTold x cs ns → AllSaid (cs ++ asks) ns o.notices
+  pub runs-told : (ns : List Notice) (m k : Known) → Tells m ns k → Runs m (map (Told r s) ns) k
+  runs-told [] m k h = h
+  runs-told (n ∷ ns) m k h = rw (is_end-self r s) (h.0, runs-told ns (told (Some n) m) k h.1)
 
--- it is asked, and then acts
-pub step-by : (x mid : EndState) (asks : List Call) (o : Outcome) → IsSameLink x o.after → KeepsWindow o.after →
-    Tells mid o.notices o.after →
-    ((cs : List Call) (ns : List Notice) → HasTold x cs ns → HasTold mid (cs ++ asks) ns) → IsStep x asks o
-step-by x mid asks o link end tells asked = record {
-  link = link;
-  end = end;
-  told = λ cs ns h. has_told-more mid o.after (cs ++ asks) ns o.notices tells (asked cs ns h);
-  said = λ cs ns h. all_said mid o.after (cs ++ asks) ns o.notices end tells (asked cs ns h);
-}
+  pub runs-else : (r' : Role) (s' : Sapi) → is_end r s r' s' ≡ false → (cs : List Call) (ns : List Notice) (m : Known) →
+      Runs m (said r' s' cs ns) m
+  runs-else r' s' e [] [] m = refl
+  runs-else r' s' e [] (n ∷ ns) m = rw e (tt, runs-else r' s' e [] ns m)
+  runs-else r' s' e (c ∷ cs) ns m = rw e (tt, runs-else r' s' e cs ns m)
 
--- or acts unasked
-pub step-unasked : (x : EndState) (o : Outcome) → IsSameLink x o.after → KeepsWindow o.after → Tells x o.notices o.after → IsStep x [] o
-step-unasked x o link end tells =
-    step-by x x [] o link end tells (λ cs ns h. subst (λ (asks : List Call). HasTold x asks ns) (sym (append-nil cs)) h)
+  -- what the lines of an end tell of it
+  pub record IsTold (ls : List Line) (m : Known) : Type 0 where
+    pub taken : sent r s ls ≡ m.taken
+    pub got : filter_map ending_in (notices r s ls) ≡ m.ended
+    pub acked : length (acked r s ls) ≡ m.acked
+    pub staged : Staged 0 (length (opened r s ls)) (length (closed r s ls)) m.stage
+
+  module _ (ls : List Line) (m : Known) (run : Runs nothing ls m) where
+    pub is_told : IsTold ls m
+    is_told = let g = leads (call_in r s) (notice_in r s) ls nothing m run in
+        record { taken = g.0; got = g.1; acked = omega (arith, g.2); staged = g.3 }
+
+    -- a notice at its place
+    pub at_place : (before : List Line) (n : Notice) → StandsAfter before (Told r s n) ls →
+        (j : Known) × Runs nothing before j × MayTell (Some n) j
+    at_place before n place =
+        let g = goes-split (call_in r s) (notice_in r s) before (Told r s n ∷ place.0) nothing m (rw place.1 run) in
+        (g.0, g.1, rw (is_end-self r s) at g.2.0)
+
+    pub none_beyond : m.stage ≡ 1 → (l : Line) → Contains ls l →
+        (j : Known) × ((told (notice_in r s l) (asked (call_in r s l) j)).stage ≤ 1)
+    none_beyond = before_open (call_in r s) (notice_in r s) ls nothing m run

@@ -1,10 +1,12 @@
 -- Parts of a world after one of them changed, and of lines after more of them.
-use Rattle.std.proofs.Common.{◌≡◌, refl, sym, ◌∙◌, ap, ℕ, Bool, true, false, ◌&&◌, List, [], ◌∷◌, ◌++◌, map, drop}
+use Rattle.std.proofs.Common.{◌≡◌, refl, sym, Bool, true, false, ◌&&◌, List, [], ◌∷◌, ◌++◌, map, drop, Option, None}
 use Rattle.std.proofs.lemmas.List.{append-nil}
+use Rattle.std.specs.List.{filter_map}
 use Rattle.std.proofs.lemmas.List.Elements.{filter_map-append}
 use Rattle.std.proofs.lemmas.Bool.{false≢true}
 use Rattle.lapdm_frame.specs.declared.Channel.{Channel}
 use Rattle.lapdm_frame.specs.Content.{Frame}
+use Rattle.segmenting.specs.Pieces.{Message}
 use Rattle.lapdm_window.specs.declared.Sapi.{Sapi}
 use Rattle.lapdm_window.specs.declared.Sapi.TheVariants.{Zero, Three}
 use Rattle.lapdm_window.specs.declared.Notice.{Notice}
@@ -124,54 +126,46 @@ pub other_twice : (r : Role) → other (other r) ≡ r
 other_twice Mobile = refl
 other_twice Network = refl
 
-said-calls : (r : Role) (s : Sapi) (cs : List Call) (ns : List Notice) → calls r s (said r s cs ns) ≡ cs
-said-calls r s [] [] = refl
-said-calls r s [] (n ∷ ns) = said-calls r s [] ns
-said-calls r s (c ∷ cs) ns = rw (is_end-self r s) (ap (λ xs. c ∷ xs) (said-calls r s cs ns))
+-- those lines with such of other mobiles before them
+abbrev pub spoken : Role → Sapi → List Message → List Call → List Notice → List Line
+spoken r s is cs ns = map Rivals is ++ said r s cs ns
 
-said-notices : (r : Role) (s : Sapi) (cs : List Call) (ns : List Notice) → notices r s (said r s cs ns) ≡ ns
-said-notices r s [] [] = refl
-said-notices r s [] (n ∷ ns) = rw (is_end-self r s) (ap (λ xs. n ∷ xs) (said-notices r s [] ns))
-said-notices r s (c ∷ cs) ns = said-notices r s cs ns
+spoken-calls : (r : Role) (s : Sapi) (is : List Message) (cs : List Call) (ns : List Notice) → calls r s (spoken r s is cs ns) ≡ cs
+spoken-calls r s (i ∷ is) cs ns = spoken-calls r s is cs ns
+spoken-calls r s [] (c ∷ cs) ns = rw (is_end-self r s, spoken-calls r s [] cs ns) refl
+spoken-calls r s [] [] (n ∷ ns) = spoken-calls r s [] [] ns
+spoken-calls r s [] [] [] = refl
 
-module _ (r : Role) (s : Sapi) (r' : Role) (s' : Sapi) (h : is_end r' s' r s ≡ false) where
-  said-no_calls : (cs : List Call) (ns : List Notice) → calls r' s' (said r s cs ns) ≡ []
-  said-no_calls [] [] = refl
-  said-no_calls [] (n ∷ ns) = said-no_calls [] ns
-  said-no_calls (c ∷ cs) ns = rw h (said-no_calls cs ns)
+spoken-notices : (r : Role) (s : Sapi) (is : List Message) (cs : List Call) (ns : List Notice) → notices r s (spoken r s is cs ns) ≡ ns
+spoken-notices r s (i ∷ is) cs ns = spoken-notices r s is cs ns
+spoken-notices r s [] (c ∷ cs) ns = spoken-notices r s [] cs ns
+spoken-notices r s [] [] (n ∷ ns) = rw (is_end-self r s, spoken-notices r s [] [] ns) refl
+spoken-notices r s [] [] [] = refl
 
-  said-no_notices : (cs : List Call) (ns : List Notice) → notices r' s' (said r s cs ns) ≡ []
-  said-no_notices [] [] = refl
-  said-no_notices [] (n ∷ ns) = rw h (said-no_notices [] ns)
-  said-no_notices (c ∷ cs) ns = said-no_notices cs ns
+-- none of them is picked
+unspoken : {T : Type 0} (pick : Line → Option T) (r : Role) (s : Sapi) → ((i : Message) → pick (Rivals i) ≡ None) →
+    ((c : Call) → pick (Asked r s c) ≡ None) → ((n : Notice) → pick (Told r s n) ≡ None) → (is : List Message) (cs : List Call)
+    (ns : List Notice) → filter_map pick (spoken r s is cs ns) ≡ []
+unspoken pick r s f g h (i ∷ is) cs ns = rw (f i) (unspoken pick r s f g h is cs ns)
+unspoken pick r s f g h [] (c ∷ cs) ns = rw (g c) (unspoken pick r s f g h [] cs ns)
+unspoken pick r s f g h [] [] (n ∷ ns) = rw (h n) (unspoken pick r s f g h [] [] ns)
+unspoken pick r s f g h [] [] [] = refl
 
-  pub calls-else : (ls : List Line) (cs : List Call) (ns : List Notice) → calls r' s' (ls ++ said r s cs ns) ≡ calls r' s' ls
-  calls-else ls cs ns = filter_map-append (call_in r' s') ls (said r s cs ns) ∙ ap (λ xs. calls r' s' ls ++ xs) (said-no_calls cs ns)
-      ∙ append-nil (calls r' s' ls)
+module _ (r : Role) (s : Sapi) (ls : List Line) (is : List Message) (cs : List Call) (ns : List Notice) where
+  pub calls-own : calls r s (ls ++ spoken r s is cs ns) ≡ calls r s ls ++ cs
+  calls-own = rw (filter_map-append, spoken-calls r s is cs ns) refl
 
-  pub notices-else : (ls : List Line) (cs : List Call) (ns : List Notice) → notices r' s' (ls ++ said r s cs ns) ≡ notices r' s' ls
-  notices-else ls cs ns = filter_map-append (notice_in r' s') ls (said r s cs ns)
-      ∙ ap (λ xs. notices r' s' ls ++ xs) (said-no_notices cs ns) ∙ append-nil (notices r' s' ls)
+  pub notices-own : notices r s (ls ++ spoken r s is cs ns) ≡ notices r s ls ++ ns
+  notices-own = rw (filter_map-append, spoken-notices r s is cs ns) refl
 
-pub calls-said : (r : Role) (s : Sapi) (ls : List Line) (cs : List Call) (ns : List Notice) →
-    calls r s (ls ++ said r s cs ns) ≡ calls r s ls ++ cs
-calls-said r s ls cs ns = filter_map-append (call_in r s) ls (said r s cs ns) ∙ ap (λ xs. calls r s ls ++ xs) (said-calls r s cs ns)
+  module _ (r' : Role) (s' : Sapi) (e : is_end r' s' r s ≡ false) where
+    pub calls-else : calls r' s' (ls ++ spoken r s is cs ns) ≡ calls r' s' ls
+    calls-else = rw (filter_map-append, unspoken (call_in r' s') r s (λ i. refl) (λ c. rw e refl) (λ n. refl) is cs ns, append-nil) refl
 
-pub notices-said : (r : Role) (s : Sapi) (ls : List Line) (cs : List Call) (ns : List Notice) →
-    notices r s (ls ++ said r s cs ns) ≡ notices r s ls ++ ns
-notices-said r s ls cs ns = filter_map-append (notice_in r s) ls (said r s cs ns)
-    ∙ ap (λ xs. notices r s ls ++ xs) (said-notices r s cs ns)
-
-pub calls-rival : (r : Role) (s : Sapi) (ls : List Line) (info : List ℕ) → calls r s (ls ++ Rivals info ∷ []) ≡ calls r s ls
-calls-rival r s ls info = filter_map-append (call_in r s) ls (Rivals info ∷ []) ∙ append-nil (calls r s ls)
-
-pub notices-rival : (r : Role) (s : Sapi) (ls : List Line) (info : List ℕ) → notices r s (ls ++ Rivals info ∷ []) ≡ notices r s ls
-notices-rival r s ls info = filter_map-append (notice_in r s) ls (Rivals info ∷ []) ∙ append-nil (notices r s ls)
+    pub notices-else : notices r' s' (ls ++ spoken r s is cs ns) ≡ notices r' s' ls
+    notices-else = rw (filter_map-append, unspoken (notice_in r' s') r s (λ i. refl) (λ c. refl) (λ n. rw e refl) is cs ns, append-nil) refl
 
 -- a notice among the lines
 pub notices-at : (r : Role) (s : Sapi) (before : List Line) (n : Notice) (more : List Line) →
     notices r s (before ++ Told r s n ∷ more) ≡ notices r s before ++ n ∷ notices r s more
-notices-at r s before n more =
-    filter_map-append (notice_in r s) before (Told r s n ∷ more)
-    ∙ ap (λ ns. notices r s before ++ ns)
-    (let e : notices r s (Told r s n ∷ more) ≡ n ∷ notices r s more = rw (is_end-self r s) refl in e)
+notices-at r s before n more = rw (filter_map-append, is_end-self r s) refl

@@ -1,0 +1,75 @@
+-- One link, seen from one of its ends: what the end is, what is on its way from it, what it was asked and what it told;
+-- and what an end of a link does.
+use Rattle.std.proofs.Common.{◌≡◌, refl, inl, List, [], ◌∷◌, ◌++◌}
+use Rattle.std.specs.List.{cons_option}
+use Rattle.lapdm_frame.specs.Content.{Content}
+use Rattle.segmenting.specs.Pieces.{Message}
+use Rattle.lapdm_window.specs.declared.Sapi.{Sapi}
+use Rattle.lapdm_window.specs.declared.Sapi.TheVariants.{Zero}
+use Rattle.lapdm_window.specs.declared.Notice.{Notice}
+use Rattle.lapdm_window.specs.Ends.{Role, Mobile, EndState, Outcome}
+use Rattle.lapdm_window.specs.Calls.{Call}
+use Rattle.lapdm_link.specs.Events.{rival_frame}
+use Rattle.lapdm_link.specs.Worlds.{World}
+use Rattle.lapdm_link.specs.Claims.{Line, calls, notices}
+use Rattle.lapdm_link.proofs.Queues.{contents, contents_on, content_of, AllFrames, frames-as}
+use Rattle.lapdm_link.proofs.Views.{end_of, way, spoken}
+use Rattle.lapdm_link.proofs.ByKind.{IsPlaced}
+use Rattle.lapdm_link.proofs.Taking.{IsTaken}
+use Rattle.lapdm_link.proofs.Asked.{IsCalled}
+
+pub record Side : Type 0 where
+  pub end : EndState
+  pub out : List Content
+  pub asked : List Call
+  pub told : List Notice
+
+abbrev pub side : Role → Sapi → World → List Line → Side
+side r s w ls = record { end = end_of r s w; out = contents_on s (way r w); asked = calls r s ls; told = notices r s ls }
+
+-- what the one end of a link does: the frames of other mobiles that go out with its own, what it is asked, what comes of
+-- it, and what is then left on the way from the other end
+pub record Act : Type 0 where
+  pub role : Role
+  pub sapi : Sapi
+  pub rivals : List Message
+  pub asks : List Call
+  pub does : Outcome
+  pub left : List Content
+
+abbrev pub act : Role → Sapi → List Call → Outcome → List Content → Act
+act r s cs o left = record { role = r; sapi = s; rivals = []; asks = cs; does = o; left = left }
+
+-- another mobile's frame goes out, and the mobile's end is as it was
+abbrev pub rivals : Message → Side → Side → Act
+rivals info x y = record (act Mobile Zero [] (record { after = x.end; frames = rival_frame info ∷ []; notices = [] }) y.out) {
+  rivals = info ∷ [];
+}
+
+abbrev pub lines : Act → List Line
+lines a = spoken a.role a.sapi a.rivals a.asks a.does.notices
+
+-- it is called, or takes the first that comes
+pub data IsActed (x y : Side) : Act → Type 0 where
+  called : {r : Role} {s : Sapi} {call : Call} {o : Outcome} → IsPlaced r s call → IsCalled x.end call o →
+      IsActed x y (act r s (call ∷ []) o y.out)
+  took : {r : Role} {s : Sapi} {c : Content} {o : Outcome} {left : List Content} → y.out ≡ cons_option (content_of c) left →
+      IsTaken c x.end o → IsActed x y (act r s [] o left)
+  rival : {info : Message} → IsActed x y (rivals info x y)
+
+-- the end and the other end afterwards
+abbrev pub after : Act → Side → Side
+after a x = record {
+  end = a.does.after;
+  out = x.out ++ contents a.does.frames;
+  asked = x.asked ++ a.asks;
+  told = x.told ++ a.does.notices;
+}
+
+abbrev pub other_after : Act → Side → Side
+other_after a y = record y { out = a.left }
+
+pub acts_own : {x y : Side} {a : Act} → IsActed x y a → x.end.sapi ≡ a.sapi → AllFrames (λ c. Unit {0}) a.sapi a.does.frames
+acts_own {a = a} (called p c) same = rw same at (frames-as _ _ (λ u h. tt {0}) _ a.does.frames c.frames)
+acts_own {a = a} (took e t) same = rw same at (frames-as _ _ (λ u h. tt {0}) _ a.does.frames t.frames)
+acts_own rival same = (inl refl, tt, tt)
