@@ -27,7 +27,7 @@ use Rattle.lapdm_link.proofs.Links as L
 use Rattle.lapdm_link.proofs.Links.{Side, side, Act, acts_own, IsActed, called, took, rival, other_after}
 use Rattle.lapdm_link.proofs.Delivery.{IsCarried, carried-acts, got_in_order, acked_most, none_oversize}
 use Rattle.lapdm_link.proofs.Units.{none, HasUnits, units-here, units-there, units-lost, units-claim}
-use Rattle.lapdm_link.proofs.Openings.{HasOpenings, IsOpenedAfter, openings-more, openings-here, openings-there, openings-lost}
+use Rattle.lapdm_link.proofs.Openings.{IsCaused, HasOpenings, IsOpenedAfter, openings-more, openings-here, openings-there, of-rest}
 
 -- ---- one link
 
@@ -60,7 +60,7 @@ module _ {r q : Role} {s : Sapi} (x y : Side) {ls : List Line} where
   first_gone : (o : Option Content) (cs : List Content) → IsLink r q s x (record y { out = cons_option o cs }) ls →
       IsLink r q s x (record y { out = cs }) ls
   first_gone d cs (link c u v o p) =
-      link (gone d c) (record { some = u.some }) (units-lost y x d cs v) o (openings-lost q s ls y d cs p)
+      link (gone d c) (record { some = u.some }) (units-lost y x d cs v) o (of-rest (IsCaused q s ls) d cs p.0, p.1)
 
   rest_gone : (fs : List Frame) → IsLink r q s x (record y { out = contents_on s fs }) ls →
       IsLink r q s x (record y { out = contents_on s (rest fs) }) ls
@@ -231,7 +231,7 @@ session-run (event ∷ events) w ls harmless h =
 start-link : (r q : Role) (s : Sapi) (channel : Channel) →
     (let first : Role → Side = λ p. record { end = start p s channel; out = []; asked = []; told = [] } in IsLink r q s (first r) (first q) [])
 start-link r q s channel = link (record { there = start-direction; back = start-direction }) (record { some = none })
-    (record { some = none }) (record { sent = tt; reached = tt }) (record { sent = tt; reached = tt })
+    (record { some = none }) (tt, tt) (tt, tt)
 
 start-links : (channel : Channel) → AllLinks (start_on channel) []
 start-links channel = seen_by Mobile (start_on channel) [] each
