@@ -1,6 +1,6 @@
 -- Each opening has its cause before it: what was asked or told before a SABM or UA went out, and before an end came into
 -- its state.
-use Rattle.std.proofs.Common.{◌≡◌, refl, sym, ap, arith, ◌≤◌, List, [], ◌∷◌, ◌++◌, map, length, inl, inr, Option, Some, None}
+use Rattle.std.proofs.Common.{◌≡◌, refl, ap, arith, ◌≤◌, List, [], ◌∷◌, ◌++◌, map, length, inl, inr, Option, Some, None}
 use Rattle.std.specs.Prelude.{◌⊎◌, Contains}
 use Rattle.std.specs.List.{cons_option, filter_map}
 use Rattle.std.proofs.lemmas.List.Elements.{Contains-append_left, Contains-append_right, Contains-push}
