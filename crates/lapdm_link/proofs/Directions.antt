@@ -7,11 +7,7 @@
 -- at most one more than its first, since the window is one frame. So of the two pieces that an arriving I frame may
 -- carry, the last accepted and the next, N(S) tells which, and of the two counts that an N(R) may stand for it tells
 -- whether it is that of the piece that waits; then what lies between, the count of accepted pieces, is that count too.
-use Rattle.std.proofs.Common.{arith, ℕ, ◌≤◌, List, [], ◌∷◌, ◌++◌, ◌≡◌, ◌≢◌, refl, sym, ◌∙◌, ap, ◌+◌, ◌%◌, ◌<◌, false, length, take, get_or}
-use Rattle.std.proofs.lemmas.List.{length-append, take-append-le, take_more}
-use Rattle.std.proofs.Math.ListN.{get_or-append}
-use Rattle.lapdm_frame.specs.Content.{Content, I, Rr, Rej}
-use Rattle.segmenting.specs.Pieces.{Piece}
+use Rattle.lapdm_link.proofs.Words.{arith, ℕ, ◌≤◌, List, [], ◌∷◌, ◌++◌, ◌≡◌, ◌≢◌, refl, sym, ◌∙◌, ap, ◌+◌, ◌%◌, ◌<◌, false, length, take, get_or, length-append, take-append-le, take_more, get_or-append, Content, I, Rr, Rej, Piece}
 use Rattle.lapdm_link.proofs.Queues.{AllOf}
 
 -- ---- numbers that never fall
@@ -134,8 +130,8 @@ module _ {ps : List Piece} {a s : ℕ} {qs : List Piece} {there back : List Cont
       (sym i.number ∙ number) in
       let longer : length (qs ++ p ∷ []) ≡ length qs + 1 = length-append qs (p ∷ []) in
       let piece : get_or ps (length qs) ([], false) ≡ p = ap (λ i. get_or ps i ([], false)) (sym at_is) ∙ i.piece in
-      direction (climbs-within (omega arith) (omega arith) h.acknowledged) (climbs-within (omega (arith, i.count)) (omega arith) rest) h.window h.within
-      (ap (λ q. qs ++ q ∷ []) (sym piece) ∙ ap (λ xs. xs ++ get_or ps (length qs) ([], false) ∷ []) h.in_order
+      direction (climbs-within (omega arith) (omega arith) h.acknowledged) (climbs-within (omega (arith, i.count)) (omega arith) rest)
+      h.window h.within (ap (λ q. qs ++ q ∷ []) (sym piece) ∙ ap (λ xs. xs ++ get_or ps (length qs) ([], false) ∷ []) h.in_order
       ∙ sym (take_more ps (length qs) ([], false) (omega (arith, i.within))) ∙ ap (λ n. take n ps) (sym longer))
 
   -- a frame is lost or ignored

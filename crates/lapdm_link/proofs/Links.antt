@@ -1,17 +1,6 @@
 -- One link, seen from one of its ends: what the end is, what is on its way from it, what it was asked and what it told;
 -- and what an end of a link does.
-use Rattle.std.proofs.Common.{◌≡◌, refl, inl, List, [], ◌∷◌, ◌++◌}
-use Rattle.std.specs.List.{cons_option}
-use Rattle.lapdm_frame.specs.Content.{Content}
-use Rattle.segmenting.specs.Pieces.{Message}
-use Rattle.lapdm_window.specs.declared.Sapi.{Sapi}
-use Rattle.lapdm_window.specs.declared.Sapi.TheVariants.{Zero}
-use Rattle.lapdm_window.specs.declared.Notice.{Notice}
-use Rattle.lapdm_window.specs.Ends.{Role, Mobile, EndState, Outcome}
-use Rattle.lapdm_window.specs.Calls.{Call}
-use Rattle.lapdm_link.specs.Events.{rival_frame}
-use Rattle.lapdm_link.specs.Worlds.{World}
-use Rattle.lapdm_link.specs.Claims.{Line, calls, notices}
+use Rattle.lapdm_link.proofs.Words.{◌≡◌, refl, inl, List, [], ◌∷◌, ◌++◌, cons_option, Content, Message, Sapi, Zero, Notice, Role, Mobile, EndState, Outcome, Call, rival_frame, World, Line, calls, notices}
 use Rattle.lapdm_link.proofs.Queues.{contents, contents_on, content_of, AllOf, IsOf, frames-own}
 use Rattle.lapdm_link.proofs.Views.{end_of, way, acted, spoken}
 use Rattle.lapdm_link.proofs.ByKind.{IsPlaced}

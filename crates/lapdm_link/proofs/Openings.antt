@@ -1,21 +1,8 @@
 -- Each opening has its cause before it: what was asked or told before a SABM or UA went out, and before an end came into
 -- its state.
-use Rattle.std.proofs.Common.{◌≡◌, refl, ap, arith, ◌≤◌, List, [], ◌∷◌, ◌++◌, map, length, inl, inr, Option, Some, None}
-use Rattle.std.specs.Prelude.{◌⊎◌, Contains}
-use Rattle.std.specs.List.{cons_option, filter_map}
-use Rattle.std.proofs.lemmas.List.Elements.{Contains-append_left, Contains-append_right, Contains-push}
-use Rattle.lapdm_frame.specs.Content.{Content, Sabm, Ua}
-use Rattle.segmenting.specs.Pieces.{Message}
-use Rattle.lapdm_window.specs.declared.Sapi.{Sapi}
-use Rattle.lapdm_window.specs.declared.Sapi.TheVariants.{Zero, Three}
-use Rattle.lapdm_window.specs.declared.State.{State}
+use Rattle.lapdm_link.proofs.Words.{◌≡◌, refl, ap, arith, ◌≤◌, List, [], ◌∷◌, ◌++◌, map, length, inl, inr, Option, Some, None, ◌⊎◌, Contains, cons_option, filter_map, Contains-append_left, Contains-append_right, Contains-push, Content, Sabm, Ua, Message, Sapi, Zero, Three, State, Notice, Role, Mobile, Network, EndState, Outcome, Call, Opens, OpensBare, other, Line, Asked, Rivals, Told, HasCause, opened_in}
 use Rattle.lapdm_window.specs.declared.State.TheVariants as S
-use Rattle.lapdm_window.specs.declared.Notice.{Notice}
 use Rattle.lapdm_window.specs.declared.Notice.TheVariants as N
-use Rattle.lapdm_window.specs.Ends.{Role, Mobile, Network, EndState, Outcome}
-use Rattle.lapdm_window.specs.Calls.{Call, Opens, OpensBare}
-use Rattle.lapdm_link.specs.Events.{other}
-use Rattle.lapdm_link.specs.Claims.{Line, Asked, Rivals, Told, HasCause, opened_in}
 use Rattle.lapdm_link.proofs.Queues.{content_of, AllOf, of-append, of-as, frames-say}
 use Rattle.lapdm_link.proofs.ByKind.{IsPlaced}
 use Rattle.lapdm_link.proofs.Order.{AllStand}

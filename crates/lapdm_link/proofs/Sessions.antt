@@ -1,21 +1,7 @@
 -- Every harmless session: one event after another.
-use Rattle.std.proofs.Common.{◌≡◌, refl, sym, ◌∙◌, ap, subst, arith, ◌+◌, ◌≤◌, true, false, List, [], ◌∷◌, ◌++◌, length, Option, Some, None, append_assoc}
-use Rattle.std.specs.List.{cons_option}
-use Rattle.std.proofs.lemmas.List.{append-nil, length-append}
-use Rattle.std.proofs.lemmas.List.Elements.{filter_map-append}
-use Rattle.lapdm_frame.specs.declared.Channel.{Channel}
-use Rattle.lapdm_frame.specs.Content.{Content, Frame}
-use Rattle.lapdm_window.specs.declared.Sapi.{Sapi}
-use Rattle.lapdm_window.specs.declared.Sapi.TheVariants.{Zero, Three}
-use Rattle.lapdm_window.specs.declared.Notice.{Notice}
+use Rattle.lapdm_link.proofs.Words.{◌≡◌, refl, sym, ◌∙◌, ap, subst, arith, ◌+◌, ◌≤◌, true, false, List, [], ◌∷◌, ◌++◌, length, Option, Some, None, append_assoc, cons_option, append-nil, length-append, filter_map-append, Channel, Content, Frame, Sapi, Zero, Three, Notice, Role, Mobile, Network, EndState, start, Call, Event, Deliver, Why, other, World, start_on, refusal, answer, after, answers, IsHarmlessBy, IsHarmless, IsAsSent, Line, Asked, Told, OrderClaims, CountsAgree, is_sapi, answer_lines, notices, Claims, acked, got}
 use Rattle.lapdm_window.specs.declared.Notice.TheVariants as N
-use Rattle.lapdm_window.specs.Ends.{Role, Mobile, Network, EndState, start}
-use Rattle.lapdm_window.specs.Calls.{Call}
-use Rattle.lapdm_link.specs.Events.{Event, Deliver, Why, other}
-use Rattle.lapdm_link.specs.Worlds.{World, start_on, refusal, answer, after, answers, IsHarmlessBy, IsHarmless}
-use Rattle.lapdm_link.specs.Ways.{IsAsSent}
 use Rattle.lapdm_link.specs.Claims as C
-use Rattle.lapdm_link.specs.Claims.{Line, Asked, Told, OrderClaims, CountsAgree, is_sapi, answer_lines, notices, Claims, acked, got}
 use Rattle.lapdm_link.proofs.Queues.{is_on, content_of, content_on, contents_on, AllOf, IsOf, contents-own, contents-else}
 use Rattle.lapdm_link.proofs.Views.{end_of, way, rest, without_first, acted, said, is_end, by_link, other_is, link_else, end_does, end_does-else, way_does, calls-own, calls-else, notices-own, notices-else}
 use Rattle.lapdm_link.proofs.ByKind.{KnowsBy, by_kind}
@@ -94,7 +80,11 @@ sides h g k l = cc
 module _ (v : World) (ls : List Line) (a : Act) (own : AllOf (IsOf a.sapi) a.does.frames) where
   here : side a.role a.sapi (acted_by a v) (ls ++ lines a) ≡ L.after a (side a.role a.sapi v ls)
   here = sides (end_does a.role a.sapi a.does v)
-      (rw (way_does a.role a.sapi a.does v, filter_map-append (content_on a.sapi) (way a.role v), contents-own a.sapi a.does.frames own) refl)
+      (rw (
+        way_does a.role a.sapi a.does v,
+        filter_map-append (content_on a.sapi) (way a.role v),
+        contents-own a.sapi a.does.frames own,
+      ) refl)
       (calls-own a.role a.sapi ls a.rivals a.asks a.does.notices) (notices-own a.role a.sapi ls a.rivals a.asks a.does.notices)
 
   out-else : (r' r : Role) (s : Sapi) → is_end r s r' a.sapi ≡ false →
@@ -107,7 +97,8 @@ module _ (v : World) (ls : List Line) (a : Act) (own : AllOf (IsOf a.sapi) a.doe
 
   elsewhere : (r : Role) (s : Sapi) → is_end r s a.role a.sapi ≡ false → side r s (acted_by a v) (ls ++ lines a) ≡ side r s v ls
   elsewhere r s n = sides (end_does-else a.role a.sapi a.does v r s n) (out-else a.role r s n)
-      (calls-else a.role a.sapi ls a.rivals a.asks a.does.notices r s n) (notices-else a.role a.sapi ls a.rivals a.asks a.does.notices r s n)
+      (calls-else a.role a.sapi ls a.rivals a.asks a.does.notices r s n)
+      (notices-else a.role a.sapi ls a.rivals a.asks a.does.notices r s n)
 
   links-act : {x y : Side} → side a.role a.sapi v ls ≡ x → side (other a.role) a.sapi v ls ≡ y →
       IsLink a.role (other a.role) a.sapi (L.after a x) y (ls ++ lines a) →
@@ -206,8 +197,8 @@ goes w ls event harmless h =
     (λ r s call placed ok. (let x = h.reported r s in
     acts ls w (called placed (is_called (end_of r s w) x.end call ok)) x.role x.sapi refl refl (h.links r s) (λ t n. h.links r t)))
     (λ r s f on known. (let x = h.reported r s in
-    acts ls (without_first (other r) w) (took (comes-first s f (way (other r) w) on known) (taken-frame (end_of r s w) x.end f)) x.role x.sapi
-    (left-here r s w ls) (left-there r s w ls) (h.links r s) (λ t n. first_lost r t w ls (h.links r t))))
+    acts ls (without_first (other r) w) (took (comes-first s f (way (other r) w) on known) (taken-frame (end_of r s w) x.end f)) x.role
+    x.sapi (left-here r s w ls) (left-there r s w ls) (h.links r s) (λ t n. first_lost r t w ls (h.links r t))))
     (λ sender g. (rw append-nil (lost sender w ls h.links), tt, tt))
     (λ info ok. (let x = h.reported Mobile Zero in acts ls w rival x.role x.sapi refl refl (h.links Mobile Zero) (λ t n. h.links Mobile t)))
     event (as_sent (refusal event w) event w harmless)
@@ -231,8 +222,10 @@ session-run [] w ls harmless h = (w, rw append-nil h)
 session-run (event ∷ events) w ls harmless h =
     rw (← append_assoc) (session-run events (after event w) _ harmless.1 (session-step w ls event harmless.0 h))
 
-start-link : (r q : Role) (s : Sapi) (channel : Channel) →
-    (let first : Role → Side = λ p. record { end = start p s channel; out = []; asked = []; told = [] } in IsLink r q s (first r) (first q) [])
+abbrev first : Role → Sapi → Channel → Side
+first r s channel = record { end = start r s channel; out = []; asked = []; told = [] }
+
+start-link : (r q : Role) (s : Sapi) (channel : Channel) → IsLink r q s (first r s channel) (first q s channel) []
 start-link r q s channel = link (record { there = start-direction; back = start-direction }) (record { some = none })
     (record { some = none }) (tt, tt) (tt, tt)
 

@@ -1,21 +1,6 @@
 -- Parts of a world after one of them changed, and of lines after more of them.
-use Rattle.std.proofs.Common.{◌≡◌, refl, sym, Bool, true, false, ◌&&◌, List, [], ◌∷◌, ◌++◌, map, drop, Option, None}
-use Rattle.std.proofs.lemmas.List.{append-nil}
-use Rattle.std.specs.List.{filter_map}
-use Rattle.std.proofs.lemmas.List.Elements.{filter_map-append}
-use Rattle.std.proofs.lemmas.Bool.{false≢true}
-use Rattle.lapdm_frame.specs.declared.Channel.{Channel}
-use Rattle.lapdm_frame.specs.Content.{Frame}
-use Rattle.segmenting.specs.Pieces.{Message}
-use Rattle.lapdm_window.specs.declared.Sapi.{Sapi}
-use Rattle.lapdm_window.specs.declared.Sapi.TheVariants.{Zero, Three}
-use Rattle.lapdm_window.specs.declared.Notice.{Notice}
-use Rattle.lapdm_window.specs.Ends.{Role, Mobile, Network, EndState, Outcome, start}
-use Rattle.lapdm_window.specs.Calls.{Call}
+use Rattle.lapdm_link.proofs.Words.{◌≡◌, refl, sym, Bool, true, false, ◌&&◌, List, [], ◌∷◌, ◌++◌, map, drop, Option, None, append-nil, filter_map, filter_map-append, false≢true, Channel, Frame, Message, Sapi, Zero, Three, Notice, Role, Mobile, Network, EndState, Outcome, start, Call, other, end_in, with_end_in, World, start_on, Line, Asked, Rivals, Told, is_role, is_sapi, call_in, notice_in, calls, notices}
 use Rattle.lapdm_link.specs.Ways as W
-use Rattle.lapdm_link.specs.Events.{other, end_in, with_end_in}
-use Rattle.lapdm_link.specs.Worlds.{World, start_on}
-use Rattle.lapdm_link.specs.Claims.{Line, Asked, Rivals, Told, is_role, is_sapi, call_in, notice_in, calls, notices}
 
 -- the words on ways, of a whole session
 abbrev pub rest : {T : Type 0} → List T → List T
