@@ -1,5 +1,5 @@
 -- What an end does at a call that is not refused: what it tells and sends, and that both directions are kept.
-use Rattle.std.proofs.Common.{◌≡◌, refl, sym, ◌∙◌, ap, subst, arith, ℕ, ◌+◌, ◌≤◌, max, Bool, true, false, not, if◌then◌else◌, nat_eq, nat_lt, List, [], ◌∷◌, ◌++◌, length, Some, None, inl, inr}
+use Rattle.std.proofs.Common.{◌≡◌, refl, sym, ap, subst, arith, ℕ, ◌+◌, ◌≤◌, max, Bool, true, false, not, if◌then◌else◌, nat_eq, nat_lt, List, [], ◌∷◌, ◌++◌, length, Some, None, inl, inr}
 use Rattle.std.specs.Prelude.{◌⊎◌}
 use Rattle.std.specs.List.{filter_map}
 use Rattle.std.proofs.lemmas.List.{append-nil}
@@ -11,6 +11,7 @@ use Rattle.segmenting.specs.Pieces.{Message, Piece, IsMessage}
 use Rattle.lapdm_window.specs.declared.State.{State}
 use Rattle.lapdm_window.specs.declared.State.TheVariants as S
 use Rattle.lapdm_window.specs.declared.Reason.TheVariants as R
+use Rattle.lapdm_window.specs.declared.Notice.{Notice}
 use Rattle.lapdm_window.specs.declared.Refused.TheVariants as No
 use Rattle.lapdm_window.specs.Ends.{EndState, Outcome, KeepsWindow, sends_frame, waits, awaits, awaits_in, all_pieces, n200}
 use Rattle.lapdm_window.specs.Rules.{is_open, sends_next}
@@ -78,26 +79,33 @@ taken-both : (m : Message) {x y : EndState} {out comes hears : List Content} →
 taken-both m {x} h = record { there = rw (all_pieces-taken x m) (more_pieces _ h.there); back = h.back }
 
 module _ (x : EndState) (w : KeepsWindow x) where
+  -- what it keeps changes, and no message is taken
+  moves : (call : Call) (s : State) (k : Message) (r : ℕ) (fs : List Frame) (ns : List Notice) → filter_map sent_in (call ∷ []) ≡ [] →
+      (let z : EndState = record x { state = s; kept = k; retries = r } in
+      let o : Outcome = record { after = z; frames = fs; notices = ns } in Tells (asked (Some call) (known x)) ns (known z) →
+      filter_map unit_got_in ns ≡ [] → filter_map opened_in ns ≡ [] → LeftBy call x z → AllFrames (Asks call z) x.sapi fs →
+      filter_map unit_in (contents fs) ≡ filter_map unit_sent_in (call ∷ []) →
+      ((y : EndState) (out comes : List Content) → IsBoth z y out comes comes → After o y out comes comes) → IsCalled x call o)
+  moves call s k r fs ns none tells reports opened left frames units keeps = record {
+    link = record { role = refl; sapi = refl; channel = refl };
+    end = record { messages = w.messages; sent = w.sent; behind = w.behind; window = w.window };
+    tells = tells;
+    taken = rw (none, append-nil) refl;
+    left = left;
+    frames = frames;
+    units = units;
+    reports = reports;
+    opened = opened;
+    keeps = λ y out comes h. keeps y out comes (moved s k x.rejecting r h);
+  }
+
   -- one frame without numbers
   one_frame : (call : Call) (s : State) (k : Message) (r : ℕ) (f : Frame) → filter_map sent_in (call ∷ []) ≡ [] →
-      (let z : EndState = record x { state = s; kept = k; retries = r } in known z ≡ asked (Some call) (known x) → LeftBy call x z → AllFrames (Asks call z) x.sapi (f ∷ []) →
-      AllOf IsPlain (contents (f ∷ [])) → filter_map unit_in (contents (f ∷ [])) ≡ filter_map unit_sent_in (call ∷ []) →
-      IsCalled x call (sends_frame f z))
-  one_frame call s k r f none told left asks plain units =
-      let z : EndState = record x { state = s; kept = k; retries = r } in
-      let taken : x.taken ≡ x.taken ++ filter_map sent_in (call ∷ []) = sym (append-nil x.taken) ∙ ap (λ ms. x.taken ++ ms) (sym none) in
-      record {
-        link = record { role = refl; sapi = refl; channel = refl };
-        end = record { messages = w.messages; sent = w.sent; behind = w.behind; window = w.window };
-        tells = told;
-        taken = taken;
-        left = left;
-        frames = asks;
-        units = units;
-        reports = refl;
-        opened = refl;
-        keeps = λ y out comes h. sends_plain (contents (f ∷ [])) plain (moved s k x.rejecting r h);
-      }
+      (let z : EndState = record x { state = s; kept = k; retries = r } in known z ≡ asked (Some call) (known x) → LeftBy call x z →
+      AllFrames (Asks call z) x.sapi (f ∷ []) → AllOf IsPlain (contents (f ∷ [])) →
+      filter_map unit_in (contents (f ∷ [])) ≡ filter_map unit_sent_in (call ∷ []) → IsCalled x call (sends_frame f z))
+  one_frame call s k r f none told left asks plain units = moves call s k r (f ∷ []) [] none told refl refl left asks units
+      (λ y out comes h. sends_plain (contents (f ∷ [])) plain h)
 
   begins : x.state ≡ S.Idle → record (known x) { stage = 0 } ≡ known x
   begins is_now = ap (λ s. record (known x) { stage = stage_of s }) (sym is_now)
@@ -111,39 +119,17 @@ module _ (x : EndState) (w : KeepsWindow x) where
       (inl refl, (e, refl), tt) (tt, tt) refl
   again S.Closing e due = one_frame Ticks x.state x.kept (x.retries + 1) (repeated S.Closing x) refl refl (inr (refl, inl refl))
       (inl refl, tt, tt) (tt, tt) refl
-  again S.Open e due =
-      let z : EndState = record x { retries = x.retries + 1 } in
-      record {
-        link = record { role = refl; sapi = refl; channel = refl };
-        end = record { messages = w.messages; sent = w.sent; behind = w.behind; window = w.window };
-        tells = refl;
-        taken = sym (append-nil x.taken);
-        left = inr (refl, inl refl);
-        frames = (inl refl, (three_bits x.acked, three_bits (length x.accepted), (x.acked, waits_within x w due, refl)), tt);
-        units = refl;
-        reports = refl;
-        opened = refl;
-        keeps = λ y out comes h.
-            piece_sent true (waits_for_one (is_waiting x due) h.there) (moved x.state x.kept x.rejecting (x.retries + 1) h);
-      }
+  again S.Open e due = moves Ticks x.state x.kept (x.retries + 1) _ [] refl refl refl refl (inr (refl, inl refl))
+      (inl refl, (three_bits x.acked, three_bits (length x.accepted), (x.acked, waits_within x w due, refl)), tt) refl
+      (λ y out comes h. piece_sent true (waits_for_one (is_waiting x due) h.there) h)
 
   live : (s : State) → awaits_in s (waits x) ≡ true → stage_of s ≤ 2
   live S.Closed due = absurd (false≢true due)
   live s due = omega arith
 
   given_up : stage_of x.state ≤ 2 → IsCalled x Ticks (becomes_closed R.Failed x)
-  given_up may = record {
-    link = record { role = refl; sapi = refl; channel = refl };
-    end = record { messages = w.messages; sent = w.sent; behind = w.behind; window = w.window };
-    tells = (may, refl);
-    taken = sym (append-nil x.taken);
-    left = inr (refl, inr (inl refl));
-    frames = tt;
-    units = refl;
-    reports = refl;
-    opened = refl;
-    keeps = λ y out comes h. quiet (moved S.Closed x.kept x.rejecting x.retries h);
-  }
+  given_up may = moves Ticks S.Closed x.kept x.retries [] _ refl (may, refl) refl refl (inr (refl, inr (inl refl))) tt refl
+      (λ y out comes h. quiet h)
 
   ticks : (b : Bool) → awaits_in x.state (waits x) ≡ true →
       IsCalled x Ticks (if b then sends_frame (repeated x.state x) (record x { retries = x.retries + 1 }) else becomes_closed R.Failed x)
@@ -164,7 +150,8 @@ module _ (x : EndState) (w : KeepsWindow x) where
         frames = frames-as (SaysWell (all_pieces mid)) (Asks (Sends m) (sends_next mid).after)
             (well-asked (Sends m) mid (sends_next mid).after (ap all_pieces i.same)) x.sapi
             (sends_next mid).frames i.frames;
-        units = no-units _ (frames-say (SaysWell (all_pieces mid)) (λ c. unit_in c ≡ None) (well-no_unit (all_pieces mid)) x.sapi _ i.frames);
+        units = no-units _
+            (frames-say (SaysWell (all_pieces mid)) (λ c. unit_in c ≡ None) (well-no_unit (all_pieces mid)) x.sapi _ i.frames);
         reports = i.of_open.0;
         opened = i.of_open.1;
         keeps = λ y out comes h. keeps-sends_next (taken-both m h);
@@ -190,8 +177,8 @@ module _ (x : EndState) (w : KeepsWindow x) where
   is_called Closes ok =
       let is_now : x.state ≡ S.Open = is_open-is x.state (not_false (is_open x.state) (passes (not
       (is_open x.state)) No.NotOpen [] ok).no) in
-      one_frame Closes S.Closing x.kept 0 _ refl (ap (λ s. record (known x) { stage = max 2 (stage_of s) }) (sym is_now)) (inr (refl, inr (inr (is_now, refl))))
-      (inl refl, tt, tt) (tt, tt) refl
+      one_frame Closes S.Closing x.kept 0 _ refl (ap (λ s. record (known x) { stage = max 2 (stage_of s) }) (sym is_now))
+      (inr (refl, inr (inr (is_now, refl)))) (inl refl, tt, tt) (tt, tt) refl
   is_called Ticks ok = ticks (nat_lt x.retries (n200 x.channel x.state)) (not_false (awaits x) (passes (not
       (awaits x)) No.NotRunning [] ok).no)
   is_called Idles ok = one_frame Idles x.state x.kept x.retries _ refl refl (inr (refl, inl refl))

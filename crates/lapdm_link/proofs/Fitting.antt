@@ -1,6 +1,7 @@
 -- Every frame on its way can be written.
-use Rattle.std.proofs.Common.{◌≡◌, sym, subst, List, [], ◌∷◌, ◌++◌, drop, None, All, refl, ◌∙◌, ap, arith, false, nat_eq, nat_lt, length, ◌≤◌, Bool, true, if◌then◌else◌, Option, Some}
-use Rattle.std.proofs.lemmas.List.Elements.{All-nil, All-cons, All-head, All-tail}
+use Rattle.std.proofs.Common.{◌≡◌, sym, subst, List, [], ◌∷◌, ◌++◌, None, All, refl, ◌∙◌, ap, arith, false, nat_eq, nat_lt, length, ◌≤◌, Bool, true, if◌then◌else◌, Option, Some}
+use Rattle.std.proofs.lemmas.List.Elements.{All-nil, All-cons, All-head, All-tail, All-append, All-drop}
+use Rattle.std.proofs.Math.Seq.{drop-append_seam}
 use Rattle.lapdm_frame.specs.declared.Channel.{Channel}
 use Rattle.lapdm_frame.specs.Content.{Frame}
 use Rattle.segmenting.specs.Pieces.{Message}
@@ -9,7 +10,7 @@ use Rattle.lapdm_window.specs.Ends.{Role, Mobile, Network, EndState, Outcome, st
 use Rattle.lapdm_window.specs.Calls.{Call, refusal_of, after_call, Opens, OpensBare, HasCall}
 use Rattle.lapdm_window.specs.Tables.{after_frame}
 use Rattle.lapdm_link.specs.Events.{Event, other, rival_frame, rival_refusal, Open, OpenBare, Ask, Deliver, Ends, end_in, sender_of, Deed, does, does_nothing, deed, call_of, End, taken, Why}
-use Rattle.lapdm_link.specs.Worlds.{World, start_on, refusal, answer, after, answer_by, next, after_by, answers, IsReadable, IsSendable}
+use Rattle.lapdm_link.specs.Worlds.{World, start_on, refusal, answer, after, answer_by, after_by, answers, IsReadable, IsSendable}
 use Rattle.lapdm_link.specs.Claims.{Line, Rivals, answer_lines}
 use Rattle.lapdm_link.proofs.Views.{end_of, way, without_first, with_frames, acted, said, each_end, each_way, each_lost, each_start, end_does, end_does-else, way_does, way_does-other}
 use Rattle.lapdm_link.proofs.ByKind.{IsPlaced, KnowsBy, by_kind}
@@ -24,62 +25,37 @@ use Rattle.lapdm_window.specs.declared.Refused.TheVariants as No
 
 -- ---- what holds of each end and of each frame on its way, step by step
 
-abbrev pub AllOf : {T : Type 0} → (T → Type 0) → List T → Type 0
-AllOf P [] = Unit {0}
-AllOf P (x ∷ xs) = P x × AllOf P xs
-
-module _ {T : Type 0} (P : T → Type 0) where
-  pub of-append : (xs ys : List T) → AllOf P xs → AllOf P ys → AllOf P (xs ++ ys)
-  of-append [] ys h g = g
-  of-append (x ∷ xs) ys h g = (h.0, of-append xs ys h.1 g)
-
-  pub of-rest : (xs : List T) → AllOf P xs → AllOf P (drop 1 xs)
-  of-rest [] h = tt
-  of-rest (x ∷ xs) h = h.1
-
-  pub of-later : (xs ys : List T) → AllOf P (xs ++ ys) → AllOf P ys
-  of-later [] ys h = h
-  of-later (x ∷ xs) ys h = of-later xs ys h.1
-
-  pub of-all : (xs : List T) → All P xs → AllOf P xs
-  of-all [] h = tt
-  of-all (x ∷ xs) h = (All-head P x xs h, of-all xs (All-tail P x xs h))
-
-  pub all-of : (xs : List T) → AllOf P xs → All P xs
-  all-of [] h = All-nil P
-  all-of (x ∷ xs) h = All-cons P x xs h.0 (all-of xs h.1)
-
 module _ (E : Sapi → EndState → Type 0) (F : Frame → Type 0) where
   pub record Holds (channel : Channel) (w : World) : Type 0 where
     pub on_channel : w.channel ≡ channel
     pub ends : (r : Role) (s : Sapi) → E s (end_of r s w)
-    pub ways : (r : Role) → AllOf F (way r w)
+    pub ways : (r : Role) → All F (way r w)
 
-  acts : (channel : Channel) (r : Role) (s : Sapi) (o : Outcome) (w : World) → Holds channel w → E s o.after × AllOf F o.frames →
+  acts : (channel : Channel) (r : Role) (s : Sapi) (o : Outcome) (w : World) → Holds channel w → E s o.after × All F o.frames →
       Holds channel (acted r s o w)
   acts channel r s o w h g = record {
     on_channel = h.on_channel;
     ends = each_end (λ r' s'. E s' (end_of r' s' (acted r s o w))) r s
         (subst (E s) (sym (end_does r s o w)) g.0)
         (λ r' s' n. subst (E s') (sym (end_does-else r s o w r' s' n)) (h.ends r' s'));
-    ways = each_way (λ r'. AllOf F (way r' (acted r s o w))) r
-        (subst (AllOf F) (sym (way_does r s o w)) (of-append F (way r w) o.frames (h.ways r) g.1))
-        (subst (AllOf F) (sym (way_does-other r s o w)) (h.ways (other r)));
+    ways = each_way (λ r'. All F (way r' (acted r s o w))) r
+        (subst (All F) (sym (way_does r s o w)) (All-append F (way r w) o.frames (h.ways r) g.1))
+        (subst (All F) (sym (way_does-other r s o w)) (h.ways (other r)));
   }
 
   lost : (channel : Channel) (w : World) → Holds channel w → (sender : Role) → Holds channel (without_first sender w)
   lost channel w h sender = record {
     on_channel = h.on_channel;
     ends = h.ends;
-    ways = each_lost (λ r fs. AllOf F fs) (λ r fs g. of-rest F fs g) sender w h.ways;
+    ways = each_lost (λ r fs. All F fs) (λ r fs g. All-drop F 1 fs g) sender w h.ways;
   }
 
   -- where it holds of what each end does, at calls whose lines are such, and at frames of which such is known
   pub holds-step : (Says : List Line → Type 0) (Known : Role → Frame → Type 0) (channel : Channel) (w : World) → Holds channel w →
       ((r : Role) (s : Sapi) (call : Call) → IsPlaced r s call → refusal_of call (end_of r s w) ≡ None →
-      (let o : Outcome = after_call call (end_of r s w) in Says (said r s (call ∷ []) o.notices) → E s o.after × AllOf F o.frames)) →
+      (let o : Outcome = after_call call (end_of r s w) in Says (said r s (call ∷ []) o.notices) → E s o.after × All F o.frames)) →
       ((r : Role) (s : Sapi) (f : Frame) → Known (other r) f →
-      (let o : Outcome = after_frame f (end_of r s w) in E s o.after × AllOf F o.frames)) →
+      (let o : Outcome = after_frame f (end_of r s w) in E s o.after × All F o.frames)) →
       ((info : Message) → rival_refusal w.channel info ≡ None → Says (Rivals info ∷ []) → F (rival_frame info)) →
       (event : Event) → KnowsBy (refusal event w) Known event → Says (answer_lines event (answer event w)) → Holds channel (after event w)
   holds-step Says Known channel w h called taken rival event known =
@@ -91,17 +67,17 @@ module _ (E : Sapi → EndState → Type 0) (F : Frame → Type 0) where
       (λ info ok l. record {
         on_channel = h.on_channel;
         ends = h.ends;
-        ways = each_way (λ r. AllOf F (way r (with_frames Mobile (rival_frame info ∷ []) w))) Mobile
-            (of-append F w.ways.up (rival_frame info ∷ []) (h.ways Mobile) (rival info ok l, tt)) (h.ways Network);
+        ways = each_way (λ r. All F (way r (with_frames Mobile (rival_frame info ∷ []) w))) Mobile
+            (All-append F w.ways.up (rival_frame info ∷ []) (h.ways Mobile) (All-cons F _ [] (rival info ok l) (All-nil F))) (h.ways Network);
       })
       event known
 
   pub holds-start : (channel : Channel) → ((r : Role) (s : Sapi) → E s (start r s channel)) → Holds channel (start_on channel)
-  holds-start channel h = record { on_channel = λ i. channel; ends = each_start (λ r s e. E s e) channel h; ways = none }
-    where
-      none : (r : Role) → AllOf F (way r (start_on channel))
-      none Mobile = tt
-      none Network = tt
+  holds-start channel h = record {
+    on_channel = refl;
+    ends = each_start (λ r s e. E s e) channel h;
+    ways = each_way (λ r. All F (way r (start_on channel))) Mobile (All-nil F) (All-nil F);
+  }
 
 -- an end of this channel and link
 pub record FitsEnd (channel : Channel) (s : Sapi) (e : EndState) : Type 0 where
@@ -110,7 +86,7 @@ pub record FitsEnd (channel : Channel) (s : Sapi) (e : EndState) : Type 0 where
   pub end : IsEnd e
 
 abbrev pub AllFit : Channel → List Frame → Type 0
-AllFit channel fs = AllOf (Fits channel) fs
+AllFit channel fs = All (Fits channel) fs
 
 -- of all ends and ways
 abbrev pub IsFitting : Channel → World → Type 0
@@ -126,7 +102,7 @@ fits-kept : (channel : Channel) (s : Sapi) (e : EndState) (o : Outcome) → Fits
     FitsEnd channel s o.after × AllFit channel o.frames
 fits-kept channel s e o h g = (
   record { on_channel = g.channel ∙ h.on_channel; on_sapi = g.sapi ∙ h.on_sapi; end = g.end },
-  of-all (Fits channel) o.frames (subst (λ (c : Channel). All (Fits c) o.frames) h.on_channel g.frames),
+  subst (λ (c : Channel). All (Fits c) o.frames) h.on_channel g.frames,
 )
 
 rival_fits : (channel : Channel) (w : World) (info : Message) → w.channel ≡ channel → rival_refusal w.channel info ≡ None →
@@ -152,42 +128,17 @@ pub start-fits : (channel : Channel) → IsFitting channel (start_on channel)
 start-fits channel = holds-start (FitsEnd channel) (Fits channel) channel
     (λ r s. record { on_channel = refl; on_sapi = refl; end = IsEnd-start r s channel })
 
--- ---- a step gives at most two frames and two notices, and each frame fits its channel
-
-record IsFew (d : Deed) : Type 0 where
-  frames : length d.frames ≤ 2
-  notices : length d.notices ≤ 2
-
-few-does : (r : Role) (s : Sapi) {x : EndState} (o : Outcome) (es : Ends) → AtMost 2 2 x o → IsFew (does r s o es)
-few-does r s o es h = record { frames = h.frames; notices = h.notices }
-
-few-takes : (r : Role) (f : Frame) (es : Ends) (zero three : Bool) →
-    IsFew (if zero then does r Zero (after_frame f (end_in r Zero es)) es else
-    (if three then does r Three (after_frame f (end_in r Three es)) es else does_nothing (End r) es))
-few-takes r f es true three = few-does r Zero _ es (few-frame f (end_in r Zero es))
-few-takes r f es false true = few-does r Three _ es (few-frame f (end_in r Three es))
-few-takes r f es false false = record { frames = omega arith; notices = omega arith }
-
-few-deed : (event : Event) (es : Ends) → IsFew (deed event es)
-few-deed (Open info) es = few-does Mobile Zero _ es (few-call (Opens info) (end_in Mobile Zero es))
-few-deed (OpenBare r) es = few-does r Three _ es (few-call OpensBare (end_in r Three es))
-few-deed (Ask r s request) es = few-does r s _ es (few-call (call_of request) (end_in r s es))
-few-deed (Deliver sender (Some f)) es = few-takes (other sender) f es (nat_eq f.sapi 0) (nat_eq f.sapi 3)
-few-deed event es = record { frames = omega arith; notices = omega arith }
-
 -- what holds of all frames on their way holds of those that went out
-way_more : (r : Role) (fs : List Frame) (ws : Ways Frame) → W.way r (with_more r fs ws) ≡ W.way r ws ++ fs
-way_more Mobile fs ws = refl
-way_more Network fs ws = refl
+went_out : (F : Frame → Type 0) (r : Role) (fs : List Frame) (ws : Ways Frame) →
+    ((r' : Role) → All F (W.way r' (with_more r fs ws))) → All F fs
+went_out F Mobile fs ws h = subst (All F) (drop-append_seam ws.up fs) (All-drop F (length ws.up) (ws.up ++ fs) (h Mobile))
+went_out F Network fs ws h = subst (All F) (drop-append_seam ws.down fs) (All-drop F (length ws.down) (ws.down ++ fs) (h Network))
 
 pub deed-holds : (E : Sapi → EndState → Type 0) (F : Frame → Type 0) (channel : Channel) (w : World) (event : Event) (o : Option Why) →
-    o ≡ None → Holds E F channel (after_by o event w) → AllOf F (deed event w.ends).frames
+    o ≡ None → Holds E F channel (after_by o event w) → All F (deed event w.ends).frames
 deed-holds E F channel w event o none h =
-    let d : Deed = deed event w.ends in
-    let g : Holds E F channel (next d (record w { ways = taken event w.ways })) =
-    subst (λ (q : Option Why). Holds E F channel (after_by q event w)) none h in
-    of-later F (W.way (sender_of d.who) (taken event w.ways)) d.frames
-    (subst (AllOf F) (way_more (sender_of d.who) d.frames (taken event w.ways)) (g.ways (sender_of d.who)))
+    let g : Holds E F channel (after_by None event w) = subst (λ (q : Option Why). Holds E F channel (after_by q event w)) none h in
+    went_out F (sender_of (deed event w.ends).who) (deed event w.ends).frames (taken event w.ways) g.ways
 
 -- the frames of a deed fit, where what is read does
 pub deed-fits : (channel : Channel) (w : World) (event : Event) → KnowsBy (refusal event w)
@@ -196,26 +147,44 @@ pub deed-fits : (channel : Channel) (w : World) (event : Event) → KnowsBy (ref
 deed-fits channel w event known h none =
     deed-holds (FitsEnd channel) (Fits channel) channel w event (refusal event w) none (fits-step channel w event known h)
 
+-- ---- a step gives at most two frames and two notices, and each frame fits its channel
+
+abbrev IsFew : Deed → Type 0
+IsFew d = (length d.frames ≤ 2) × (length d.notices ≤ 2)
+
+few-does : (r : Role) (s : Sapi) {x : EndState} (o : Outcome) (es : Ends) → AtMost 2 2 x o → IsFew (does r s o es)
+few-does r s o es h = (h.frames, h.notices)
+
+few-takes : (r : Role) (f : Frame) (es : Ends) (zero three : Bool) →
+    IsFew (if zero then does r Zero (after_frame f (end_in r Zero es)) es else
+    (if three then does r Three (after_frame f (end_in r Three es)) es else does_nothing (End r) es))
+few-takes r f es true three = few-does r Zero _ es (few-frame f (end_in r Zero es))
+few-takes r f es false true = few-does r Three _ es (few-frame f (end_in r Three es))
+few-takes r f es false false = (omega arith, omega arith)
+
+few-deed : (event : Event) (es : Ends) → IsFew (deed event es)
+few-deed (Open info) es = few-does Mobile Zero _ es (few-call (Opens info) (end_in Mobile Zero es))
+few-deed (OpenBare r) es = few-does r Three _ es (few-call OpensBare (end_in r Three es))
+few-deed (Ask r s request) es = few-does r s _ es (few-call (call_of request) (end_in r s es))
+few-deed (Deliver sender (Some f)) es = few-takes (other sender) f es (nat_eq f.sapi 0) (nat_eq f.sapi 3)
+few-deed event es = (omega arith, omega arith)
+
 sendable : (channel : Channel) (w : World) (event : Event) (o : Option Why) → IsFitting channel (after_by o event w) →
     IsSendable channel (answer_by o (deed event w.ends))
 sendable channel w event (Some why) h = tt
-sendable channel w event None h = (
-  (few-deed event w.ends).frames,
-  all-of (Fits channel) _ (deed-holds (FitsEnd channel) (Fits channel) channel w event None refl h),
-  (few-deed event w.ends).notices,
-)
+sendable channel w event None h =
+    let few : IsFew (deed event w.ends) = few-deed event w.ends in
+    (few.0, deed-holds (FitsEnd channel) (Fits channel) channel w event None refl h, few.1)
 
-readable : (channel : Channel) (event : Event) (o : Option Why) → IsReadable channel event → KnowsBy o (λ sender f. Fits channel f) event
-readable channel event (Some why) h = tt
-readable channel (Deliver sender (Some f)) None h = h
-readable channel (Deliver sender None) None h = tt
-readable channel event None h = tt
+readable : (channel : Channel) (o : Option Why) (event : Event) → IsReadable channel event → KnowsBy o (λ sender f. Fits channel f) event
+readable channel None (Deliver sender (Some f)) h = h
+readable channel o event h = tt
 
 small-run : (channel : Channel) (events : List Event) (w : World) → All (IsReadable channel) events → IsFitting channel w →
     All (IsSendable channel) (answers events w)
 small-run channel [] w h fit = All-nil (IsSendable channel)
 small-run channel (event ∷ events) w h fit =
-    let known = readable channel event (refusal event w) (All-head (IsReadable channel) event events h) in
+    let known = readable channel (refusal event w) event (All-head (IsReadable channel) event events h) in
     let fit' : IsFitting channel (after event w) = fits-step channel w event known fit in
     All-cons (IsSendable channel) (answer event w) (answers events (after event w)) (sendable channel w event (refusal event w) fit')
     (small-run channel events (after event w) (All-tail (IsReadable channel) event events h) fit')

@@ -1,8 +1,8 @@
 -- Where messages are octets, so is what every frame on its way carries.
-use Rattle.std.proofs.Common.{◌≡◌, sym, ap, subst, arith, ℕ, zero, suc, ◌<◌, Bool, false, List, [], ◌∷◌, length, drop, get_or, None, All, inl, inr}
+use Rattle.std.proofs.Common.{◌≡◌, sym, ap, subst, ℕ, zero, suc, ◌<◌, Bool, false, List, [], ◌∷◌, length, drop, get_or, None, All, inl, inr}
 use Rattle.std.specs.Prelude.{◌⊎◌}
 use Rattle.std.specs.List.{filter_map, flat_map}
-use Rattle.std.proofs.lemmas.List.Elements.{All-nil, All-take, All-drop}
+use Rattle.std.proofs.lemmas.List.Elements.{All-nil, All-cons, All-head, All-tail, All-append, All-take, All-drop}
 use Rattle.lapdm_frame.specs.declared.Channel.{Channel}
 use Rattle.lapdm_frame.specs.Layout.{n201}
 use Rattle.lapdm_frame.specs.Content.{Content, I, Sabm, Ui, Ua, Frame, information}
@@ -20,7 +20,7 @@ use Rattle.lapdm_link.proofs.Taking.{Answers, OpensBy, Remains, IsOpenedBy, IsTa
 use Rattle.lapdm_link.proofs.Asked.{Asks, LeftBy, IsCalled, is_called}
 use Rattle.lapdm_link.proofs.ByKind.{KnowsBy}
 use Rattle.lapdm_link.proofs.Order.{AllReported}
-use Rattle.lapdm_link.proofs.Fitting.{AllOf, of-append, Holds, holds-step, holds-start}
+use Rattle.lapdm_link.proofs.Fitting.{Holds, holds-step, holds-start}
 
 abbrev pub AreOctets : List ℕ → Type 0
 AreOctets m = All (λ octet. octet < 256) m
@@ -39,10 +39,10 @@ LineOctets (Rivals info ∷ ls) = AreOctets info × LineOctets ls
 LineOctets (Told r s n ∷ ls) = LineOctets ls
 
 abbrev pub AllMessages : List Message → Type 0
-AllMessages ms = AllOf AreOctets ms
+AllMessages ms = All AreOctets ms
 
-abbrev AllPieces : List Piece → Type 0
-AllPieces ps = AllOf (λ p. AreOctets p.0) ps
+abbrev PieceOctets : Piece → Type 0
+PieceOctets p = AreOctets p.0
 
 pub record EndOctets (e : EndState) : Type 0 where
   pub kept : AreOctets e.kept
@@ -52,7 +52,7 @@ abbrev pub SaysOctets : Frame → Type 0
 SaysOctets f = AreOctets (information f.content)
 
 abbrev pub AllSay : List Frame → Type 0
-AllSay fs = AllOf SaysOctets fs
+AllSay fs = All SaysOctets fs
 
 abbrev pub WorldOctets : World → Type 0
 WorldOctets w = (channel : Channel) × Holds (λ s e. EndOctets e) SaysOctets channel w
@@ -60,25 +60,25 @@ WorldOctets w = (channel : Channel) × Holds (λ s e. EndOctets e) SaysOctets ch
 none : AreOctets []
 none = All-nil (λ octet. octet < 256)
 
+none_sent : AllMessages []
+none_sent = All-nil AreOctets
+
 -- pieces
-cut-octets : (n k : ℕ) (m : Message) → AreOctets m → AllPieces (cut n k m)
-cut-octets n zero m h = (h, tt)
-cut-octets n (suc k) m h = (All-take (λ octet. octet < 256) n m h, cut-octets n k (drop n m) (All-drop (λ octet. octet < 256) n m h))
+cut-octets : (n k : ℕ) (m : Message) → AreOctets m → All PieceOctets (cut n k m)
+cut-octets n zero m h = All-cons PieceOctets _ [] h (All-nil PieceOctets)
+cut-octets n (suc k) m h =
+    All-cons PieceOctets _ _ (All-take (λ octet. octet < 256) n m h) (cut-octets n k (drop n m) (All-drop (λ octet. octet < 256) n m h))
 
-all-octets : (n : ℕ) (ms : List Message) → AllMessages ms → AllPieces (flat_map (pieces n) ms)
-all-octets n [] h = tt
-all-octets n (m ∷ ms) h = of-append (λ (p : Piece). AreOctets p.0) (pieces n m) (flat_map (pieces n) ms) (cut-octets n _ m h.0)
-    (all-octets n ms h.1)
-
-piece-octets : (ps : List Piece) (i : ℕ) → AllPieces ps → i < length ps → AreOctets (get_or ps i ([], false)).0
-piece-octets [] i h l = absurd (omega (arith, l))
-piece-octets (p ∷ ps) zero h l = h.0
-piece-octets (p ∷ ps) (suc i) h l = piece-octets ps i h.1 (omega (arith, l))
+all-octets : (n : ℕ) (ms : List Message) → AllMessages ms → All PieceOctets (flat_map (pieces n) ms)
+all-octets n [] h = All-nil PieceOctets
+all-octets n (m ∷ ms) h =
+    All-append PieceOctets (pieces n m) (flat_map (pieces n) ms) (cut-octets n _ m (All-head AreOctets m ms h))
+    (all-octets n ms (All-tail AreOctets m ms h))
 
 carried : (x : EndState) (info : List ℕ) (more : Bool) (i : ℕ) → EndOctets x → i < length (all_pieces x) →
     get_or (all_pieces x) i ([], false) ≡ (info, more) → AreOctets info
 carried x info more i h l e =
-    subst AreOctets (ap (λ (p : Piece). p.0) e) (piece-octets (all_pieces x) i (all-octets (n201 x.channel) x.taken h.taken) l)
+    subst AreOctets (ap (λ (p : Piece). p.0) e) (all-octets (n201 x.channel) x.taken h.taken i ([], false) l)
 
 -- answers
 answer-octets : (x z : EndState) → EndOctets x → AreOctets z.kept → (c : Content) → Answers x z c → AreOctets (information c)
@@ -91,8 +91,8 @@ answer-octets x z h k other a = none
 
 frames-octets : (Says : Content → Type 0) → ((c : Content) → Says c → AreOctets (information c)) → (s : Sapi) (fs : List Frame) →
     AllFrames Says s fs → AllSay fs
-frames-octets Says octets s [] h = tt
-frames-octets Says octets s (f ∷ fs) h = (octets f.content h.1, frames-octets Says octets s fs h.2)
+frames-octets Says octets s [] h = All-nil SaysOctets
+frames-octets Says octets s (f ∷ fs) h = All-cons SaysOctets f fs (octets f.content h.1) (frames-octets Says octets s fs h.2)
 
 opens-octets : (c : Content) (x : EndState) (info : Message) → AreOctets (information c) → AreOctets x.kept → OpensBy c x info →
     AreOctets info
@@ -124,7 +124,7 @@ frame-octets f x octets e h =
 asked-octets : (call : Call) (z : EndState) → CallOctets call → EndOctets z → (c : Content) → Asks call z c → AreOctets (information c)
 asked-octets call z said h (I ns nr p more info) a = carried z info more a.2.0 h a.2.1 a.2.2
 asked-octets call z said h (Sabm p info) a = subst AreOctets a.1 h.kept
-asked-octets call z said h (Ui p info) (inl e) = (let g : CallOctets (SendsUnit info) = subst CallOctets e said in g)
+asked-octets call z said h (Ui p info) (inl e) = subst CallOctets e said
 asked-octets call z said h (Ui p info) (inr e) = subst AreOctets (sym e) none
 asked-octets call z said h (Ua f info) a = absurd a
 asked-octets call z said h other a = none
@@ -137,15 +137,15 @@ left-octets call x z said h (inl e) = absurd e.1
 left-octets call x z said h (inr e) = subst AreOctets (sym e.0) h
 
 sent-octets : (call : Call) → CallOctets call → AllMessages (filter_map sent_in (call ∷ []))
-sent-octets (Sends m) said = (said, tt)
-sent-octets call said = tt
+sent-octets (Sends m) said = All-cons AreOctets m [] said none_sent
+sent-octets call said = none_sent
 
 pub call-octets : (call : Call) (x : EndState) → CallOctets call → refusal_of call x ≡ None → KeepsWindow x → EndOctets x →
     OutcomeOctets (after_call call x)
 call-octets call x said ok e h =
     let o : Outcome = after_call call x in
     let c : IsCalled x call o = is_called x e call ok in
-    let taken : AllMessages o.after.taken = subst AllMessages (sym c.taken) (of-append AreOctets x.taken _ h.taken
+    let taken : AllMessages o.after.taken = subst AllMessages (sym c.taken) (All-append AreOctets x.taken _ h.taken
     (sent-octets call said)) in
     let end : EndOctets o.after = record { kept = left-octets call x o.after said h.kept c.left; taken = taken } in
     record { end = end; frames = frames-octets (Asks call o.after) (asked-octets call o.after said end) x.sapi o.frames c.frames }
@@ -162,4 +162,4 @@ octets-step w ls event reported known h said = (
 )
 
 pub start-octets : (channel : Channel) → WorldOctets (start_on channel)
-start-octets channel = (channel, holds-start (λ s e. EndOctets e) SaysOctets channel (λ r s. record { kept = none; taken = tt }))
+start-octets channel = (channel, holds-start (λ s e. EndOctets e) SaysOctets channel (λ r s. record { kept = none; taken = none_sent }))

@@ -1,5 +1,5 @@
 -- The claims on every session, whatever frames arrive.
-use Rattle.std.proofs.Common.{sym, List, [], ◌∷◌, ◌++◌, map, append_assoc, ◌≡◌, refl, ◌∙◌, ap, arith, ℕ, ◌+◌, ◌≤◌, length, Option, Some, None}
+use Rattle.std.proofs.Common.{sym, List, [], ◌∷◌, ◌++◌, append_assoc, ◌≡◌, refl, ◌∙◌, ap, arith, ℕ, ◌+◌, ◌≤◌, length, Option, Some, None}
 use Rattle.std.proofs.lemmas.List.{append-nil}
 use Rattle.std.proofs.lemmas.List.Elements.{All-nil}
 use Rattle.lapdm_frame.specs.declared.Channel.{Channel}
@@ -32,13 +32,6 @@ pub stand-append : (May : List Line → Line → Type 0) (before xs ys : List Li
 stand-append May before [] ys h g = rw append-nil at g
 stand-append May before (x ∷ xs) ys h g = (h.0, stand-append May (before ++ x ∷ []) xs ys h.1 (rw append_assoc g))
 
--- what an end is asked may stand anywhere
-pub stand-asked : (May : List Line → Line → Type 0) → ((b : List Line) (r : Role) (s : Sapi) (c : Call) → May b (Asked r s c)) → (r : Role)
-    (s : Sapi) (ls : List Line) (cs : List Call) (xs : List Line) → AllStand May (ls ++ map (Asked r s) cs) xs →
-    AllStand May ls (map (Asked r s) cs ++ xs)
-stand-asked May free r s ls [] xs h = rw append-nil at h
-stand-asked May free r s ls (c ∷ cs) xs h = (free ls r s c, stand-asked May free r s (ls ++ Asked r s c ∷ []) cs xs (rw append_assoc h))
-
 stands-behind : (May : List Line → Line → Type 0) (first before : List Line) (l : Line) (more : List Line) →
     AllStand May first (before ++ l ∷ more) → May (first ++ before) l
 stands-behind May first [] l more h = rw append-nil h.0
@@ -63,7 +56,8 @@ module _ {r : Role} {s : Sapi} {e : EndState} {ls : List Line} (h : IsReported r
   goes_on : (z : EndState) (new : List Line) → IsSameLink e z → KeepsWindow z → Runs r s (known e) new (known z) →
       IsReported r s z (ls ++ new)
   goes_on z new link end run =
-      let whole : Runs r s nothing (ls ++ new) (known z) = goes-append (call_in r s) (notice_in r s) ls new nothing (known e) (known z) h.run run in
+      let whole : Runs r s nothing (ls ++ new) (known z) =
+      goes-append (call_in r s) (notice_in r s) ls new nothing (known e) (known z) h.run run in
       record {
         role = link.role ∙ h.role;
         sapi = link.sapi ∙ h.sapi;
@@ -77,7 +71,7 @@ module _ {r : Role} {s : Sapi} {e : EndState} {ls : List Line} (h : IsReported r
   unseen new run = goes_on e new (record { role = refl; sapi = refl; channel = refl }) h.end run
 
   -- a notice at its place
-  pub acknowledged : (n : ℕ) (before : List Line) → StandsAfter before (Told r s (N.Acked n)) ls →
+  acknowledged : (n : ℕ) (before : List Line) → StandsAfter before (Told r s (N.Acked n)) ls →
       (n ≡ capped (length (acked r s before) + 1)) × (length (acked r s before) + 1 ≤ length (sent r s before))
   acknowledged n before place =
       let g = at_place r s ls (known e) h.run before (N.Acked n) place in

@@ -1,5 +1,5 @@
 -- What an end does at any frame: what it tells and sends, what opens it, and that both directions are kept.
-use Rattle.std.proofs.Common.{◌≡◌, refl, sym, ap, subst, arith, ◌≤◌, Bool, true, false, ◌&&◌, if◌then◌else◌, List, [], ◌∷◌, Option, Some, None, inl, inr}
+use Rattle.std.proofs.Common.{◌≡◌, refl, sym, ap, arith, ◌≤◌, Bool, true, false, ◌&&◌, if◌then◌else◌, List, [], ◌∷◌, Option, Some, None, inl, inr}
 use Rattle.std.specs.Prelude.{◌⊎◌}
 use Rattle.std.specs.Str.{bytes_eq}
 use Rattle.std.specs.List.{filter_map, cons_option}
@@ -145,7 +145,8 @@ module _ (x : EndState) (w : KeepsWindow x) where
       IsTaken c x (record { after = x; frames = fs; notices = [] })
   quietly c fs h = becomes c x.state x.kept fs [] h refl (inl (record { state = inl refl; kept = refl; none = refl })) (inl refl)
 
-  over : (c : Content) (reason : Reason) (fs : List Frame) → stage_of x.state ≤ 2 → AllFrames (Replies x (record x { state = Closed })) x.sapi fs →
+  over : (c : Content) (reason : Reason) (fs : List Frame) → stage_of x.state ≤ 2 →
+      AllFrames (Replies x (record x { state = Closed })) x.sapi fs →
       IsTaken c x (record { after = record x { state = Closed }; frames = fs; notices = N.Closed reason ∷ [] })
   over c reason fs live h = becomes c Closed x.kept fs _ h (live, refl)
       (inl (record { state = inr refl; kept = refl; none = refl })) (inl refl)
@@ -157,20 +158,13 @@ module _ (x : EndState) (w : KeepsWindow x) where
       (inr (record { info = info; notices = refl; state = refl; kept = e; cause = cause })) (inl refl)
 
   -- the tables
-  live : (s : State) → x.state ≡ s → stage_of s ≤ 2 → stage_of x.state ≤ 2
-  live s e h = omega (arith, ap stage_of e)
-
-  begun : (s : State) → x.state ≡ s → HasBegun s → HasBegun x.state
-  begun s e h = subst HasBegun (sym e) h
-
   taken-sabm_in_idle : (p : Bool) (s : Sapi) (r : Role) (info : Message) → x.state ≡ Idle → x.sapi ≡ s → x.role ≡ r →
       IsTaken (Sabm p info) x (sabm_in_idle s r info x)
   taken-sabm_in_idle p Zero Mobile info e a b = quietly _ _ (inl refl, tt, tt)
   taken-sabm_in_idle p Zero Network [] e a b = quietly _ _ tt
   taken-sabm_in_idle p Zero Network (i ∷ is) e a b = opened _ (i ∷ is) (i ∷ is) _ (ap stage_of e) refl (inl refl, inl (refl, refl), tt)
-      (refl, e, subst (λ (s : Sapi). MayOpen s x.role (i ∷ is)) (sym a) (subst (λ (r : Role). MayOpen Zero r (i ∷ is)) (sym b) tt))
-  taken-sabm_in_idle p Three r [] e a b = opened _ [] [] _ (ap stage_of e) refl (inl refl, inl (refl, refl), tt)
-      (refl, e, subst (λ (s : Sapi). MayOpen s x.role []) (sym a) tt)
+      (refl, e, rw (a, b) tt)
+  taken-sabm_in_idle p Three r [] e a b = opened _ [] [] _ (ap stage_of e) refl (inl refl, inl (refl, refl), tt) (refl, e, rw a tt)
   taken-sabm_in_idle p Three r (i ∷ is) e a b = quietly _ _ tt
 
   taken-dm_to_poll : (poll : Bool) (c : Content) → IsTaken c x (dm_to_poll poll x)
@@ -183,7 +177,7 @@ module _ (x : EndState) (w : KeepsWindow x) where
   taken-in_idle poll other e = taken-dm_to_poll poll other
 
   taken-sabm_in_opening : (p : Bool) (s : Sapi) (info : Message) → x.state ≡ Opening → IsTaken (Sabm p info) x (sabm_in_opening s info x)
-  taken-sabm_in_opening p Three [] e = quietly _ _ (inl refl, inr (refl, begun Opening e tt), tt)
+  taken-sabm_in_opening p Three [] e = quietly _ _ (inl refl, inr (refl, rw e tt), tt)
   taken-sabm_in_opening p s info e = quietly _ _ tt
 
   taken-ua_in_opening : (s : Sapi) (same : Bool) (info : Message) → x.state ≡ Opening → bytes_eq info x.kept ≡ same →
@@ -191,13 +185,13 @@ module _ (x : EndState) (w : KeepsWindow x) where
   taken-ua_in_opening s true info e same =
       let as_kept : info ≡ x.kept = (bytes_eq-Decides info x.kept).0 same in
       opened _ x.kept info [] (ap stage_of e) (sym as_kept) tt (refl, e, as_kept)
-  taken-ua_in_opening Zero false info e same = over _ R.Contention [] (live Opening e (omega arith)) tt
+  taken-ua_in_opening Zero false info e same = over _ R.Contention [] (rw e (omega arith)) tt
   taken-ua_in_opening Three false info e same = quietly _ _ tt
 
   taken-in_opening : (c : Content) → x.state ≡ Opening → IsTaken c x (in_opening c x)
   taken-in_opening (Sabm p info) e = taken-sabm_in_opening p x.sapi info e
   taken-in_opening (Ua true info) e = taken-ua_in_opening x.sapi (bytes_eq info x.kept) info e refl
-  taken-in_opening (Dm true) e = over _ R.Refused [] (live Opening e (omega arith)) tt
+  taken-in_opening (Dm true) e = over _ R.Refused [] (rw e (omega arith)) tt
   taken-in_opening (Disc p) e = quietly _ _ (inl refl, tt, tt)
   taken-in_opening other e = quietly other _ tt
 
@@ -214,14 +208,14 @@ module _ (x : EndState) (w : KeepsWindow x) where
   taken-in_open cmd (Rej nr pf) e = openly _ x _ (in-takes_rej nr (cmd && pf) x e w)
       (λ y out comes h. after-takes_rej (Rej nr pf) nr (λ k e. e) h (cmd && pf))
   taken-in_open cmd (Sabm p info) e = taken-ua_if p (answers_sabm x.sapi x.role) (bytes_eq info x.kept) info e refl
-  taken-in_open cmd (Disc p) e = over _ R.Released _ (live Open e (omega arith)) (inl refl, inr (refl, begun Open e tt), tt)
-  taken-in_open cmd (Dm f) e = over _ R.Failed [] (live Open e (omega arith)) tt
+  taken-in_open cmd (Disc p) e = over _ R.Released _ (rw e (omega arith)) (inl refl, inr (refl, rw e tt), tt)
+  taken-in_open cmd (Dm f) e = over _ R.Failed [] (rw e (omega arith)) tt
   taken-in_open cmd other e = quietly other _ tt
 
   taken-in_closing : (c : Content) → x.state ≡ Closing → IsTaken c x (in_closing c x)
-  taken-in_closing (Ua true []) e = over _ R.Released [] (live Closing e (omega arith)) tt
-  taken-in_closing (Dm true) e = over _ R.Released [] (live Closing e (omega arith)) tt
-  taken-in_closing (Disc p) e = quietly _ _ (inl refl, inr (refl, begun Closing e tt), tt)
+  taken-in_closing (Ua true []) e = over _ R.Released [] (rw e (omega arith)) tt
+  taken-in_closing (Dm true) e = over _ R.Released [] (rw e (omega arith)) tt
+  taken-in_closing (Disc p) e = quietly _ _ (inl refl, inr (refl, rw e tt), tt)
   taken-in_closing other e = quietly other _ tt
 
   taken-in_closed : (poll : Bool) (c : Content) → IsTaken c x (in_closed poll c x)

@@ -88,7 +88,8 @@ in-says_rr f x is_now e = plainly x x.rejecting x.retries (says_rr f x).frames e
 
 in-rejects : (p : Bool) → Stays (rejects p)
 in-rejects p x is_now e = in-if (reject_is_due p x)
-    (λ due. plainly x true x.retries (response x (Rej (vr x) p) ∷ []) e (inl refl, three_bits (length x.accepted), tt)) (in-stays x is_now e)
+    (λ due. plainly x true x.retries (response x (Rej (vr x) p) ∷ []) e (inl refl, three_bits (length x.accepted), tt))
+    (in-stays x is_now e)
 
 pub has_left : (x : EndState) → has_next x ≡ true → (x.sent ≡ x.acked) × (x.sent < length (all_pieces x))
 has_left x h = (grind (arith, nat_tests), grind (arith, nat_tests))

@@ -153,5 +153,6 @@ module _ (r : Role) (s : Sapi) where
         let g = goes-split (call_in r s) (notice_in r s) before (Told r s n ∷ place.0) nothing m (rw place.1 run) in
         (g.0, g.1, rw (is_end-self r s) at g.2.0)
 
-    pub none_beyond : m.stage ≡ 1 → (l : Line) → Contains ls l → (j : Known) × ((told (notice_in r s l) (asked (call_in r s l) j)).stage ≤ 1)
+    pub none_beyond : m.stage ≡ 1 → (l : Line) → Contains ls l →
+        (j : Known) × ((told (notice_in r s l) (asked (call_in r s l) j)).stage ≤ 1)
     none_beyond = before_open (call_in r s) (notice_in r s) ls nothing m run

@@ -1,180 +1,265 @@
--- A session over the air is a session of frames, with the same lines.
-use Rattle.std.proofs.Common.{◌≡◌, refl, sym, ◌∙◌, ap, subst, ℕ, List, [], ◌∷◌, ◌++◌, ◌≤◌, map, length, Option, Some, None}
-use Rattle.lapdm_frame.specs.declared.Channel.{Channel}
-use Rattle.lapdm_frame.specs.Content.{Frame}
-use Rattle.lapdm_window.specs.Ends.{Mobile, Network, Role}
-use Rattle.lapdm_link.specs.Ways.{Ways, no_ways, way, IsAsSent}
-use Rattle.lapdm_link.specs.Worlds.{World}
-use Rattle.lapdm_link.specs.Claims.{Line, Claims, OrderClaims, CountsAgree, notice_lines, answer_lines}
-use Rattle.lapdm_window.specs.declared.Sapi.{Sapi}
-use Rattle.lapdm_window.specs.declared.Notice.{Notice}
-use Rattle.lapdm_link.proofs.Lemmas.{AllReported, KnowsBy, LineOctets, AllSay, AllOf, EndOctets, SaysOctets, WorldOctets, octets-step, deed-holds, in_order-step, start-reported, order_claims, IsFitting, fits-step, start-fits, claims, counts}
-use Rattle.um_air.specs.Air.{Octets, Event, as_read, AirState, start_on, AreSent, Answer, AirStep, AirRun, Block, Arrives, Does, turned}
-use Rattle.um_air.specs.Sessions.{told, lines, after, IsHarmlessAfter, IsHarmless, IsHarmlessStep, IsKindEvent, IsKind, AreOctets, IsOctetEvent}
-use Rattle.um_air.proofs.Seeing.{ReadsWell, knows, AreAlike, AreOctetsOf, Carries, world_of, IsSeenStep, seen-step}
+-- A session over the air is a session of frames, with the same lines: an event of blocks is an event of the frames that are
+-- read.
+use Rattle.std.proofs.Common.{◌≡◌, refl, sym, ◌∙◌, ap, subst, ℕ, suc, ◌+◌, ◌-◌, ◌<◌, ◌≤◌, List, [], ◌∷◌, ◌++◌, map, length, drop, Option, Some, None, ap₂}
 use Rattle.std.specs.Prelude.{IfSome}
-use Rattle.lapdm_frame.specs.Frames.{octets_of}
+use Rattle.std.specs.List.{AllZip}
+use Rattle.std.proofs.lemmas.List.Elements.{All-head, All-take, All-drop}
+use Rattle.lapdm_frame.specs.declared.Channel.{Channel}
+use Rattle.lapdm_frame.specs.Layout.{header}
+use Rattle.lapdm_frame.specs.Content.{Frame, information}
+use Rattle.lapdm_frame.specs.Frames.{Fits, IsFrame, octets_of}
+use Rattle.lapdm_frame.proofs.Canonical.{octets_canonical}
+use Rattle.lapdm_frame.proofs.Uniqueness.{same_frame}
+use Rattle.lapdm_window.specs.Ends.{Role, Mobile, Network}
 use Rattle.um_block.specs.declared.received.Received.{Received}
+use Rattle.um_block.specs.Sent.{IsSentBlock}
 use Rattle.um_block.specs.Received.{softened, IsReceivedBlock}
-use Rattle.lapdm_link.specs.Events.{Open, OpenBare, Ask, Deliver, Lose, Rival, Send, SendUnit, Close, Tick, Idle, Who, End, Other, Nobody, deed}
+use Rattle.um_block.proofs.Lemmas.{accepted_octets}
+use Rattle.lapdm_link.specs.Ways.{Ways, no_ways, way, without_first, with_more, count, IsAsSent}
+use Rattle.lapdm_link.specs.Events.{Deliver, Lose, Ends, Deed, deed, taken, sender_of, Why, refusal_by}
+use Rattle.lapdm_link.specs.Worlds.{World, answer_by, after_by}
+use Rattle.lapdm_link.specs.Claims.{Line, event_lines, notice_lines, answer_lines, Claims, OrderClaims, CountsAgree}
+use Rattle.lapdm_link.proofs.Lemmas.{Knows, KnowsBy, SaysOctets, AllFit, IsFitting, fits-step, AllReported, in_order-step, start-reported, order_claims, start-fits, claims, counts}
+use Rattle.um_air.specs.Air.{Octets, Block, Event, as_read, AirState, Reads, Arrives, AreSent, Answer, Refuses, Does, refusal, AirStep, turned, start_on, AirRun}
+use Rattle.um_air.specs.Sessions.{told, after, IsHarmlessStep, AreOctets, IsKindEvent, lines, IsHarmlessAfter, IsHarmless, IsKind}
+use Rattle.um_air.proofs.Determined.{left, done}
 use Rattle.um_air.proofs.FewTurned.{accepted_as_sent}
 use Rattle.lapdm_link.specs.Events as E
 use Rattle.lapdm_link.specs.Worlds as W
 use Rattle.lapdm_link.specs.Claims as C
 
--- what holds between two steps: the frames are on their way, each fits, and the ends are as their lines tell
-pub record IsSeenAt (a : AirState) (octets : Ways Octets) (fs : Ways Frame) (ls : List Line) : Type 0 where
-  pub carries : Carries a octets fs
-  pub fit : IsFitting a.channel (world_of a fs)
-  pub reported : AllReported (world_of a fs) ls
+-- ---- lists that correspond item by item, and ways of such lists
 
-start-carries : (tsc : ℕ) (channel : Channel) → Carries (start_on tsc channel) no_ways no_ways
-start-carries tsc channel = record { blocks = nothing_sent; written = nothing_written }
-  where
-    nothing_sent : AreAlike (AreSent channel tsc) no_ways no_ways
-    nothing_sent Mobile = tt
-    nothing_sent Network = tt
+module _ {X Y : Type 0} (R : X → Y → Type 0) where
+  zip-rest : (xs : List X) (ys : List Y) → AllZip R xs ys → AllZip R (drop 1 xs) (drop 1 ys)
+  zip-rest [] [] h = h
+  zip-rest (x ∷ xs) (y ∷ ys) h = h.1
+  zip-rest xs ys h = absurd assumption
 
-    nothing_written : AreAlike (AreOctetsOf channel) no_ways no_ways
-    nothing_written Mobile = refl
-    nothing_written Network = refl
+  zip-append : (xs xs' : List X) (ys ys' : List Y) → AllZip R xs ys → AllZip R xs' ys' → AllZip R (xs ++ xs') (ys ++ ys')
+  zip-append [] xs' [] ys' h g = g
+  zip-append (x ∷ xs) xs' (y ∷ ys) ys' h g = (h.0, zip-append xs xs' ys ys' h.1 g)
+  zip-append xs xs' ys ys' h g = absurd assumption
 
-pub start-seen : (tsc : ℕ) (channel : Channel) → IsSeenAt (start_on tsc channel) no_ways no_ways []
-start-seen tsc channel = record { carries = start-carries tsc channel; fit = start-fits channel; reported = start-reported channel }
+  zip-length : (xs : List X) (ys : List Y) → AllZip R xs ys → length xs ≡ length ys
+  zip-length [] [] h = refl
+  zip-length (x ∷ xs) (y ∷ ys) h = ap suc (zip-length xs ys h.1)
+  zip-length xs ys h = absurd assumption
 
-module _ (a : AirState) (octets : Ways Octets) (fs : Ways Frame) (ls : List Line) (event : Event) (answer : Answer) (b : AirState)
-    (h : IsSeenAt a octets fs ls) (step : AirStep a event b answer) where
-  pub seen-now : IsSeenStep a octets fs event answer b
-  seen-now = seen-step a octets fs event h.carries answer b h.fit.ways step
+  abbrev pub AreAlike : Ways X → Ways Y → Type 0
+  AreAlike xs ys = (r : Role) → AllZip R (way r xs) (way r ys)
 
-  pub seen-next : IsSeenAt b (after event answer octets) seen-now.ways (ls ++ answer_lines event (told answer))
-  seen-next =
-      let w : World = world_of a fs in
-      let e : E.Event = as_read seen-now.read event in
-      let fit : IsFitting a.channel (world_of b seen-now.ways) =
-      subst (IsFitting a.channel) seen-now.later (fits-step a.channel w e (knows _ _ (λ r f k. k.0)
-      (W.refusal e w) e seen-now.known) h.fit) in
-      let now : AllReported (world_of b seen-now.ways) (ls ++ answer_lines e (W.answer e w)) =
-      subst (λ (z : World). AllReported z (ls ++ answer_lines e (W.answer e w))) seen-now.later (in_order-step w ls e h.reported) in
-      record {
-        carries = seen-now.carries;
-        fit = subst (λ (c : Channel). IsFitting c (world_of b seen-now.ways)) (sym fit.on_channel) fit;
-        reported = subst (λ (new : List Line). AllReported (world_of b seen-now.ways) (ls ++ new)) (sym seen-now.same) now;
-      }
+  pub alike-none : AreAlike no_ways no_ways
+  alike-none Mobile = tt
+  alike-none Network = tt
+
+  alike-more : (sender : Role) (x : List X) (y : List Y) (xs : Ways X) (ys : Ways Y) → AreAlike xs ys → AllZip R x y →
+      AreAlike (with_more sender x xs) (with_more sender y ys)
+  alike-more Mobile x y xs ys h g Mobile = zip-append xs.up x ys.up y (h Mobile) g
+  alike-more Network x y xs ys h g Network = zip-append xs.down x ys.down y (h Network) g
+  alike-more sender x y xs ys h g r = h r
+
+  alike-rest : (sender : Role) (xs : Ways X) (ys : Ways Y) → AreAlike xs ys →
+      AreAlike (without_first sender xs) (without_first sender ys)
+  alike-rest Mobile xs ys h Mobile = zip-rest xs.up ys.up (h Mobile)
+  alike-rest Network xs ys h Network = zip-rest xs.down ys.down (h Network)
+  alike-rest sender xs ys h r = h r
+
+  alike-taken : (read : Option Frame) (event : Event) (xs : Ways X) (ys : Ways Y) → AreAlike xs ys →
+      AreAlike (taken (as_read read event) xs) (taken event ys)
+  alike-taken read (Deliver sender places) xs ys h = alike-rest sender xs ys h
+  alike-taken read (Lose sender) xs ys h = alike-rest sender xs ys h
+  alike-taken read event xs ys h = h
+
+-- ---- an air, as the session of the frames on its ways
+
+abbrev pub world_of : AirState → Ways Frame → World
+world_of a fs = record { channel = a.channel; ends = a.ends; ways = fs }
+
+abbrev pub Coded : Channel → ℕ → Ways Frame → Ways Block → Type 0
+Coded channel tsc fs blocks = AreAlike (λ f block. IsSentBlock (octets_of channel f) tsc block) fs blocks
+
+abbrev pub Written : Channel → Ways Frame → Ways Octets → Type 0
+Written channel fs octets = AreAlike (λ f o. o ≡ octets_of channel f) fs octets
+
+-- what holds between two steps: these frames are on their way, each fits, and the ends are as these lines tell
+pub record IsSeenAt (a : AirState) (octets : Ways Octets) : Type 0 where
+  pub frames : Ways Frame
+  pub ls : List Line
+  pub blocks : Coded a.channel a.tsc frames a.ways
+  pub written : Written a.channel frames octets
+  pub fit : IsFitting a.channel (world_of a frames)
+  pub reported : AllReported (world_of a frames) ls
+
+-- neither the refusal nor the lines of an event hang on what is read
+unread : (read : Option Frame) (event : Event) (channel : Channel) (n : Role → ℕ) (es : Ends) →
+    (refusal_by channel n (as_read read event) es ≡ refusal_by channel n event es) × (event_lines event ≡ event_lines (as_read read event))
+unread read (Deliver sender places) channel n es = (refl, refl)
+unread read event channel n es = (refl, refl)
+
+pub refusal-same : (a : AirState) (fs : Ways Frame) (read : Option Frame) (event : Event) → Coded a.channel a.tsc fs a.ways →
+    W.refusal (as_read read event) (world_of a fs) ≡ refusal event a
+refusal-same a fs read event h =
+    (unread read event a.channel (count fs) a.ends).0
+    ∙ (λ i. refusal_by a.channel (λ r. zip-length (λ f block. IsSentBlock (octets_of a.channel f) a.tsc block) (way r fs) (way r a.ways)
+    (h r) i) event a.ends)
+
+-- ---- what is read
+
+-- a frame that is read fits, and carries octets
+pub reads-well : (channel : Channel) (accepted : Option Octets) (f : Frame) → IfSome accepted AreOctets → Reads channel accepted (Some f) →
+    Fits channel f × AreOctets (information f.content)
+reads-well channel (Some octets) f all h =
+    let small : ℕ → Type 0 = λ octet. octet < 256 in
+    let from : ℕ = header channel + 3 in
+    let size : ℕ = length (information f.content) in
+    (h.fits, subst AreOctets h.at_information (All-take small (from + size - from) (drop from octets) (All-drop small from octets all)))
+reads-well channel None f all h = absurd h
+
+pub known-read : (a : AirState) (event : Event) (report : Option Received) (read : Option Frame) → Arrives a event report read →
+    Knows (λ r f. Fits a.channel f) (as_read read event) × Knows (λ r f. SaysOctets f) (as_read read event)
+known-read a (Deliver sender places) (Some report) (Some f) h =
+    reads-well a.channel report.accepted f (accepted_octets (map softened (turned places h.block)) report h.received) h.reads
+known-read a (Deliver sender places) None read h = absurd h
+known-read a event report read h = (tt, tt)
+
+-- a frame that was sent is read as itself
+read_back : (channel : Channel) (accepted : Option Octets) (read : Option Frame) (fs : List Frame) (os : List Octets) →
+    AllZip (λ f o. o ≡ octets_of channel f) fs os → AllFit channel fs → Reads channel accepted read → IsAsSent accepted os →
+    IsAsSent read fs
+read_back channel (Some octets) (Some f) (g ∷ gs) (o ∷ os) z fit h s =
+    same_frame channel (octets_of channel g) f g (subst (IsFrame channel f) (s ∙ z.0) h) (octets_canonical channel g (All-head (Fits channel) g gs fit)).frame
+read_back channel (Some octets) (Some f) fs [] z fit h s = absurd s
+read_back channel accepted None fs os z fit h s = tt
+read_back channel accepted read fs os z fit h s = absurd assumption
 
 -- a block of few turned bits is accepted as it was sent
-kind_block : (channel : Channel) (tsc : ℕ) (fs : List Frame) (blocks others : List Block) (places : List ℕ) (report : Received)
-    (block : Block) → blocks ≡ block ∷ others → AreSent channel tsc fs blocks → length places ≤ 3 →
-    IsReceivedBlock (map softened (turned places block)) report → IsAsSent report.accepted (map (octets_of channel) fs)
-kind_block channel tsc fs blocks others places report block e sent few received =
-    by_first fs (subst (AreSent channel tsc fs) e sent)
-  where
-    by_first : (fs : List Frame) → AreSent channel tsc fs (block ∷ others) → IsAsSent report.accepted (map (octets_of channel) fs)
-    by_first [] s = absurd s
-    by_first (g ∷ gs) s =
-        subst (λ (o : Option Octets). IsAsSent o (octets_of channel g ∷ map (octets_of channel) gs))
-        (sym (accepted_as_sent (octets_of channel g) tsc block places report s.0 few received))
-        refl
+kind_block : (channel : Channel) (tsc : ℕ) (fs : List Frame) (os : List Octets) (blocks others : List Block) (places : List ℕ)
+    (report : Received) (block : Block) → AllZip (λ f o. o ≡ octets_of channel f) fs os → AreSent channel tsc fs blocks →
+    blocks ≡ block ∷ others → length places ≤ 3 → IsReceivedBlock (map softened (turned places block)) report →
+    IsAsSent report.accepted os
+kind_block channel tsc (f ∷ fs) (o ∷ os) (b ∷ bs) others places report block z sent e few received =
+    let same : b ≡ block = cc in
+    rw (accepted_as_sent (octets_of channel f) tsc block places report (rw same at sent.0) few received) (sym z.0)
+kind_block channel tsc fs os [] others places report block z sent e few received = absurd (cc e)
+kind_block channel tsc fs os blocks others places report block z sent e few received = absurd assumption
 
-kind_takes : (a : AirState) (octets : Ways Octets) (fs : Ways Frame) (ls : List Line) (sender : Role) (places : List ℕ)
-    (report : Option Received) (read : Option Frame) → IsSeenAt a octets fs ls → length places ≤ 3 →
-    Arrives a (Deliver sender places) report read → IfSome report (λ r. IsAsSent r.accepted (way sender octets))
-kind_takes a octets fs ls sender places (Some report) read h few t =
-    subst (λ (os : List Octets). IsAsSent report.accepted os) (sym (h.carries.written sender))
-    (kind_block a.channel a.tsc (way sender fs) (way sender a.ways) t.others places report t.block t.first
-    (h.carries.blocks sender) few t.received)
-kind_takes a octets fs ls sender places None read h few t = absurd t
+-- ---- one step
 
-kind_step : (a b : AirState) (octets : Ways Octets) (fs : Ways Frame) (ls : List Line) (event : Event) (answer : Answer) →
-    IsSeenAt a octets fs ls → IsKindEvent event → AirStep a event b answer → IsHarmlessStep event answer octets
-kind_step a b octets fs ls (Deliver sender places) (Does step) h kind t =
-    kind_takes a octets fs ls sender places step.received t.1.read h kind t.1.arrives
-kind_step a b octets fs ls event answer h kind t = tt
+-- the frames that go out are written
+written-frames : (channel : Channel) (fs : List Frame) → AllZip (λ f o. o ≡ octets_of channel f) fs (map (octets_of channel) fs)
+written-frames channel [] = tt
+written-frames channel (f ∷ fs) = (refl, written-frames channel fs)
 
--- where messages are octets, the lines of an event say octets, and so do the frames on their way
+harmless-refused : (event : Event) (why : Why) (octets : Ways Octets) → IsHarmlessStep event (Refuses why) octets
+harmless-refused (Deliver sender places) why octets = tt
+harmless-refused event why octets = tt
 
-abbrev pub IsOctetSeen : E.Event → Type 0
-IsOctetSeen (Open info) = AreOctets info
-IsOctetSeen (Ask role sapi (Send m)) = AreOctets m
-IsOctetSeen (Ask role sapi (SendUnit m)) = AreOctets m
-IsOctetSeen (Rival info) = AreOctets info
-IsOctetSeen event = Unit {0}
-
-pub says : (read : Option Frame) (event : Event) → IsOctetEvent event → IsOctetSeen (as_read read event)
-says read (Ask r s (Send m)) h = h
-says read event h = h
-
-told_octets : (who : Who) (s : Sapi) (ns : List Notice) → LineOctets (notice_lines who s ns)
-told_octets (End r) s [] = tt
-told_octets (End r) s (n ∷ ns) = told_octets (End r) s ns
-told_octets who s ns = tt
-
-line_octets : (event : E.Event) (answer : E.Answer) → IsOctetSeen event → LineOctets (answer_lines event answer)
-line_octets event (E.Refuses why) h = tt
-line_octets (Deliver sender read) (E.Does who s fs ns) h = told_octets who s ns
-line_octets (Lose sender) (E.Does who s fs ns) h = told_octets who s ns
-line_octets (Ask r q (Send m)) (E.Does who s fs ns) h = (h, told_octets who s ns)
-line_octets event (E.Does who s fs ns) h = (h, told_octets who s ns)
-
-module _ (channel : Channel) (w : World) (ls : List Line) (e : E.Event) (reported : AllReported w ls)
-    (known : KnowsBy (W.refusal e w) (ReadsWell channel) e) (small : WorldOctets w) (said : IsOctetSeen e) where
-  pub octets-next : WorldOctets (W.after e w)
-  octets-next = octets-step w ls e reported (knows _ _ (λ r f k. k.1) (W.refusal e w) e known) small (line_octets e (W.answer e w) said)
-
-  -- what a deed sends carries octets
-  pub deed-octets : W.refusal e w ≡ None → AllSay (deed e w.ends).frames
-  deed-octets none = deed-holds (λ s x. EndOctets x) SaysOctets octets-next.0 w e (W.refusal e w) none octets-next.1
-
--- a session, and how it ends
-pub record IsSeen (a : AirState) (octets : Ways Octets) (fs : Ways Frame) (events : List Event) (answers : List Answer)
-    (b : AirState) : Type 0 where
-  pub seen : List E.Event
-  pub same : lines events answers ≡ C.lines seen (W.answers seen (world_of a fs))
-  pub harmless : IsHarmlessAfter octets events answers → W.IsHarmless seen (world_of a fs)
-  pub kind : IsKind events → IsHarmlessAfter octets events answers
+-- the step is one of frames, where that event is refused or not
+pub record IsSeenBy (a : AirState) (octets : Ways Octets) (fs : Ways Frame) (event : Event) (answer : Answer) (b : AirState)
+    (read : Option Frame) (o : Option Why) : Type 0 where
+  pub next : IsSeenAt b (after event answer octets)
+  pub later : after_by o (as_read read event) (world_of a fs) ≡ world_of b next.frames
   pub tsc : b.tsc ≡ a.tsc
-  pub at : (last : Ways Octets) × (ways : Ways Frame) × (ls : List Line) × IsSeenAt b last ways ls
-      × (AllOf IsOctetEvent events → WorldOctets (world_of a fs) → WorldOctets (world_of b ways))
+  pub same : answer_lines event (told answer) ≡ answer_lines (as_read read event) (answer_by o (deed (as_read read event) a.ends))
+  pub known : KnowsBy o (λ r f. SaysOctets f) (as_read read event)
+  pub harmless : IsHarmlessStep event answer octets → W.IsHarmlessBy o (as_read read event) (world_of a fs)
+  pub kind : IsKindEvent event → IsHarmlessStep event answer octets
 
-seen-run : (events : List Event) (answers : List Answer) (a b : AirState) (octets : Ways Octets) (fs : Ways Frame) (ls : List Line) →
-    IsSeenAt a octets fs ls → AirRun a events answers b → IsSeen a octets fs events answers b
-seen-run [] [] a b octets fs ls h run =
-    subst (IsSeen a octets fs [] []) (sym run) (record {
-      seen = [];
-      same = refl;
-      harmless = λ q. tt;
-      kind = λ k. tt;
-      tsc = refl;
-      at = (octets, fs, ls, h, λ q small. small);
-    })
-seen-run [] (answer ∷ answers) a b octets fs ls h run = absurd run
-seen-run (event ∷ events) [] a b octets fs ls h run = absurd run
-seen-run (event ∷ events) (answer ∷ answers) a b octets fs ls h run =
-    let t : IsSeenStep a octets fs event answer run.0 = seen-now a octets fs ls event answer run.0 h run.1 in
-    let e : E.Event = as_read t.read event in
-    let r : IsSeen run.0 (after event answer octets) t.ways events answers b =
-    seen-run events answers run.0 b (after event answer octets) t.ways _ (seen-next a octets fs ls event answer run.0 h run.1) run.2 in
+module _ (a : AirState) (octets : Ways Octets) (h : IsSeenAt a octets) where
+  -- where a block arrives: what is read of it, if it was accepted as it was sent, and that it was, if few bits were turned
+  arrived : (event : Event) (report : Option Received) (read : Option Frame) → Arrives a event report read →
+      (let now = IsHarmlessStep event (Does (done a (as_read read event) report)) octets in
+      (now → W.IsHarmlessBy None (as_read read event) (world_of a h.frames)) × (IsKindEvent event → now))
+  arrived (Deliver sender places) (Some report) read t = (
+    read_back a.channel report.accepted read (way sender h.frames) (way sender octets) (h.written sender) (h.fit.ways sender) t.reads,
+    λ few. kind_block a.channel a.tsc (way sender h.frames) (way sender octets) (way sender a.ways) t.others places report t.block
+        (h.written sender) (h.blocks sender) t.first few t.received,
+  )
+  arrived (Deliver sender places) None read t = absurd t
+  arrived event report read t = (λ q. tt, λ k. tt)
+
+  module _ (event : Event) where
+    seen-refused : (why : Why) → IsSeenBy a octets h.frames event (Refuses why) a None (Some why)
+    seen-refused why = (let k = harmless-refused event why octets in
+        record { next = h; later = refl; tsc = refl; same = refl; known = tt; harmless = λ q. tt; kind = λ q. k })
+
+    seen-done : (read : Option Frame) (report : Option Received) (blocks : List Block) → Arrives a event report read →
+        (let e : E.Event = as_read read event in W.refusal e (world_of a h.frames) ≡ None →
+        AreSent a.channel a.tsc (deed e a.ends).frames blocks →
+        IsSeenBy a octets h.frames event (Does (done a e report)) (left a event e blocks) read None)
+    seen-done read report blocks t none sent =
+        let e : E.Event = as_read read event in
+        let w : World = world_of a h.frames in
+        let d : Deed = deed e a.ends in
+        let r : Role = sender_of d.who in
+        let known = known-read a event report read t in
+        let now = arrived event report read t in
+        record {
+          next = record {
+            frames = with_more r d.frames (taken e h.frames);
+            ls = h.ls ++ answer_lines e (answer_by None d);
+            blocks = alike-more _ r d.frames blocks _ _ (alike-taken _ read event h.frames a.ways h.blocks) sent;
+            written = alike-more _ r d.frames _ _ _ (alike-taken _ read event h.frames octets h.written) (written-frames a.channel d.frames);
+            fit = subst (λ (o : Option Why). IsFitting a.channel (after_by o e w)) none
+                (fits-step a.channel w e (subst (λ (o : Option Why). KnowsBy o (λ r f. Fits a.channel f) e) (sym none) known.0) h.fit);
+            reported = subst (λ (o : Option Why). AllReported (after_by o e w) (h.ls ++ answer_lines e (answer_by o d))) none
+                (in_order-step w h.ls e h.reported);
+          };
+          later = refl;
+          tsc = refl;
+          same = ap (λ ls. ls ++ notice_lines d.who d.sapi d.notices) (unread read event a.channel (count h.frames) a.ends).1;
+          known = known.1;
+          harmless = now.0;
+          kind = now.1;
+        }
+
+    pub seen-step : (answer : Answer) (b : AirState) → AirStep a event b answer →
+        (read : Option Frame) × IsSeenBy a octets h.frames event answer b read (W.refusal (as_read read event) (world_of a h.frames))
+    seen-step (Refuses why) b t = (
+      None,
+      subst (IsSeenBy a octets h.frames event (Refuses why) b None) (sym (refusal-same a h.frames None event h.blocks ∙ t.0))
+          (rw t.1 (seen-refused why)),
+    )
+    seen-step (Does step) b t =
+        let s = t.1 in
+        let none = refusal-same a h.frames s.read event h.blocks ∙ t.0 in (
+          s.read,
+          subst (IsSeenBy a octets h.frames event (Does step) b s.read) (sym none)
+              (rw (s.step_is, s.after) (seen-done s.read step.received s.blocks s.arrives none s.sent)),
+        )
+
+-- ---- a session
+
+abbrev pub start-seen : (tsc : ℕ) (channel : Channel) → IsSeenAt (start_on tsc channel) no_ways
+start-seen tsc channel = (let fit = start-fits channel in let reported = start-reported channel in
+    record { frames = no_ways; ls = []; blocks = alike-none _; written = alike-none _; fit = fit; reported = reported })
+
+-- a session, as one of frames
+pub record IsSeen (a : AirState) (octets : Ways Octets) (h : IsSeenAt a octets) (events : List Event) (answers : List Answer) : Type 0 where
+  pub seen : List E.Event
+  pub same : lines events answers ≡ C.lines seen (W.answers seen (world_of a h.frames))
+  pub harmless : IsHarmlessAfter octets events answers → W.IsHarmless seen (world_of a h.frames)
+  pub kind : IsKind events → IsHarmlessAfter octets events answers
+
+seen-run : (events : List Event) (answers : List Answer) (a b : AirState) (octets : Ways Octets) (h : IsSeenAt a octets) →
+    AirRun a events answers b → IsSeen a octets h events answers
+seen-run [] [] a b octets h run = record { seen = []; same = refl; harmless = λ q. tt; kind = λ k. tt }
+seen-run (event ∷ events) (answer ∷ answers) a b octets h run =
+    let s = seen-step a octets h event answer run.0 run.1 in
+    let r = seen-run events answers run.0 b (after event answer octets) s.1.next run.2 in
     record {
-      seen = e ∷ r.seen;
-      same = ap (λ new. new ++ lines events answers) t.same ∙ ap (λ more. answer_lines e (W.answer e (world_of a fs)) ++ more)
-          (r.same ∙ ap (λ z. C.lines r.seen (W.answers r.seen z)) (sym t.later));
-      harmless = λ q. (t.harmless q.0, subst (W.IsHarmless r.seen) (sym t.later) (r.harmless q.1));
-      kind = λ k. (kind_step a run.0 octets fs ls event answer h k.0 run.1, r.kind k.2);
-      tsc = r.tsc ∙ t.tsc;
-      at = (
-        r.at.0,
-        r.at.1,
-        r.at.2,
-        r.at.3,
-        λ said small. r.at.4 said.1 (subst WorldOctets t.later
-            (octets-next a.channel (world_of a fs) ls e h.reported t.known small (says t.read event said.0))),
-      );
+      seen = as_read s.0 event ∷ r.seen;
+      same = ap₂ (λ xs ys. xs ++ ys) s.1.same (r.same ∙ ap (λ z. C.lines r.seen (W.answers r.seen z)) (sym s.1.later));
+      harmless = λ q. (s.1.harmless q.0, subst (W.IsHarmless r.seen) (sym s.1.later) (r.harmless q.1));
+      kind = λ k. (s.1.kind k.0, r.kind k.2);
     }
+seen-run events answers a b octets h run = absurd assumption
 
 module _ (tsc : ℕ) (channel : Channel) (events : List Event) (answers : List Answer) (b : AirState)
     (run : AirRun (start_on tsc channel) events answers b) where
-  pub seen : IsSeen (start_on tsc channel) no_ways no_ways events answers b
-  seen = seen-run events answers (start_on tsc channel) b no_ways no_ways [] (start-seen tsc channel) run
+  pub seen : IsSeen (start_on tsc channel) no_ways (start-seen tsc channel) events answers
+  seen = seen-run events answers (start_on tsc channel) b no_ways (start-seen tsc channel) run
 
   pub air_claims : IsHarmless events answers → Claims (lines events answers)
   air_claims harmless = subst Claims (sym seen.same) (claims channel seen.seen (seen.harmless harmless))
@@ -192,18 +277,15 @@ module _ (tsc : ℕ) (channel : Channel) (events : List Event) (answers : List A
 pub longer_run : (a : AirState) (events : List Event) (answers : List Answer) (b : AirState) (event : Event) (answer : Answer)
     (c : AirState) → AirRun a events answers b → AirStep b event c answer →
     AirRun a (events ++ event ∷ []) (answers ++ answer ∷ []) c
-longer_run a [] [] b event answer c run step = (c, subst (λ (z : AirState). AirStep z event c answer) run step, refl)
-longer_run a [] (r ∷ rs) b event answer c run step = absurd run
-longer_run a (e ∷ es) [] b event answer c run step = absurd run
+longer_run a [] [] b event answer c run step = (c, rw run at step, refl)
 longer_run a (e ∷ es) (r ∷ rs) b event answer c run step = (run.0, run.1, longer_run run.0 es rs b event answer c run.2 step)
+longer_run a es rs b event answer c run step = absurd assumption
 
 module _ (tsc : ℕ) (channel : Channel) (events : List Event) (answers : List Answer) (a : AirState) (event : Event) (answer : Answer)
     (b : AirState) (run : AirRun (start_on tsc channel) events answers a) (step : AirStep a event b answer) where
   pub step_claims : IsHarmless (events ++ event ∷ []) (answers ++ answer ∷ []) →
       Claims (lines (events ++ event ∷ []) (answers ++ answer ∷ []))
-  step_claims = air_claims tsc channel (events ++ event ∷ []) (answers ++ answer ∷ []) b
-      (longer_run (start_on tsc channel) events answers a event answer b run step)
+  step_claims = air_claims tsc channel _ _ b (longer_run (start_on tsc channel) events answers a event answer b run step)
 
   pub step_order : OrderClaims (lines (events ++ event ∷ []) (answers ++ answer ∷ []))
-  step_order = air_order tsc channel (events ++ event ∷ []) (answers ++ answer ∷ []) b
-      (longer_run (start_on tsc channel) events answers a event answer b run step)
+  step_order = air_order tsc channel _ _ b (longer_run (start_on tsc channel) events answers a event answer b run step)

@@ -1,49 +1,41 @@
 -- There is an answer to every event, where messages are octets: a session can always go on.
-use Rattle.std.proofs.Common.{◌≡◌, refl, sym, subst, arith, ℕ, ◌-◌, ◌<◌, ◌≤◌, List, [], ◌∷◌, ◌++◌, length, Option, None, ◌∙◌, ap, ◌/◌, ◌%◌, map, get_or, set, Some, All, inl, inr, append_assoc}
-use Rattle.std.proofs.lemmas.List.Elements.{All-nil, All-cons, All-append, All-replicate}
+use Rattle.std.proofs.Common.{◌≡◌, refl, sym, subst, arith, ℕ, ◌-◌, ◌<◌, ◌≤◌, List, [], ◌∷◌, length, Option, None, ◌∙◌, ◌/◌, ◌%◌, map, get_or, set, nat_eq, Some, All, inl, inr}
+use Rattle.std.specs.Prelude.{IfSome}
+use Rattle.std.proofs.lemmas.Bool.{cases_lt}
+use Rattle.std.proofs.lemmas.List.{length-set, length-map, set_past}
+use Rattle.std.proofs.lemmas.List.Elements.{All-nil, All-cons, All-head, All-tail, All-append, All-replicate, All-set, All-map}
 use Rattle.lapdm_frame.specs.declared.Channel.{Channel}
 use Rattle.lapdm_frame.specs.declared.Channel.TheVariants.{Sdcch, Sacch}
 use Rattle.lapdm_frame.specs.Layout.{header, n201}
-use Rattle.lapdm_frame.specs.Content.{Content, I, Rr, Rnr, Rej, Sabm, Dm, Ui, Disc, Ua, Frame, information, goes_on}
+use Rattle.lapdm_frame.specs.Content.{Content, I, Frame, information, goes_on}
 use Rattle.lapdm_frame.specs.Frames.{address, control, length_octet, NumbersFit, Fits, octets_of}
-use Rattle.lapdm_frame.proofs.Controls.{bit_bound}
-use Rattle.lapdm_frame.proofs.Uniqueness.{information_bound}
-use Rattle.lapdm_window.specs.Ends.{Role}
-use Rattle.lapdm_link.specs.Ways.{Ways, way, with_more}
-use Rattle.lapdm_link.specs.Events.{Open, OpenBare, Ask, Deliver, Lose, Rival, Send, SendUnit, Close, Tick, Idle, Who, End, Other, Nobody, Why, Deed, deed, sender_of, taken, Nothing, unless, is_empty}
-use Rattle.lapdm_link.specs.Worlds.{World}
-use Rattle.lapdm_link.specs.Claims.{Line}
-use Rattle.lapdm_link.proofs.Lemmas.{KnowsBy, AllSay, AllOf, WorldOctets, start-octets, AllFit, deed-fits, of-all, all-of}
-use Rattle.um_air.specs.Air.{Octets, Event, as_read, AirState, start_on, Answer, AirStep, AirRun, Block, Reads, Arrives, AreSent, Refuses, Does, refusal, turned_at, turned}
-use Rattle.um_air.specs.Sessions.{AreOctets, IsOctetEvent}
-use Rattle.um_air.proofs.Seeing.{ReadsWell, knows, world_of, refusal-same, known-read}
-use Rattle.um_air.proofs.Carrying.{IsSeenAt, seen, longer_run, says, deed-octets}
-use Rattle.std.specs.Prelude.{IfSome}
-use Rattle.std.proofs.lemmas.Bool.{cases_eq}
-use Rattle.std.proofs.lemmas.List.{append-nil, get_or-set_other, get_or-set_same, get_or_default, length-set, length-map}
-use Rattle.std.proofs.Math.ListN.{get_or-map}
 use Rattle.lapdm_frame.proofs.Canonical.{octets_canonical}
+use Rattle.lapdm_frame.proofs.Controls.{bit_bound}
 use Rattle.lapdm_frame.proofs.Existence.{one_reading}
-use Rattle.um_block.specs.Sent.{IsSentBlock}
+use Rattle.lapdm_frame.proofs.Uniqueness.{information_bound}
+use Rattle.lapdm_window.specs.declared.Sapi.{Sapi}
+use Rattle.lapdm_window.specs.declared.Notice.{Notice}
+use Rattle.lapdm_window.specs.Ends.{Role}
 use Rattle.um_block.specs.declared.received.Received.{Received}
 use Rattle.um_block.specs.Received.{softened, IsReceivedBlock}
 use Rattle.um_block.proofs.Lemmas.{some_sent_block, sent_block_bits, some_received_block, accepted_count}
+use Rattle.lapdm_link.specs.Ways.{Ways, way, no_ways}
 use Rattle.lapdm_link.specs.Events as E
+use Rattle.lapdm_link.specs.Events.{Ask, Deliver, Lose, Send, Who, End, Why, deed, Nothing, unless}
+use Rattle.lapdm_link.specs.Worlds.{World}
 use Rattle.lapdm_link.specs.Worlds as W
+use Rattle.lapdm_link.specs.Claims.{notice_lines, answer_lines}
+use Rattle.lapdm_link.proofs.Lemmas.{KnowsBy, LineOctets, AllSay, EndOctets, SaysOctets, WorldOctets, octets-step, start-octets, AllFit, deed-fits, deed-holds}
+use Rattle.um_air.specs.Air.{Octets, Event, as_read, AirState, start_on, Answer, AirStep, AirRun, Block, Reads, Hears, Arrives, AreSent, Happens, Refuses, Does, refusal, turned_at, turned}
+use Rattle.um_air.specs.Sessions.{AreOctets, IsOctetEvent, after}
+use Rattle.um_air.proofs.Determined.{left, done}
+use Rattle.um_air.proofs.Carrying.{Coded, world_of, refusal-same, known-read, IsSeenAt, seen-step, start-seen}
 
--- ---- where messages are octets, so are all frames on their way
+-- ---- the octets of a frame
 
--- the octets of a frame
 control_small : (c : Content) → NumbersFit c → control c < 256
-control_small (I ns nr p more info) h = omega (arith, h.0, h.1, bit_bound p)
-control_small (Rr nr pf) h = omega (arith, h, bit_bound pf)
-control_small (Rnr nr pf) h = omega (arith, h, bit_bound pf)
-control_small (Rej nr pf) h = omega (arith, h, bit_bound pf)
-control_small (Sabm p info) h = omega (arith, bit_bound p)
-control_small (Dm f) h = omega (arith, bit_bound f)
-control_small (Ui p info) h = omega (arith, bit_bound p)
-control_small (Disc p) h = omega (arith, bit_bound p)
-control_small (Ua f info) h = omega (arith, bit_bound f)
+control_small (I ns nr p more info) h = omega (arith, bit_bound)
+control_small c h = omega (arith, bit_bound)
 
 room_small : (channel : Channel) → n201 channel ≤ 20
 room_small Sdcch = omega arith
@@ -53,66 +45,37 @@ pub octets_small : (channel : Channel) (f : Frame) → Fits channel f → AreOct
 octets_small channel f h info =
     let small : ℕ → Type 0 = λ octet. octet < 256 in
     let most : length (information f.content) ≤ n201 channel = information_bound channel f.content h.information in
-    let head : AreOctets (address f ∷ control f.content ∷ length_octet f.content ∷ []) =
-    all-of small (address f ∷ control f.content ∷ length_octet f.content ∷ []) (
-      omega (arith, h.sapi, bit_bound f.cr),
-      (control_small f.content h.numbers, (omega (arith, most, room_small channel, bit_bound (goes_on f.content)), tt)),
-    ) in
+    let last : length_octet f.content < 256 = omega (arith, most, room_small channel, bit_bound (goes_on f.content)) in
+    let head = All-cons small (address f) (control f.content ∷ length_octet f.content ∷ []) (omega (arith, h.sapi, bit_bound f.cr))
+    (All-cons small (control f.content) (length_octet f.content ∷ []) (control_small f.content h.numbers)
+    (All-cons small (length_octet f.content) [] last (All-nil small))) in
     All-append small _ _ (All-append small _ _ (All-append small _ _ (All-replicate small (header channel) 0 (omega arith)) head) info)
     (All-replicate small (n201 channel - length (information f.content)) 0x2b (omega arith))
 
--- ---- a session
-
--- what holds between two steps of a session whose messages are octets
-pub record IsSpoken (a : AirState) : Type 0 where
-  pub octets : Ways Octets
-  pub frames : Ways Frame
-  pub ls : List Line
-  pub at : IsSeenAt a octets frames ls
-  pub small : WorldOctets (world_of a frames)
-
-module _ (tsc : ℕ) (channel : Channel) (events : List Event) (answers : List Answer) (b : AirState)
-    (said : AllOf IsOctetEvent events) (run : AirRun (start_on tsc channel) events answers b) where
-  spoken : IsSpoken b
-  spoken =
-      let s = (seen tsc channel events answers b run).at in
-      record { octets = s.0; frames = s.1; ls = s.2; at = s.3; small = s.4 said (start-octets channel) }
-
--- ---- a block that was sent is four bursts of 148, whatever bits are turned over
+-- ---- what arrives: a block that was sent is four bursts of 148, whatever bits are turned over
 
 abbrev IsWhole : Block → Type 0
 IsWhole block = (length block ≡ 4) × All (λ burst. length burst ≡ 148) block
 
-sent-whole : (octets : List ℕ) (tsc : ℕ) (block : Block) → IsSentBlock octets tsc block → IsWhole block
-sent-whole octets tsc block h = (let bits = sent_block_bits octets tsc block h in (bits.0, λ k d l. (bits.1 k d l).many))
-
-set-whole : (block : Block) (i j x : ℕ) → IsWhole block → IsWhole (set block i (set (get_or block i []) j x))
-set-whole block i j x h =
-    let burst : List ℕ = get_or block i [] in
-    let new : Block = set block i (set burst j x) in
-    let same : length new ≡ length block = length-set block i (set burst j x) in (
-      same ∙ h.0,
-      λ k d l. (elim (cases_eq k i) [
-        | inl here ↦ ap (λ n. length (get_or new n d)) here
-            ∙ ap length (get_or-set_same block i (set burst j x) d (omega (arith, l, same, here))) ∙ length-set burst j x
-            ∙ h.1 i [] (omega (arith, l, same, here))
-        | inr there ↦ ap length (get_or-set_other block i k (set burst j x) d there) ∙ h.1 k d (omega (arith, l, same))
-      ]),
-    )
-
 turned-whole : (places : List ℕ) (block : Block) → IsWhole block → IsWhole (turned places block)
 turned-whole [] block h = h
 turned-whole (p ∷ ps) block h =
-    turned-whole ps (turned_at p block) (set-whole block (p / 148) (p % 148) (1 - get_or (get_or block (p / 148) []) (p % 148) 0) h)
+    let burst : List ℕ = get_or block (p / 148) [] in
+    let new : List ℕ = set burst (p % 148) (1 - get_or burst (p % 148) 0) in
+    turned-whole ps (turned_at p block) (elim (cases_lt (p / 148) (length block)) [
+      | inl within ↦ (
+        length-set block (p / 148) new ∙ h.0,
+        All-set (λ burst. length burst ≡ 148) block (p / 148) new (length-set burst (p % 148) _ ∙ h.1 (p / 148) [] within) h.1,
+      )
+      | inr past ↦ subst IsWhole (sym (set_past block (p / 148) new past)) h
+    ])
 
 some_report : (places : List ℕ) (block : Block) → IsWhole block → (r : Received) × IsReceivedBlock (map softened (turned places block)) r
 some_report places block h =
     let bursts : Block = turned places block in
     let whole : IsWhole bursts = turned-whole places block h in
     some_received_block (map softened bursts) (length-map bursts softened ∙ whole.0)
-    (λ k d l. (let within : k < length bursts = omega (arith, l, length-map bursts softened) in
-    ap length (get_or_default (map softened bursts) k d (softened []) l) ∙ ap length (get_or-map softened bursts k [])
-    ∙ length-map (get_or bursts k []) _ ∙ whole.1 k [] within))
+    (All-map (λ burst. length burst ≡ 148) softened bursts (λ k d l. length-map (get_or bursts k d) _ ∙ whole.1 k d l))
 
 pub some_reading : (channel : Channel) (o : Option Octets) → IfSome o (λ octets. length octets ≡ 23) →
     (f : Option Frame) × Reads channel o f
@@ -122,43 +85,22 @@ some_reading channel (Some octets) h = elim (one_reading channel octets h) [
   | inr (why, only) ↦ (None, (why, only.refused))
 ]
 
--- ---- what arrives
+some_hearing : (a : AirState) (sender : Role) (places : List ℕ) (fs : List Frame) (blocks : List Block) (more : Option Why) →
+    AreSent a.channel a.tsc fs blocks → way sender a.ways ≡ blocks → unless (nat_eq (length blocks) 0) Nothing more ≡ None →
+    (report : Received) × (read : Option Frame) × Hears a sender places report read
+some_hearing a sender places fs [] more sent is none = absurd (cc none)
+some_hearing a sender places (f ∷ fs) (block ∷ others) more sent is none =
+    let bits = sent_block_bits (octets_of a.channel f) a.tsc block sent.0 in
+    let r = some_report places block (bits.0, λ k d l. (bits.1 k d l).many) in
+    let read = some_reading a.channel r.0.accepted (accepted_count _ r.0 r.1) in
+    (r.0, read.0, record { block = block; others = others; first = is; received = r.1; reads = read.1 })
+some_hearing a sender places fs blocks more sent is none = absurd assumption
 
-record SomeArrival (a : AirState) (event : Event) : Type 0 where
-  report : Option Received
-  read : Option Frame
-  arrives : Arrives a event report read
-
-record IsThere (blocks : List Block) : Type 0 where
-  block : Block
-  others : List Block
-  first : blocks ≡ block ∷ others
-
-is_there : (blocks : List Block) (more : Option Why) → unless (is_empty (length blocks)) Nothing more ≡ None → IsThere blocks
-is_there [] more h = absurd (cc h)
-is_there (b ∷ bs) more h = record { block = b; others = bs; first = refl }
-
-first-whole : (channel : Channel) (tsc : ℕ) (fs : List Frame) (blocks others : List Block) (block : Block) → blocks ≡ block ∷ others →
-    AreSent channel tsc fs blocks → IsWhole block
-first-whole channel tsc fs blocks others block e h = by_frames fs (subst (AreSent channel tsc fs) e h)
-  where
-    by_frames : (fs : List Frame) → AreSent channel tsc fs (block ∷ others) → IsWhole block
-    by_frames [] h = absurd h
-    by_frames (f ∷ fs) h = sent-whole (octets_of channel f) tsc block h.0
-
-some_arrival : (a : AirState) (fs : Ways Frame) (event : Event) → ((r : Role) → AreSent a.channel a.tsc (way r fs) (way r a.ways)) →
-    refusal event a ≡ None → SomeArrival a event
+some_arrival : (a : AirState) (fs : Ways Frame) (event : Event) → Coded a.channel a.tsc fs a.ways → refusal event a ≡ None →
+    (report : Option Received) × (read : Option Frame) × Arrives a event report read
 some_arrival a fs (Deliver sender places) sent none =
-    let there : IsThere (way sender a.ways) = is_there (way sender a.ways) _ none in
-    let r = some_report places there.block
-    (first-whole a.channel a.tsc (way sender fs) (way sender a.ways) there.others there.block there.first (sent sender)) in
-    let f = some_reading a.channel r.0.accepted (accepted_count _ r.0 r.1) in
-    record {
-      report = Some r.0;
-      read = f.0;
-      arrives = record { block = there.block; others = there.others; first = there.first; received = r.1; reads = f.1 };
-    }
-some_arrival a fs event sent none = record { report = None; read = None; arrives = tt }
+    let r = some_hearing a sender places (way sender fs) (way sender a.ways) _ (sent sender) refl none in (Some r.0, r.1, r.2)
+some_arrival a fs event sent none = (None, None, tt)
 
 -- ---- what goes out
 
@@ -166,81 +108,95 @@ some_blocks : (channel : Channel) (tsc : ℕ) (fs : List Frame) → tsc ≤ 7 �
     (bs : List Block) × AreSent channel tsc fs bs
 some_blocks channel tsc [] known h said = ([], tt)
 some_blocks channel tsc (f ∷ fs) known h said =
-    let b = some_sent_block (octets_of channel f) tsc (octets_canonical channel f h.0).frame.count (octets_small channel f h.0 said.0) known
-    in
-    let bs = some_blocks channel tsc fs known h.1 said.1 in
+    let fits : Fits channel f = All-head (Fits channel) f fs h in
+    let small = octets_small channel f fits (All-head SaysOctets f fs said) in
+    let b = some_sent_block (octets_of channel f) tsc (octets_canonical channel f fits).frame.count small known in
+    let bs = some_blocks channel tsc fs known (All-tail (Fits channel) f fs h) (All-tail SaysOctets f fs said) in
     (b.0 ∷ bs.0, (b.1, bs.1))
 
-record SomeAnswer (a : AirState) (event : Event) : Type 0 where
-  after : AirState
-  answer : Answer
-  step : AirStep a event after answer
+-- ---- a session whose messages are octets
 
-answer_at : (a : AirState) (event : Event) (o : Option Why) → refusal event a ≡ o → a.tsc ≤ 7 → IsOctetEvent event → IsSpoken a →
-    SomeAnswer a event
-answer_at a event (Some why) is known said h = record { after = a; answer = Refuses why; step = (is, refl) }
-answer_at a event None is known said h =
-    let fs : Ways Frame = h.frames in
-    let t : SomeArrival a event = some_arrival a fs event h.at.carries.blocks is in
-    let e : E.Event = as_read t.read event in
-    let w : World = world_of a fs in
-    let d : Deed = deed e a.ends in
-    let none : W.refusal e w ≡ None = refusal-same a fs t.read event h.at.carries.blocks ∙ is in
-    let reads : KnowsBy (W.refusal e w) (ReadsWell a.channel) e =
-    subst (λ (q : Option Why). KnowsBy q (ReadsWell a.channel) e) (sym none) (known-read a event t.report t.read t.arrives) in
-    let fit : AllFit a.channel d.frames =
-    deed-fits a.channel w e (knows _ _ (λ r f k. k.0) (W.refusal e w) e reads) h.at.fit none in
-    let say : AllSay d.frames = deed-octets a.channel w h.ls e h.at.reported reads h.small (says t.read event said) none in
-    let bs = some_blocks a.channel a.tsc d.frames known fit say in
-    record {
-      after = record a { ends = d.after; ways = with_more (sender_of d.who) bs.0 (taken event a.ways) };
-      answer = Does (record {
-        who = d.who;
-        sapi = d.sapi;
-        received = t.report;
-        frames = map (octets_of a.channel) d.frames;
-        notices = d.notices;
-      });
-      step = (
-        is,
-        record {
-          read = t.read;
-          blocks = bs.0;
-          arrives = t.arrives;
-          sent = bs.1;
-          after = refl;
-          who = refl;
-          sapi = refl;
-          frames = refl;
-          notices = refl;
-        },
-      );
-    }
+-- the lines of an event say octets
+told_octets : (who : Who) (s : Sapi) (ns : List Notice) → LineOctets (notice_lines who s ns)
+told_octets (End r) s [] = tt
+told_octets (End r) s (n ∷ ns) = told_octets (End r) s ns
+told_octets who s ns = tt
+
+line_octets : (read : Option Frame) (event : Event) (answer : E.Answer) → IsOctetEvent event →
+    LineOctets (answer_lines (as_read read event) answer)
+line_octets read event (E.Refuses why) h = tt
+line_octets read (Deliver sender places) (E.Does who s fs ns) h = told_octets who s ns
+line_octets read (Lose sender) (E.Does who s fs ns) h = told_octets who s ns
+line_octets read (Ask r q (Send m)) (E.Does who s fs ns) h = (h, told_octets who s ns)
+line_octets read event (E.Does who s fs ns) h = (h, told_octets who s ns)
+
+-- what holds between two steps
+record IsSpoken (a : AirState) : Type 0 where
+  octets : Ways Octets
+  at : IsSeenAt a octets
+  small : WorldOctets (world_of a at.frames)
+  known : a.tsc ≤ 7
+
+start-spoken : (tsc : ℕ) (channel : Channel) → tsc ≤ 7 → IsSpoken (start_on tsc channel)
+start-spoken tsc channel known =
+    record { octets = no_ways; at = start-seen tsc channel; small = start-octets channel; known = known }
+
+module _ (a : AirState) (h : IsSpoken a) (event : Event) (says : IsOctetEvent event) where
+  octets-next : (read : Option Frame) → (let e : E.Event = as_read read event in
+      let w : World = world_of a h.at.frames in KnowsBy (W.refusal e w) (λ r f. SaysOctets f) e → WorldOctets (W.after e w))
+  octets-next read reads =
+      let e : E.Event = as_read read event in
+      let w : World = world_of a h.at.frames in
+      octets-step w h.at.ls e h.at.reported reads h.small (line_octets read event (W.answer e w) says)
+
+  spoken-next : (answer : Answer) (b : AirState) → AirStep a event b answer → IsSpoken b
+  spoken-next answer b t =
+      let s = seen-step a h.octets h.at event answer b t in
+      let small = subst WorldOctets s.1.later (octets-next s.0 s.1.known) in
+      record { octets = after event answer h.octets; at = s.1.next; small = small; known = rw s.1.tsc h.known }
+
+  some_answer_at : (o : Option Why) → refusal event a ≡ o → (b : AirState) × (answer : Answer) × AirStep a event b answer
+  some_answer_at (Some why) is = (a, Refuses why, (is, refl))
+  some_answer_at None is =
+      let fs : Ways Frame = h.at.frames in
+      let t = some_arrival a fs event h.at.blocks is in
+      let e : E.Event = as_read t.1 event in
+      let w : World = world_of a fs in
+      let none : W.refusal e w ≡ None = refusal-same a fs t.1 event h.at.blocks ∙ is in
+      let known = known-read a event t.0 t.1 t.2 in
+      let next = octets-next t.1 (subst (λ (q : Option Why). KnowsBy q (λ r f. SaysOctets f) e) (sym none) known.1) in
+      let bs = some_blocks a.channel a.tsc (deed e a.ends).frames h.known
+      (deed-fits a.channel w e (subst (λ (q : Option Why). KnowsBy q (λ r f. Fits a.channel f) e) (sym none) known.0) h.at.fit none)
+      (deed-holds (λ s x. EndOctets x) SaysOctets next.0 w e (W.refusal e w) none next.1) in
+      let happens : Happens a event (left a event e bs.0) (done a e t.0) =
+      record { read = t.1; blocks = bs.0; arrives = t.2; sent = bs.1; after = refl; step_is = refl } in
+      (left a event e bs.0, Does (done a e t.0), (is, happens))
+
+spoken-run : (events : List Event) (answers : List Answer) (a b : AirState) → IsSpoken a → All IsOctetEvent events →
+    AirRun a events answers b → IsSpoken b
+spoken-run [] [] a b h says run = rw run h
+spoken-run (event ∷ events) (answer ∷ answers) a b h says run =
+    let next = spoken-next a h event (All-head IsOctetEvent event events says) answer run.0 run.1 in
+    spoken-run events answers run.0 b next (All-tail IsOctetEvent event events says) run.2
+spoken-run events answers a b h says run = absurd assumption
 
 pub some_answer : (tsc : ℕ) (channel : Channel) (events : List Event) (answers : List Answer) (a : AirState) → tsc ≤ 7 →
     All IsOctetEvent events → AirRun (start_on tsc channel) events answers a →
     (event : Event) → IsOctetEvent event → (b : AirState) × (answer : Answer) × AirStep a event b answer
 some_answer tsc channel events answers a known said run event says =
-    let same : a.tsc ≡ tsc = (seen tsc channel events answers a run).tsc in
-    let s : SomeAnswer a event = answer_at a event (refusal event a) refl (omega (arith, known, same)) says
-    (spoken tsc channel events answers a (of-all IsOctetEvent events said) run) in
-    (s.after, s.answer, s.step)
+    some_answer_at a (spoken-run events answers (start_on tsc channel) a (start-spoken tsc channel known) said run)
+    event says (refusal event a) refl
 
--- a run goes on
-module _ (tsc : ℕ) (channel : Channel) (known : tsc ≤ 7) where
-  going_on : (done : List Event) (answers : List Answer) (a : AirState) → All IsOctetEvent done →
-      AirRun (start_on tsc channel) done answers a → (events : List Event) → AllOf IsOctetEvent events →
-      (all : List Answer) × (b : AirState) × AirRun (start_on tsc channel) (done ++ events) all b
-  going_on done answers a said run [] says =
-      (answers, a, subst (λ es. AirRun (start_on tsc channel) es answers a) (sym (append-nil done)) run)
-  going_on done answers a said run (event ∷ events) says =
-      let s = some_answer tsc channel done answers a known said run event says.0 in
-      let r = going_on (done ++ event ∷ []) (answers ++ s.1 ∷ []) s.0
-      (All-append IsOctetEvent done (event ∷ []) said (All-cons IsOctetEvent event [] says.0 (All-nil IsOctetEvent)))
-      (longer_run (start_on tsc channel) done answers a event s.1 s.0 run s.2) events says.1 in
-      (r.0, r.1, subst (λ es. AirRun (start_on tsc channel) es r.0 r.1) (append_assoc done (event ∷ []) events) r.2)
+going_on : (events : List Event) (a : AirState) → IsSpoken a → All IsOctetEvent events →
+    (answers : List Answer) × (b : AirState) × AirRun a events answers b
+going_on [] a h says = ([], a, refl)
+going_on (event ∷ events) a h says =
+    let now : IsOctetEvent event = All-head IsOctetEvent event events says in
+    let s = some_answer_at a h event now (refusal event a) refl in
+    let r = going_on events s.0 (spoken-next a h event now s.1 s.0 s.2) (All-tail IsOctetEvent event events says) in
+    (s.1 ∷ r.0, r.1, (s.0, s.2, r.2))
 
 pub some_run : (tsc : ℕ) (channel : Channel) (events : List Event) → tsc ≤ 7 → All IsOctetEvent events →
     (answers : List Answer) × (b : AirState) × AirRun (start_on tsc channel) events answers b
 some_run tsc channel events known said =
-    going_on tsc channel known [] [] (start_on tsc channel) (All-nil IsOctetEvent) refl events (of-all IsOctetEvent events said)
+    going_on events (start_on tsc channel) (start-spoken tsc channel known) said

@@ -1,6 +1,7 @@
 -- The air: the blocks on their way between the ends, and what becomes of them. What a frame is as octets, octets as a
 -- block, and a block when it is received, say lapdm_frame (GSM 04.06, section 3) and um_block (GSM 05.03, section 4.1).
 use Rattle.std.specs.Prelude.{◌≡◌, ℕ, ◌-◌, ◌/◌, ◌%◌, List, [], ◌∷◌, map, slice_index_or, slice_set, Option, Some, None}
+use Rattle.std.specs.List.{AllZip}
 use Rattle.lapdm_frame.specs.declared.Channel.{Channel}
 use Rattle.lapdm_frame.specs.declared.Refusal.{Refusal}
 use Rattle.lapdm_frame.specs.Content.{Frame}
@@ -79,9 +80,7 @@ Arrives a event report read = ⊥
 
 -- each frame is coded as a block
 abbrev pub AreSent : Channel → ℕ → List Frame → List Block → Type 0
-AreSent channel tsc [] [] = Unit {0}
-AreSent channel tsc (f ∷ fs) (block ∷ blocks) = IsSentBlock (octets_of channel f) tsc block × AreSent channel tsc fs blocks
-AreSent channel tsc fs blocks = ⊥
+AreSent channel tsc fs blocks = AllZip (λ f block. IsSentBlock (octets_of channel f) tsc block) fs blocks
 
 -- what came of an event: as at the ends, with what was received, and the frames as octets
 pub record Step : Type 0 where
@@ -103,10 +102,8 @@ pub record Happens (a : AirState) (event : Event) (b : AirState) (step : Step) :
   pub sent : AreSent a.channel a.tsc (deed (as_read read event) a.ends).frames blocks
   pub after : let d = deed (as_read read event) a.ends in
       b ≡ record a { ends = d.after; ways = with_more (sender_of d.who) blocks (taken event a.ways) }
-  pub who : step.who ≡ (deed (as_read read event) a.ends).who
-  pub sapi : step.sapi ≡ (deed (as_read read event) a.ends).sapi
-  pub frames : step.frames ≡ map (octets_of a.channel) (deed (as_read read event) a.ends).frames
-  pub notices : step.notices ≡ (deed (as_read read event) a.ends).notices
+  pub step_is : let d = deed (as_read read event) a.ends in
+      step ≡ record step { who = d.who; sapi = d.sapi; frames = map (octets_of a.channel) d.frames; notices = d.notices }
 
 -- the first refusal that holds
 abbrev pub refusal : Event → AirState → Option Why

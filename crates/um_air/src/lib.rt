@@ -12,12 +12,14 @@ ghost use Rattle.um_air.specs.Air.{Event, Answer, AirState, start_on, AirStep, A
 ghost use Rattle.um_air.specs.Sessions.{lines, IsHarmless, IsOctetEvent, IsKind};
 
 /// Law: an event has at most one answer, and leads to one state of the air.
+#[tactic(auto, using(crate::proofs::Determined::one_answer))]
 pub fn law_one_answer()
     ensures { (a : AirState) (event : Event) (b c : AirState) (x y : Answer) →
         AirStep a event b x → AirStep a event c y → (b ≡ c) × (x ≡ y) }
 {}
 
 /// Law: whatever came before in a session, every event has an answer, where messages are octets.
+#[tactic(auto, using(crate::proofs::GoingOn::some_answer))]
 pub fn law_some_answer()
     ensures { (tsc : ℕ) (channel : Channel) (events : List Event) (answers : List Answer)
         (a : AirState) → tsc ≤ 7 → All IsOctetEvent events →
@@ -26,12 +28,14 @@ pub fn law_some_answer()
 {}
 
 /// Law: the events of a session determine all answers, and how it ends.
+#[tactic(auto, using(crate::proofs::Determined::one_run))]
 pub fn law_one_run()
     ensures { (a : AirState) (events : List Event) (b c : AirState) (xs ys : List Answer) →
         AirRun a events xs b → AirRun a events ys c → (b ≡ c) × (xs ≡ ys) }
 {}
 
 /// Law: whatever the events are, there is a session of them, where messages are octets.
+#[tactic(auto, using(crate::proofs::GoingOn::some_run))]
 pub fn law_some_run()
     ensures { (tsc : ℕ) (channel : Channel) (events : List Event) → tsc ≤ 7 →
         All IsOctetEvent events →
@@ -40,6 +44,7 @@ pub fn law_some_run()
 
 /// Law: where each block is accepted with the octets that were sent, or not at all, the claims on delivery hold of a
 /// session.
+#[tactic(auto, using(crate::proofs::Carrying::air_claims))]
 pub fn law_run_delivery()
     ensures { (tsc : ℕ) (channel : Channel) (events : List Event) (answers : List Answer)
         (b : AirState) → AirRun (start_on tsc channel) events answers b →
@@ -54,6 +59,7 @@ pub fn law_run_counts()
 {}
 
 /// Law: whatever blocks are accepted, the claims on order hold of a session.
+#[tactic(auto, using(crate::proofs::Carrying::air_order))]
 pub fn law_run_order()
     ensures { (tsc : ℕ) (channel : Channel) (events : List Event) (answers : List Answer)
         (b : AirState) → AirRun (start_on tsc channel) events answers b →
@@ -62,6 +68,7 @@ pub fn law_run_order()
 
 /// Law: where each block is accepted with the octets that were sent, or not at all, the claims on delivery hold after
 /// any step of a session.
+#[tactic(auto, using(crate::proofs::Carrying::step_claims))]
 pub fn law_delivery()
     ensures { (tsc : ℕ) (channel : Channel) (events : List Event) (answers : List Answer)
         (a : AirState) (event : Event) (answer : Answer) (b : AirState) →
@@ -71,6 +78,7 @@ pub fn law_delivery()
 {}
 
 /// Law: whatever blocks are accepted, the claims on order hold after any step of a session.
+#[tactic(auto, using(crate::proofs::Carrying::step_order))]
 pub fn law_order()
     ensures { (tsc : ℕ) (channel : Channel) (events : List Event) (answers : List Answer)
         (a : AirState) (event : Event) (answer : Answer) (b : AirState) →
@@ -86,6 +94,7 @@ pub fn law_three_turned()
 {}
 
 /// Law: where at most three bits of each block are turned over, each block is accepted with the octets that were sent.
+#[tactic(auto, using(crate::proofs::Carrying::kind_is_harmless))]
 pub fn law_kind()
     ensures { (tsc : ℕ) (channel : Channel) (events : List Event) (answers : List Answer)
         (b : AirState) → AirRun (start_on tsc channel) events answers b →

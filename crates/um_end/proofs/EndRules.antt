@@ -16,7 +16,7 @@ use Rattle.lapdm_window.specs.Ends.{Role, EndState, Outcome, IsEnd, start}
 use Rattle.lapdm_window.specs.Calls.{Call, Opens, OpensBare, HasCall, refusal_of, after_call}
 use Rattle.lapdm_window.specs.Tables.{after_frame}
 use Rattle.lapdm_window.proofs.Lemmas.{Keeps, keeps-call, keeps-frame, IsEnd-start}
-use Rattle.lapdm_link.proofs.Lemmas.{AreOctets, CallOctets, EndOctets, AllSay, OutcomeOctets, call-octets, frame-octets}
+use Rattle.lapdm_link.proofs.Lemmas.{AreOctets, CallOctets, EndOctets, SaysOctets, AllSay, OutcomeOctets, call-octets, frame-octets}
 use Rattle.lapdm_link.specs.Events.{Request, Send, SendUnit, Close, Tick, Idle, Open, OpenBare, Ask, Deliver, Lose, Rival, because, Because, call_of}
 use Rattle.um_block.proofs.Lemmas.{one_sent_block, some_sent_block, some_received_block, accepted_count, accepted_octets}
 use Rattle.um_block.specs.declared.received.Received.{Received}
@@ -153,7 +153,7 @@ fit_frame sapi f a fits octets h =
     (frame-octets f (link_in sapi a) octets fit.end.window fit.octets)
 
 fit_nothing : (a : Links) → AreFit a → IsFitDeed (does_nothing a)
-fit_nothing a h = record { after = h; frames = All-nil (Fits Sdcch); said = tt }
+fit_nothing a h = record { after = h; frames = All-nil (Fits Sdcch); said = All-nil SaysOctets }
 
 fit_read : (a : Links) (accepted : Option Octets) (read : Option Frame) → IfSome accepted AreOctets → Reads Sdcch accepted read → AreFit a →
     IsFitDeed (takes_read read a)
@@ -168,8 +168,9 @@ some_coded : (tsc : ℕ) (fs : List Frame) → tsc ≤ 7 → All (Fits Sdcch) fs
 some_coded tsc [] known h said = ([], tt)
 some_coded tsc (f ∷ fs) known h said =
     let fits : Fits Sdcch f = All-head (Fits Sdcch) f fs h in
-    let b = some_sent_block (octets_of Sdcch f) tsc (octets_canonical Sdcch f fits).frame.count (octets_small Sdcch f fits said.0) known in
-    let bs = some_coded tsc fs known (All-tail (Fits Sdcch) f fs h) said.1 in
+    let b = some_sent_block (octets_of Sdcch f) tsc (octets_canonical Sdcch f fits).frame.count (octets_small Sdcch f fits (All-head SaysOctets f fs said))
+    known in
+    let bs = some_coded tsc fs known (All-tail (Fits Sdcch) f fs h) (All-tail SaysOctets f fs said) in
     (b.0 ∷ bs.0, (b.1, bs.1))
 
 some_text : (tsc : ℕ) (role : Role) (received : Option Received) (d : Deed) → tsc ≤ 7 → IsFitDeed d →

@@ -113,10 +113,13 @@ finish event a m w read effects who sapi received role r h arrives sender same_w
         arrives = arrives;
         sent = s.sent;
         after = refl;
-        who = same_who;
-        sapi = same_sapi;
-        frames = r.does.frames;
-        notices = r.does.notices;
+        step_is = λ i. record {
+          who = same_who i;
+          sapi = same_sapi i;
+          received = received;
+          frames = r.does.frames i;
+          notices = r.does.notices i;
+        };
       },
     )
 
