@@ -12,7 +12,7 @@ use Rattle.lapdm_window.specs.Tables.{after_frame}
 use Rattle.lapdm_link.specs.Events.{Event, other, rival_frame, rival_refusal, Open, OpenBare, Ask, Deliver, Ends, end_in, sender_of, Deed, does, does_nothing, deed, call_of, End, taken, Why}
 use Rattle.lapdm_link.specs.Worlds.{World, start_on, refusal, answer, after, answer_by, after_by, answers, IsReadable, IsSendable}
 use Rattle.lapdm_link.specs.Claims.{Line, Rivals, answer_lines}
-use Rattle.lapdm_link.proofs.Views.{end_of, way, without_first, with_frames, acted, said, each_end, each_way, each_lost, each_start, end_does, end_does-else, way_does, way_does-other}
+use Rattle.lapdm_link.proofs.Views.{end_of, way, without_first, with_frames, acted, said, ends_do, each_way, each_lost, each_start, way_does, way_does-other}
 use Rattle.lapdm_link.proofs.ByKind.{IsPlaced, KnowsBy, by_kind}
 use Rattle.std.proofs.lemmas.Bool.Decides.{nat_tests}
 use Rattle.lapdm_frame.specs.Layout.{n201}
@@ -35,9 +35,7 @@ module _ (E : Sapi → EndState → Type 0) (F : Frame → Type 0) where
       Holds channel (acted r s o w)
   acts channel r s o w h g = record {
     on_channel = h.on_channel;
-    ends = each_end (λ r' s'. E s' (end_of r' s' (acted r s o w))) r s
-        (subst (E s) (sym (end_does r s o w)) g.0)
-        (λ r' s' n. subst (E s') (sym (end_does-else r s o w r' s' n)) (h.ends r' s'));
+    ends = ends_do (λ r' s' e. E s' e) r s o w g.0 (λ r' s' n. h.ends r' s');
     ways = each_way (λ r'. All F (way r' (acted r s o w))) r
         (subst (All F) (sym (way_does r s o w)) (All-append F (way r w) o.frames (h.ways r) g.1))
         (subst (All F) (sym (way_does-other r s o w)) (h.ways (other r)));

@@ -17,7 +17,7 @@ use Rattle.lapdm_link.specs.Worlds.{World, start_on, refusal, answer, after, ans
 use Rattle.lapdm_link.proofs.Told.{Known, known, nothing, MayTell, goes-append, Runs, runs-told, runs-else, IsTold, is_told, at_place, none_beyond}
 use Rattle.lapdm_link.proofs.Taking.{taken-frame}
 use Rattle.lapdm_link.proofs.Asked.{is_called}
-use Rattle.lapdm_link.proofs.Views.{is_end-self, end_of, without_first, acted, said, each_end, each_start, end_does, end_does-else}
+use Rattle.lapdm_link.proofs.Views.{is_end-self, end_of, without_first, acted, said, each_start, ends_do}
 use Rattle.lapdm_link.proofs.ByKind.{KnowsBy, by_kind}
 
 -- ---- what holds of each line by the lines before it
@@ -100,9 +100,8 @@ acts : (w : World) (ls : List Line) → AllReported w ls → (r : Role) (s : Sap
     AllReported (acted r s o w) (ls ++ said r s cs o.notices)
 acts w ls h r s cs o link end run =
     let new : List Line = said r s cs o.notices in
-    each_end (λ r' s'. IsReported r' s' (end_of r' s' (acted r s o w)) (ls ++ new)) r s
-    (rw (end_does r s o w) (goes_on (h r s) o.after new link end run))
-    (λ r' s' n. rw (end_does-else r s o w r' s' n) (unseen (h r' s') new (runs-else r' s' r s n cs o.notices (known (end_of r' s' w)))))
+    ends_do (λ r' s' e. IsReported r' s' e (ls ++ new)) r s o w (goes_on (h r s) o.after new link end run)
+    (λ r' s' n. unseen (h r' s') new (runs-else r' s' r s n cs o.notices (known (end_of r' s' w))))
 
 any_frame : (o : Option Why) (event : Event) → KnowsBy o (λ r f. Unit {0}) event
 any_frame None (Deliver sender (Some f)) = tt
