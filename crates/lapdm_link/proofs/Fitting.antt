@@ -1,26 +1,8 @@
 -- Every frame on its way can be written.
-use Rattle.std.proofs.Common.{◌≡◌, sym, subst, List, [], ◌∷◌, ◌++◌, None, All, refl, ◌∙◌, ap, arith, false, nat_eq, nat_lt, length, ◌≤◌, Bool, true, if◌then◌else◌, Option, Some}
-use Rattle.std.proofs.lemmas.List.Elements.{All-nil, All-cons, All-head, All-tail, All-append, All-drop}
-use Rattle.std.proofs.Math.Seq.{drop-append_seam}
-use Rattle.lapdm_frame.specs.declared.Channel.{Channel}
-use Rattle.lapdm_frame.specs.Content.{Frame}
-use Rattle.segmenting.specs.Pieces.{Message}
-use Rattle.lapdm_window.specs.declared.Sapi.{Sapi}
-use Rattle.lapdm_window.specs.Ends.{Role, Mobile, Network, EndState, Outcome, start, IsEnd}
-use Rattle.lapdm_window.specs.Calls.{Call, refusal_of, after_call, Opens, OpensBare, HasCall}
-use Rattle.lapdm_window.specs.Tables.{after_frame}
-use Rattle.lapdm_link.specs.Events.{Event, other, rival_frame, rival_refusal, Open, OpenBare, Ask, Deliver, Ends, end_in, sender_of, Deed, does, does_nothing, deed, call_of, End, taken, Why}
-use Rattle.lapdm_link.specs.Worlds.{World, start_on, refusal, answer, after, answer_by, after_by, answers, IsReadable, IsSendable}
-use Rattle.lapdm_link.specs.Claims.{Line, Rivals, answer_lines}
+use Rattle.lapdm_link.proofs.Words.{◌≡◌, sym, subst, List, [], ◌∷◌, ◌++◌, None, All, refl, ◌∙◌, ap, arith, false, nat_eq, nat_lt, length, ◌≤◌, Bool, true, if◌then◌else◌, Option, Some, All-nil, All-cons, All-head, All-tail, All-append, All-drop, drop-append_seam, Channel, Frame, Message, Sapi, Role, Mobile, Network, EndState, Outcome, start, IsEnd, Call, refusal_of, after_call, Opens, OpensBare, HasCall, after_frame, Event, other, rival_frame, rival_refusal, Open, OpenBare, Ask, Deliver, Ends, end_in, sender_of, Deed, does, does_nothing, deed, call_of, End, taken, Why, World, start_on, refusal, answer, after, answer_by, after_by, answers, IsReadable, IsSendable, Line, Rivals, answer_lines, nat_tests, n201, Fits, Zero, Three, passes, plain_fits, Keeps, keeps-frame, keeps-call, IsEnd-start, AtMost, few-frame, few-call, Ways, with_more}
 use Rattle.lapdm_link.proofs.Views.{end_of, way, without_first, with_frames, acted, said, ends_do, each_way, each_lost, each_start, way_does, way_does-other}
 use Rattle.lapdm_link.proofs.ByKind.{IsPlaced, KnowsBy, by_kind}
-use Rattle.std.proofs.lemmas.Bool.Decides.{nat_tests}
-use Rattle.lapdm_frame.specs.Layout.{n201}
-use Rattle.lapdm_frame.specs.Frames.{Fits}
-use Rattle.lapdm_window.specs.declared.Sapi.TheVariants.{Zero, Three}
-use Rattle.lapdm_window.proofs.Lemmas.{passes, plain_fits, Keeps, keeps-frame, keeps-call, IsEnd-start, AtMost, few-frame, few-call}
 use Rattle.lapdm_link.specs.Ways as W
-use Rattle.lapdm_link.specs.Ways.{Ways, with_more}
 use Rattle.lapdm_window.specs.declared.Refused.TheVariants as No
 
 -- ---- what holds of each end and of each frame on its way, step by step

@@ -1,19 +1,6 @@
 -- The claims on every session, whatever frames arrive.
-use Rattle.std.proofs.Common.{sym, List, [], ◌∷◌, ◌++◌, append_assoc, ◌≡◌, refl, ◌∙◌, ap, arith, ℕ, ◌+◌, ◌≤◌, length, Option, Some, None}
-use Rattle.std.proofs.lemmas.List.{append-nil}
-use Rattle.std.proofs.lemmas.List.Elements.{All-nil}
-use Rattle.lapdm_frame.specs.declared.Channel.{Channel}
-use Rattle.segmenting.specs.Pieces.{IsMessage}
-use Rattle.lapdm_window.specs.declared.Sapi.{Sapi}
-use Rattle.lapdm_window.specs.declared.Notice.{Notice}
+use Rattle.lapdm_link.proofs.Words.{sym, List, [], ◌∷◌, ◌++◌, append_assoc, ◌≡◌, refl, ◌∙◌, ap, arith, ℕ, ◌+◌, ◌≤◌, length, Option, Some, None, append-nil, All-nil, Channel, IsMessage, Sapi, Notice, Role, EndState, Outcome, KeepsWindow, capped, Call, Closes, after_call, after_frame, IsSameLink, Line, Asked, StandsAfter, Told, call_in, notice_in, answer_lines, lines, sent, acked, IsOfOpenEnd, IsOpenEnd, OrderClaims, Event, Deliver, Why, other, World, start_on, refusal, answer, after, answers}
 use Rattle.lapdm_window.specs.declared.Notice.TheVariants as N
-use Rattle.lapdm_window.specs.Ends.{Role, EndState, Outcome, KeepsWindow, capped}
-use Rattle.lapdm_window.specs.Calls.{Call, Closes, after_call}
-use Rattle.lapdm_window.specs.Tables.{after_frame}
-use Rattle.lapdm_window.specs.Steps.{IsSameLink}
-use Rattle.lapdm_link.specs.Claims.{Line, Asked, StandsAfter, Told, call_in, notice_in, answer_lines, lines, sent, acked, IsOfOpenEnd, IsOpenEnd, OrderClaims}
-use Rattle.lapdm_link.specs.Events.{Event, Deliver, Why, other}
-use Rattle.lapdm_link.specs.Worlds.{World, start_on, refusal, answer, after, answers}
 use Rattle.lapdm_link.proofs.Told.{Known, known, nothing, MayTell, goes-append, Runs, runs-told, runs-else, IsTold, is_told, at_place, none_beyond}
 use Rattle.lapdm_link.proofs.Taking.{taken-frame}
 use Rattle.lapdm_link.proofs.Asked.{is_called}
