@@ -48,7 +48,8 @@ module _ (E : Sapi → EndState → Type 0) (F : Frame → Type 0) where
         on_channel = h.on_channel;
         ends = h.ends;
         ways = each_way (λ r. All F (way r (with_frames Mobile (rival_frame info ∷ []) w))) Mobile
-            (All-append F w.ways.up (rival_frame info ∷ []) (h.ways Mobile) (All-cons F _ [] (rival info ok l) (All-nil F))) (h.ways Network);
+            (All-append F w.ways.up (rival_frame info ∷ []) (h.ways Mobile) (All-cons F _ [] (rival info ok l) (All-nil F)))
+            (h.ways Network);
       })
       event known
 
