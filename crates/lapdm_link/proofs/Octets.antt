@@ -1,5 +1,5 @@
 -- Where messages are octets, so is what every frame on its way carries.
-use Rattle.std.proofs.Common.{◌≡◌, sym, ap, subst, arith, ℕ, zero, suc, ◌<◌, Bool, false, List, [], ◌∷◌, length, drop, get_or, None, All, inl, inr}
+use Rattle.std.proofs.Common.{◌≡◌, sym, ap, subst, ℕ, zero, suc, ◌<◌, Bool, false, List, [], ◌∷◌, length, drop, get_or, None, All, inl, inr}
 use Rattle.std.specs.Prelude.{◌⊎◌}
 use Rattle.std.specs.List.{filter_map, flat_map}
 use Rattle.std.proofs.lemmas.List.Elements.{All-nil, All-cons, All-head, All-tail, All-append, All-take, All-drop}
