@@ -313,7 +313,7 @@ idle_fit role sapi = record {
   end = IsEnd-start role sapi Sdcch;
   sapi_is = refl;
   channel = refl;
-  octets = record { kept = All-nil (λ octet. octet < 256); taken = tt };
+  octets = record { kept = All-nil (λ octet. octet < 256); taken = All-nil AreOctets };
 }
 
 idle_kept : (role : Role) (tsc : ℕ) → IsKept role tsc (idle role tsc)
