@@ -11,7 +11,7 @@ pub use Rattle.std.proofs.lemmas.List.{length-append, take-append-le, take_more,
 pub use Rattle.std.proofs.Math.ListN.{get_or-append}
 pub use Rattle.segmenting.specs.Pieces.{Piece, Message, IsMessage, pieces, longest, cut}
 pub use Rattle.std.proofs.lemmas.Bool.Decides.{nat_tests}
-pub use Rattle.std.proofs.lemmas.List.Elements.{filter_map-append, Contains-append_left, Contains-append_right, Contains-push, All-nil, All-cons, All-head, All-tail, All-append, All-drop, All-take}
+pub use Rattle.std.proofs.lemmas.List.Elements.{filter_map-append, Contains-append_left, Contains-append_right, Contains-push, All-nil, All-cons, All-head, All-tail, All-append, All-drop, All-take, All-push}
 pub use Rattle.lapdm_window.specs.declared.State.{State}
 pub use Rattle.lapdm_window.specs.Rules.{waiting_frame, has_next, with_next, sends_piece, sends_next, acknowledges, with_acked, reports_acked, counts, with_accepted, accepts, says_rr, answers_piece, with_reject, reject_is_due, rejects, takes_i, answers_poll, takes_rr, sends_again, takes_rej, is_open, acked_number, notices_of}
 pub use Rattle.std.proofs.lemmas.Bool.{false≢true}
