@@ -1,25 +1,8 @@
 -- What an end does at a call that is not refused: what it tells and sends, and that both directions are kept.
-use Rattle.std.proofs.Common.{◌≡◌, refl, sym, ap, subst, arith, ℕ, ◌+◌, ◌≤◌, max, Bool, true, false, not, if◌then◌else◌, nat_eq, nat_lt, List, [], ◌∷◌, ◌++◌, length, Some, None, inl, inr}
-use Rattle.std.specs.Prelude.{◌⊎◌}
-use Rattle.std.specs.List.{filter_map}
-use Rattle.std.proofs.lemmas.List.{append-nil}
-use Rattle.std.proofs.lemmas.Bool.{false≢true}
-use Rattle.std.proofs.lemmas.Bool.Decides.{nat_tests}
-use Rattle.lapdm_frame.specs.Layout.{n201}
-use Rattle.lapdm_frame.specs.Content.{Content, I, Rr, Rej, Sabm, Ui, Disc, Frame}
-use Rattle.segmenting.specs.Pieces.{Message, Piece, IsMessage}
-use Rattle.lapdm_window.specs.declared.State.{State}
+use Rattle.lapdm_link.proofs.Words.{◌≡◌, refl, sym, ap, subst, arith, ℕ, ◌+◌, ◌≤◌, max, Bool, true, false, not, if◌then◌else◌, nat_eq, nat_lt, List, [], ◌∷◌, ◌++◌, length, Some, None, inl, inr, ◌⊎◌, filter_map, append-nil, false≢true, nat_tests, n201, Content, I, Rr, Rej, Sabm, Ui, Disc, Frame, Message, Piece, IsMessage, State, Notice, EndState, Outcome, KeepsWindow, sends_frame, waits, awaits, awaits_in, all_pieces, n200, is_open, sends_next, IsSameLink, becomes_closed, Call, Opens, OpensBare, Sends, SendsUnit, Closes, Ticks, Idles, is_idle, refusal_of, put_refusals, frame_refusals, with_taken, repeated, after_call, wholly_acked-taken, all_pieces-taken, KeepsWindow-taken, is_message, not_false, passes, is_idle-is, is_open-is, three_bits, waits_within, sent_in, unit_sent_in, unit_got_in, opened_in}
 use Rattle.lapdm_window.specs.declared.State.TheVariants as S
 use Rattle.lapdm_window.specs.declared.Reason.TheVariants as R
-use Rattle.lapdm_window.specs.declared.Notice.{Notice}
 use Rattle.lapdm_window.specs.declared.Refused.TheVariants as No
-use Rattle.lapdm_window.specs.Ends.{EndState, Outcome, KeepsWindow, sends_frame, waits, awaits, awaits_in, all_pieces, n200}
-use Rattle.lapdm_window.specs.Rules.{is_open, sends_next}
-use Rattle.lapdm_window.specs.Steps.{IsSameLink}
-use Rattle.lapdm_window.specs.Tables.{becomes_closed}
-use Rattle.lapdm_window.specs.Calls.{Call, Opens, OpensBare, Sends, SendsUnit, Closes, Ticks, Idles, is_idle, refusal_of, put_refusals, frame_refusals, with_taken, repeated, after_call}
-use Rattle.lapdm_window.proofs.Lemmas.{wholly_acked-taken, all_pieces-taken, KeepsWindow-taken, is_message, not_false, passes, is_idle-is, is_open-is, three_bits, waits_within}
-use Rattle.lapdm_link.specs.Claims.{sent_in, unit_sent_in, unit_got_in, opened_in}
 use Rattle.lapdm_link.proofs.Queues.{contents, IsPlain, AllFrames, frames-as, frames-say, AllOf}
 use Rattle.lapdm_link.proofs.Directions.{waits_for_one, more_pieces}
 use Rattle.lapdm_link.proofs.Keeping.{IsBoth, After, sends_plain, quiet, moved, piece_sent, is_waiting, keeps-sends_next}

@@ -1,19 +1,7 @@
 -- Each event is refused, or is of one of five kinds.
-use Rattle.std.proofs.Common.{◌≡◌, refl, sym, ap, subst, Bool, true, false, List, [], ◌∷◌, map, nat_eq, Option, Some, None, if◌then◌else◌}
-use Rattle.std.proofs.lemmas.List.{append-nil}
-use Rattle.lapdm_frame.specs.Content.{Frame}
-use Rattle.segmenting.specs.Pieces.{Message}
-use Rattle.lapdm_window.specs.declared.Sapi.{Sapi}
-use Rattle.lapdm_window.specs.declared.Sapi.TheVariants.{Zero, Three}
-use Rattle.lapdm_window.specs.declared.Refused.{Refused}
-use Rattle.lapdm_window.specs.Ends.{Role, Mobile, Network, sapi_number}
-use Rattle.lapdm_window.specs.Calls.{Call, Opens, OpensBare, refusal_of, after_call}
-use Rattle.lapdm_window.specs.Tables.{after_frame}
-use Rattle.lapdm_link.specs.Events.{Request, Send, Event, Open, OpenBare, Ask, Deliver, Lose, Rival, other, rival_frame, Deed, does, does_nothing, deed, End, Why, AirFull, because, unless, rival_refusal, call_of}
-use Rattle.lapdm_link.specs.Worlds.{World, next, refusal, after_by, answer_by, answer, after}
+use Rattle.lapdm_link.proofs.Words.{◌≡◌, refl, sym, ap, subst, Bool, true, false, List, [], ◌∷◌, map, nat_eq, Option, Some, None, if◌then◌else◌, append-nil, Frame, Message, Sapi, Zero, Three, Refused, Role, Mobile, Network, sapi_number, Call, Opens, OpensBare, refusal_of, after_call, after_frame, Request, Send, Event, Open, OpenBare, Ask, Deliver, Lose, Rival, other, rival_frame, Deed, does, does_nothing, deed, End, Why, AirFull, because, unless, rival_refusal, call_of, World, next, refusal, after_by, answer_by, answer, after, Line, Asked, Rivals, Told, notice_lines, answer_lines}
 use Rattle.lapdm_link.proofs.Views.{end_of, without_first, with_frames}
 use Rattle.lapdm_link.proofs.Views.{acted}
-use Rattle.lapdm_link.specs.Claims.{Line, Asked, Rivals, Told, notice_lines, answer_lines}
 
 -- a mobile alone opens the link of SAPI 0, and by some information; that of SAPI 3 is opened bare
 abbrev pub IsPlaced : Role → Sapi → Call → Type 0

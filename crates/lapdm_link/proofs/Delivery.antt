@@ -1,19 +1,7 @@
 -- Both directions of a link go on at whatever an end does; and the claims that they give: in order, acknowledged
 -- afterwards, none oversize.
-use Rattle.std.proofs.Common.{◌≡◌, refl, sym, arith, List, [], ◌∷◌, Some, ◌∙◌, ap, ℕ, suc, ◌≤◌, ◌++◌, length, map, take, drop, Option, None, All}
-use Rattle.std.specs.List.{filter_map, flat_map}
-use Rattle.std.proofs.lemmas.List.{take-append-drop}
-use Rattle.std.proofs.lemmas.List.Elements.{filter_map-append}
-use Rattle.lapdm_frame.specs.Layout.{n201}
-use Rattle.lapdm_frame.specs.Content.{Content}
-use Rattle.segmenting.specs.Pieces.{Message, Piece, IsMessage, pieces}
-use Rattle.segmenting.specs.Joining.{endings, messages, ended, open_after}
-use Rattle.segmenting.proofs.Lemmas.{endings-all, endings-append, ended-take, ended-endings, messages_of}
-use Rattle.lapdm_window.specs.declared.Sapi.{Sapi}
-use Rattle.lapdm_window.specs.declared.Notice.{Notice}
+use Rattle.lapdm_link.proofs.Words.{◌≡◌, refl, sym, arith, List, [], ◌∷◌, Some, ◌∙◌, ap, ℕ, suc, ◌≤◌, ◌++◌, length, map, take, drop, Option, None, All, filter_map, flat_map, take-append-drop, filter_map-append, n201, Content, Message, Piece, IsMessage, pieces, endings, messages, ended, open_after, endings-all, endings-append, ended-take, ended-endings, messages_of, Sapi, Notice, Role, EndState, IsPrefix, Line, Told, StandsAfter, notices, got_in, got, acked, sent}
 use Rattle.lapdm_window.specs.declared.Notice.TheVariants as N
-use Rattle.lapdm_window.specs.Ends.{Role, EndState}
-use Rattle.lapdm_link.specs.Claims.{IsPrefix, Line, Told, StandsAfter, notices, got_in, got, acked, sent}
 use Rattle.lapdm_link.proofs.Views.{notices-at}
 use Rattle.lapdm_link.proofs.Directions.{climbs-le}
 use Rattle.lapdm_link.proofs.Keeping.{IsBoth, sends_plain}

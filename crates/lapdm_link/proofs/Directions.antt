@@ -7,11 +7,7 @@
 -- at most one more than its first, since the window is one frame. So of the two pieces that an arriving I frame may
 -- carry, the last accepted and the next, N(S) tells which, and of the two counts that an N(R) may stand for it tells
 -- whether it is that of the piece that waits; then what lies between, the count of accepted pieces, is that count too.
-use Rattle.std.proofs.Common.{arith, ℕ, ◌≤◌, List, [], ◌∷◌, ◌++◌, ◌≡◌, ◌≢◌, refl, sym, ◌∙◌, ap, ◌+◌, ◌%◌, ◌<◌, false, length, take, get_or}
-use Rattle.std.proofs.lemmas.List.{length-append, take-append-le, take_more}
-use Rattle.std.proofs.Math.ListN.{get_or-append}
-use Rattle.lapdm_frame.specs.Content.{Content, I, Rr, Rej}
-use Rattle.segmenting.specs.Pieces.{Piece}
+use Rattle.lapdm_link.proofs.Words.{arith, ℕ, ◌≤◌, List, [], ◌∷◌, ◌++◌, ◌≡◌, ◌≢◌, refl, sym, ◌∙◌, ap, ◌+◌, ◌%◌, ◌<◌, false, length, take, get_or, length-append, take-append-le, take_more, get_or-append, Content, I, Rr, Rej, Piece}
 use Rattle.lapdm_link.proofs.Queues.{AllOf}
 
 -- ---- numbers that never fall
@@ -30,17 +26,18 @@ module _ {Tells : ℕ → Content → Type 0} where
   climbs-le (last h) = h
   climbs-le (first l t h) = omega (arith, climbs-le h)
 
-  -- a wider range
-  climbs-lower : {low low' high : ℕ} {cs : List Content} → low' ≤ low → Climbs Tells low cs high → Climbs Tells low' cs high
-  climbs-lower m (last h) = last (omega arith)
-  climbs-lower m (first l t h) = first (omega arith) t h
+  -- what is told tells as much in other words, in a wider range
+  climbs-as : (Tells' : ℕ → Content → Type 0) → ((k : ℕ) (c : Content) → Tells k c → Tells' k c) → {low low' high high' : ℕ}
+      {cs : List Content} → low' ≤ low → high ≤ high' → Climbs Tells low cs high → Climbs Tells' low' cs high'
+  climbs-as Tells' says l h (last m) = last (omega arith)
+  climbs-as Tells' says l h (first m t g) = first (omega arith) (says _ _ t) (climbs-as Tells' says (omega arith) h g)
 
-  climbs-higher : {low high high' : ℕ} {cs : List Content} → high ≤ high' → Climbs Tells low cs high → Climbs Tells low cs high'
-  climbs-higher m (last h) = last (omega arith)
-  climbs-higher m (first l t h) = first l t (climbs-higher m h)
+  climbs-within : {low low' high high' : ℕ} {cs : List Content} → low' ≤ low → high ≤ high' → Climbs Tells low cs high →
+      Climbs Tells low' cs high'
+  climbs-within l h g = climbs-as Tells (λ k c t. t) l h g
 
   climbs-rest : {low high : ℕ} {c : Content} {cs : List Content} → Climbs Tells low (c ∷ cs) high → Climbs Tells low cs high
-  climbs-rest (first l t h) = climbs-lower l h
+  climbs-rest (first l t h) = climbs-within l (omega arith) h
 
   -- the highest is told at the end
   climbs-append : {low high : ℕ} {cs : List Content} (ds : List Content) → AllOf (Tells high) ds → Climbs Tells low cs high →
@@ -48,12 +45,6 @@ module _ {Tells : ℕ → Content → Type 0} where
   climbs-append [] a (last h) = last h
   climbs-append (d ∷ ds) a (last h) = first h a.0 (climbs-append ds a.1 (last (omega arith)))
   climbs-append ds a (first l t h) = first l t (climbs-append ds a h)
-
-  -- what is told tells as much in other words
-  climbs-as : (Tells' : ℕ → Content → Type 0) → ((k : ℕ) (c : Content) → Tells k c → Tells' k c) → {low high : ℕ} {cs : List Content} →
-      Climbs Tells low cs high → Climbs Tells' low cs high
-  climbs-as Tells' says (last h) = last h
-  climbs-as Tells' says (first l t h) = first l (says _ _ t) (climbs-as Tells' says h)
 
 -- a frame with an N(R) says that so many pieces are accepted
 abbrev pub CountsIn : ℕ → Content → Type 0
@@ -115,7 +106,7 @@ module _ {ps : List Piece} {a s : ℕ} {qs : List Piece} {there back : List Cont
   -- a new piece is to go out
   pub next_waits : s ≡ a → s < length ps → IsDirection ps a s qs there back → IsDirection ps a (s + 1) qs there back
   next_waits none left h =
-      direction h.acknowledged (climbs-higher (omega arith) h.carried) (omega arith) (omega arith) h.in_order
+      direction h.acknowledged (climbs-within (omega arith) (omega arith) h.carried) (omega arith) (omega arith) h.in_order
 
   -- frames go out that carry the last piece sent, for the first time or again
   pub pieces_out : (cs : List Content) → AllOf (CarriesIn ps s) cs → IsDirection ps a s qs there back →
@@ -139,8 +130,8 @@ module _ {ps : List Piece} {a s : ℕ} {qs : List Piece} {there back : List Cont
       (sym i.number ∙ number) in
       let longer : length (qs ++ p ∷ []) ≡ length qs + 1 = length-append qs (p ∷ []) in
       let piece : get_or ps (length qs) ([], false) ≡ p = ap (λ i. get_or ps i ([], false)) (sym at_is) ∙ i.piece in
-      direction (climbs-higher (omega arith) h.acknowledged) (climbs-lower (omega (arith, i.count)) rest) h.window h.within
-      (ap (λ q. qs ++ q ∷ []) (sym piece) ∙ ap (λ xs. xs ++ get_or ps (length qs) ([], false) ∷ []) h.in_order
+      direction (climbs-within (omega arith) (omega arith) h.acknowledged) (climbs-within (omega (arith, i.count)) (omega arith) rest)
+      h.window h.within (ap (λ q. qs ++ q ∷ []) (sym piece) ∙ ap (λ xs. xs ++ get_or ps (length qs) ([], false) ∷ []) h.in_order
       ∙ sym (take_more ps (length qs) ([], false) (omega (arith, i.within))) ∙ ap (λ n. take n ps) (sym longer))
 
   -- a frame is lost or ignored
@@ -157,12 +148,12 @@ module _ {ps : List Piece} {a s : ℕ} {qs : List Piece} {there back : List Cont
       let (k, low, t, rest) = climbs-split h.acknowledged in
       let k_is : k ≡ s = right_number a (length qs) s k low (climbs-le rest) (climbs-le h.carried) h.window waits
       (sym (counts k t) ∙ number) in
-      direction (climbs-lower (omega arith) rest) h.carried (omega arith) h.within h.in_order
+      direction (climbs-within (omega arith) (omega arith) rest) h.carried (omega arith) h.within h.in_order
 
   pub more_pieces : (more : List Piece) → IsDirection ps a s qs there back → IsDirection (ps ++ more) a s qs there back
   more_pieces more h =
       let high : length qs ≤ s = climbs-le h.carried in
-      direction h.acknowledged (climbs-as (CarriesIn (ps ++ more)) (carries-more ps more) h.carried) h.window
+      direction h.acknowledged (climbs-as (CarriesIn (ps ++ more)) (carries-more ps more) (omega arith) (omega arith) h.carried) h.window
       (omega (arith, h.within, length-append ps more))
       (h.in_order ∙ sym (take-append-le (length qs) ps more (omega (arith, h.within))))
 

@@ -1,26 +1,8 @@
 -- Every frame on its way can be written.
-use Rattle.std.proofs.Common.{◌≡◌, sym, subst, List, [], ◌∷◌, ◌++◌, None, All, refl, ◌∙◌, ap, arith, false, nat_eq, nat_lt, length, ◌≤◌, Bool, true, if◌then◌else◌, Option, Some}
-use Rattle.std.proofs.lemmas.List.Elements.{All-nil, All-cons, All-head, All-tail, All-append, All-drop}
-use Rattle.std.proofs.Math.Seq.{drop-append_seam}
-use Rattle.lapdm_frame.specs.declared.Channel.{Channel}
-use Rattle.lapdm_frame.specs.Content.{Frame}
-use Rattle.segmenting.specs.Pieces.{Message}
-use Rattle.lapdm_window.specs.declared.Sapi.{Sapi}
-use Rattle.lapdm_window.specs.Ends.{Role, Mobile, Network, EndState, Outcome, start, IsEnd}
-use Rattle.lapdm_window.specs.Calls.{Call, refusal_of, after_call, Opens, OpensBare, HasCall}
-use Rattle.lapdm_window.specs.Tables.{after_frame}
-use Rattle.lapdm_link.specs.Events.{Event, other, rival_frame, rival_refusal, Open, OpenBare, Ask, Deliver, Ends, end_in, sender_of, Deed, does, does_nothing, deed, call_of, End, taken, Why}
-use Rattle.lapdm_link.specs.Worlds.{World, start_on, refusal, answer, after, answer_by, after_by, answers, IsReadable, IsSendable}
-use Rattle.lapdm_link.specs.Claims.{Line, Rivals, answer_lines}
-use Rattle.lapdm_link.proofs.Views.{end_of, way, without_first, with_frames, acted, said, each_end, each_way, each_lost, each_start, end_does, end_does-else, way_does, way_does-other}
+use Rattle.lapdm_link.proofs.Words.{◌≡◌, sym, subst, List, [], ◌∷◌, ◌++◌, None, All, refl, ◌∙◌, ap, arith, false, nat_eq, nat_lt, length, ◌≤◌, Bool, true, if◌then◌else◌, Option, Some, All-nil, All-cons, All-head, All-tail, All-append, All-drop, drop-append_seam, Channel, Frame, Message, Sapi, Role, Mobile, Network, EndState, Outcome, start, IsEnd, Call, refusal_of, after_call, Opens, OpensBare, HasCall, after_frame, Event, other, rival_frame, rival_refusal, Open, OpenBare, Ask, Deliver, Ends, end_in, sender_of, Deed, does, does_nothing, deed, call_of, End, taken, Why, World, start_on, refusal, answer, after, answer_by, after_by, answers, IsReadable, IsSendable, Line, Rivals, answer_lines, nat_tests, n201, Fits, Zero, Three, passes, plain_fits, Keeps, keeps-frame, keeps-call, IsEnd-start, AtMost, few-frame, few-call, Ways, with_more, All-push}
+use Rattle.lapdm_link.proofs.Views.{end_of, way, without_first, with_frames, acted, said, ends_do, each_way, each_lost, each_start, way_does, way_does-other}
 use Rattle.lapdm_link.proofs.ByKind.{IsPlaced, KnowsBy, by_kind}
-use Rattle.std.proofs.lemmas.Bool.Decides.{nat_tests}
-use Rattle.lapdm_frame.specs.Layout.{n201}
-use Rattle.lapdm_frame.specs.Frames.{Fits}
-use Rattle.lapdm_window.specs.declared.Sapi.TheVariants.{Zero, Three}
-use Rattle.lapdm_window.proofs.Lemmas.{passes, plain_fits, Keeps, keeps-frame, keeps-call, IsEnd-start, AtMost, few-frame, few-call}
 use Rattle.lapdm_link.specs.Ways as W
-use Rattle.lapdm_link.specs.Ways.{Ways, with_more}
 use Rattle.lapdm_window.specs.declared.Refused.TheVariants as No
 
 -- ---- what holds of each end and of each frame on its way, step by step
@@ -35,20 +17,15 @@ module _ (E : Sapi → EndState → Type 0) (F : Frame → Type 0) where
       Holds channel (acted r s o w)
   acts channel r s o w h g = record {
     on_channel = h.on_channel;
-    ends = each_end (λ r' s'. E s' (end_of r' s' (acted r s o w))) r s
-        (subst (E s) (sym (end_does r s o w)) g.0)
-        (λ r' s' n. subst (E s') (sym (end_does-else r s o w r' s' n)) (h.ends r' s'));
+    ends = ends_do (λ r' s' e. E s' e) r s o w g.0 (λ r' s' n. h.ends r' s');
     ways = each_way (λ r'. All F (way r' (acted r s o w))) r
         (subst (All F) (sym (way_does r s o w)) (All-append F (way r w) o.frames (h.ways r) g.1))
         (subst (All F) (sym (way_does-other r s o w)) (h.ways (other r)));
   }
 
   lost : (channel : Channel) (w : World) → Holds channel w → (sender : Role) → Holds channel (without_first sender w)
-  lost channel w h sender = record {
-    on_channel = h.on_channel;
-    ends = h.ends;
-    ways = each_lost (λ r fs. All F fs) (λ r fs g. All-drop F 1 fs g) sender w h.ways;
-  }
+  lost channel w h sender = (let ways = each_lost (λ r fs. All F fs) (λ r fs g. All-drop F 1 fs g) sender w h.ways in
+      record { on_channel = h.on_channel; ends = h.ends; ways = ways })
 
   -- where it holds of what each end does, at calls whose lines are such, and at frames of which such is known
   pub holds-step : (Says : List Line → Type 0) (Known : Role → Frame → Type 0) (channel : Channel) (w : World) → Holds channel w →
@@ -64,20 +41,14 @@ module _ (E : Sapi → EndState → Type 0) (F : Frame → Type 0) where
       (λ r s f on k l. acts channel r s (after_frame f (end_of r s w)) (without_first (other r) w) (lost channel w h (other r))
       (taken r s f k))
       (λ sender l. lost channel w h sender)
-      (λ info ok l. record {
-        on_channel = h.on_channel;
-        ends = h.ends;
-        ways = each_way (λ r. All F (way r (with_frames Mobile (rival_frame info ∷ []) w))) Mobile
-            (All-append F w.ways.up (rival_frame info ∷ []) (h.ways Mobile) (All-cons F _ [] (rival info ok l) (All-nil F))) (h.ways Network);
-      })
+      (λ info ok l. (let ways = each_way (λ r. All F (way r (with_frames Mobile (rival_frame info ∷ []) w))) Mobile
+      (All-push F w.ways.up (rival_frame info) (h.ways Mobile) (rival info ok l)) (h.ways Network) in
+      record { on_channel = h.on_channel; ends = h.ends; ways = ways }))
       event known
 
   pub holds-start : (channel : Channel) → ((r : Role) (s : Sapi) → E s (start r s channel)) → Holds channel (start_on channel)
-  holds-start channel h = record {
-    on_channel = refl;
-    ends = each_start (λ r s e. E s e) channel h;
-    ways = each_way (λ r. All F (way r (start_on channel))) Mobile (All-nil F) (All-nil F);
-  }
+  holds-start channel h = (let ways = each_way (λ r. All F (way r (start_on channel))) Mobile (All-nil F) (All-nil F) in
+      record { on_channel = refl; ends = each_start (λ r s e. E s e) channel h; ways = ways })
 
 -- an end of this channel and link
 pub record FitsEnd (channel : Channel) (s : Sapi) (e : EndState) : Type 0 where

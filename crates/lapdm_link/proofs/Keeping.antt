@@ -1,13 +1,5 @@
 -- Each rule of an end keeps both directions between it and the other end.
-use Rattle.std.proofs.Common.{◌≡◌, ◌≢◌, refl, sym, ◌∙◌, ap, arith, ℕ, ◌+◌, ◌%◌, ◌<◌, Bool, true, false, if◌then◌else◌, nat_eq, List, [], ◌∷◌, ◌++◌, length, append_assoc, Option, Some, None}
-use Rattle.std.specs.List.{cons_option}
-use Rattle.std.proofs.lemmas.Bool.Decides.{nat_tests}
-use Rattle.std.proofs.lemmas.List.Elements.{filter_map-append}
-use Rattle.lapdm_frame.specs.Content.{Content, I, Rr, Rej}
-use Rattle.lapdm_window.specs.declared.State.{State}
-use Rattle.segmenting.specs.Pieces.{Message, Piece}
-use Rattle.lapdm_window.specs.Ends.{EndState, Outcome, stays, sends_frame, ◌then◌, response, all_pieces, next_piece, waits, vr}
-use Rattle.lapdm_window.specs.Rules.{waiting_frame, has_next, with_next, sends_piece, sends_next, acknowledges, with_acked, reports_acked, counts, with_accepted, accepts, says_rr, answers_piece, with_reject, reject_is_due, rejects, takes_i, answers_poll, takes_rr, sends_again, takes_rej}
+use Rattle.lapdm_link.proofs.Words.{◌≡◌, ◌≢◌, refl, sym, ◌∙◌, ap, arith, ℕ, ◌+◌, ◌%◌, ◌<◌, Bool, true, false, if◌then◌else◌, nat_eq, List, [], ◌∷◌, ◌++◌, length, append_assoc, Option, Some, None, cons_option, nat_tests, filter_map-append, Content, I, Rr, Rej, State, Message, Piece, EndState, Outcome, stays, sends_frame, ◌then◌, response, all_pieces, next_piece, waits, vr, waiting_frame, has_next, with_next, sends_piece, sends_next, acknowledges, with_acked, reports_acked, counts, with_accepted, accepts, says_rr, answers_piece, with_reject, reject_is_due, rejects, takes_i, answers_poll, takes_rr, sends_again, takes_rej}
 use Rattle.lapdm_link.proofs.Queues.{IsPlain, contents, AllOf, of-as}
 use Rattle.lapdm_link.proofs.Directions.{IsDirection, IsPiece, CountsIn, CarriesIn, next_waits, waits_for_one, pieces_out, piece_in, piece_gone, numbers_out, number_in, number_gone}
 use Rattle.lapdm_link.proofs.Telling.{has_left}
@@ -115,7 +107,8 @@ module _ {x y : EndState} {out comes hears : List Content} (h : IsBoth x y out c
 keeps-answers_piece : (p : Bool) {x y : EndState} {out comes hears : List Content} → IsBoth x y out comes hears →
     After (answers_piece p x) y out comes hears
 keeps-answers_piece true {x} {out = out} h = then-keeps out (says_rr true x) sends_next (keeps-sends_next (keeps-says_rr true h))
-keeps-answers_piece false {x} {out = out} h = if-keeps out (has_next x) (sends_piece x) (says_rr false x) (keeps-sends_piece h) (keeps-says_rr false h)
+keeps-answers_piece false {x} {out = out} h =
+    if-keeps out (has_next x) (sends_piece x) (says_rr false x) (keeps-sends_piece h) (keeps-says_rr false h)
 
 counts-vr : (nr : ℕ) (x : EndState) → vr (counts nr x).after ≡ vr x
 counts-vr nr x = by_test (acknowledges nr x) (next_piece x).1

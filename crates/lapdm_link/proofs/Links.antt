@@ -1,19 +1,8 @@
 -- One link, seen from one of its ends: what the end is, what is on its way from it, what it was asked and what it told;
 -- and what an end of a link does.
-use Rattle.std.proofs.Common.{◌≡◌, refl, inl, List, [], ◌∷◌, ◌++◌}
-use Rattle.std.specs.List.{cons_option}
-use Rattle.lapdm_frame.specs.Content.{Content}
-use Rattle.segmenting.specs.Pieces.{Message}
-use Rattle.lapdm_window.specs.declared.Sapi.{Sapi}
-use Rattle.lapdm_window.specs.declared.Sapi.TheVariants.{Zero}
-use Rattle.lapdm_window.specs.declared.Notice.{Notice}
-use Rattle.lapdm_window.specs.Ends.{Role, Mobile, EndState, Outcome}
-use Rattle.lapdm_window.specs.Calls.{Call}
-use Rattle.lapdm_link.specs.Events.{rival_frame}
-use Rattle.lapdm_link.specs.Worlds.{World}
-use Rattle.lapdm_link.specs.Claims.{Line, calls, notices}
-use Rattle.lapdm_link.proofs.Queues.{contents, contents_on, content_of, AllFrames, frames-as}
-use Rattle.lapdm_link.proofs.Views.{end_of, way, spoken}
+use Rattle.lapdm_link.proofs.Words.{◌≡◌, refl, inl, List, [], ◌∷◌, ◌++◌, cons_option, Content, Message, Sapi, Zero, Notice, Role, Mobile, EndState, Outcome, Call, rival_frame, World, Line, calls, notices}
+use Rattle.lapdm_link.proofs.Queues.{contents, contents_on, content_of, AllOf, IsOf, frames-own}
+use Rattle.lapdm_link.proofs.Views.{end_of, way, acted, spoken}
 use Rattle.lapdm_link.proofs.ByKind.{IsPlaced}
 use Rattle.lapdm_link.proofs.Taking.{IsTaken}
 use Rattle.lapdm_link.proofs.Asked.{IsCalled}
@@ -69,7 +58,10 @@ after a x = record {
 abbrev pub other_after : Act → Side → Side
 other_after a y = record y { out = a.left }
 
-pub acts_own : {x y : Side} {a : Act} → IsActed x y a → x.end.sapi ≡ a.sapi → AllFrames (λ c. Unit {0}) a.sapi a.does.frames
-acts_own {a = a} (called p c) same = rw same at (frames-as _ _ (λ u h. tt {0}) _ a.does.frames c.frames)
-acts_own {a = a} (took e t) same = rw same at (frames-as _ _ (λ u h. tt {0}) _ a.does.frames t.frames)
-acts_own rival same = (inl refl, tt, tt)
+abbrev pub acted_by : Act → World → World
+acted_by a w = acted a.role a.sapi a.does w
+
+pub acts_own : {x y : Side} {a : Act} → IsActed x y a → x.end.sapi ≡ a.sapi → AllOf (IsOf a.sapi) a.does.frames
+acts_own {a = a} (called p c) same = rw same at (frames-own _ _ a.does.frames c.frames)
+acts_own {a = a} (took e t) same = rw same at (frames-own _ _ a.does.frames t.frames)
+acts_own rival same = (inl refl, tt)

@@ -1,19 +1,5 @@
 -- Where messages are octets, so is what every frame on its way carries.
-use Rattle.std.proofs.Common.{◌≡◌, sym, ap, subst, ℕ, zero, suc, ◌<◌, Bool, false, List, [], ◌∷◌, length, drop, get_or, None, All, inl, inr}
-use Rattle.std.specs.Prelude.{◌⊎◌}
-use Rattle.std.specs.List.{filter_map, flat_map}
-use Rattle.std.proofs.lemmas.List.Elements.{All-nil, All-cons, All-head, All-tail, All-append, All-take, All-drop}
-use Rattle.lapdm_frame.specs.declared.Channel.{Channel}
-use Rattle.lapdm_frame.specs.Layout.{n201}
-use Rattle.lapdm_frame.specs.Content.{Content, I, Sabm, Ui, Ua, Frame, information}
-use Rattle.segmenting.specs.Pieces.{Message, Piece, cut, pieces}
-use Rattle.lapdm_window.specs.declared.Sapi.{Sapi}
-use Rattle.lapdm_window.specs.Ends.{EndState, Outcome, KeepsWindow, all_pieces}
-use Rattle.lapdm_window.specs.Tables.{after_frame}
-use Rattle.lapdm_window.specs.Calls.{Call, Opens, OpensBare, Sends, SendsUnit, refusal_of, after_call}
-use Rattle.lapdm_link.specs.Events.{Event}
-use Rattle.lapdm_link.specs.Worlds.{World, start_on, refusal, answer, after}
-use Rattle.lapdm_link.specs.Claims.{Line, Asked, Rivals, Told, answer_lines, sent_in}
+use Rattle.lapdm_link.proofs.Words.{◌≡◌, sym, ap, subst, ℕ, zero, suc, ◌<◌, Bool, false, List, [], ◌∷◌, length, drop, get_or, None, All, inl, inr, ◌⊎◌, filter_map, flat_map, All-nil, All-cons, All-head, All-tail, All-append, All-take, All-drop, Channel, n201, Content, I, Sabm, Ui, Ua, Frame, information, Message, Piece, cut, pieces, Sapi, EndState, Outcome, KeepsWindow, all_pieces, after_frame, Call, Opens, OpensBare, Sends, SendsUnit, refusal_of, after_call, Event, World, start_on, refusal, answer, after, Line, Asked, Rivals, Told, answer_lines, sent_in}
 use Rattle.lapdm_link.proofs.Queues.{AllFrames}
 use Rattle.lapdm_link.proofs.Views.{end_of}
 use Rattle.lapdm_link.proofs.Taking.{Answers, OpensBy, Remains, IsOpenedBy, IsTaken, taken-frame}

@@ -1,21 +1,8 @@
 -- Each opening has its cause before it: what was asked or told before a SABM or UA went out, and before an end came into
 -- its state.
-use Rattle.std.proofs.Common.{◌≡◌, refl, sym, ap, arith, ◌≤◌, List, [], ◌∷◌, ◌++◌, map, length, inl, inr, Option, Some, None}
-use Rattle.std.specs.Prelude.{◌⊎◌, Contains}
-use Rattle.std.specs.List.{cons_option, filter_map}
-use Rattle.std.proofs.lemmas.List.Elements.{Contains-append_left, Contains-append_right, Contains-push}
-use Rattle.lapdm_frame.specs.Content.{Content, Sabm, Ua}
-use Rattle.segmenting.specs.Pieces.{Message}
-use Rattle.lapdm_window.specs.declared.Sapi.{Sapi}
-use Rattle.lapdm_window.specs.declared.Sapi.TheVariants.{Zero, Three}
-use Rattle.lapdm_window.specs.declared.State.{State}
+use Rattle.lapdm_link.proofs.Words.{◌≡◌, refl, ap, arith, ◌≤◌, List, [], ◌∷◌, ◌++◌, map, length, inl, inr, Option, Some, None, ◌⊎◌, Contains, cons_option, filter_map, Contains-append_left, Contains-append_right, Contains-push, Content, Sabm, Ua, Message, Sapi, Zero, Three, State, Notice, Role, Mobile, Network, EndState, Outcome, Call, Opens, OpensBare, other, Line, Asked, Rivals, Told, HasCause, opened_in}
 use Rattle.lapdm_window.specs.declared.State.TheVariants as S
-use Rattle.lapdm_window.specs.declared.Notice.{Notice}
 use Rattle.lapdm_window.specs.declared.Notice.TheVariants as N
-use Rattle.lapdm_window.specs.Ends.{Role, Mobile, Network, EndState, Outcome}
-use Rattle.lapdm_window.specs.Calls.{Call, Opens, OpensBare}
-use Rattle.lapdm_link.specs.Events.{other}
-use Rattle.lapdm_link.specs.Claims.{Line, Asked, Rivals, Told, HasCause, opened_in}
 use Rattle.lapdm_link.proofs.Queues.{content_of, AllOf, of-append, of-as, frames-say}
 use Rattle.lapdm_link.proofs.ByKind.{IsPlaced}
 use Rattle.lapdm_link.proofs.Order.{AllStand}
@@ -56,9 +43,11 @@ IsReached r s ls S.Open k = WasOpened r s ls k
 IsReached r s ls S.Closing k = WasOpened r s ls k
 IsReached r s ls state k = Unit {0}
 
-pub record HasOpenings (r : Role) (s : Sapi) (x : Side) (ls : List Line) : Type 0 where
-  pub sent : AllOf (IsCaused r s ls) x.out
-  pub reached : IsReached r s ls x.end.state x.end.kept
+abbrev pub HasReached : Role → Sapi → List Line → EndState → Type 0
+HasReached r s ls x = IsReached r s ls x.state x.kept
+
+abbrev pub HasOpenings : Role → Sapi → Side → List Line → Type 0
+HasOpenings r s x ls = AllOf (IsCaused r s ls) x.out × HasReached r s ls x.end
 
 -- with more lines
 module _ (r : Role) (s : Sapi) (ls new : List Line) where
@@ -83,30 +72,9 @@ module _ (r : Role) (s : Sapi) (ls new : List Line) where
   reached-more state k h = tt
 
   pub openings-more : (x : Side) → HasOpenings r s x ls → HasOpenings r s x (ls ++ new)
-  openings-more x h = record { sent = of-as _ _ caused-more x.out h.sent; reached = reached-more _ _ h.reached }
+  openings-more x h = (of-as _ _ caused-more x.out h.0, reached-more _ _ h.1)
 
--- what an end sends
-asked-caused : (r : Role) (s : Sapi) (ls : List Line) (call : Call) (z : EndState) → IsReached r s ls z.state z.kept → (c : Content) →
-    Asks call z c → IsCaused r s ls c
-asked-caused r s ls call z h (Sabm p info) a = inl (rw a.1 at (rw a.0 at h))
-asked-caused r s ls call z h (Ua f info) a = absurd a
-asked-caused r s ls call z h c a = tt
-
-begun-caused : (r : Role) (s : Sapi) (ls : List Line) (t : State) (k : Message) → HasBegun t → IsReached r s ls t k →
-    WasAsked r s ls k ⊎ WasOpened r s ls k
-begun-caused r s ls S.Opening k b h = inl h
-begun-caused r s ls S.Open k b h = inr h
-begun-caused r s ls S.Closing k b h = inr h
-begun-caused r s ls t k b h = absurd b
-
-answer-caused : (r : Role) (s : Sapi) (ls : List Line) (x z : EndState) → IsReached r s ls x.state x.kept →
-    IsReached r s ls z.state z.kept → (c : Content) → Answers x z c → IsCaused r s ls c
-answer-caused r s ls x z h g (Ua f info) (inl e) = inl (rw e.1 at (rw e.0 at g))
-answer-caused r s ls x z h g (Ua f info) (inr e) = inr (e.0, (x.kept, begun-caused r s ls x.state x.kept e.1 h))
-answer-caused r s ls x z h g (Sabm p info) a = absurd a
-answer-caused r s ls x z h g c a = tt
-
--- what opens an end
+-- why a SABM, and why a UA, opens an end
 sabm-cause : (r : Role) (s : Sapi) (ls : List Line) (info : Message) → MayOpen s r info →
     WasAsked (other r) s ls info ⊎ ((s ≡ Zero) × Contains ls (Rivals info)) → HasCause r s info ls × IsBare s info
 sabm-cause Mobile Zero ls info may c = absurd may
@@ -126,99 +94,102 @@ ua-cause r Three ls info own (inl a) = (inr (own.0, rw a.1 at a.0), own.1)
 ua-cause r Three ls info own (inr (e, (k, inl a))) = (inl a.0, own.1)
 ua-cause r Three ls info own (inr (e, (k, inr a))) = (inr (own.0, rw a.1 at a.0), own.1)
 
-opening-cause : (r : Role) (s : Sapi) (ls : List Line) (x : EndState) → x.role ≡ r → x.sapi ≡ s → IsReached r s ls x.state x.kept →
-    (c : Content) (info : Message) (left : List Content) → OpensBy c x info →
-    AllOf (IsCaused (other r) s ls) (cons_option (content_of c) left) → HasCause r s info ls × IsBare s info
-opening-cause r s ls x role same h (Sabm p i) info left o sent =
-    sabm-cause r s ls info (rw (same, role) at o.2) (let g : IsCaused (other r) s ls (Sabm p i) = sent.0 in rw o.0 at g)
-opening-cause r s ls x role same h (Ua f i) info left o sent =
-    ua-cause r s ls info (rw o.2 (rw o.1 at h)) (let g : IsCaused (other r) s ls (Ua f i) = sent.0 in rw o.0 at g)
-opening-cause r s ls x role same h c info left o sent = absurd o
-
--- the end was asked
-was-asked : (r : Role) (s : Sapi) (ls : List Line) (call : Call) (k : Message) → IsPlaced r s call → IsOpening call k →
-    Contains ls (Asked r s call) → WasAsked r s ls k
-was-asked r s ls (Opens info) k p o c = rw (p.0, p.1, o.0) (rw (p.0, p.1) at c, (refl, rw o.0 at o.1))
-was-asked r s ls OpensBare k p o c = rw p (rw p at c, o)
-was-asked r s ls call k p o c = absurd o
-
-reached-by : (r : Role) (s : Sapi) (ls : List Line) (call : Call) (x z : EndState) → IsPlaced r s call → Contains ls (Asked r s call) →
-    LeftBy call x z → IsReached r s ls x.state x.kept → IsReached r s ls z.state z.kept
-reached-by r s ls call x z placed asked (inl a) h = rw a.0 (was-asked r s ls call z.kept placed a.1 asked)
-reached-by r s ls call x z placed asked (inr (e, inl same)) h = rw (same, e) h
-reached-by r s ls call x z placed asked (inr (e, inr (inl over))) h = rw over tt
-reached-by r s ls call x z placed asked (inr (e, inr (inr a))) h = rw (a.1, e) (rw a.0 at h)
-
 -- a notice of an opening behind its cause
 abbrev pub IsOpenedAfter : List Line → Line → Type 0
 IsOpenedAfter before (Told r s (N.Opened info)) = HasCause r s info before
 IsOpenedAfter before other = Unit {0}
 
-none-opened : (r : Role) (s : Sapi) (ns : List Notice) (ls : List Line) → filter_map opened_in ns ≡ [] →
-    AllStand IsOpenedAfter ls (map (Told r s) ns)
-none-opened r s [] ls h = tt
-none-opened r s (N.Opened i ∷ ns) ls h = cc h
-none-opened r s (n ∷ ns) ls h = (tt, none-opened r s ns (ls ++ Told r s n ∷ []) h)
+module _ (r : Role) (s : Sapi) where
+  none-opened : (ns : List Notice) (ls : List Line) → filter_map opened_in ns ≡ [] → AllStand IsOpenedAfter ls (map (Told r s) ns)
+  none-opened [] ls h = tt
+  none-opened (N.Opened i ∷ ns) ls h = cc h
+  none-opened (n ∷ ns) ls h = (tt, none-opened ns (ls ++ Told r s n ∷ []) h)
 
--- what an end comes to when a frame arrives, and what it tells
-goes-on : (r : Role) (s : Sapi) (ls : List Line) (c : Content) (x : EndState) (o : Outcome) (left : List Content) → x.role ≡ r →
-    x.sapi ≡ s → AllOf (IsCaused (other r) s ls) (cons_option (content_of c) left) → IsReached r s ls x.state x.kept →
-    Remains x o ⊎ IsOpenedBy c x o →
-    IsReached r s (ls ++ map (Told r s) o.notices) o.after.state o.after.kept × AllStand IsOpenedAfter ls (map (Told r s) o.notices)
-goes-on r s ls c x o left role same sent h (inl m) = (as_in m.state, none-opened r s o.notices ls m.none)
-  where
-    as_in : (o.after.state ≡ x.state) ⊎ (o.after.state ≡ S.Closed) →
-        IsReached r s (ls ++ map (Told r s) o.notices) o.after.state o.after.kept
-    as_in (inl e) = rw (e, m.kept) (reached-more r s ls (map (Told r s) o.notices) x.state x.kept h)
-    as_in (inr e) = rw e tt
-goes-on r s ls c x o left role same sent h (inr m) =
-    let cause = opening-cause r s ls x role same h c m.info left m.cause sent in
-    rw (m.state, m.kept, m.notices) ((Contains-push ls _, cause.1), (cause.0, tt))
+  -- the end was asked
+  was-asked : (ls : List Line) (call : Call) (k : Message) → IsPlaced r s call → IsOpening call k → Contains ls (Asked r s call) →
+      WasAsked r s ls k
+  was-asked ls (Opens info) k p o c = rw (p.0, p.1, o.0) (rw (p.0, p.1) at c, (refl, rw o.0 at o.1))
+  was-asked ls OpensBare k p o c = rw p (rw p at c, o)
+  was-asked ls call k p o c = absurd o
+
+  reached-by : (ls : List Line) (call : Call) (x z : EndState) → IsPlaced r s call → Contains ls (Asked r s call) → LeftBy call x z →
+      HasReached r s ls x → HasReached r s ls z
+  reached-by ls call x z p asked (inl a) h = rw a.0 (was-asked ls call z.kept p a.1 asked)
+  reached-by ls call x z p asked (inr (e, inl same)) h = rw (same, e) h
+  reached-by ls call x z p asked (inr (e, inr (inl over))) h = rw over tt
+  reached-by ls call x z p asked (inr (e, inr (inr a))) h = rw (a.1, e) (rw a.0 at h)
+
+  -- what it sends
+  module _ (ls : List Line) where
+    asked-caused : (call : Call) (z : EndState) → HasReached r s ls z → (c : Content) → Asks call z c → IsCaused r s ls c
+    asked-caused call z h (Sabm p info) a = inl (rw a.1 at (rw a.0 at h))
+    asked-caused call z h (Ua f info) a = absurd a
+    asked-caused call z h c a = tt
+
+    begun-caused : (t : State) (k : Message) → HasBegun t → IsReached r s ls t k → WasAsked r s ls k ⊎ WasOpened r s ls k
+    begun-caused S.Opening k b h = inl h
+    begun-caused S.Open k b h = inr h
+    begun-caused S.Closing k b h = inr h
+    begun-caused t k b h = absurd b
+
+    answer-caused : (x z : EndState) → HasReached r s ls x → HasReached r s ls z → (c : Content) → Answers x z c → IsCaused r s ls c
+    answer-caused x z h g (Ua f info) (inl e) = inl (rw e.1 at (rw e.0 at g))
+    answer-caused x z h g (Ua f info) (inr e) = inr (e.0, (x.kept, begun-caused x.state x.kept e.1 h))
+    answer-caused x z h g (Sabm p info) a = absurd a
+    answer-caused x z h g c a = tt
+
+    -- what opens it, and what it comes to when a frame arrives
+    module _ (x : EndState) (role : x.role ≡ r) (same : x.sapi ≡ s) (h : HasReached r s ls x) (left : List Content) where
+      opening-cause : (c : Content) (info : Message) → OpensBy c x info →
+          AllOf (IsCaused (other r) s ls) (cons_option (content_of c) left) → HasCause r s info ls × IsBare s info
+      opening-cause (Sabm p i) info o sent = sabm-cause r s ls info (rw (same, role) at o.2)
+          (let g : IsCaused (other r) s ls (Sabm p i) = sent.0 in rw o.0 at g)
+      opening-cause (Ua f i) info o sent = ua-cause r s ls info (rw o.2 (rw o.1 at h))
+          (let g : IsCaused (other r) s ls (Ua f i) = sent.0 in rw o.0 at g)
+      opening-cause c info o sent = absurd o
+
+      goes-on : (c : Content) (o : Outcome) → AllOf (IsCaused (other r) s ls) (cons_option (content_of c) left) →
+          Remains x o ⊎ IsOpenedBy c x o →
+          HasReached r s (ls ++ map (Told r s) o.notices) o.after × AllStand IsOpenedAfter ls (map (Told r s) o.notices)
+      goes-on c o sent (inl m) = (as_in m.state, none-opened o.notices ls m.none)
+        where
+          as_in : (o.after.state ≡ x.state) ⊎ (o.after.state ≡ S.Closed) → HasReached r s (ls ++ map (Told r s) o.notices) o.after
+          as_in (inl e) = rw (e, m.kept) (reached-more r s ls (map (Told r s) o.notices) x.state x.kept h)
+          as_in (inr e) = rw e tt
+      goes-on c o sent (inr m) =
+          let cause = opening-cause c m.info m.cause sent in rw (m.state, m.kept, m.notices) ((Contains-push ls _, cause.1), (cause.0, tt))
 
 -- an end acts
 pub openings-here : {x y : Side} {a : Act} (ls : List Line) → IsActed x y a → x.end.role ≡ a.role → x.end.sapi ≡ a.sapi →
     HasOpenings a.role a.sapi x ls → HasOpenings (other a.role) a.sapi y ls →
     HasOpenings a.role a.sapi (after a x) (ls ++ lines a) × AllStand IsOpenedAfter ls (lines a)
 openings-here {x} {y} {a} ls (called {r} {s} {call} p c) role same h g =
+    let z : EndState = a.does.after in
     let new : List Line = ls ++ lines a in
     let asked : Contains new (Asked r s call) = Contains-append_right ls (lines a) _ (0, omega arith, refl) in
     let h' : HasOpenings r s x new = openings-more r s ls (lines a) x h in
-    let to : IsReached r s new a.does.after.state a.does.after.kept = reached-by r s new call x.end a.does.after p asked c.left h'.reached in (
-      record {
-        sent = of-append _ x.out _ h'.sent
-            (frames-say (Asks call a.does.after) _ (asked-caused r s new call a.does.after to) x.end.sapi a.does.frames c.frames);
-        reached = to;
-      },
-      (tt, none-opened r s a.does.notices (ls ++ Asked r s call ∷ []) c.opened),
-    )
+    let to : HasReached r s new z = reached-by r s new call x.end z p asked c.left h'.1 in
+    let sent = frames-say (Asks call z) (IsCaused r s new) (asked-caused r s new call z to) x.end.sapi a.does.frames c.frames in
+    ((of-append _ x.out _ h'.0 sent, to), (tt, none-opened r s a.does.notices (ls ++ Asked r s call ∷ []) c.opened))
 openings-here {x} {y} {a} ls (took {r} {s} {c} {o} {left} e t) role same h g =
     let new : List Line = ls ++ lines a in
     let h' : HasOpenings r s x new = openings-more r s ls (lines a) x h in
-    let to = goes-on r s ls c x.end o left role same (rw e at g.sent) h.reached t.goes in (
-      record {
-        sent = of-append _ x.out _ h'.sent
-            (frames-say (Answers x.end o.after) _ (answer-caused r s new x.end o.after h'.reached to.0) x.end.sapi o.frames t.frames);
-        reached = to.0;
-      },
-      to.1,
-    )
+    let to = goes-on r s ls x.end role same h.1 left c o (rw e at g.0) t.goes in
+    let sent = frames-say (Answers x.end o.after) (IsCaused r s new) (answer-caused r s new x.end o.after h'.1 to.0) x.end.sapi o.frames
+    t.frames in ((of-append _ x.out _ h'.0 sent, to.0), to.1)
 openings-here {x} {y} {a} ls (rival {info}) role same h g =
-    let h' : HasOpenings Mobile Zero x (ls ++ lines a) = openings-more Mobile Zero ls (lines a) x h in (
-      record { sent = of-append _ x.out _ h'.sent (inr (refl, Contains-push ls (Rivals info)), tt); reached = h'.reached },
-      (tt, tt),
-    )
+    let h' : HasOpenings Mobile Zero x (ls ++ lines a) = openings-more Mobile Zero ls (lines a) x h in
+    ((of-append _ x.out _ h'.0 (inr (refl, Contains-push ls (Rivals info)), tt), h'.1), (tt, tt))
 
-pub openings-lost : (r : Role) (s : Sapi) (ls : List Line) (x : Side) (o : Option Content) (cs : List Content) →
-    HasOpenings r s (record x { out = cons_option o cs }) ls → HasOpenings r s (record x { out = cs }) ls
-openings-lost r s ls x None cs h = h
-openings-lost r s ls x (Some c) cs h = record { sent = h.sent.1; reached = h.reached }
+pub of-rest : (P : Content → Type 0) (o : Option Content) (cs : List Content) → AllOf P (cons_option o cs) → AllOf P cs
+of-rest P None cs h = h
+of-rest P (Some c) cs h = h.1
 
 pub openings-there : {x y : Side} {a : Act} (ls : List Line) → IsActed x y a → HasOpenings (other a.role) a.sapi y ls →
     HasOpenings (other a.role) a.sapi (other_after a y) (ls ++ lines a)
-openings-there {a = a} ls i g = openings-more _ _ ls (lines a) _ (without i g)
+openings-there {y = y} {a = a} ls i g = openings-more (other a.role) a.sapi ls (lines a) (other_after a y) (left _ i g.0, g.1)
   where
-    without : {x y : Side} {a : Act} → IsActed x y a → HasOpenings (other a.role) a.sapi y ls →
-        HasOpenings (other a.role) a.sapi (other_after a y) ls
-    without (called p c) g = g
-    without {y = y} (took {c = c} e t) g = openings-lost _ _ ls y (content_of c) _ (rw (sym e) (record { sent = g.sent; reached = g.reached }))
-    without rival g = g
+    left : {x y : Side} {a : Act} (P : Content → Type 0) → IsActed x y a → AllOf P y.out → AllOf P a.left
+    left P (called p c) g = g
+    left P (took {c = c} e t) g = of-rest P (content_of c) _ (rw e at g)
+    left P rival g = g

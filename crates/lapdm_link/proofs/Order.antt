@@ -1,23 +1,10 @@
 -- The claims on every session, whatever frames arrive.
-use Rattle.std.proofs.Common.{sym, List, [], ◌∷◌, ◌++◌, append_assoc, ◌≡◌, refl, ◌∙◌, ap, arith, ℕ, ◌+◌, ◌≤◌, length, Option, Some, None}
-use Rattle.std.proofs.lemmas.List.{append-nil}
-use Rattle.std.proofs.lemmas.List.Elements.{All-nil}
-use Rattle.lapdm_frame.specs.declared.Channel.{Channel}
-use Rattle.segmenting.specs.Pieces.{IsMessage}
-use Rattle.lapdm_window.specs.declared.Sapi.{Sapi}
-use Rattle.lapdm_window.specs.declared.Notice.{Notice}
+use Rattle.lapdm_link.proofs.Words.{sym, List, [], ◌∷◌, ◌++◌, append_assoc, ◌≡◌, refl, ◌∙◌, ap, arith, ℕ, ◌+◌, ◌≤◌, length, Option, Some, None, append-nil, All-nil, Channel, IsMessage, Sapi, Notice, Role, EndState, Outcome, KeepsWindow, capped, Call, Closes, after_call, after_frame, IsSameLink, Line, Asked, StandsAfter, Told, call_in, notice_in, answer_lines, lines, sent, acked, IsOfOpenEnd, IsOpenEnd, OrderClaims, Event, Deliver, Why, other, World, start_on, refusal, answer, after, answers}
 use Rattle.lapdm_window.specs.declared.Notice.TheVariants as N
-use Rattle.lapdm_window.specs.Ends.{Role, EndState, Outcome, KeepsWindow, capped}
-use Rattle.lapdm_window.specs.Calls.{Call, Closes, after_call}
-use Rattle.lapdm_window.specs.Tables.{after_frame}
-use Rattle.lapdm_window.specs.Steps.{IsSameLink}
-use Rattle.lapdm_link.specs.Claims.{Line, Asked, StandsAfter, Told, call_in, notice_in, answer_lines, lines, sent, acked, IsOfOpenEnd, IsOpenEnd, OrderClaims}
-use Rattle.lapdm_link.specs.Events.{Event, Deliver, Why, other}
-use Rattle.lapdm_link.specs.Worlds.{World, start_on, refusal, answer, after, answers}
 use Rattle.lapdm_link.proofs.Told.{Known, known, nothing, MayTell, goes-append, Runs, runs-told, runs-else, IsTold, is_told, at_place, none_beyond}
 use Rattle.lapdm_link.proofs.Taking.{taken-frame}
 use Rattle.lapdm_link.proofs.Asked.{is_called}
-use Rattle.lapdm_link.proofs.Views.{is_end-self, end_of, without_first, acted, said, each_end, each_start, end_does, end_does-else}
+use Rattle.lapdm_link.proofs.Views.{is_end-self, end_of, without_first, acted, said, each_start, ends_do}
 use Rattle.lapdm_link.proofs.ByKind.{KnowsBy, by_kind}
 
 -- ---- what holds of each line by the lines before it
@@ -100,9 +87,8 @@ acts : (w : World) (ls : List Line) → AllReported w ls → (r : Role) (s : Sap
     AllReported (acted r s o w) (ls ++ said r s cs o.notices)
 acts w ls h r s cs o link end run =
     let new : List Line = said r s cs o.notices in
-    each_end (λ r' s'. IsReported r' s' (end_of r' s' (acted r s o w)) (ls ++ new)) r s
-    (rw (end_does r s o w) (goes_on (h r s) o.after new link end run))
-    (λ r' s' n. rw (end_does-else r s o w r' s' n) (unseen (h r' s') new (runs-else r' s' r s n cs o.notices (known (end_of r' s' w)))))
+    ends_do (λ r' s' e. IsReported r' s' e (ls ++ new)) r s o w (goes_on (h r s) o.after new link end run)
+    (λ r' s' n. unseen (h r' s') new (runs-else r' s' r s n cs o.notices (known (end_of r' s' w))))
 
 any_frame : (o : Option Why) (event : Event) → KnowsBy o (λ r f. Unit {0}) event
 any_frame None (Deliver sender (Some f)) = tt

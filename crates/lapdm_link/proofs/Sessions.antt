@@ -1,21 +1,8 @@
 -- Every harmless session: one event after another.
-use Rattle.std.proofs.Common.{◌≡◌, refl, sym, ◌∙◌, ap, subst, arith, ◌+◌, ◌≤◌, true, false, List, [], ◌∷◌, ◌++◌, length, Option, Some, None, append_assoc}
-use Rattle.std.specs.List.{cons_option}
-use Rattle.std.proofs.lemmas.List.{append-nil, length-append}
-use Rattle.std.proofs.lemmas.List.Elements.{filter_map-append}
-use Rattle.lapdm_frame.specs.declared.Channel.{Channel}
-use Rattle.lapdm_frame.specs.Content.{Content, Frame}
-use Rattle.lapdm_window.specs.declared.Sapi.{Sapi}
-use Rattle.lapdm_window.specs.declared.Sapi.TheVariants.{Zero, Three}
-use Rattle.lapdm_window.specs.declared.Notice.{Notice}
+use Rattle.lapdm_link.proofs.Words.{◌≡◌, refl, sym, ◌∙◌, ap, subst, arith, ◌+◌, ◌≤◌, true, false, List, [], ◌∷◌, ◌++◌, length, Option, Some, None, append_assoc, cons_option, append-nil, length-append, filter_map-append, Channel, Content, Frame, Sapi, Zero, Three, Notice, Role, Mobile, Network, EndState, start, Call, Event, Deliver, Why, other, World, start_on, refusal, answer, after, answers, IsHarmlessBy, IsHarmless, IsAsSent, Line, Asked, Told, OrderClaims, CountsAgree, is_sapi, answer_lines, notices, Claims, acked, got}
 use Rattle.lapdm_window.specs.declared.Notice.TheVariants as N
-use Rattle.lapdm_window.specs.Ends.{Role, Mobile, Network, EndState, start}
-use Rattle.lapdm_window.specs.Calls.{Call}
-use Rattle.lapdm_link.specs.Events.{Event, Deliver, Why, other}
-use Rattle.lapdm_link.specs.Worlds.{World, start_on, refusal, answer, after, answers, IsHarmlessBy, IsHarmless}
-use Rattle.lapdm_link.specs.Ways.{IsAsSent}
-use Rattle.lapdm_link.specs.Claims.{Line, Asked, Told, OrderClaims, CountsAgree, is_sapi, answer_lines, lines, Claims, acked, got}
-use Rattle.lapdm_link.proofs.Queues.{is_on, content_of, content_on, contents_on, AllFrames, contents-own, contents-else}
+use Rattle.lapdm_link.specs.Claims as C
+use Rattle.lapdm_link.proofs.Queues.{is_on, content_of, content_on, contents_on, AllOf, IsOf, contents-own, contents-else}
 use Rattle.lapdm_link.proofs.Views.{end_of, way, rest, without_first, acted, said, is_end, by_link, other_is, link_else, end_does, end_does-else, way_does, calls-own, calls-else, notices-own, notices-else}
 use Rattle.lapdm_link.proofs.ByKind.{KnowsBy, by_kind}
 use Rattle.lapdm_link.proofs.Taking.{taken-frame}
@@ -24,10 +11,10 @@ use Rattle.lapdm_link.proofs.Order.{AllStand, stand-append, stands, AllReported,
 use Rattle.lapdm_link.proofs.Directions.{start-direction}
 use Rattle.lapdm_link.proofs.Keeping.{gone}
 use Rattle.lapdm_link.proofs.Links as L
-use Rattle.lapdm_link.proofs.Links.{Side, side, Act, acts_own, IsActed, called, took, rival, other_after}
+use Rattle.lapdm_link.proofs.Links.{Side, side, Act, acts_own, acted_by, lines, IsActed, called, took, rival, other_after}
 use Rattle.lapdm_link.proofs.Delivery.{IsCarried, carried-acts, got_in_order, acked_most, none_oversize}
 use Rattle.lapdm_link.proofs.Units.{none, HasUnits, units-here, units-there, units-lost, units-claim}
-use Rattle.lapdm_link.proofs.Openings.{HasOpenings, IsOpenedAfter, openings-more, openings-here, openings-there, openings-lost}
+use Rattle.lapdm_link.proofs.Openings.{IsCaused, HasOpenings, IsOpenedAfter, openings-more, openings-here, openings-there, of-rest}
 
 -- ---- one link
 
@@ -46,7 +33,7 @@ turned (link c u v o p) = link (record { there = c.back; back = c.there }) v u p
 
 link-acts : {x y : Side} {a : Act} (ls : List Line) → IsActed x y a → x.end.role ≡ a.role → x.end.sapi ≡ a.sapi →
     IsLink a.role (other a.role) a.sapi x y ls →
-    IsLink a.role (other a.role) a.sapi (L.after a x) (other_after a y) (ls ++ L.lines a) × AllStand IsOpenedAfter ls (L.lines a)
+    IsLink a.role (other a.role) a.sapi (L.after a x) (other_after a y) (ls ++ lines a) × AllStand IsOpenedAfter ls (lines a)
 link-acts ls i role same (link c u v o p) =
     let opens = openings-here ls i role same o p in
     (link (carried-acts i c) (units-here i u) (units-there i v) opens.0 (openings-there ls i p), opens.1)
@@ -60,7 +47,7 @@ module _ {r q : Role} {s : Sapi} (x y : Side) {ls : List Line} where
   first_gone : (o : Option Content) (cs : List Content) → IsLink r q s x (record y { out = cons_option o cs }) ls →
       IsLink r q s x (record y { out = cs }) ls
   first_gone d cs (link c u v o p) =
-      link (gone d c) (record { some = u.some }) (units-lost y x d cs v) o (openings-lost q s ls y d cs p)
+      link (gone d c) (record { some = u.some }) (units-lost y x d cs v) o (of-rest (IsCaused q s ls) d cs p.0, p.1)
 
   rest_gone : (fs : List Frame) → IsLink r q s x (record y { out = contents_on s fs }) ls →
       IsLink r q s x (record y { out = contents_on s (rest fs) }) ls
@@ -85,38 +72,45 @@ first_lost : (r : Role) (s : Sapi) (w : World) (ls : List Line) → Links r s w 
 first_lost Mobile s w ls h = rest_gone _ (side Network s w ls) w.ways.down h
 first_lost Network s w ls h = rest_gone _ (side Mobile s w ls) w.ways.up h
 
-own_sapi : (s : Sapi) → is_sapi s s ≡ true
-own_sapi Zero = refl
-own_sapi Three = refl
-
 sides : {e e' : EndState} {o o' : List Content} {c c' : List Call} {n n' : List Notice} → e ≡ e' → o ≡ o' → c ≡ c' → n ≡ n' →
     ◌≡◌ {A = Side} (record { end = e; out = o; asked = c; told = n }) (record { end = e'; out = o'; asked = c'; told = n' })
 sides h g k l = cc
 
 -- what an end does is seen at its end alone
-module _ (v : World) (ls : List Line) (a : Act) (own : AllFrames (λ c. Unit {0}) a.sapi a.does.frames) where
-  here : side a.role a.sapi (acted a.role a.sapi a.does v) (ls ++ L.lines a) ≡ L.after a (side a.role a.sapi v ls)
+module _ (v : World) (ls : List Line) (a : Act) (own : AllOf (IsOf a.sapi) a.does.frames) where
+  here : side a.role a.sapi (acted_by a v) (ls ++ lines a) ≡ L.after a (side a.role a.sapi v ls)
   here = sides (end_does a.role a.sapi a.does v)
-      (rw (way_does a.role a.sapi a.does v, filter_map-append (content_on a.sapi) (way a.role v) a.does.frames, contents-own a.sapi (own_sapi a.sapi) (λ c. Unit {0}) a.does.frames own) refl)
+      (rw (
+        way_does a.role a.sapi a.does v,
+        filter_map-append (content_on a.sapi) (way a.role v),
+        contents-own a.sapi a.does.frames own,
+      ) refl)
       (calls-own a.role a.sapi ls a.rivals a.asks a.does.notices) (notices-own a.role a.sapi ls a.rivals a.asks a.does.notices)
 
-  out-else : (r' : Role) (r : Role) (s : Sapi) → is_end r s r' a.sapi ≡ false →
+  out-else : (r' r : Role) (s : Sapi) → is_end r s r' a.sapi ≡ false →
       contents_on s (way r (acted r' a.sapi a.does v)) ≡ contents_on s (way r v)
-  out-else Mobile Mobile s n = rw (filter_map-append (content_on s) v.ways.up a.does.frames, contents-else s a.sapi n (λ c. Unit {0}) a.does.frames own, append-nil) refl
-  out-else Network Network s n = rw (filter_map-append (content_on s) v.ways.down a.does.frames, contents-else s a.sapi n (λ c. Unit {0}) a.does.frames own, append-nil) refl
+  out-else Mobile Mobile s n =
+      rw (filter_map-append (content_on s) v.ways.up, contents-else s a.sapi n a.does.frames own, append-nil) refl
+  out-else Network Network s n =
+      rw (filter_map-append (content_on s) v.ways.down, contents-else s a.sapi n a.does.frames own, append-nil) refl
   out-else r' r s n = refl
 
-  elsewhere : (r : Role) (s : Sapi) → is_end r s a.role a.sapi ≡ false →
-      side r s (acted a.role a.sapi a.does v) (ls ++ L.lines a) ≡ side r s v ls
+  elsewhere : (r : Role) (s : Sapi) → is_end r s a.role a.sapi ≡ false → side r s (acted_by a v) (ls ++ lines a) ≡ side r s v ls
   elsewhere r s n = sides (end_does-else a.role a.sapi a.does v r s n) (out-else a.role r s n)
-      (calls-else a.role a.sapi ls a.rivals a.asks a.does.notices r s n) (notices-else a.role a.sapi ls a.rivals a.asks a.does.notices r s n)
+      (calls-else a.role a.sapi ls a.rivals a.asks a.does.notices r s n)
+      (notices-else a.role a.sapi ls a.rivals a.asks a.does.notices r s n)
 
   links-act : {x y : Side} → side a.role a.sapi v ls ≡ x → side (other a.role) a.sapi v ls ≡ y →
-      IsLink a.role (other a.role) a.sapi (L.after a x) y (ls ++ L.lines a) → ((s : Sapi) → is_sapi s a.sapi ≡ false → Links a.role s v ls) → AllLinks (acted a.role a.sapi a.does v) (ls ++ L.lines a)
-  links-act e e' own others = seen_by a.role (acted a.role a.sapi a.does v) (ls ++ L.lines a) (by_link (λ s. Links a.role s (acted a.role a.sapi a.does v) (ls ++ L.lines a)) a.sapi
+      IsLink a.role (other a.role) a.sapi (L.after a x) y (ls ++ lines a) →
+      ((s : Sapi) → is_sapi s a.sapi ≡ false → Links a.role s v ls) → AllLinks (acted_by a v) (ls ++ lines a)
+  links-act e e' own others = seen_by a.role (acted_by a v) (ls ++ lines a)
+      (by_link (λ s. Links a.role s (acted_by a v) (ls ++ lines a)) a.sapi
       (rw (here ∙ ap (L.after a) e, elsewhere (other a.role) a.sapi (other_is a.role a.sapi) ∙ e') own)
-      (λ s n. rw (elsewhere a.role s (link_else a.role a.role s a.sapi n), elsewhere (other a.role) s (link_else (other a.role) a.role s a.sapi n))
-      (more (L.lines a) (others s n))))
+      (λ s n. rw (
+        elsewhere a.role s (link_else a.role a.role s a.sapi n),
+        elsewhere (other a.role) s
+            (link_else (other a.role) a.role s a.sapi n),
+      ) (more (lines a) (others s n))))
 
 -- ---- what stands before a notice, by the claim on acknowledgements
 
@@ -141,7 +135,7 @@ told-after r s (n ∷ ns) ls h = (
 )
 
 acts-after : {x y : Side} {a : Act} (ls : List Line) → IsActed x y a →
-    length (acked a.role a.sapi (ls ++ L.lines a)) ≤ length (got (other a.role) a.sapi (ls ++ L.lines a)) → AllStand IsAfterGot ls (L.lines a)
+    length (acked a.role a.sapi (ls ++ lines a)) ≤ length (got (other a.role) a.sapi (ls ++ lines a)) → AllStand IsAfterGot ls (lines a)
 acts-after {a = a} ls (called {r} {s} {call} p c) h = (
   tt,
   told-after r s a.does.notices (ls ++ Asked r s call ∷ [])
@@ -165,10 +159,10 @@ Goes ls z new = AllReported z (ls ++ new) → AllLinks z (ls ++ new) × AllStand
 
 acts : (ls : List Line) (v : World) {x y : Side} {a : Act} → IsActed x y a → x.end.role ≡ a.role → x.end.sapi ≡ a.sapi →
     side a.role a.sapi v ls ≡ x → side (other a.role) a.sapi v ls ≡ other_after a y → IsLink a.role (other a.role) a.sapi x y ls →
-    ((s : Sapi) → is_sapi s a.sapi ≡ false → Links a.role s v ls) → Goes ls (acted a.role a.sapi a.does v) (L.lines a)
+    ((s : Sapi) → is_sapi s a.sapi ≡ false → Links a.role s v ls) → Goes ls (acted_by a v) (lines a)
 acts ls v {x} {y} {a} i role same e e' h others reported =
     let link = link-acts ls i role same h in
-    let all : AllLinks (acted a.role a.sapi a.does v) (ls ++ L.lines a) = links-act v ls a (acts_own i same) e e' link.0 others in
+    let all : AllLinks (acted_by a v) (ls ++ lines a) = links-act v ls a (acts_own i same) e e' link.0 others in
     (all, acts-after ls i (acked_most (reported a.role a.sapi) (reported (other a.role) a.sapi) (carried (all a.role a.sapi))), link.1)
 
 -- the first that comes is the first that was sent
@@ -203,8 +197,8 @@ goes w ls event harmless h =
     (λ r s call placed ok. (let x = h.reported r s in
     acts ls w (called placed (is_called (end_of r s w) x.end call ok)) x.role x.sapi refl refl (h.links r s) (λ t n. h.links r t)))
     (λ r s f on known. (let x = h.reported r s in
-    acts ls (without_first (other r) w) (took (comes-first s f (way (other r) w) on known) (taken-frame (end_of r s w) x.end f)) x.role x.sapi
-    (left-here r s w ls) (left-there r s w ls) (h.links r s) (λ t n. first_lost r t w ls (h.links r t))))
+    acts ls (without_first (other r) w) (took (comes-first s f (way (other r) w) on known) (taken-frame (end_of r s w) x.end f)) x.role
+    x.sapi (left-here r s w ls) (left-there r s w ls) (h.links r s) (λ t n. first_lost r t w ls (h.links r t))))
     (λ sender g. (rw append-nil (lost sender w ls h.links), tt, tt))
     (λ info ok. (let x = h.reported Mobile Zero in acts ls w rival x.role x.sapi refl refl (h.links Mobile Zero) (λ t n. h.links Mobile t)))
     event (as_sent (refusal event w) event w harmless)
@@ -223,15 +217,17 @@ session-step w ls event harmless h =
     }
 
 session-run : (events : List Event) (w : World) (ls : List Line) → IsHarmless events w → IsSession w ls →
-    ((z : World) × IsSession z (ls ++ lines events (answers events w)))
+    ((z : World) × IsSession z (ls ++ C.lines events (answers events w)))
 session-run [] w ls harmless h = (w, rw append-nil h)
 session-run (event ∷ events) w ls harmless h =
     rw (← append_assoc) (session-run events (after event w) _ harmless.1 (session-step w ls event harmless.0 h))
 
-start-link : (r q : Role) (s : Sapi) (channel : Channel) →
-    (let first : Role → Side = λ p. record { end = start p s channel; out = []; asked = []; told = [] } in IsLink r q s (first r) (first q) [])
+abbrev first : Role → Sapi → Channel → Side
+first r s channel = record { end = start r s channel; out = []; asked = []; told = [] }
+
+start-link : (r q : Role) (s : Sapi) (channel : Channel) → IsLink r q s (first r s channel) (first q s channel) []
 start-link r q s channel = link (record { there = start-direction; back = start-direction }) (record { some = none })
-    (record { some = none }) (record { sent = tt; reached = tt }) (record { sent = tt; reached = tt })
+    (record { some = none }) (tt, tt) (tt, tt)
 
 start-links : (channel : Channel) → AllLinks (start_on channel) []
 start-links channel = seen_by Mobile (start_on channel) [] each
@@ -242,19 +238,19 @@ start-links channel = seen_by Mobile (start_on channel) [] each
 
 -- every harmless session leads to such a state
 harmless-session : (channel : Channel) (events : List Event) → IsHarmless events (start_on channel) →
-    ((z : World) × IsSession z (lines events (answers events (start_on channel))))
+    ((z : World) × IsSession z (C.lines events (answers events (start_on channel))))
 harmless-session channel events harmless = session-run events (start_on channel) [] harmless
     (record { reported = start-reported channel; links = start-links channel; after_got = tt; after_cause = tt })
 
 pub counts : (channel : Channel) (events : List Event) → IsHarmless events (start_on channel) →
-    CountsAgree (lines events (answers events (start_on channel)))
+    CountsAgree (C.lines events (answers events (start_on channel)))
 counts channel events harmless r s =
     let (z, h) = harmless-session channel events harmless in acked_most (h.reported r s) (h.reported (other r) s) (carried (h.links r s))
 
 pub claims : (channel : Channel) (events : List Event) → IsHarmless events (start_on channel) →
-    Claims (lines events (answers events (start_on channel)))
+    Claims (C.lines events (answers events (start_on channel)))
 claims channel events harmless =
-    let ls : List Line = lines events (answers events (start_on channel)) in
+    let ls : List Line = C.lines events (answers events (start_on channel)) in
     let in_order : OrderClaims ls = order_claims channel events in
     let (z, h) = harmless-session channel events harmless in
     record {

@@ -1,23 +1,8 @@
 -- What an end does at any frame: what it tells and sends, what opens it, and that both directions are kept.
-use Rattle.std.proofs.Common.{◌≡◌, refl, sym, ap, arith, ◌≤◌, Bool, true, false, ◌&&◌, if◌then◌else◌, List, [], ◌∷◌, Option, Some, None, inl, inr}
-use Rattle.std.specs.Prelude.{◌⊎◌}
-use Rattle.std.specs.Str.{bytes_eq}
-use Rattle.std.specs.List.{filter_map, cons_option}
-use Rattle.std.proofs.lemmas.Slice.Eq.{bytes_eq-Decides}
-use Rattle.lapdm_frame.specs.Content.{Content, I, Rr, Rej, Sabm, Dm, Ui, Disc, Ua, Frame}
-use Rattle.segmenting.specs.Pieces.{Message}
-use Rattle.lapdm_window.specs.declared.Sapi.{Sapi}
-use Rattle.lapdm_window.specs.declared.Sapi.TheVariants.{Zero, Three}
-use Rattle.lapdm_window.specs.declared.State.{State}
-use Rattle.lapdm_window.specs.declared.State.TheVariants.{Idle, Opening, Open, Closing, Closed}
-use Rattle.lapdm_window.specs.declared.Reason.{Reason}
+use Rattle.lapdm_link.proofs.Words.{◌≡◌, refl, sym, ap, arith, ◌≤◌, Bool, true, false, ◌&&◌, if◌then◌else◌, List, [], ◌∷◌, Option, Some, None, inl, inr, ◌⊎◌, bytes_eq, filter_map, cons_option, bytes_eq-Decides, Content, I, Rr, Rej, Sabm, Dm, Ui, Disc, Ua, Frame, Message, Sapi, Zero, Three, State, Idle, Opening, Closing, Closed, Reason, Notice, Role, Mobile, Network, EndState, Outcome, KeepsWindow, all_pieces, stays, ◌then◌, IsSameLink, is_command, is_poll, says_ua, becomes_open, sabm_in_idle, dm_to_poll, in_idle, other_ua, sabm_in_opening, in_opening, answers_sabm, in_open, in_closing, in_closed, in_state, after_content, after_frame, opened_in, unit_got_in}
+use Rattle.lapdm_window.specs.declared.State.TheVariants.{Open}
 use Rattle.lapdm_window.specs.declared.Reason.TheVariants as R
-use Rattle.lapdm_window.specs.declared.Notice.{Notice}
 use Rattle.lapdm_window.specs.declared.Notice.TheVariants as N
-use Rattle.lapdm_window.specs.Ends.{Role, Mobile, Network, EndState, Outcome, KeepsWindow, all_pieces, stays, ◌then◌}
-use Rattle.lapdm_window.specs.Steps.{IsSameLink}
-use Rattle.lapdm_window.specs.Tables.{is_command, is_poll, says_ua, becomes_open, sabm_in_idle, dm_to_poll, in_idle, other_ua, sabm_in_opening, in_opening, answers_sabm, in_open, in_closing, in_closed, in_state, after_content, after_frame}
-use Rattle.lapdm_link.specs.Claims.{opened_in, unit_got_in}
 use Rattle.lapdm_link.proofs.Queues.{content_of, IsPlain, AllFrames, frames-as, frames-say}
 use Rattle.lapdm_link.proofs.Told.{stage_of, known, Tells}
 use Rattle.lapdm_link.proofs.Telling.{SaysWell, InOpen, in-takes_i, in-takes_rr, in-takes_rej}

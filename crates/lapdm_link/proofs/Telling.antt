@@ -1,21 +1,7 @@
 -- What an end tells, and the frames that it sends, in Open: with whatever frames arrive.
-use Rattle.std.proofs.Common.{◌≡◌, refl, sym, ◌∙◌, ap, subst, arith, ℕ, ◌+◌, ◌<◌, ◌≤◌, Bool, true, false, if◌then◌else◌, nat_eq, nat_lt, List, [], ◌∷◌, ◌++◌, length, get_or, Option, Some, None, inl}
-use Rattle.std.specs.List.{filter_map}
-use Rattle.std.proofs.lemmas.List.{append-nil}
-use Rattle.std.proofs.lemmas.List.Elements.{filter_map-append}
-use Rattle.std.proofs.lemmas.Bool.Decides.{nat_tests}
-use Rattle.lapdm_frame.specs.Content.{Content, I, Rr, Rej, Frame}
+use Rattle.lapdm_link.proofs.Words.{◌≡◌, refl, sym, ◌∙◌, ap, subst, arith, ℕ, ◌+◌, ◌<◌, ◌≤◌, Bool, true, false, if◌then◌else◌, nat_eq, nat_lt, List, [], ◌∷◌, ◌++◌, length, get_or, Option, Some, None, inl, filter_map, append-nil, filter_map-append, nat_tests, Content, I, Rr, Rej, Frame, Message, Piece, longest, within, endings, open_part, endings-more, endings-last, Notice, Acked, EndState, Outcome, KeepsWindow, stays, ◌then◌, response, all_pieces, next_piece, waits, wholly_acked, vr, capped, waiting_frame, has_next, sends_piece, sends_next, acknowledges, with_acked, acked_number, reports_acked, counts, notices_of, accepts, says_rr, answers_piece, reject_is_due, rejects, takes_i, answers_poll, takes_rr, sends_again, takes_rej, wholly_acked-more, wholly_acked-last, wholly_acked-most, KeepsWindow-acked, three_bits, waits_within, unit_got_in, opened_in}
 use Rattle.segmenting.specs.declared.joiner.Joined.TheVariants as J
-use Rattle.segmenting.specs.Pieces.{Message, Piece, longest}
-use Rattle.segmenting.specs.Joining.{within, endings, open_part}
-use Rattle.segmenting.proofs.Lemmas.{endings-more, endings-last}
 use Rattle.lapdm_window.specs.declared.State.TheVariants.{Open}
-use Rattle.lapdm_window.specs.declared.Notice.{Notice}
-use Rattle.lapdm_window.specs.declared.Notice.TheVariants.{Acked}
-use Rattle.lapdm_window.specs.Ends.{EndState, Outcome, KeepsWindow, stays, ◌then◌, response, all_pieces, next_piece, waits, wholly_acked, vr, capped}
-use Rattle.lapdm_window.specs.Rules.{waiting_frame, has_next, sends_piece, sends_next, acknowledges, with_acked, acked_number, reports_acked, counts, notices_of, accepts, says_rr, answers_piece, reject_is_due, rejects, takes_i, answers_poll, takes_rr, sends_again, takes_rej}
-use Rattle.lapdm_window.proofs.Lemmas.{wholly_acked-more, wholly_acked-last, wholly_acked-most, KeepsWindow-acked, three_bits, waits_within}
-use Rattle.lapdm_link.specs.Claims.{unit_got_in, opened_in}
 use Rattle.lapdm_link.proofs.Queues.{AllFrames, frames-append}
 use Rattle.lapdm_link.proofs.Told.{stage_of, Known, known, goes-append, Tells}
 

@@ -1,18 +1,7 @@
 -- What is known of an end by its calls and notices, one after another, with whatever frames arrive.
-use Rattle.std.specs.Prelude.{Contains}
-use Rattle.std.proofs.Common.{◌≡◌, refl, sym, ◌∙◌, subst, arith, ℕ, zero, suc, ◌+◌, ◌-◌, ◌≤◌, max, min, false, List, [], ◌∷◌, ◌++◌, map, length, Option, Some, None, append_assoc}
-use Rattle.std.specs.List.{filter_map, cons_option}
-use Rattle.std.proofs.lemmas.List.{append-nil}
-use Rattle.segmenting.specs.Pieces.{Message}
-use Rattle.segmenting.specs.Joining.{endings}
-use Rattle.lapdm_window.specs.declared.Sapi.{Sapi}
-use Rattle.lapdm_window.specs.declared.State.{State}
+use Rattle.lapdm_link.proofs.Words.{Contains, ◌≡◌, refl, sym, ◌∙◌, subst, arith, ℕ, zero, suc, ◌+◌, ◌-◌, ◌≤◌, max, min, false, List, [], ◌∷◌, ◌++◌, map, length, Option, Some, None, append_assoc, filter_map, cons_option, append-nil, Message, endings, Sapi, State, Notice, Role, EndState, wholly_acked, capped, Call, Sends, Closes, Line, Told, StandsAfter, sent_in, acked_in, opened_in, closed_in, call_in, notice_in, notices, sent, acked, opened, closed}
 use Rattle.lapdm_window.specs.declared.State.TheVariants as S
-use Rattle.lapdm_window.specs.declared.Notice.{Notice}
 use Rattle.lapdm_window.specs.declared.Notice.TheVariants as N
-use Rattle.lapdm_window.specs.Ends.{Role, EndState, wholly_acked, capped}
-use Rattle.lapdm_window.specs.Calls.{Call, Sends, Closes}
-use Rattle.lapdm_link.specs.Claims.{Line, Told, StandsAfter, sent_in, acked_in, opened_in, closed_in, call_in, notice_in, notices, sent, acked, opened, closed}
 use Rattle.lapdm_link.proofs.Views.{is_end, is_end-self, said}
 
 -- not open yet, open, closing, over

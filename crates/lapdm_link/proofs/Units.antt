@@ -1,11 +1,5 @@
 -- Units come in the order in which they were sent, where some are lost.
-use Rattle.std.proofs.Common.{◌≡◌, refl, List, [], ◌∷◌, ◌++◌, inl, inr, append_assoc, Option, Some, None}
-use Rattle.std.specs.List.{filter_map, cons_option}
-use Rattle.std.proofs.lemmas.List.Elements.{filter_map-append}
-use Rattle.lapdm_frame.specs.Content.{Content, Ui}
-use Rattle.segmenting.specs.Pieces.{Message}
-use Rattle.lapdm_window.specs.Ends.{EndState}
-use Rattle.lapdm_link.specs.Claims.{IsSubsequence, unit_sent_in, unit_got_in}
+use Rattle.lapdm_link.proofs.Words.{◌≡◌, refl, List, [], ◌∷◌, ◌++◌, inl, inr, append_assoc, Option, Some, None, filter_map, cons_option, filter_map-append, Content, Ui, Message, EndState, IsSubsequence, unit_sent_in, unit_got_in}
 use Rattle.lapdm_link.proofs.Queues.{contents, content_of, frames-say}
 use Rattle.lapdm_link.proofs.Taking.{Answers, unit_in}
 use Rattle.lapdm_link.proofs.Asked.{no-units}

@@ -1,21 +1,6 @@
 -- Parts of a world after one of them changed, and of lines after more of them.
-use Rattle.std.proofs.Common.{◌≡◌, refl, sym, Bool, true, false, ◌&&◌, List, [], ◌∷◌, ◌++◌, map, drop, Option, None}
-use Rattle.std.proofs.lemmas.List.{append-nil}
-use Rattle.std.specs.List.{filter_map}
-use Rattle.std.proofs.lemmas.List.Elements.{filter_map-append}
-use Rattle.std.proofs.lemmas.Bool.{false≢true}
-use Rattle.lapdm_frame.specs.declared.Channel.{Channel}
-use Rattle.lapdm_frame.specs.Content.{Frame}
-use Rattle.segmenting.specs.Pieces.{Message}
-use Rattle.lapdm_window.specs.declared.Sapi.{Sapi}
-use Rattle.lapdm_window.specs.declared.Sapi.TheVariants.{Zero, Three}
-use Rattle.lapdm_window.specs.declared.Notice.{Notice}
-use Rattle.lapdm_window.specs.Ends.{Role, Mobile, Network, EndState, Outcome, start}
-use Rattle.lapdm_window.specs.Calls.{Call}
+use Rattle.lapdm_link.proofs.Words.{◌≡◌, refl, Bool, true, false, ◌&&◌, List, [], ◌∷◌, ◌++◌, map, drop, Option, None, append-nil, filter_map, filter_map-append, Channel, Frame, Message, Sapi, Zero, Three, Notice, Role, Mobile, Network, EndState, Outcome, start, Call, other, end_in, with_end_in, World, start_on, Line, Asked, Rivals, Told, is_role, is_sapi, call_in, notice_in, calls, notices}
 use Rattle.lapdm_link.specs.Ways as W
-use Rattle.lapdm_link.specs.Events.{other, end_in, with_end_in}
-use Rattle.lapdm_link.specs.Worlds.{World, start_on}
-use Rattle.lapdm_link.specs.Claims.{Line, Asked, Rivals, Told, is_role, is_sapi, call_in, notice_in, calls, notices}
 
 -- the words on ways, of a whole session
 abbrev pub rest : {T : Type 0} → List T → List T
@@ -50,15 +35,6 @@ is_end r s r' s' = is_role r r' && is_sapi s s'
 abbrev pub said : Role → Sapi → List Call → List Notice → List Line
 said r s cs ns = map (Asked r s) cs ++ map (Told r s) ns
 
--- what holds of one end and of each that is another holds of all
-pub each_end : (P : Role → Sapi → Type 0) (r : Role) (s : Sapi) → P r s → ((r' : Role) (s' : Sapi) → is_end r' s' r s ≡ false → P r' s') →
-    (r' : Role) (s' : Sapi) → P r' s'
-each_end P Mobile Zero h g Mobile Zero = h
-each_end P Mobile Three h g Mobile Three = h
-each_end P Network Zero h g Network Zero = h
-each_end P Network Three h g Network Three = h
-each_end P r s h g r' s' = g r' s' refl
-
 pub by_link : (P : Sapi → Type 0) (s : Sapi) → P s → ((s' : Sapi) → is_sapi s' s ≡ false → P s') → (s' : Sapi) → P s'
 by_link P Zero h g Zero = h
 by_link P Three h g Three = h
@@ -76,21 +52,17 @@ each_start P channel h Mobile Three = h Mobile Three
 each_start P channel h Network Zero = h Network Zero
 each_start P channel h Network Three = h Network Three
 
--- after what an end did
-pub end_does : (r : Role) (s : Sapi) (o : Outcome) (w : World) → end_of r s (acted r s o w) ≡ o.after
-end_does Mobile Zero o w = refl
-end_does Network Zero o w = refl
-end_does r s o w = refl
-
-pub end_does-else : (r : Role) (s : Sapi) (o : Outcome) (w : World) (r' : Role) (s' : Sapi) → is_end r' s' r s ≡ false →
-    end_of r' s' (acted r s o w) ≡ end_of r' s' w
-end_does-else Mobile Zero o w Mobile Zero h = absurd (false≢true (sym h))
-end_does-else Mobile Three o w Mobile Three h = absurd (false≢true (sym h))
-end_does-else Network Zero o w Network Zero h = absurd (false≢true (sym h))
-end_does-else Network Three o w Network Three h = absurd (false≢true (sym h))
-end_does-else Mobile s o w Network Zero h = refl
-end_does-else Network s o w Mobile Zero h = refl
-end_does-else r s o w r' s' h = refl
+-- after what an end did: what holds of its state then, and of each other end, holds of all
+pub ends_do : (P : Role → Sapi → EndState → Type 0) (r : Role) (s : Sapi) (o : Outcome) (w : World) → P r s o.after →
+    ((r' : Role) (s' : Sapi) → is_end r' s' r s ≡ false → P r' s' (end_of r' s' w)) → (r' : Role) (s' : Sapi) →
+    P r' s' (end_of r' s' (acted r s o w))
+ends_do P Mobile Zero o w h g Mobile Zero = h
+ends_do P Mobile Three o w h g Mobile Three = h
+ends_do P Network Zero o w h g Network Zero = h
+ends_do P Network Three o w h g Network Three = h
+ends_do P Mobile s o w h g Network Zero = g Network Zero refl
+ends_do P Network s o w h g Mobile Zero = g Mobile Zero refl
+ends_do P r s o w h g r' s' = g r' s' refl
 
 pub way_does : (r : Role) (s : Sapi) (o : Outcome) (w : World) → way r (acted r s o w) ≡ way r w ++ o.frames
 way_does Mobile s o w = refl
@@ -116,6 +88,15 @@ is_end-self r s = refl
 pub other_is : (r : Role) (s : Sapi) → is_end (other r) s r s ≡ false
 other_is Mobile s = refl
 other_is Network s = refl
+
+pub end_does : (r : Role) (s : Sapi) (o : Outcome) (w : World) → end_of r s (acted r s o w) ≡ o.after
+end_does r s o w = ends_do (λ r' s' e. is_end r' s' r s ≡ true → e ≡ o.after) r s o w (λ e. refl) (λ r' s' n e. cc (n, e)) r s
+    (is_end-self r s)
+
+pub end_does-else : (r : Role) (s : Sapi) (o : Outcome) (w : World) (r' : Role) (s' : Sapi) → is_end r' s' r s ≡ false →
+    end_of r' s' (acted r s o w) ≡ end_of r' s' w
+end_does-else r s o w = ends_do (λ r' s' e. is_end r' s' r s ≡ false → e ≡ end_of r' s' w) r s o w (λ n. cc (n, is_end-self r s))
+    (λ r' s' n m. refl)
 
 pub link_else : (r' r : Role) (s' s : Sapi) → is_sapi s' s ≡ false → is_end r' s' r s ≡ false
 link_else Mobile Mobile s' s h = h

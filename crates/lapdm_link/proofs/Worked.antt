@@ -1,17 +1,7 @@
 -- Sessions worked by hand, and for each claim lines that break it.
-use Rattle.std.proofs.Common.{◌≡◌, refl, arith, ℕ, false, List, [], ◌∷◌, ◌++◌, replicate, Option, Some, None}
-use Rattle.lapdm_frame.specs.declared.Channel.TheVariants.{Sdcch}
-use Rattle.lapdm_frame.specs.Content.{I, Frame}
-use Rattle.segmenting.specs.Pieces.{Message}
-use Rattle.lapdm_window.specs.declared.Sapi.TheVariants.{Zero, Three}
+use Rattle.lapdm_link.proofs.Words.{◌≡◌, refl, arith, ℕ, false, List, [], ◌∷◌, ◌++◌, replicate, Option, Some, None, Sdcch, I, Frame, Message, Zero, Three, Role, Mobile, Network, Opens, OpensBare, Sends, Closes, Ticks, way, Event, Send, Close, Tick, Open, OpenBare, Ask, Deliver, Lose, Rival, World, start_on, after, answers, IsHarmless, Line, Asked, Rivals, Told, lines, Claims, OrderClaims}
 use Rattle.lapdm_window.specs.declared.Notice.TheVariants as N
 use Rattle.lapdm_window.specs.declared.Reason.TheVariants as R
-use Rattle.lapdm_window.specs.Ends.{Role, Mobile, Network}
-use Rattle.lapdm_window.specs.Calls.{Opens, OpensBare, Sends, Closes, Ticks}
-use Rattle.lapdm_link.specs.Ways.{way}
-use Rattle.lapdm_link.specs.Events.{Event, Send, Close, Tick, Open, OpenBare, Ask, Deliver, Lose, Rival}
-use Rattle.lapdm_link.specs.Worlds.{World, start_on, after, answers, IsHarmless}
-use Rattle.lapdm_link.specs.Claims.{Line, Asked, Rivals, Told, lines, Claims, OrderClaims}
 
 -- an event, or that the first frame an end sent arrives as it is
 data Move : Type 0 where

@@ -128,7 +128,8 @@ read_back : (channel : Channel) (accepted : Option Octets) (read : Option Frame)
     AllZip (λ f o. o ≡ octets_of channel f) fs os → AllFit channel fs → Reads channel accepted read → IsAsSent accepted os →
     IsAsSent read fs
 read_back channel (Some octets) (Some f) (g ∷ gs) (o ∷ os) z fit h s =
-    same_frame channel (octets_of channel g) f g (subst (IsFrame channel f) (s ∙ z.0) h) (octets_canonical channel g (All-head (Fits channel) g gs fit)).frame
+    let sent = (octets_canonical channel g (All-head (Fits channel) g gs fit)).frame in
+    same_frame channel (octets_of channel g) f g (subst (IsFrame channel f) (s ∙ z.0) h) sent
 read_back channel (Some octets) (Some f) fs [] z fit h s = absurd s
 read_back channel accepted None fs os z fit h s = tt
 read_back channel accepted read fs os z fit h s = absurd assumption
@@ -147,9 +148,9 @@ kind_block channel tsc fs os blocks others places report block z sent e few rece
 -- ---- one step
 
 -- the frames that go out are written
-written-frames : (channel : Channel) (fs : List Frame) → AllZip (λ f o. o ≡ octets_of channel f) fs (map (octets_of channel) fs)
-written-frames channel [] = tt
-written-frames channel (f ∷ fs) = (refl, written-frames channel fs)
+all-written : (channel : Channel) (fs : List Frame) → AllZip (λ f o. o ≡ octets_of channel f) fs (map (octets_of channel) fs)
+all-written channel [] = tt
+all-written channel (f ∷ fs) = (refl, all-written channel fs)
 
 harmless-refused : (event : Event) (why : Why) (octets : Ways Octets) → IsHarmlessStep event (Refuses why) octets
 harmless-refused (Deliver sender places) why octets = tt
@@ -200,7 +201,7 @@ module _ (a : AirState) (octets : Ways Octets) (h : IsSeenAt a octets) where
             frames = with_more r d.frames (taken e h.frames);
             ls = h.ls ++ answer_lines e (answer_by None d);
             blocks = alike-more _ r d.frames blocks _ _ (alike-taken _ read event h.frames a.ways h.blocks) sent;
-            written = alike-more _ r d.frames _ _ _ (alike-taken _ read event h.frames octets h.written) (written-frames a.channel d.frames);
+            written = alike-more _ r d.frames _ _ _ (alike-taken _ read event h.frames octets h.written) (all-written a.channel d.frames);
             fit = subst (λ (o : Option Why). IsFitting a.channel (after_by o e w)) none
                 (fits-step a.channel w e (subst (λ (o : Option Why). KnowsBy o (λ r f. Fits a.channel f) e) (sym none) known.0) h.fit);
             reported = subst (λ (o : Option Why). AllReported (after_by o e w) (h.ls ++ answer_lines e (answer_by o d))) none

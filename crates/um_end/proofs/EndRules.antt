@@ -168,8 +168,8 @@ some_coded : (tsc : ℕ) (fs : List Frame) → tsc ≤ 7 → All (Fits Sdcch) fs
 some_coded tsc [] known h said = ([], tt)
 some_coded tsc (f ∷ fs) known h said =
     let fits : Fits Sdcch f = All-head (Fits Sdcch) f fs h in
-    let b = some_sent_block (octets_of Sdcch f) tsc (octets_canonical Sdcch f fits).frame.count (octets_small Sdcch f fits (All-head SaysOctets f fs said))
-    known in
+    let small = octets_small Sdcch f fits (All-head SaysOctets f fs said) in
+    let b = some_sent_block (octets_of Sdcch f) tsc (octets_canonical Sdcch f fits).frame.count small known in
     let bs = some_coded tsc fs known (All-tail (Fits Sdcch) f fs h) (All-tail SaysOctets f fs said) in
     (b.0 ∷ bs.0, (b.1, bs.1))
 
@@ -313,7 +313,7 @@ idle_fit role sapi = record {
   end = IsEnd-start role sapi Sdcch;
   sapi_is = refl;
   channel = refl;
-  octets = record { kept = All-nil (λ octet. octet < 256); taken = tt };
+  octets = record { kept = All-nil (λ octet. octet < 256); taken = All-nil AreOctets };
 }
 
 idle_kept : (role : Role) (tsc : ℕ) → IsKept role tsc (idle role tsc)
