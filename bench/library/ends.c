@@ -1,4 +1,5 @@
 /* Calls of an end of a link from C: nanoseconds a call, the least of all rounds.
+ * Rounds are short and many, so that some of them have the processor to themselves.
  *
  *   ends [CALLS [ROUNDS]] */
 #include "um.h"
@@ -67,8 +68,8 @@ int main(int argc, char **argv)
 		{ "a call of an exchange", exchange }, { "um_end_take, out of sequence", take }, { "um_end_idle", idle },
 	};
 	enum { WORKS = sizeof works / sizeof *works };
-	long calls = argc > 1 ? atol(argv[1]) : 30000;
-	int rounds = argc > 2 ? atoi(argv[2]) : 15;
+	long calls = argc > 1 ? atol(argv[1]) : 3000;
+	int rounds = argc > 2 ? atoi(argv[2]) : 1000;
 	double least[WORKS];
 
 	begin();
