@@ -48,23 +48,12 @@ module _ (pair : List ℤ) (count : length pair ≡ 2) (a b c d : ℤ)
   counted : (s : ℕ) → s < 16 → lane (zero_lanes pair count a b c d at_a at_b at_c at_d) s ≡ edge s 0 pair
   counted = zero_edges pair count a b c d at_a at_b at_c at_d
 
+  zero_lane : (k : ℕ) → k < 8 → lane (edge_lanes a b c d) k ≡ lane (zero_lanes pair count a b c d at_a at_b at_c at_d) (turned k)
+  zero_lane = each (λ k. lane (edge_lanes a b c d) k ≡ lane (zero_lanes pair count a b c d at_a at_b at_c at_d) (turned k)) 8
+      ((((((((tt, refl), refl), refl), refl), refl), refl), refl), refl)
+
   HasEdges-pair : HasEdges (edge_lanes a b c d) pair
-  HasEdges-pair = record {
-    count = count;
-    each = each (λ k. lane (edge_lanes a b c d) k ≡ edge (turned k) 0 pair) 8 (
-      (
-        (
-          (
-            ((((tt, counted 0 (lit≤ tt)), counted 4 (lit≤ tt)), counted 2 (lit≤ tt)), counted 6 (lit≤ tt)),
-            counted 1 (lit≤ tt),
-          ),
-          counted 5 (lit≤ tt),
-        ),
-        counted 3 (lit≤ tt),
-      ),
-      counted 7 (lit≤ tt),
-    );
-  }
+  HasEdges-pair = record { count = count; each = λ k lt. zero_lane k lt ∙ counted (turned k) (omega arith) }
 
   module _ (lp : negsuc 127 ≤ℤ lane pair 0) (hp : lane pair 0 ≤ℤ pos 127) (lq : negsuc 127 ≤ℤ lane pair 1) (hq : lane pair 1 ≤ℤ pos 127) where
     low_a : negsuc 255 ≤ℤ a

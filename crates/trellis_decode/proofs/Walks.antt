@@ -6,7 +6,7 @@ use Rattle.std.proofs.lemmas.List.Elements.{All-nil, All-cons}
 use Rattle.bit_blocks.specs.Bits.{AllBits, IsBit}
 use Rattle.trellis_decode.specs.Lanes.{lane, AreOctets}
 use Rattle.trellis_decode.specs.Trellis.{next, first_bit, second_bit, coded_from, gain, edge, way, Chooses, IsBest}
-use Rattle.trellis_decode.specs.Turned.{HaveRoom, place, turned, worths}
+use Rattle.trellis_decode.specs.Turned.{HaveRoom, place, raised, turned, worths}
 use Rattle.trellis_decode.specs.Walks.{reached, AreWithin, IsWalk}
 use Rattle.trellis_decode.proofs.EdgeLanes.{each}
 use Rattle.trellis_decode.proofs.FourPairs.{AreFew}
@@ -106,39 +106,27 @@ AreWithin-more after values pair most bit two octets chosen within = record { lo
 
 -- values within bounds stand so far from the ends of 16 bits that an edge may be added
 module _ (even odd : List ℤ) (most : ℕ) (few : most ≤ 63000) (within : AreWithin most (worths even odd)) where
-  even_low : (k : ℕ) → k < 8 → negsuc 32499 ≤ℤ lane even k
-  even_low k lt =
-      let is = even_worth even odd k lt in
-      let inside : next (turned k) 0 < 16 = omega arith in
-      let low = within.low (next (turned k) 0) inside in
-      omega (arith, ints)
-
-  even_high : (k : ℕ) → k < 8 → lane even k ≤ℤ pos 32500
-  even_high k lt =
-      let is = even_worth even odd k lt in
-      let inside : next (turned k) 0 < 16 = omega arith in
-      let high = within.high (next (turned k) 0) inside in
-      omega (arith, ints)
-
-  odd_low : (k : ℕ) → k < 8 → negsuc 32499 ≤ℤ lane odd k
-  odd_low k lt =
-      let is = odd_worth even odd k lt in
-      let inside : next (turned k) 1 < 16 = omega arith in
-      let low = within.low (next (turned k) 1) inside in
-      omega (arith, ints)
-
-  odd_high : (k : ℕ) → k < 8 → lane odd k ≤ℤ pos 32500
-  odd_high k lt =
-      let is = odd_worth even odd k lt in
-      let inside : next (turned k) 1 < 16 = omega arith in
-      let high = within.high (next (turned k) 1) inside in
-      omega (arith, ints)
+  has_room : (lanes : List ℤ) (bit : ℕ) → length lanes ≡ 8 →
+      ((k : ℕ) → k < 8 → lane (worths even odd) (next (turned k) bit) ≡ raised (lane lanes k)) → HaveRoom lanes
+  has_room lanes bit count worth = record {
+    count = count;
+    low = λ k lt.
+        let is = worth k lt in
+        let inside : next (turned k) bit < 16 = omega arith in
+        let low = within.low (next (turned k) bit) inside in
+        omega (arith, ints);
+    high = λ k lt.
+        let is = worth k lt in
+        let inside : next (turned k) bit < 16 = omega arith in
+        let high = within.high (next (turned k) bit) inside in
+        omega (arith, ints);
+  }
 
   pub HaveRoom-even : length even ≡ 8 → HaveRoom even
-  HaveRoom-even count = record { count = count; low = even_low; high = even_high }
+  HaveRoom-even count = has_room even 0 count (even_worth even odd)
 
   pub HaveRoom-odd : length odd ≡ 8 → HaveRoom odd
-  HaveRoom-odd count = record { count = count; low = odd_low; high = odd_high }
+  HaveRoom-odd count = has_room odd 1 count (odd_worth even odd)
 
 -- a best list is worth no more than its soft values count
 pub best_bound : (s : ℕ) (u : List ℕ) (soft : List ℤ) (value : ℤ) → AreOctets soft → IsBest s u soft value →

@@ -1,10 +1,9 @@
-use Rattle.std.proofs.Common.{◌≡◌, ◌+◌, pos, ◌-ℤ◌, ap, ap₂, sym, ◌∙◌, arith, lit≤, ℕ, ◌<◌, List, ℤ}
+use Rattle.std.proofs.Common.{◌≡◌, ◌+◌, pos, ◌-ℤ◌, ap, ap₂, sym, ◌∙◌, arith, ℕ, ◌<◌, List, ℤ}
 use Rattle.trellis_decode.specs.Lanes.{lane}
 use Rattle.trellis_decode.specs.Turned.{HasEdges, turned, worths}
 use Rattle.trellis_decode.specs.Trellis.{way}
-use Rattle.trellis_decode.proofs.EdgeLanes.{each}
 use Rattle.trellis_decode.proofs.TurnedVectors.{passed, passed-lanes, AreNarrow-passed, HaveRoom-passed, AreEdges-passed, sum_passed, difference_passed}
-use Rattle.trellis_decode.proofs.TurnedSteps.{way_lane, stepped, even_worth, low_worth, high_worth, even_worth_high, minus_turned, edge-high}
+use Rattle.trellis_decode.proofs.TurnedSteps.{each_state, way_lane, stepped, even_worth, low_worth, high_worth, even_worth_high, minus_turned, edge-high}
 use Rattle.trellis_decode.proofs.turned_step.closing_step.Goals as goal
 use Rattle.trellis_decode.proofs.turned_step.closing_step.Goals.{After-last_in_turns}
 
@@ -62,8 +61,6 @@ high_way c pair has k lt =
     (minus_turned (lane even k) (lane edges k) (lane (passed c.differences-high.result) k) fewer)
 
 pub returns-clause-each : goal.returns-clause-each
-returns-clause-each c pair has =
-    let low = low_way c pair has in
-    let high = high_way c pair has in
-    each (λ s. lane (worths (passed c.first_in_turns.result) (passed c.last_in_turns.result)) s ≡ way (worths c.args.after.even c.args.after.odd) pair s 0) 16
-    ((((((((((((((((tt, low 0 (lit≤ tt)), low 4 (lit≤ tt)), low 2 (lit≤ tt)), low 6 (lit≤ tt)), low 1 (lit≤ tt)), low 5 (lit≤ tt)), low 3 (lit≤ tt)), low 7 (lit≤ tt)), high 0 (lit≤ tt)), high 4 (lit≤ tt)), high 2 (lit≤ tt)), high 6 (lit≤ tt)), high 1 (lit≤ tt)), high 5 (lit≤ tt)), high 3 (lit≤ tt)), high 7 (lit≤ tt))
+returns-clause-each c pair has = each_state
+    (λ s. lane (worths (passed c.first_in_turns.result) (passed c.last_in_turns.result)) s ≡ way (worths c.args.after.even c.args.after.odd) pair s 0)
+    (low_way c pair has) (high_way c pair has)

@@ -1,10 +1,9 @@
-use Rattle.std.proofs.Common.{◌≡◌, ◌+◌, pos, ◌-ℤ◌, ap, ap₂, sym, ◌∙◌, subst, arith, int_lt, lit≤, ℕ, ◌<◌, List, ℤ, get_or}
+use Rattle.std.proofs.Common.{◌≡◌, ◌+◌, pos, ◌-ℤ◌, ap, ap₂, sym, ◌∙◌, subst, arith, int_lt, ℕ, ◌<◌, List, ℤ, get_or}
 use Rattle.trellis_decode.specs.Trellis.{Chooses}
 use Rattle.trellis_decode.specs.Lanes.{lane}
 use Rattle.trellis_decode.specs.Turned.{choices, HasEdges, taken_bit, turned, worths}
-use Rattle.trellis_decode.proofs.EdgeLanes.{each}
 use Rattle.trellis_decode.proofs.TurnedVectors.{passed, passed-lanes, passed_octets, AreNarrow-passed, HaveRoom-passed, AreEdges-passed, sum_passed, difference_passed, taken_passed, AreTaken-passed}
-use Rattle.trellis_decode.proofs.TurnedSteps.{chosen_lane, stepped, even_worth, odd_worth, low_worth, high_worth, even_worth_high, odd_worth_high, minus_turned, plus_turned, edge-one, edge-high}
+use Rattle.trellis_decode.proofs.TurnedSteps.{each_state, low_choice, high_choice, chosen_lane, stepped, even_worth, odd_worth, low_worth, high_worth, even_worth_high, odd_worth_high, minus_turned, plus_turned, edge-one, edge-high}
 use Rattle.trellis_decode.proofs.turned_step.Step.new.Goals as goal
 use Rattle.trellis_decode.proofs.turned_step.Step.new.Goals.{After-greater-2}
 
@@ -117,13 +116,12 @@ high_chosen c pair has k lt =
     (taken_passed c.greater-2.result (int_lt zero one) k c.greater-2.ensures.count lt (c.greater-2.ensures.each k lt)))
 
 pub returns-clause-each : goal.returns-clause-each
-returns-clause-each c pair has =
-    let low = low_chosen c pair has in
-    let high = high_chosen c pair has in
-    each (λ s. Chooses (worths c.args.after.even c.args.after.odd) pair s
+returns-clause-each c pair has = each_state
+    (λ s. Chooses (worths c.args.after.even c.args.after.odd) pair s
     (lane (worths (passed c.first_in_turns.result) (passed c.last_in_turns.result)) s)
-    (get_or (choices (passed_octets c.greater.result) (passed_octets c.greater-2.result)) s 0)) 16
-    ((((((((((((((((tt, low 0 (lit≤ tt)), low 4 (lit≤ tt)), low 2 (lit≤ tt)), low 6 (lit≤ tt)), low 1 (lit≤ tt)), low 5 (lit≤ tt)), low 3 (lit≤ tt)), low 7 (lit≤ tt)), high 0 (lit≤ tt)), high 4 (lit≤ tt)), high 2 (lit≤ tt)), high 6 (lit≤ tt)), high 1 (lit≤ tt)), high 5 (lit≤ tt)), high 3 (lit≤ tt)), high 7 (lit≤ tt))
+    (get_or (choices (passed_octets c.greater.result) (passed_octets c.greater-2.result)) s 0))
+    (λ k lt. rw (low_choice (passed_octets c.greater.result) (passed_octets c.greater-2.result) k lt) (low_chosen c pair has k lt))
+    (λ k lt. rw (high_choice (passed_octets c.greater.result) (passed_octets c.greater-2.result) k lt) (high_chosen c pair has k lt))
 
 pub returns-clause-ways : goal.returns-clause-ways
 returns-clause-ways c =
