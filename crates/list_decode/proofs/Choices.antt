@@ -45,6 +45,11 @@ pub stray_list_is : (pass : Pass) (us : List (List ℕ)) (x : Stray) → IsPass 
     IsCandidate (soft_of pass) (stray_list pass us x)
 stray_list_is pass us x is all stray = stray_is pass (get_or us x.list []) x is (all x.list [] stray.within) stray.stray
 
+-- which of two lists comes first, as a test tells
+abbrev pub Tells : Pass → List (List ℕ) → Stray → Stray → Bool → Type 0
+Tells pass us x y told = (told ≡ true → FallsBehind (soft_of pass) (stray_list pass us y) (stray_list pass us x)) × (told ≡ false →
+    (stray_list pass us x ≡ stray_list pass us y) ⊎ FallsBehind (soft_of pass) (stray_list pass us x) (stray_list pass us y))
+
 module _ (pass : Pass) (us : List (List ℕ)) (is : IsPass pass) (all : All (IsCandidate (soft_of pass)) us) (x y : Stray)
     (is_x : IsStrayOf pass us x) (is_y : IsStrayOf pass us y) (equal : x.likelihood ≡ y.likelihood) where
   tie : likelihood (soft_of pass) (coded (stray_list pass us x)) ≡ likelihood (soft_of pass) (coded (stray_list pass us y))
@@ -57,7 +62,7 @@ module _ (pass : Pass) (us : List (List ℕ)) (is : IsPass pass) (all : All (IsC
       omega arith
 
   -- of equally likely ones the first in the order of words comes before the other
-  pub tie_before : (v w : List ℕ) (r : Bool) → v ≡ stray_list pass us x → w ≡ stray_list pass us y → r ≡ test v w → r ≡ true →
+  tie_before : (v w : List ℕ) (r : Bool) → v ≡ stray_list pass us x → w ≡ stray_list pass us y → r ≡ test v w → r ≡ true →
       FallsBehind (soft_of pass) (stray_list pass us y) (stray_list pass us x)
   tie_before v w r is_v is_w tells holds = inr (
     sym tie,
@@ -65,11 +70,14 @@ module _ (pass : Pass) (us : List (List ℕ)) (is : IsPass pass) (all : All (IsC
         (sym (ap₂ test is_v is_w) ∙ sym tells ∙ holds),
   )
 
-  pub tie_behind : (v w : List ℕ) (r : Bool) → v ≡ stray_list pass us x → w ≡ stray_list pass us y → r ≡ test v w → r ≡ false →
+  tie_behind : (v w : List ℕ) (r : Bool) → v ≡ stray_list pass us x → w ≡ stray_list pass us y → r ≡ test v w → r ≡ false →
       (stray_list pass us x ≡ stray_list pass us y) ⊎ FallsBehind (soft_of pass) (stray_list pass us x) (stray_list pass us y)
   tie_behind v w r is_v is_w tells fails =
       elim (behind_tested (stray_list pass us x) (stray_list pass us y) (stray_list_is pass us x is all is_x).information.bits as_long
       (sym (ap₂ test is_v is_w) ∙ sym tells ∙ fails)) [ inl same ↦ inl same | inr before ↦ inr (inr (tie, before)) ]
+
+  pub tie_told : (v w : List ℕ) (r : Bool) → v ≡ stray_list pass us x → w ≡ stray_list pass us y → r ≡ test v w → Tells pass us x y r
+  tie_told v w r is_v is_w tells = (tie_before v w r is_v is_w tells, tie_behind v w r is_v is_w tells)
 
 -- ---- one branch more
 

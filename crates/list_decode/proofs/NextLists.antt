@@ -123,25 +123,24 @@ module _ (pass : Pass) (us : List (List ℕ)) (u : List ℕ) (span : Span) (x : 
         let later = behind-place v place at.place at.free in
         record { place = at.place; leaves = at.leaves; free = is_between behind_v.from behind_v.to at.place (omega arith) (omega arith) })
 
-    in_first : Part (leaving u first) (closed (leaving u span) x.leave.place)
-    in_first w at =
-        let t = between_to first.from first.to at.place at.free in
-        let f = between_from first.from first.to at.place at.free in
+    in_part : (part : Span) → span.from ≤ part.from → part.to ≤ span.to → (part.to ≤ place) ⊎ (place < part.from) →
+        Part (leaving u part) (closed (leaving u span) x.leave.place)
+    in_part part from_in to_in aside w at =
+        let t = between_to part.from part.to at.place at.free in
+        let f = between_from part.from part.to at.place at.free in
         record {
           place = at.place;
           leaves = at.leaves;
-          free = free-closed c place at.place (λ e. omega arith) (is_between span.from span.to at.place (omega arith) (omega arith));
+          free = free-closed c place at.place
+              (λ e. elim aside [ inl before ↦ omega arith | inr behind ↦ omega arith ])
+              (is_between span.from span.to at.place (omega arith) (omega arith));
         }
 
+    in_first : Part (leaving u first) (closed (leaving u span) x.leave.place)
+    in_first = in_part first (omega arith) (omega arith) (inl (omega arith))
+
     in_rest : Part (leaving u rest) (closed (leaving u span) x.leave.place)
-    in_rest w at =
-        let t = between_to rest.from rest.to at.place at.free in
-        let f = between_from rest.from rest.to at.place at.free in
-        record {
-          place = at.place;
-          leaves = at.leaves;
-          free = free-closed c place at.place (λ e. omega arith) (is_between span.from span.to at.place (omega arith) (omega arith));
-        }
+    in_rest = in_part rest (omega arith) (omega arith) (inr (omega arith))
 
     not_both : Disjoint (leaving u first) (leaving u rest)
     not_both w at at' =
