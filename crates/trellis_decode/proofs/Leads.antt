@@ -77,8 +77,8 @@ module _ (even odd edges : List ℤ) (ways : Ways) (is : AreWays even odd (passe
   Fits x = (negsuc 32766 ≤ℤ x) × (x ≤ℤ pos 32767)
 
   -- twice an edge more or less, a difference of both values fits
-  fits : (k : ℕ) (gap : ℤ) → k < 8 → gap ≡ lane even k -ℤ lane odd k +ℤ lane edges k +ℤ lane edges k
-      ⊎ gap ≡ lane even k -ℤ lane odd k -ℤ lane edges k -ℤ lane edges k → Fits gap
+  fits : (k : ℕ) (gap : ℤ) → k < 8 → (gap ≡ lane even k -ℤ lane odd k +ℤ lane edges k +ℤ lane edges k)
+      ⊎ (gap ≡ lane even k -ℤ lane odd k -ℤ lane edges k -ℤ lane edges k) → Fits gap
   fits k gap lt is =
       let low = close.low k lt in
       let high = close.high k lt in

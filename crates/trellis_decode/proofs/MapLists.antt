@@ -107,6 +107,8 @@ module _ (after values soft rest : List ℤ) (map : List ℕ) (maps : List (List
       subst (λ u. IsBest s (u ++ read_maps maps (get_or map (place s) 0 % 16)) (soft ++ rest) (lane values s)) (sym is) (walked s lt)
 
 -- the map of the last four places leads to state 0
-pub read_last : (s : ℕ) → s < 16 → read_maps ((0 ∷ 0 ∷ 0 ∷ 0 ∷ 0 ∷ 0 ∷ 0 ∷ 0 ∷ 0 ∷ 0 ∷ 0 ∷ 0 ∷ 0 ∷ 0 ∷ 0 ∷ 0 ∷ []) ∷ []) (place s) ≡ 0 ∷ 0 ∷ 0 ∷ 0 ∷ []
-read_last = each (λ s. read_maps ((0 ∷ 0 ∷ 0 ∷ 0 ∷ 0 ∷ 0 ∷ 0 ∷ 0 ∷ 0 ∷ 0 ∷ 0 ∷ 0 ∷ 0 ∷ 0 ∷ 0 ∷ 0 ∷ []) ∷ []) (place s) ≡ 0 ∷ 0 ∷ 0 ∷ 0 ∷ []) 16
+pub read_last : (s : ℕ) → s < 16 →
+    read_maps ((0 ∷ 0 ∷ 0 ∷ 0 ∷ 0 ∷ 0 ∷ 0 ∷ 0 ∷ 0 ∷ 0 ∷ 0 ∷ 0 ∷ 0 ∷ 0 ∷ 0 ∷ 0 ∷ []) ∷ []) (place s) ≡ 0 ∷ 0 ∷ 0 ∷ 0 ∷ []
+read_last = each
+    (λ s. read_maps ((0 ∷ 0 ∷ 0 ∷ 0 ∷ 0 ∷ 0 ∷ 0 ∷ 0 ∷ 0 ∷ 0 ∷ 0 ∷ 0 ∷ 0 ∷ 0 ∷ 0 ∷ 0 ∷ []) ∷ []) (place s) ≡ 0 ∷ 0 ∷ 0 ∷ 0 ∷ []) 16
     ((((((((((((((((tt, refl), refl), refl), refl), refl), refl), refl), refl), refl), refl), refl), refl), refl), refl), refl), refl)

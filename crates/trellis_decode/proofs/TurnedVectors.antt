@@ -230,10 +230,14 @@ module _ (a b : List ℤ) (ha : AreNarrow a) (hb : AreNarrow b) where
   pub ordered : (at a b 0 ∷ at a b 4 ∷ at a b 2 ∷ at a b 6 ∷ at a b 1 ∷ at a b 5 ∷ at a b 3 ∷ at a b 7 ∷
       at a b 8 ∷ at a b 12 ∷ at a b 10 ∷ at a b 14 ∷ at a b 9 ∷ at a b 13 ∷ at a b 11 ∷ at a b 15 ∷ []) ≡ in_order a b
   ordered =
-      cons_is (at_first 0 (omega arith)) (cons_is (at_first 4 (omega arith)) (cons_is (at_first 2 (omega arith)) (cons_is (at_first 6 (omega arith))
-      (cons_is (at_first 1 (omega arith)) (cons_is (at_first 5 (omega arith)) (cons_is (at_first 3 (omega arith)) (cons_is (at_first 7 (omega arith))
-      (cons_is (at_second 0 8 (omega arith) refl) (cons_is (at_second 4 12 (omega arith) refl) (cons_is (at_second 2 10 (omega arith) refl) (cons_is (at_second 6 14 (omega arith) refl)
-      (cons_is (at_second 1 9 (omega arith) refl) (cons_is (at_second 5 13 (omega arith) refl) (cons_is (at_second 3 11 (omega arith) refl) (cons_is (at_second 7 15 (omega arith) refl) refl)))))))))))))))
+      cons_is (at_first 0 (omega arith)) (cons_is (at_first 4 (omega arith))
+      (cons_is (at_first 2 (omega arith)) (cons_is (at_first 6 (omega arith))
+      (cons_is (at_first 1 (omega arith)) (cons_is (at_first 5 (omega arith))
+      (cons_is (at_first 3 (omega arith)) (cons_is (at_first 7 (omega arith))
+      (cons_is (at_second 0 8 (omega arith) refl) (cons_is (at_second 4 12 (omega arith) refl)
+      (cons_is (at_second 2 10 (omega arith) refl) (cons_is (at_second 6 14 (omega arith) refl)
+      (cons_is (at_second 1 9 (omega arith) refl) (cons_is (at_second 5 13 (omega arith) refl)
+      (cons_is (at_second 3 11 (omega arith) refl) (cons_is (at_second 7 15 (omega arith) refl) refl)))))))))))))))
 
 -- an all-ones or all-zeros lane of 16 bits as one of 8
 abbrev narrowed : ℕ → ℕ
