@@ -119,7 +119,8 @@ module _ (pair : List ℤ) (count : length pair ≡ 2) where
       let gaps = turned_difference in
       sym (one_at s lt)
       ∙ each (λ s. lane ones s ≡ pos 0 -ℤ lane zeros s) 16
-      ((((((((((((((((tt, refl), refl), refl), refl), sums), gaps), sums), gaps), sums), gaps), sums), gaps), refl), refl), refl), refl) s lt
+      ((((((((((((((((tt, refl), refl), refl), refl), sums), gaps), sums), gaps), sums), gaps), sums), gaps), refl), refl), refl), refl) s
+      lt
       ∙ ap (λ e. pos 0 -ℤ e) (zero_at s lt)
 
   pub edge-high : (s : ℕ) → s < 8 → edge (8 + s) 0 pair ≡ pos 0 -ℤ edge s 0 pair

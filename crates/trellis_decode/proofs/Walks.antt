@@ -19,7 +19,8 @@ reached-inside s (x ∷ u) lt = reached-inside (next s x) u (let inside : next s
 
 -- the lists of all states are equally long
 same_lengths : {after values soft : List ℤ} {map : List ℕ} (walk : IsWalk after values map soft) (lists : ℕ → List ℕ) (n : ℕ) →
-    ((s : ℕ) → s < 16 → length (lists s) ≡ n) → (s : ℕ) → s < 16 → 2 * length (walk.bits s ++ lists (reached s (walk.bits s))) ≡ length soft + 2 * n
+    ((s : ℕ) → s < 16 → length (lists s) ≡ n) → (s : ℕ) → s < 16 →
+    2 * length (walk.bits s ++ lists (reached s (walk.bits s))) ≡ length soft + 2 * n
 same_lengths walk lists n same s lt =
     let shorter = walk.count s lt in
     let rest = same (reached s (walk.bits s)) (reached-inside s (walk.bits s) lt) in
@@ -68,12 +69,14 @@ module _ (after middle values pair soft : List ℤ) (map map' : List ℕ) (bit :
 -- ---- what the states are worth stays small
 
 -- what one place counts
-pub edge_bound : (pair : List ℤ) (s bit : ℕ) → length pair ≡ 2 → AreOctets pair → (negsuc 255 ≤ℤ edge s bit pair) × (edge s bit pair ≤ℤ pos 256)
+pub edge_bound : (pair : List ℤ) (s bit : ℕ) → length pair ≡ 2 → AreOctets pair →
+    (negsuc 255 ≤ℤ edge s bit pair) × (edge s bit pair ≤ℤ pos 256)
 unfolding edge
 edge_bound pair s bit two octets =
     let first : first_bit s bit ≤ 1 = omega arith in
     let second : second_bit s bit ≤ 1 = omega arith in
-    let bits : AllBits (first_bit s bit ∷ second_bit s bit ∷ []) = All-cons IsBit (first_bit s bit) (second_bit s bit ∷ []) first (All-cons IsBit (second_bit s bit) [] second (All-nil IsBit)) in
+    let bits : AllBits (first_bit s bit ∷ second_bit s bit ∷ []) =
+    All-cons IsBit (first_bit s bit) (second_bit s bit ∷ []) first (All-cons IsBit (second_bit s bit) [] second (All-nil IsBit)) in
     let bound = likelihood_bound pair (first_bit s bit ∷ second_bit s bit ∷ []) octets bits in
     (omega (arith, ints, bound.0), omega (arith, ints, bound.1))
 
@@ -96,13 +99,15 @@ AreWithin-more after values pair most bit two octets chosen within = record { lo
   low s lt =
       let zero_in : next s 0 < 16 = omega arith in
       let one_in : next s 1 < 16 = omega arith in
-      floor_kept after pair s (bit s) (lane values s) (negsuc 1023) two lt (within.low (next s 0) zero_in) (within.low (next s 1) one_in) (chosen s lt)
+      floor_kept after pair s (bit s) (lane values s) (negsuc 1023) two lt (within.low (next s 0) zero_in) (within.low (next s 1) one_in)
+      (chosen s lt)
 
   high : (s : ℕ) → s < 16 → lane values s ≤ℤ pos (most + 256)
   high s lt =
       let zero_in : next s 0 < 16 = omega arith in
       let one_in : next s 1 < 16 = omega arith in
-      top_kept after pair s (bit s) most (lane values s) two octets (within.high (next s 0) zero_in) (within.high (next s 1) one_in) (chosen s lt)
+      top_kept after pair s (bit s) most (lane values s) two octets (within.high (next s 0) zero_in) (within.high (next s 1) one_in)
+      (chosen s lt)
 
 -- values within bounds stand so far from the ends of 16 bits that an edge may be added
 module _ (even odd : List ℤ) (most : ℕ) (few : most ≤ 63000) (within : AreWithin most (worths even odd)) where
@@ -152,7 +157,8 @@ AreWithin-few values soft lists n few short best =
     AreWithin-best values soft lists short.0 (omega arith) best
 
 pub AreWithin-most : (values soft : List ℤ) (lists : ℕ → List ℕ) → AreOctets soft → length soft ≤ 456 →
-    ((s : ℕ) → s < 16 → negsuc 1023 ≤ℤ lane values s) → ((s : ℕ) → s < 16 → IsBest s (lists s) soft (lane values s)) → AreWithin 58368 values
+    ((s : ℕ) → s < 16 → negsuc 1023 ≤ℤ lane values s) → ((s : ℕ) → s < 16 → IsBest s (lists s) soft (lane values s)) →
+    AreWithin 58368 values
 AreWithin-most values soft lists octets few low best = record {
   low = low;
   high = λ s lt. let bound = (best_bound s (lists s) soft (lane values s) octets (best s lt)).1 in omega (arith, ints);

@@ -50,12 +50,14 @@ pub sizes-requires : goal.sizes-requires
 sizes-requires c = (leads (goal.at.sizes-requires c).After-by_state-leads).gaps
 
 has_passed : (c : After-sizes) (pair : List ℤ) → HasEdges c.args.edges pair → HasEdges (passed c.args.edges) pair
-has_passed c pair has = subst (λ edges. HasEdges edges pair) (sym (passed-lanes c.args.edges (AreNarrow-edges c.args.edges c.requires.edges))) has
+has_passed c pair has =
+    subst (λ edges. HasEdges edges pair) (sym (passed-lanes c.args.edges (AreNarrow-edges c.args.edges c.requires.edges))) has
 
 pub returns-clause-each : goal.returns-clause-each
 returns-clause-each c pair has s lt =
     choice_is (worths c.args.after.even c.args.after.odd) pair s (get_or (choices c.new-step.result.low c.new-step.result.high) s 0) _ _
-    (lane (passed c.by_state-leads.result) s) (c.new-step.ensures.each pair (has_passed c pair has) s lt) ((leads (goal.at.returns-clause-each c).After-by_state-leads).each pair has s lt) (c.signs.ensures s lt)
+    (lane (passed c.by_state-leads.result) s) (c.new-step.ensures.each pair (has_passed c pair has) s lt)
+    ((leads (goal.at.returns-clause-each c).After-by_state-leads).each pair has s lt) (c.signs.ensures s lt)
 
 pub returns-clause-losses : goal.returns-clause-losses
 returns-clause-losses c pair has s lt =
