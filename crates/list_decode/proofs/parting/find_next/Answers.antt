@@ -51,11 +51,14 @@ returns c =
     let p = c.parted-parts.ensures in
     let k = (get_or branches choice.branch blank).span.list in
     let within = (chosen_branch pass us branches choice r.lists r.branches c.in_ok-choice.ensures.first).within in
-    let read : take pass.bits (get_or lists k []) ≡ get_or us k [] = sym (given_at pass.bits lists k (given_within pass.bits lists k within)) in
-    let written : c.write.new.v ≡ stray_of pass (get_or us k []) choice.stray = c.write.ensures ∙ ap (λ u. stray_of pass u choice.stray) read in
+    let read : take pass.bits (get_or lists k []) ≡ get_or us k [] =
+    sym (given_at pass.bits lists k (given_within pass.bits lists k within)) in
+    let written : c.write.new.v ≡ stray_of pass (get_or us k []) choice.stray = c.write.ensures
+    ∙ ap (λ u. stray_of pass u choice.stray) read in
     let fits : FitsSigned w32 choice.stray.likelihood = search rules in
     record {
-      next = is_next pass us branches choice r.pass r.lists r.branches c.in_ok-choice.ensures.first _ refl (to_z-of_z w32 choice.stray.likelihood fits)
+      next = is_next pass us branches choice r.pass r.lists r.branches c.in_ok-choice.ensures.first _ refl
+          (to_z-of_z w32 choice.stray.likelihood fits)
           (subst (λ u. IsBranch pass u c.parted-parts.result.before) read p.before)
           (subst (λ v. IsBranch pass v c.parted-parts.result.behind) written p.behind)
           (subst (λ u. IsBranch pass u c.parted-parts.result.after) read p.after)

@@ -11,7 +11,8 @@ use Rattle.list_decode.proofs.second.margin.Goals.{After-write_detour}
 pub write_detour-requires-clause-bits : goal.write_detour-requires-clause-bits
 write_detour-requires-clause-bits c =
     let pairs = c.keep.ensures.count in
-    subst AllBits (sym c.read_least-leave.ensures.list) (AllBits-kept c.keep.new.rows c.keep.new.losses c.args.soft.now c.keep.ensures.kept (omega arith))
+    subst AllBits (sym c.read_least-leave.ensures.list) (AllBits-kept c.keep.new.rows c.keep.new.losses c.args.soft.now c.keep.ensures.kept
+    (omega arith))
 
 pub write_detour-requires-clause-chosen : goal.write_detour-requires-clause-chosen
 write_detour-requires-clause-chosen c =
@@ -46,7 +47,8 @@ returns-clause-value c =
 
 pub returns-clause-only : goal.returns-clause-only
 returns-clause-only c a b best next_best =
-    both_only c.args.soft.now c.read_least-leave.new.u c.write_detour.new.v a b (returns-clause-best c) (returns-clause-second c) best next_best
+    both_only c.args.soft.now c.read_least-leave.new.u c.write_detour.new.v a b (returns-clause-best c)
+    (returns-clause-second c) best next_best
 
 pub returns-clause-margin : goal.returns-clause-margin
 returns-clause-margin c =
@@ -57,6 +59,7 @@ returns-clause-tie c = tie_by_margin c.args.soft.now c.read_least-leave.new.u _ 
 
 pub returns-clause-hard : goal.returns-clause-hard
 returns-clause-hard c e hard wrong few =
-    let bound = hard_margin c.args.soft.now c.read_least-leave.new.u c.write_detour.new.v e (returns-clause-best c).information (returns-clause-second c).candidate
+    let bound = hard_margin c.args.soft.now c.read_least-leave.new.u c.write_detour.new.v e (returns-clause-best c).information
+    (returns-clause-second c).candidate
     (returns-clause-best c).count (returns-clause-second c).differs hard wrong few in
     subst (λ m. pos (254 * (7 - 2 * e)) ≤ℤ m) (sym (returns-clause-value c)) bound

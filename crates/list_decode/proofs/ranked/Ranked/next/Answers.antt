@@ -8,7 +8,9 @@ returns-then-self-eq0-clause-done c =
     let count = count_is c.self.inside c.args.self.now c.self.view_is (let zero = c.if-self-eq0.true in omega arith) in
     let none : length c.args.self.now.given ≡ 0 = let zero = c.if-self-eq0.true in omega arith in (
       (λ e. absurd (none_some e)),
-      (λ done. absurd (not_done_at_first c.args.self.now c.begin.new.self c.begin.new.u none c.begin.ensures.soft c.begin.ensures.given c.begin.ensures.ranked done)),
+      (λ done. absurd
+          (not_done_at_first c.args.self.now c.begin.new.self c.begin.new.u none c.begin.ensures.soft c.begin.ensures.given
+          c.begin.ensures.ranked done)),
     )
 
 not_all_given : (c : After-go_on) → length c.args.self.now.given < 64
