@@ -183,7 +183,8 @@ pub same_remainder : (front r s t : List ℕ) → AllBits r → AllBits s → le
 same_remainder front r s t br bs er es mr ms =
     let same : length (front ++ r) ≡ length (front ++ s) = simp length-append (omega arith) in
     let e : length r ≡ length s = omega arith in
-    let sum : HasQuotient (add_bits (front ++ r) (front ++ s)) (1 ∷ t) = HasQuotient-add_bits (front ++ r) (front ++ s) (1 ∷ t) same mr ms in
+    let sum : HasQuotient (add_bits (front ++ r) (front ++ s)) (1 ∷ t) =
+    HasQuotient-add_bits (front ++ r) (front ++ s) (1 ∷ t) same mr ms in
     let split : add_bits (front ++ r) (front ++ s) ≡ replicate (length front) 0 ++ add_bits r s =
     add_bits-append front front r s refl ∙ ap (λ zeros. zeros ++ add_bits r s) (add_bits_self front) in
     let count : length (add_bits r s) ≡ length r = length-add_bits r s e in

@@ -33,7 +33,8 @@ length-bits_of (octet ∷ octets) =
 -- ---- there and back
 
 of_its_bits : (n : ℕ) → n < 256 →
-    n % 2 + 2 * (n / 2 % 2) + 4 * (n / 4 % 2) + 8 * (n / 8 % 2) + 16 * (n / 16 % 2) + 32 * (n / 32 % 2) + 64 * (n / 64 % 2) + 128 * (n / 128 % 2) ≡ n
+    n % 2 + 2 * (n / 2 % 2) + 4 * (n / 4 % 2) + 8 * (n / 8 % 2) + 16 * (n / 16 % 2) + 32 * (n / 32 % 2) + 64 * (n / 64 % 2) + 128
+    * (n / 128 % 2) ≡ n
 of_its_bits n h = omega arith
 
 pub octets_of-bits_of : (octets : List ℕ) → AllOctets octets → octets_of (bits_of octets) ≡ octets
@@ -79,8 +80,8 @@ AllOctets-octets_of (a ∷ b ∷ c ∷ d ∷ e ∷ f ∷ g ∷ h ∷ bits) all =
     (omega (arith, la, lb, lc, ld, le, lf, lg, lh))
     (AllOctets-octets_of bits (All-drop IsBit 8 (a ∷ b ∷ c ∷ d ∷ e ∷ f ∷ g ∷ h ∷ bits) all))
 
-eight : (a b c d e f g h a' b' c' d' e' f' g' h' : ℕ) (xs ys : List ℕ) → a ≡ a' → b ≡ b' → c ≡ c' → d ≡ d' → e ≡ e' → f ≡ f' → g ≡ g' → h ≡ h' → xs ≡ ys →
-    a ∷ b ∷ c ∷ d ∷ e ∷ f ∷ g ∷ h ∷ xs ≡ a' ∷ b' ∷ c' ∷ d' ∷ e' ∷ f' ∷ g' ∷ h' ∷ ys
+eight : (a b c d e f g h a' b' c' d' e' f' g' h' : ℕ) (xs ys : List ℕ) → a ≡ a' → b ≡ b' → c ≡ c' → d ≡ d' → e ≡ e' → f ≡ f' → g ≡ g' →
+    h ≡ h' → xs ≡ ys → a ∷ b ∷ c ∷ d ∷ e ∷ f ∷ g ∷ h ∷ xs ≡ a' ∷ b' ∷ c' ∷ d' ∷ e' ∷ f' ∷ g' ∷ h' ∷ ys
 eight a b c d e f g h a' b' c' d' e' f' g' h' xs ys ea eb ec ed ee ef eg eh es = cc
 
 bits_of_sum : (a b c d e f g h : ℕ) (xs ys : List ℕ) → a ≤ 1 → b ≤ 1 → c ≤ 1 → d ≤ 1 → e ≤ 1 → f ≤ 1 → g ≤ 1 → h ≤ 1 → xs ≡ ys →
@@ -123,7 +124,8 @@ octets_of-append (suc n) (a ∷ b ∷ c ∷ d ∷ f ∷ g ∷ h ∷ i ∷ xs) ys
     ap (λ rest. (a + 2 * b + 4 * c + 8 * d + 16 * f + 32 * g + 64 * h + 128 * i) ∷ rest) (octets_of-append n xs ys fewer)
 
 pub octets_of-eight : (bits : List ℕ) → length bits ≡ 8 → octets_of bits ≡
-    (get_or bits 0 0 + 2 * get_or bits 1 0 + 4 * get_or bits 2 0 + 8 * get_or bits 3 0 + 16 * get_or bits 4 0 + 32 * get_or bits 5 0 + 64 * get_or bits 6 0 + 128 * get_or bits 7 0) ∷ []
+    (get_or bits 0 0 + 2 * get_or bits 1 0 + 4 * get_or bits 2 0 + 8 * get_or bits 3 0 + 16 * get_or bits 4 0 + 32 * get_or bits 5 0 + 64
+    * get_or bits 6 0 + 128 * get_or bits 7 0) ∷ []
 octets_of-eight [] e = absurd (omega arith)
 octets_of-eight (a ∷ []) e = absurd (omega arith)
 octets_of-eight (a ∷ b ∷ []) e = absurd (omega arith)
@@ -136,9 +138,11 @@ octets_of-eight (a ∷ b ∷ c ∷ d ∷ f ∷ g ∷ h ∷ i ∷ []) e = refl
 octets_of-eight (a ∷ b ∷ c ∷ d ∷ f ∷ g ∷ h ∷ i ∷ j ∷ bits) e = absurd (omega arith)
 
 -- the octet of eight bits, whose bits they are
-pub octet_of_eight : (bits : List ℕ) → length bits ≡ 8 → AllBits bits → (n : ℕ) × (n < 256) × (octet_bits n ≡ bits) × (octets_of bits ≡ n ∷ [])
+pub octet_of_eight : (bits : List ℕ) → length bits ≡ 8 → AllBits bits →
+    (n : ℕ) × (n < 256) × (octet_bits n ≡ bits) × (octets_of bits ≡ n ∷ [])
 octet_of_eight bits e all =
-    let n : ℕ = get_or bits 0 0 + 2 * get_or bits 1 0 + 4 * get_or bits 2 0 + 8 * get_or bits 3 0 + 16 * get_or bits 4 0 + 32 * get_or bits 5 0 + 64 * get_or bits 6 0 + 128 * get_or bits 7 0 in
+    let n : ℕ = get_or bits 0 0 + 2 * get_or bits 1 0 + 4 * get_or bits 2 0 + 8 * get_or bits 3 0 + 16 * get_or bits 4 0 + 32
+    * get_or bits 5 0 + 64 * get_or bits 6 0 + 128 * get_or bits 7 0 in
     let is : octets_of bits ≡ n ∷ [] = octets_of-eight bits e in
     let small : n < 256 = subst AllOctets is (AllOctets-octets_of bits all) 0 0 (omega arith) in
     let same : octet_bits n ++ [] ≡ bits = ap bits_of (sym is) ∙ bits_of-octets_of bits 1 e all in

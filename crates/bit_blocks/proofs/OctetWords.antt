@@ -12,7 +12,9 @@ use Rattle.bit_blocks.proofs.OctetLists.{octet_of_eight}
 -- the bits of a number, an octet for each
 abbrev pub spreading : ℕ → List ℕ
 spreading octet =
-    to_le_bytes w64 (bit_and ((bit_and (octet * 0x0101010101010101 % 2 ^ 64) 0x8040201008040201 + 0x7f7f7f7f7f7f7f7f) % 2 ^ 64 / 2 ^ 7) 0x0101010101010101)
+    to_le_bytes w64
+    (bit_and ((bit_and (octet * 0x0101010101010101 % 2 ^ 64) 0x8040201008040201 + 0x7f7f7f7f7f7f7f7f) % 2 ^ 64 / 2 ^ 7)
+    0x0101010101010101)
 
 is_spread : ℕ → Bool
 is_spread octet = bytes_eq (spreading octet) (octet_bits octet)

@@ -53,7 +53,8 @@ module _ {M : Type 1} {𝓤 : Ura M} (𝓛 : Logic 𝓤) (ℓ : Lifetime) (κ : 
   abbrev pub PartLent : GName → SProp 𝓤
   PartLent δ =
       guard 𝓤 (length mid ≡ to - from)
-      (sep 𝓤 (sem 𝓛 ((MutSlice ℓ κ u8).own_val (record { ref_ptr = (b, p); ghost_name = δ; now = mid }) (slice_val (b, p) (length mid) ∷ [])))
+      (sep 𝓤 (sem 𝓛 ((MutSlice ℓ κ u8).own_val (record { ref_ptr = (b, p); ghost_name = δ; now = mid })
+      (slice_val (b, p) (length mid) ∷ [])))
       (sep 𝓤 (A.lft κ q) (sem 𝓛 (follows (Array u8 n) (Array u8 0) γ δ around))))
 
   abbrev Others : SProp 𝓤
@@ -80,25 +81,29 @@ module _ {M : Type 1} {𝓤 : Ura M} (𝓛 : Logic 𝓤) (ℓ : Lifetime) (κ : 
       use1 𝓛 (‵ (part_at (Array u8 n) full_share (around ws) b o)) (Array-whole 𝓛 u8 full_share n (around ws) b o) $ done !
 
   pub lends_part : (vs : List Val)
-      → ent 𝓤 (sep 𝓤 (sem 𝓛 ((MutRef ℓ κ (Array u8 n)).own_val (record { ref_ptr = (b, o); ghost_name = γ; now = xs }) vs)) (A.lft κ q)) (H.⇛ (ex 𝓤 PartLent))
+      → ent 𝓤 (sep 𝓤 (sem 𝓛 ((MutRef ℓ κ (Array u8 n)).own_val (record { ref_ptr = (b, o); ghost_name = γ; now = xs }) vs)) (A.lft κ q))
+      (H.⇛ (ex 𝓤 PartLent))
   lends_part vs =
       let front = take from xs in
       let back = drop_list to xs in
-      qed 𝓛 (‵ ((MutRef ℓ κ (Array u8 n)).own_val (record { ref_ptr = (b, o); ghost_name = γ; now = xs }) vs) ∷ ‵ (flft κ q) ∷ []) ∵ updating ! $ fsplit3 ! $ drop ! $
+      qed 𝓛 (‵ ((MutRef ℓ κ (Array u8 n)).own_val (record { ref_ptr = (b, o); ghost_name = γ; now = xs }) vs) ∷ ‵ (flft κ q)
+      ∷ []) ∵ updating ! $ fsplit3 ! $ drop ! $
       open_ref ! tt (mem (Array u8 n)) {b = b} {o = o} $
       use1 𝓛 (‵ (fsep (feq ℕ (length xs) n) (row u8 full_share xs b o))) (Array-apart 𝓛 u8 full_share tt n xs b o) $
       fsplit ! $ feq_l ! (λ long. use1 𝓛 (‵ (cells (mem u8) xs b o)) (whole_in 𝓛 u8 xs b o) $
       let lf : length front ≡ from = length-take-le from xs (omega arith) in
       let lm : length mid ≡ to - from = length-take-le (to - from) (drop_list from xs) (let l = length-drop from xs in omega arith) in
       let on : at o s (length front) ≡ p = at_mul o s (length front) ∙ omega arith in
-      let past : drop_list (to - from) (drop_list from xs) ≡ back = drop-drop (to - from) from xs ∙ ap (λ (k : ℕ). drop_list k xs) (omega arith) in
+      let past : drop_list (to - from) (drop_list from xs) ≡ back = drop-drop (to - from) from xs
+      ∙ ap (λ (k : ℕ). drop_list k xs) (omega arith) in
       let cut : xs ≡ front ++ (mid ++ back) =
       sym (take-append-drop from xs)
       ∙ ap (λ (l : List ℕ). front ++ l) (sym (take-append-drop (to - from) (drop_list from xs)) ∙ ap (λ (l : List ℕ). mid ++ l) past) in
       let room : Room u8 (length mid) = (omega arith, omega arith) in
       let code = (Array u8 n).coded.code xs in
       rewrite ! 0 (λ (l : List ℕ). ‵ (cells (mem u8) l b o)) cut refl $
-      use1 𝓛 (‵ (cells (mem u8) front b o) ⊛ ‵ (cells (mem u8) (mid ++ back) b (at o s (length front)))) (cut_app 𝓛 (mem u8) front (mid ++ back) b o) $
+      use1 𝓛 (‵ (cells (mem u8) front b o) ⊛ ‵ (cells (mem u8) (mid ++ back) b (at o s (length front))))
+      (cut_app 𝓛 (mem u8) front (mid ++ back) b o) $
       split ! $ move ! (1 ∷ []) $ rewrite ! 0 (λ (k : ℕ). ‵ (cells (mem u8) (mid ++ back) b k)) on refl $
       use1 𝓛 (‵ (cells (mem u8) mid b p) ⊛ ‵ (cells (mem u8) back b (at p s (length mid)))) (cut_app 𝓛 (mem u8) mid back b p) $
       split ! $ move ! (2 ∷ 1 ∷ []) $ join ! $ move ! (2 ∷ 3 ∷ 4 ∷ 1 ∷ 0 ∷ []) $ group ! 5 $

@@ -1,3 +1,4 @@
+//! A part of a burst, lent for writing.
 ghost use Rattle.std.specs.Prelude.{◌≡◌, ◌≤◌, ◌-◌, length, slice_range};
 ghost use Rattle.std.specs.Borrow.{sem, Lends, Array, u8};
 ghost use Rattle.burst_map.specs.Parts.{with_part};

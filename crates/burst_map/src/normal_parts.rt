@@ -1,3 +1,4 @@
+//! A normal burst whose halves are written where they stand.
 ghost use Rattle.std.specs.Prelude.{◌≡◌, ◌≤◌, length, replicate, slice_range};
 ghost use Rattle.std.specs.Borrow.{sem};
 ghost use Rattle.burst_map.specs.NormalBurst.{normal_burst};

@@ -1,3 +1,4 @@
+//! Bits are put where they stand in a burst.
 ghost use Rattle.std.specs.Prelude.{◌≡◌, ◌+◌, ◌≤◌, ◌++◌, length, take, drop};
 
 // Writes these bits from a place of a burst on; all else stays.

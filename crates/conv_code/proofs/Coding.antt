@@ -22,11 +22,17 @@ delayed-late u k d h = grind (arith, nat_tests)
 
 -- every place of a list of bits has a bit, past its end too
 pub bit_at-most_1 : (u : List ℕ) (k : ℕ) → AllBits u → get_or u k 0 ≤ 1
-bit_at-most_1 u k bits = elim (cases_lt k (length u)) [ inl within ↦ bits k 0 within | inr past ↦ rw (get_or_past u k 0 past) (omega arith) ]
+bit_at-most_1 u k bits = elim (cases_lt k (length u)) [
+  | inl within ↦ bits k 0 within
+  | inr past ↦ rw (get_or_past u k 0 past) (omega arith)
+]
 
 pub delayed-at_most_1 : (u : List ℕ) (k d : ℕ) → AllBits u → delayed u k d ≤ 1
 delayed-at_most_1 u k d bits =
-    elim (nat_lt k d) as (λ early. (if early then 0 else get_or u (k - d) 0) ≤ 1) [ true ↦ omega arith | false ↦ bit_at-most_1 u (k - d) bits ]
+    elim (nat_lt k d) as (λ early. (if early then 0 else get_or u (k - d) 0) ≤ 1) [
+      | true ↦ omega arith
+      | false ↦ bit_at-most_1 u (k - d) bits
+    ]
 
 -- the machine's sums without a carry are the two sums
 pub first_by_xor : (x three four : ℕ) → x ≤ 1 → three ≤ 1 → four ≤ 1 →

@@ -40,7 +40,8 @@ every_second = refl
 pub quad_first : (x i : ℕ) → x < 256 → i < 4 → bit_of (quad_of x) i ≡ (bit_of x (i + 4) + bit_of x (i + 1) + bit_of x i) % 2
 quad_first x i hx hi =
     let octet = at_passes_below (λ x. passes_below (is_first x) 4) 256 every_first x hx in
-    (Decides-eqb (bit_of (quad_of x) i) ((bit_of x (i + 4) + bit_of x (i + 1) + bit_of x i) % 2)).0 (at_passes_below (is_first x) 4 octet i hi)
+    (Decides-eqb (bit_of (quad_of x) i) ((bit_of x (i + 4) + bit_of x (i + 1) + bit_of x i) % 2)).0
+    (at_passes_below (is_first x) 4 octet i hi)
 
 pub quad_second : (x i : ℕ) → x < 256 → i < 4 →
     bit_of (quad_of x) (i + 4) ≡ (bit_of x (i + 4) + bit_of x (i + 3) + bit_of x (i + 1) + bit_of x i) % 2

@@ -19,7 +19,8 @@ next_state u k bits =
     let two = delayed-at_most_1 u k 2 bits in
     let three = delayed-at_most_1 u k 3 bits in
     let four = delayed-at_most_1 u k 4 bits in
-    rw (delayed-more u k 0 1 refl, delayed-more u k 1 2 refl, delayed-more u k 2 3 refl, delayed-more u k 3 4 refl, delayed-none u k) (omega arith)
+    rw (delayed-more u k 0 1 refl, delayed-more u k 1 2 refl, delayed-more u k 2 3 refl, delayed-more u k 3 4 refl, delayed-none u k)
+    (omega arith)
 
 first_of_state : (u : List ℕ) (k : ℕ) → AllBits u → first_sum u k ≡ first_bit (state_at u k) (get_or u k 0)
 unfolding state_at

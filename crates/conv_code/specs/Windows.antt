@@ -7,4 +7,5 @@ pub record IsQuad (bits : List ℕ) (octet t : ℕ) : Type 0 where
   pub first : (i : ℕ) → i < 4 → bit_of octet i ≡
       (slice_index bits (4 * t + 8 + i) + slice_index bits (4 * t + 5 + i) + slice_index bits (4 * t + 4 + i)) % 2
   pub second : (i : ℕ) → i < 4 → bit_of octet (i + 4) ≡
-      (slice_index bits (4 * t + 8 + i) + slice_index bits (4 * t + 7 + i) + slice_index bits (4 * t + 5 + i) + slice_index bits (4 * t + 4 + i)) % 2
+      (slice_index bits (4 * t + 8 + i) + slice_index bits (4 * t + 7 + i) + slice_index bits (4 * t + 5 + i) + slice_index bits
+      (4 * t + 4 + i)) % 2

@@ -40,7 +40,9 @@ gathered_bits bits count all =
 -- the bits of a number, an octet for each
 abbrev pub spreading : ℕ → List ℕ
 spreading octet =
-    to_le_bytes w64 (bit_and ((bit_and (octet * 0x0101010101010101 % 2 ^ 64) 0x8040201008040201 + 0x7f7f7f7f7f7f7f7f) % 2 ^ 64 / 2 ^ 7) 0x0101010101010101)
+    to_le_bytes w64
+    (bit_and ((bit_and (octet * 0x0101010101010101 % 2 ^ 64) 0x8040201008040201 + 0x7f7f7f7f7f7f7f7f) % 2 ^ 64 / 2 ^ 7)
+    0x0101010101010101)
 
 is_spread : ℕ → Bool
 is_spread octet = bytes_eq (spreading octet) (register_bits 8 octet)
@@ -127,8 +129,9 @@ octet_before register k n m octet rest count first is =
     ∙ ap (λ rest. register_bits 8 (register / 2 ^ k) ++ rest) (is ∙ ap (λ x. register_bits n x) (sym (shr-shr register k 8)))
     ∙ sym (register_bits_split 8 n m (register / 2 ^ k) count)
 
-pub five_octets : (register a b c d e : ℕ) → octet_bits a ≡ register_bits 8 (register / 2 ^ 0) → octet_bits b ≡ register_bits 8 (register / 2 ^ 8) →
-    octet_bits c ≡ register_bits 8 (register / 2 ^ 16) → octet_bits d ≡ register_bits 8 (register / 2 ^ 24) →
+pub five_octets : (register a b c d e : ℕ) → octet_bits a ≡ register_bits 8 (register / 2 ^ 0) →
+    octet_bits b ≡ register_bits 8 (register / 2 ^ 8) → octet_bits c ≡ register_bits 8 (register / 2 ^ 16) →
+    octet_bits d ≡ register_bits 8 (register / 2 ^ 24) →
     octet_bits e ≡ register_bits 8 (register / 2 ^ 32) → bits_of (a ∷ b ∷ c ∷ d ∷ e ∷ []) ≡ register_bits 40 register
 five_octets register a b c d e at_a at_b at_c at_d at_e =
     let four = octet_before register 32 0 8 e [] refl at_e (sym (no_places (register / 2 ^ 40))) in

@@ -62,7 +62,8 @@ unfolding is_entry
 entry_multiple octet within =
     let is : get_or REMAINDERS octet 0 ≡ divided (register_bits 8 octet) 0 =
     (Decides-eqb (get_or REMAINDERS octet 0) (divided (register_bits 8 octet) 0)).0 (passed is_entry 256 all_entries octet within) in
-    let found = divided_multiple [] (register_bits 8 octet) 0 (All-nil IsBit) (AllBits-register_bits 8 octet) (omega arith) empty_register in
+    let found = divided_multiple [] (register_bits 8 octet) 0 (All-nil IsBit) (AllBits-register_bits 8 octet)
+    (omega arith) empty_register in
     subst (λ r. HasQuotient (register_bits 8 octet ++ register_bits 40 r) g40 × (r < 2 ^ 40)) (sym is) found
 
 -- eight places more

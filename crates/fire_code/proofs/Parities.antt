@@ -49,7 +49,8 @@ record Parity (n taps : ℕ) (d : List ℕ) : Type 0 where
   bits : AllBits parity
   quotient : HasQuotient (d ++ add_bits parity (replicate n 1)) (1 ∷ register_bits n taps)
 
-parity_of : (n taps : ℕ) (d : List ℕ) → 0 < n → taps < 2 ^ n → AllBits d → AllBits (replicate n 1) → length {A = ℕ} (replicate n 1) ≡ n → Parity n taps d
+parity_of : (n taps : ℕ) (d : List ℕ) → 0 < n → taps < 2 ^ n → AllBits d → AllBits (replicate n 1) → length {A = ℕ} (replicate n 1) ≡ n →
+    Parity n taps d
 parity_of n taps d positive small all ones_bits ones_count =
     let ones : List ℕ = replicate n 1 in
     let whole = completed n taps d positive small all (length d) (omega arith) in

@@ -36,7 +36,8 @@ cancelled lowest bit carry h e = omega arith
 -- one place more
 pub remainder_more : (n : ℕ) (front : List ℕ) (register bit taps : ℕ) → 0 < n → AllBits front → register < 2 ^ n → bit ≤ 1 →
     HasQuotient (front ++ register_bits n register) (1 ∷ register_bits n taps) →
-    HasQuotient ((front ++ bit ∷ []) ++ register_bits n (bit_xor (register / 2) (bit_and (bit_xor register bit) 1 * taps))) (1 ∷ register_bits n taps)
+    HasQuotient ((front ++ bit ∷ []) ++ register_bits n (bit_xor (register / 2) (bit_and (bit_xor register bit) 1 * taps)))
+    (1 ∷ register_bits n taps)
 remainder_more zero front register bit taps positive bits within is_bit before = absurd (omega arith)
 remainder_more (suc n) front register bit taps positive bits within is_bit before =
     let g = 1 ∷ register_bits (suc n) taps in
@@ -48,17 +49,20 @@ remainder_more (suc n) front register bit taps positive bits within is_bit befor
     let next : add_bits (register % 2 ∷ []) (carry ∷ []) ≡ bit ∷ [] = ap (λ b. b ∷ []) (cancelled (register % 2) bit carry is_bit sum) in
     let count : length (register_bits (suc n) (carry * taps)) ≡ length (register_bits n half) + 1 =
     length-register_bits (suc n) (carry * taps) ∙ omega (arith, length-register_bits n half) in
-    let rest : add_bits (register_bits n half ++ replicate 1 0) (register_bits (suc n) (carry * taps)) ≡ register_bits (suc n) (bit_xor half (carry * taps)) =
+    let rest : add_bits (register_bits n half ++ replicate 1 0) (register_bits (suc n) (carry * taps))
+    ≡ register_bits (suc n) (bit_xor half (carry * taps)) =
     ap (λ r. add_bits r (register_bits (suc n) (carry * taps))) (sym (register_bits_beyond n 1 (suc n) half (omega arith) below))
     ∙ sym (register_bits-xor (suc n) half (carry * taps)) in
-    let divided = divided_more front (register % 2 ∷ []) (register_bits n half) (bit ∷ []) (carry ∷ []) (register_bits (suc n) (carry * taps)) g
+    let divided = divided_more front (register % 2 ∷ []) (register_bits n half) (bit ∷ []) (carry ∷ [])
+    (register_bits (suc n) (carry * taps)) g
     bits refl count next (subst (λ r. HasQuotient (front ++ r) g) split before) (taken_multiple (suc n) carry taps (omega arith)) in
     subst (λ r. HasQuotient ((front ++ bit ∷ []) ++ r) g) rest divided
 
 -- the same along a list
 pub remainder_along : (n : ℕ) (bits : List ℕ) (i register taps : ℕ) → 0 < n → i < length bits → AllBits bits → register < 2 ^ n →
     HasQuotient (take i bits ++ register_bits n register) (1 ∷ register_bits n taps) →
-    HasQuotient (take (i + 1) bits ++ register_bits n (bit_xor (register / 2) (bit_and (bit_xor register (get_or bits i 0)) 1 * taps))) (1 ∷ register_bits n taps)
+    HasQuotient (take (i + 1) bits ++ register_bits n (bit_xor (register / 2) (bit_and (bit_xor register (get_or bits i 0)) 1 * taps)))
+    (1 ∷ register_bits n taps)
 remainder_along n bits i register taps positive here all within before =
     let next = register_bits n (bit_xor (register / 2) (bit_and (bit_xor register (get_or bits i 0)) 1 * taps)) in
     subst (λ front. HasQuotient (front ++ next) (1 ∷ register_bits n taps)) (sym (take_more bits i 0 here))

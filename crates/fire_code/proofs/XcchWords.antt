@@ -34,7 +34,8 @@ pub same_xcch_parity : (d p p' : List ℕ) (register : ℕ) → length d ≡ 184
     IsXcchWord (d ++ p) → p ≡ p'
 same_xcch_parity d p p' register ed bp' ep' is multiple word =
     let ep : length p ≡ 40 = omega (arith, word.count, length-append d p) in
-    let turned = turned_parity d p (register_bits 40 register) ed (length-register_bits 40 register) (AllBits-register_bits 40 register) multiple word in
+    let turned = turned_parity d p (register_bits 40 register) ed (length-register_bits 40 register)
+    (AllBits-register_bits 40 register) multiple word in
     sym (add_bits_twice p (replicate 40 1) (AllBits-back d p word.bits) ep)
     ∙ ap (λ x. add_bits x (replicate 40 1)) (turned ∙ sym is)
     ∙ add_bits_twice p' (replicate 40 1) bp' ep'

@@ -74,7 +74,8 @@ plain_at zero d power whole register stays before low = absurd (omega arith)
 plain_at (suc n) zero power whole register stays before low =
     let one : 1 * power ≡ power = omega arith in
     ap (λ p. register * p) one
-    ∙ plain_here power whole register (both (is_plain power whole register) (stays_plain n (2 * power) whole (moved_once register)) stays).0 low
+    ∙ plain_here power whole register
+    (both (is_plain power whole register) (stays_plain n (2 * power) whole (moved_once register)) stays).0 low
 plain_at (suc n) (suc d) power whole register stays before low =
     let next = (both (is_plain power whole register) (stays_plain n (2 * power) whole (moved_once register)) stays).1 in
     let powers : 2 ^ suc d * power ≡ 2 ^ d * (2 * power) = ap (λ p. p * power) (pow-suc 2 d) ∙ mul_assoc (2 ^ d) 2 power in

@@ -45,8 +45,11 @@ module _ (w : List ℕ) (ew : length w ≡ 224) (bw : AllBits w) (start shape : 
   pub differing : (k : ℕ) → get_or w k 0 ≢ get_or (add_bits w (burst start shape)) k 0 → (k < 224) × (get_or (burst start shape) k 0 ≢ 0)
   differing k differs =
       let within : k < 224 = lt_of_not-le {n = 224} {m = k} (λ past.
-      differs (get_or_past w k 0 (omega arith) ∙ sym (get_or_past (add_bits w (burst start shape)) k 0 (omega (arith, long))))) in
-      (within, λ none. differs (unchanged (get_or w k 0) (get_or (burst start shape) k 0) _ (bw k 0 (omega arith)) (bit_of_sum k within) none))
+      differs (get_or_past w k 0 (omega arith) ∙ sym (get_or_past (add_bits w (burst start shape)) k 0 (omega (arith, long))))) in (
+        within,
+        λ none. differs (unchanged (get_or w k 0) (get_or (burst start shape) k 0) _ (bw k 0 (omega arith))
+            (bit_of_sum k within) none),
+      )
 
   pub differs_near : (k : ℕ) → get_or w k 0 ≢ get_or (add_bits w (burst start shape)) k 0 → (start ≤ k) × (k < start + 12)
   differs_near k differs =
@@ -144,7 +147,8 @@ no_repair w v syndrome within word none r =
 
 -- ---- one answer
 
-same_span : (w v : List ℕ) (first first' span span' : ℕ) → IsSpan w v first span → IsSpan w v first' span' → (first ≡ first') × (span ≡ span')
+same_span : (w v : List ℕ) (first first' span span' : ℕ) → IsSpan w v first span → IsSpan w v first' span' →
+    (first ≡ first') × (span ≡ span')
 same_span w v first first' span span' s s' =
     let some = s.some in
     let some' = s'.some in
@@ -204,7 +208,8 @@ answer_by w zero ew bw within word = (Holds, subst IsXcchWord (nothing_added w e
 answer_by w (suc left) ew bw within word =
     let broken : IsXcchWord w → ⊥ = λ holds.
     omega (arith, same_syndrome w (suc left) 0 ew bw within (omega arith) word (subst IsXcchWord (sym (nothing_added w ew bw)) holds)) in
-    answer_by_walk w (suc left) (find_from 213 (suc left)) ew bw within broken word (said_of (suc left) (find_from 213 (suc left)) within refl)
+    answer_by_walk w (suc left) (find_from 213 (suc left)) ew bw within broken word
+    (said_of (suc left) (find_from 213 (suc left)) within refl)
 
 -- an answer is due to every word
 pub some_answer : (w : List ℕ) → length w ≡ 224 → AllBits w → (a : RepairAnswer) × IsAnswer w a

@@ -10,7 +10,10 @@ use Rattle.fire_repair.proofs.Moves.{walked, walked_within, moved_once-walked, s
 unfoldable pub find_from : ℕ → ℕ → Option Burst
 find_from zero register = None
 find_from (suc k) register =
-    elim (eqb (register % 2 ^ 28) 0) [ true ↦ Some (record { start = k; shape = register / 2 ^ 28 }) | false ↦ find_from k (walked register) ]
+    elim (eqb (register % 2 ^ 28) 0) [
+      | true ↦ Some (record { start = k; shape = register / 2 ^ 28 })
+      | false ↦ find_from k (walked register)
+    ]
 
 -- what an answer says of the bursts that begin before place k
 abbrev pub Says : ℕ → ℕ → Option Burst → Type 0

@@ -69,7 +69,8 @@ abbrev pub at_parity : ℕ → List ℕ
 at_parity register = replicate 184 0 ++ register_bits 40 register
 
 length-at_parity : (register : ℕ) → length (at_parity register) ≡ 224
-length-at_parity register = length-append (replicate 184 0) (register_bits 40 register) ∙ ap (λ n. 184 + n) (length-register_bits 40 register)
+length-at_parity register = length-append (replicate 184 0) (register_bits 40 register)
+    ∙ ap (λ n. 184 + n) (length-register_bits 40 register)
 
 -- a number that leaves a register makes a multiple with it
 multiple_left : (number register : ℕ) → Leaves number register → HasQuotient (add_bits (register_bits 224 number) (at_parity register)) g40
@@ -93,7 +94,8 @@ pub word_with_register : (w : List ℕ) (number register : ℕ) → length w ≡
     IsXcchWord (add_bits w (register_bits 224 number)) → IsXcchWord (add_bits w (at_parity register))
 word_with_register w number register ew left word =
     word_by_multiple w (register_bits 224 number) (at_parity register) ew (length-register_bits 224 number) (length-at_parity register)
-    (subst (λ z. HasQuotient z g40) (add_bits-comm (register_bits 224 number) (at_parity register)) (multiple_left number register left)) word
+    (subst (λ z. HasQuotient z g40) (add_bits-comm (register_bits 224 number) (at_parity register)) (multiple_left number register left))
+    word
 
 -- a register at the parity of a word
 parts_of : (w : List ℕ) (register : ℕ) → length w ≡ 224 → AllBits w →
@@ -140,6 +142,7 @@ some_syndrome w ew bw =
       register = number_of sum;
       within = subst (λ n. number_of sum < 2 ^ n) forty (number_of_within sum bits);
       word = subst IsXcchWord
-          (ap (λ x. d ++ x) (sym (ap (λ x. add_bits p x) places ∙ add_bits_again p parity (AllBits-back d parity found.1.bits) (long ∙ sym ep)))
+          (ap (λ x. d ++ x)
+          (sym (ap (λ x. add_bits p x) places ∙ add_bits_again p parity (AllBits-back d parity found.1.bits) (long ∙ sym ep)))
           ∙ sym (parts_of w (number_of sum) ew bw)) found.1;
     }

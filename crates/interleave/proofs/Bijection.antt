@@ -22,13 +22,15 @@ module _ {X : Type 0} where
       let holds = whole.places found.0 d found.1 in
       (found.0, found.1, found.2, found.3, rw (found.2, found.3) at holds)
 
-  pub same_coded : (coded coded' : List X) (bursts : List (List X)) → IsInterleaved coded bursts → IsInterleaved coded' bursts → coded ≡ coded'
+  pub same_coded : (coded coded' : List X) (bursts : List (List X)) → IsInterleaved coded bursts → IsInterleaved coded' bursts →
+      coded ≡ coded'
   same_coded coded coded' bursts whole whole' =
       same_lists coded coded'
       (whole.coded_count ∙ sym whole'.coded_count)
       (λ k d lt. let hk : k < 456 = rw whole.coded_count at lt in sym (whole.places k d hk) ∙ whole'.places k d hk)
 
-  pub same_bursts : (coded : List X) (bursts bursts' : List (List X)) → IsInterleaved coded bursts → IsInterleaved coded bursts' → bursts ≡ bursts'
+  pub same_bursts : (coded : List X) (bursts bursts' : List (List X)) → IsInterleaved coded bursts → IsInterleaved coded bursts' →
+      bursts ≡ bursts'
   same_bursts coded bursts bursts' whole whole' =
       same_lists bursts bursts'
       (whole.burst_count ∙ sym whole'.burst_count)

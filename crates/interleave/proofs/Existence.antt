@@ -90,7 +90,8 @@ IsInterleaved-map f none c parts spread = record {
 }
 
 -- what holds of all values of the bursts holds of the gathered ones
-pub All-interleaved : {X : Type 0} (P : X → Type 0) (c : List X) (parts : List (List X)) → IsInterleaved c parts → All (All P) parts → All P c
+pub All-interleaved : {X : Type 0} (P : X → Type 0) (c : List X) (parts : List (List X)) → IsInterleaved c parts →
+    All (All P) parts → All P c
 All-interleaved P c parts spread all k d h =
     let within : k < 456 = subst (λ n. k < n) spread.coded_count h in
     let burst : burst_of k < length parts = subst (λ n. burst_of k < n) (sym spread.burst_count) (burst_of-below k) in

@@ -46,7 +46,8 @@ joined_octet e h (suc (suc (suc (suc (suc (suc (suc (suc r)))))))) lt = absurd (
 -- two lanes in one of twice the width
 joined_lane : (p q n : ℕ) (lanes : List ℕ) → q ≡ p ^ 2 → p ^ length lanes ≡ 256 ^ 16 → Each1 (λ x. x < p) lanes →
     (j : ℕ) → j < n → suc (2 * j) < length lanes →
-    get_or (digits_l q n (number_l 256 (digits_l 256 16 (number_l p lanes)))) j 0 ≡ get_or lanes (2 * j) 0 + p * get_or lanes (suc (2 * j)) 0
+    get_or (digits_l q n (number_l 256 (digits_l 256 16 (number_l p lanes)))) j 0
+    ≡ get_or lanes (2 * j) 0 + p * get_or lanes (suc (2 * j)) 0
 joined_lane p q n lanes square whole small j h within =
     ap (λ x. get_or (digits_l q n x) j 0)
     (number-digits 16 (number_l p lanes) (subst (λ m. number_l p lanes < m) whole (number-below p lanes small)))
@@ -131,7 +132,8 @@ module _ (x y : List ℕ) (long_x : length x ≡ 8) (long_y : length y ≡ 8) wh
       ∙ ap (λ b. (get_or x s 0 / 256 + b) % 65536) (and_high_mask 16 8 (omega arith) (get_or y s 0) small_y)
       ∙ omega arith
 
-  pub length-sums : (f g : ℕ → ℕ → ℕ) (m n : ℕ) → length (zip2 (λ a b. (a + b) % 2 ^ 16) (zip2 f x (replicate 8 m)) (zip2 g y (replicate 8 n))) ≡ 8
+  pub length-sums : (f g : ℕ → ℕ → ℕ) (m n : ℕ) →
+      length (zip2 (λ a b. (a + b) % 2 ^ 16) (zip2 f x (replicate 8 m)) (zip2 g y (replicate 8 n))) ≡ 8
   length-sums f g m n =
       let long_f : length (zip2 f x (replicate 8 m)) ≡ 8 = length-zip2 f x (replicate 8 m) long_x ∙ long_x in
       let long_g : length (zip2 g y (replicate 8 n)) ≡ 8 = length-zip2 g y (replicate 8 n) long_y ∙ long_y in

@@ -28,7 +28,8 @@ module _ {X : Type 0} (bursts : List (List X)) (k : ℕ) (d : X) (hk : k < 456) 
         | inr other ↦ step.others k d hk other ∙ there
       ])
 
-  gathered_reaches : (order : List ℕ) (old new : List X) → AreGathered bursts order old new → Contains order (burst_of k) → get_or new k d ≡ held
+  gathered_reaches : (order : List ℕ) (old new : List X) → AreGathered bursts order old new → Contains order (burst_of k) →
+      get_or new k d ≡ held
   gathered_reaches [] old new same (n, h, e) = absurd (omega arith)
   gathered_reaches (b ∷ order) old new (next, step, rest) among =
       elim (cases_eq (burst_of k) b) [
@@ -36,7 +37,8 @@ module _ {X : Type 0} (bursts : List (List X)) (k : ℕ) (d : X) (hk : k < 456) 
         | inr other ↦ gathered_reaches order next new rest (Contains-tail b (burst_of k) order among other)
       ]
 
-length-gathered : {X : Type 0} (bursts : List (List X)) (order : List ℕ) (old new : List X) → AreGathered bursts order old new → length new ≡ length old
+length-gathered : {X : Type 0} (bursts : List (List X)) (order : List ℕ) (old new : List X) → AreGathered bursts order old new →
+    length new ≡ length old
 length-gathered bursts [] old new same = ap length (sym same)
 length-gathered bursts (b ∷ order) old new (next, step, rest) = length-gathered bursts order next new rest ∙ step.count
 

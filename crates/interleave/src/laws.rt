@@ -1,3 +1,4 @@
+//! What holds of the places to which coded bits go.
 ghost use Rattle.std.specs.Prelude.{◌≡◌, ℕ, ℤ, ◌<◌, List, All, Contains, length};
 ghost use Rattle.interleave.specs.Bursts.{IsInterleaved, AreGathered};
 ghost use Rattle.interleave.specs.Places.{burst_of, place_of, burst_place};

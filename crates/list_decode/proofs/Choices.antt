@@ -19,7 +19,8 @@ use Rattle.list_decode.proofs.Strays.{FallsBehind-trans, is_stray}
 use Rattle.list_decode.proofs.WordOrder.{before_tested, behind_tested, test}
 
 -- a list that was given
-pub given_at : (bits : ℕ) (lists : List (List ℕ)) (i : ℕ) → i < length lists → get_or (map (take bits) lists) i [] ≡ take bits (get_or lists i [])
+pub given_at : (bits : ℕ) (lists : List (List ℕ)) (i : ℕ) → i < length lists →
+    get_or (map (take bits) lists) i [] ≡ take bits (get_or lists i [])
 given_at bits lists i within = get_or-map (take bits) lists i [] [] within
 
 pub given_within : (bits : ℕ) (lists : List (List ℕ)) (i : ℕ) → i < length (map (take bits) lists) → i < length lists
@@ -28,7 +29,8 @@ given_within bits (u ∷ lists) zero within = omega arith
 given_within bits (u ∷ lists) (suc i) within = let w = given_within bits lists i (omega arith) in omega arith
 
 -- a list that leaves a candidate and then follows the choices is a candidate
-pub stray_is : (pass : Pass) (u : List ℕ) (x : Stray) → IsPass pass → IsCandidate (soft_of pass) u → IsStray pass u x → IsCandidate (soft_of pass) (stray_of pass u x)
+pub stray_is : (pass : Pass) (u : List ℕ) (x : Stray) → IsPass pass → IsCandidate (soft_of pass) u → IsStray pass u x →
+    IsCandidate (soft_of pass) (stray_of pass u x)
 stray_is pass u x is candidate stray =
     let n = candidate.count in
     let m = is.pairs in
@@ -41,9 +43,14 @@ stray_is pass u x is candidate stray =
       count = m ∙ ap (λ n. 2 * n) (sym (made.count ∙ p));
     }
 
-pub stray_list_is : (pass : Pass) (us : List (List ℕ)) (x : Stray) → IsPass pass → All (IsCandidate (soft_of pass)) us → IsStrayOf pass us x →
-    IsCandidate (soft_of pass) (stray_list pass us x)
+pub stray_list_is : (pass : Pass) (us : List (List ℕ)) (x : Stray) → IsPass pass → All (IsCandidate (soft_of pass)) us →
+    IsStrayOf pass us x → IsCandidate (soft_of pass) (stray_list pass us x)
 stray_list_is pass us x is all stray = stray_is pass (get_or us x.list []) x is (all x.list [] stray.within) stray.stray
+
+-- which of two lists comes first, as a test tells
+abbrev pub Tells : Pass → List (List ℕ) → Stray → Stray → Bool → Type 0
+Tells pass us x y told = (told ≡ true → FallsBehind (soft_of pass) (stray_list pass us y) (stray_list pass us x)) × (told ≡ false →
+    (stray_list pass us x ≡ stray_list pass us y) ⊎ FallsBehind (soft_of pass) (stray_list pass us x) (stray_list pass us y))
 
 module _ (pass : Pass) (us : List (List ℕ)) (is : IsPass pass) (all : All (IsCandidate (soft_of pass)) us) (x y : Stray)
     (is_x : IsStrayOf pass us x) (is_y : IsStrayOf pass us y) (equal : x.likelihood ≡ y.likelihood) where
@@ -57,7 +64,7 @@ module _ (pass : Pass) (us : List (List ℕ)) (is : IsPass pass) (all : All (IsC
       omega arith
 
   -- of equally likely ones the first in the order of words comes before the other
-  pub tie_before : (v w : List ℕ) (r : Bool) → v ≡ stray_list pass us x → w ≡ stray_list pass us y → r ≡ test v w → r ≡ true →
+  tie_before : (v w : List ℕ) (r : Bool) → v ≡ stray_list pass us x → w ≡ stray_list pass us y → r ≡ test v w → r ≡ true →
       FallsBehind (soft_of pass) (stray_list pass us y) (stray_list pass us x)
   tie_before v w r is_v is_w tells holds = inr (
     sym tie,
@@ -65,11 +72,14 @@ module _ (pass : Pass) (us : List (List ℕ)) (is : IsPass pass) (all : All (IsC
         (sym (ap₂ test is_v is_w) ∙ sym tells ∙ holds),
   )
 
-  pub tie_behind : (v w : List ℕ) (r : Bool) → v ≡ stray_list pass us x → w ≡ stray_list pass us y → r ≡ test v w → r ≡ false →
+  tie_behind : (v w : List ℕ) (r : Bool) → v ≡ stray_list pass us x → w ≡ stray_list pass us y → r ≡ test v w → r ≡ false →
       (stray_list pass us x ≡ stray_list pass us y) ⊎ FallsBehind (soft_of pass) (stray_list pass us x) (stray_list pass us y)
   tie_behind v w r is_v is_w tells fails =
       elim (behind_tested (stray_list pass us x) (stray_list pass us y) (stray_list_is pass us x is all is_x).information.bits as_long
       (sym (ap₂ test is_v is_w) ∙ sym tells ∙ fails)) [ inl same ↦ inl same | inr before ↦ inr (inr (tie, before)) ]
+
+  pub tie_told : (v w : List ℕ) (r : Bool) → v ≡ stray_list pass us x → w ≡ stray_list pass us y → r ≡ test v w → Tells pass us x y r
+  tie_told v w r is_v is_w tells = (tie_before v w r is_v is_w tells, tie_behind v w r is_v is_w tells)
 
 -- ---- one branch more
 
@@ -92,8 +102,10 @@ module _ (pass : Pass) (us : List (List ℕ)) (branches : List Branch) (branch :
   AtMost x b = IsAtMost pass us x b.best
 
   -- a branch without a best list changes nothing
-  pub first_kept : (first : Option Choice) → IsFirst pass us branches first → branch.best ≡ None → IsFirst pass us (branches ++ branch ∷ []) first
-  first_kept None all none = All-append (λ b. b.best ≡ None) branches (branch ∷ []) all (All-cons (λ b. b.best ≡ None) branch [] none (All-nil (λ b. b.best ≡ None)))
+  pub first_kept : (first : Option Choice) → IsFirst pass us branches first → branch.best ≡ None →
+      IsFirst pass us (branches ++ branch ∷ []) first
+  first_kept None all none = All-append (λ b. b.best ≡ None) branches (branch ∷ []) all
+      (All-cons (λ b. b.best ≡ None) branch [] none (All-nil (λ b. b.best ≡ None)))
   first_kept (Some choice) old none = (
     (old.0.0, slice_get-early branches (branch ∷ []) old.0.0 choice.branch old.0.1, old.0.2),
     All-append (AtMost choice.stray) branches (branch ∷ []) old.1
@@ -112,7 +124,8 @@ module _ (pass : Pass) (us : List (List ℕ)) (branches : List Branch) (branch :
 
   -- its best list comes before those of all others
   pub first_taken : (old new : Choice) → IsFirst pass us branches (Some old) → branch.best ≡ Some new.stray → new.branch ≡ length branches →
-      FallsBehind (soft_of pass) (stray_list pass us old.stray) (stray_list pass us new.stray) → IsFirst pass us (branches ++ branch ∷ []) (Some new)
+      FallsBehind (soft_of pass) (stray_list pass us old.stray) (stray_list pass us new.stray) →
+      IsFirst pass us (branches ++ branch ∷ []) (Some new)
   first_taken old new first best at before = (
     (branch, slice_get-last branches branch new.branch at, best),
     All-append (AtMost new.stray) branches (branch ∷ [])
@@ -123,12 +136,14 @@ module _ (pass : Pass) (us : List (List ℕ)) (branches : List Branch) (branch :
     over None most = tt
     over (Some y) most = elim most [
       | inl same ↦ inr (subst (λ w. FallsBehind (soft_of pass) w (stray_list pass us new.stray)) (sym same) before)
-      | inr behind ↦ inr (FallsBehind-trans (soft_of pass) (stray_list pass us y) (stray_list pass us old.stray) (stray_list pass us new.stray) behind before)
+      | inr behind ↦ inr (FallsBehind-trans (soft_of pass) (stray_list pass us y) (stray_list pass us old.stray)
+          (stray_list pass us new.stray) behind before)
     ]
 
   -- its best list does not come before what was first
   pub first_stays : (old new : Choice) → IsFirst pass us branches (Some old) → branch.best ≡ Some new.stray →
-      (stray_list pass us new.stray ≡ stray_list pass us old.stray) ⊎ FallsBehind (soft_of pass) (stray_list pass us new.stray) (stray_list pass us old.stray) →
+      (stray_list pass us new.stray ≡ stray_list pass us old.stray)
+      ⊎ FallsBehind (soft_of pass) (stray_list pass us new.stray) (stray_list pass us old.stray) →
       IsFirst pass us (branches ++ branch ∷ []) (Some old)
   first_stays old new first best behind = (
     (first.0.0, slice_get-early branches (branch ∷ []) first.0.0 old.branch first.0.1, first.0.2),
@@ -151,7 +166,8 @@ all_at P [] x k all at = absurd (None-is_not at)
 all_at P (y ∷ xs) x zero all at = subst P (same_some at) (All-head P y xs all)
 all_at P (y ∷ xs) x (suc k) all at = all_at P xs x k (All-tail P y xs all) at
 
-pub branch_stray : (pass : Pass) (us : List (List ℕ)) (branch : Branch) (x : Stray) → IsBranchOf pass us branch → branch.best ≡ Some x → IsStrayOf pass us x
+pub branch_stray : (pass : Pass) (us : List (List ℕ)) (branch : Branch) (x : Stray) → IsBranchOf pass us branch → branch.best ≡ Some x →
+    IsStrayOf pass us x
 branch_stray pass us branch x is at =
     let best = subst (IsBestStray pass (get_or us branch.span.list []) branch.span) at is.is.best in
     record {

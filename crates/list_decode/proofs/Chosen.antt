@@ -51,10 +51,14 @@ module _ (pass : Pass) (us : List (List ℕ)) (branches : List Branch) (choice :
   best_is : (get_or branches choice.branch blank).best ≡ Some choice.stray
   best_is = ap (λ (b : Branch). b.best) (slice_get-is branches first.0.0 blank choice.branch first.0.1).1 ∙ first.0.2
 
-  pub best_chosen : IsBestStray pass (get_or us (get_or branches choice.branch blank).span.list []) (get_or branches choice.branch blank).span (Some choice.stray)
-  best_chosen = subst (IsBestStray pass (get_or us (get_or branches choice.branch blank).span.list []) (get_or branches choice.branch blank).span) best_is chosen_branch.is.best
+  pub best_chosen : IsBestStray pass (get_or us (get_or branches choice.branch blank).span.list [])
+      (get_or branches choice.branch blank).span (Some choice.stray)
+  best_chosen =
+      subst (IsBestStray pass (get_or us (get_or branches choice.branch blank).span.list []) (get_or branches choice.branch blank).span)
+      best_is chosen_branch.is.best
 
-  pub chosen : IsChosen pass (get_or us (get_or branches choice.branch blank).span.list []) (get_or branches choice.branch blank).span choice.stray
+  pub chosen : IsChosen pass (get_or us (get_or branches choice.branch blank).span.list [])
+      (get_or branches choice.branch blank).span choice.stray
   chosen = record {
     candidate = lists (get_or branches choice.branch blank).span.list [] chosen_branch.within;
     is_span = chosen_branch.is.span;
@@ -64,9 +68,11 @@ module _ (pass : Pass) (us : List (List ℕ)) (branches : List Branch) (choice :
   }
 
 -- the same for the list as it is read
-pub chosen_read : (pass : Pass) (lists : List (List ℕ)) (branches : List Branch) (choice : Choice) → All (IsCandidate (soft_of pass)) (map (take pass.bits) lists) →
-    All (IsBranchOf pass (map (take pass.bits) lists)) branches → IsFirst pass (map (take pass.bits) lists) branches (Some choice) →
-    IsChosen pass (take pass.bits (get_or lists (get_or branches choice.branch blank).span.list [])) (get_or branches choice.branch blank).span choice.stray
+pub chosen_read : (pass : Pass) (lists : List (List ℕ)) (branches : List Branch) (choice : Choice) →
+    All (IsCandidate (soft_of pass)) (map (take pass.bits) lists) → All (IsBranchOf pass (map (take pass.bits) lists)) branches →
+    IsFirst pass (map (take pass.bits) lists) branches (Some choice) →
+    IsChosen pass (take pass.bits (get_or lists (get_or branches choice.branch blank).span.list []))
+    (get_or branches choice.branch blank).span choice.stray
 chosen_read pass lists branches choice each all first =
     let us = map (take pass.bits) lists in
     let i = (get_or branches choice.branch blank).span.list in
@@ -85,19 +91,22 @@ branch_kept pass us u b is = record {
   is = subst (λ u. IsBranch pass u b) (get_or-kept us u b.span.list is.within) is.is;
 }
 
-classes_kept : (pass : Pass) (us : List (List ℕ)) (u : List ℕ) (bs : List Branch) → All (IsBranchOf pass us) bs → map (class_of us) bs ≡ map (class_of (us ++ u ∷ [])) bs
+classes_kept : (pass : Pass) (us : List (List ℕ)) (u : List ℕ) (bs : List Branch) → All (IsBranchOf pass us) bs →
+    map (class_of us) bs ≡ map (class_of (us ++ u ∷ [])) bs
 classes_kept pass us u [] all = refl
 classes_kept pass us u (b ∷ bs) all =
     ap₂ (λ c cs. c ∷ cs) (ap (λ v. leaving v b.span) (get_or-kept us u b.span.list (All-head (IsBranchOf pass us) b bs all).within))
     (classes_kept pass us u bs (All-tail (IsBranchOf pass us) b bs all))
 
 -- a class of branches is that of one of them
-pub class_at : (us : List (List ℕ)) (bs : List Branch) (P : Branch → Type 0) (e : Class) → All P bs → Contains (map (class_of us) bs) e → (b : Branch) × P b × (class_of us b ≡ e)
+pub class_at : (us : List (List ℕ)) (bs : List Branch) (P : Branch → Type 0) (e : Class) → All P bs → Contains (map (class_of us) bs) e →
+    (b : Branch) × P b × (class_of us b ≡ e)
 class_at us [] P e all found = absurd (omega (arith, found.1))
 class_at us (b ∷ bs) P e all (zero, lt, is) = (b, All-head P b bs all, is)
 class_at us (b ∷ bs) P e all (suc k, lt, is) = class_at us bs P e (All-tail P b bs all) (k, omega arith, is)
 
-module _ (pass : Pass) (us : List (List ℕ)) (branches : List Branch) (choice : Choice) (is : IsPass pass) (lists : All (IsCandidate (soft_of pass)) us)
+module _ (pass : Pass) (us : List (List ℕ)) (branches : List Branch) (choice : Choice) (is : IsPass pass)
+    (lists : All (IsCandidate (soft_of pass)) us)
     (all : All (IsBranchOf pass us) branches) (first : IsFirst pass us branches (Some choice)) where
   abbrev i : ℕ
   i = choice.branch
@@ -124,29 +133,36 @@ module _ (pass : Pass) (us : List (List ℕ)) (branches : List Branch) (choice :
   v_is = stray_is pass u choice.stray is has.candidate has.stray
 
   split : map (class_of us) branches ≡
-      map (class_of us) (take choice.branch branches) ++ class_of us (get_or branches choice.branch blank) ∷ map (class_of us) (drop (suc choice.branch) branches)
-  split = ap (map (class_of us)) (sym (set-get_or branches i blank) ∙ set_split branches i b inside) ∙ map-append (class_of us) (take i branches) (b ∷ drop (suc i) branches)
+      map (class_of us) (take choice.branch branches) ++ class_of us (get_or branches choice.branch blank) ∷ map (class_of us)
+      (drop (suc choice.branch) branches)
+  split = ap (map (class_of us)) (sym (set-get_or branches i blank) ∙ set_split branches i b inside)
+      ∙ map-append (class_of us) (take i branches) (b ∷ drop (suc i) branches)
 
   best : (e : Class) (w : List ℕ) → Contains (map (class_of us) branches) e → IsCandidate (soft_of pass) w → StandsIn e w →
       w ≢ stray_of pass (get_or us (get_or branches choice.branch blank).span.list []) choice.stray →
       FallsBehind (soft_of pass) w (stray_of pass (get_or us (get_or branches choice.branch blank).span.list []) choice.stray)
   best e w member is_w stands ne =
-      let here : stray_list pass us choice.stray ≡ v = ap (λ k. stray_of pass (get_or us k []) choice.stray) (best_chosen pass us branches choice lists all first).1 in
-      let found = class_at us branches (λ b. IsBranchOf pass us b × IsAtMost pass us choice.stray b.best) e (λ k d lt. (all k d lt, first.1 k d lt)) member in
+      let here : stray_list pass us choice.stray ≡ v = ap (λ k. stray_of pass (get_or us k []) choice.stray)
+      (best_chosen pass us branches choice lists all first).1 in
+      let found = class_at us branches (λ b. IsBranchOf pass us b × IsAtMost pass us choice.stray b.best) e
+      (λ k d lt. (all k d lt, first.1 k d lt)) member in
       subst (FallsBehind (soft_of pass) w) here
       (below_best pass us found.0.span choice.stray w found.0.best found.1.0.is.best found.1.1 is_w
       (subst (λ e. StandsIn e w) (sym found.2) stands) (λ e. ne (e ∙ here)))
 
   module _ (next : Next) (at : next.branch ≡ choice.branch) (value : next.likelihood ≡ choice.stray.likelihood)
       (before : IsBranch pass (get_or us (get_or branches choice.branch blank).span.list []) next.parts.before)
-      (behind_v : IsBranch pass (stray_of pass (get_or us (get_or branches choice.branch blank).span.list []) choice.stray) next.parts.behind)
+      (behind_v : IsBranch pass (stray_of pass (get_or us (get_or branches choice.branch blank).span.list []) choice.stray)
+      next.parts.behind)
       (after : IsBranch pass (get_or us (get_or branches choice.branch blank).span.list []) next.parts.after)
       (before_span : (next.parts.before.span.list ≡ (get_or branches choice.branch blank).span.list) ×
-      (next.parts.before.span.from ≡ (get_or branches choice.branch blank).span.from) × (next.parts.before.span.to ≡ choice.stray.leave.place))
+      (next.parts.before.span.from ≡ (get_or branches choice.branch blank).span.from)
+      × (next.parts.before.span.to ≡ choice.stray.leave.place))
       (behind_span : (next.parts.behind.span.list ≡ length us) × (next.parts.behind.span.from ≡ choice.stray.leave.place + 1) ×
       (next.parts.behind.span.to + 4 ≡ pass.bits))
       (after_span : (next.parts.after.span.list ≡ (get_or branches choice.branch blank).span.list) ×
-      (next.parts.after.span.from ≡ choice.stray.leave.place + 1) × (next.parts.after.span.to ≡ (get_or branches choice.branch blank).span.to)) where
+      (next.parts.after.span.from ≡ choice.stray.leave.place + 1)
+      × (next.parts.after.span.to ≡ (get_or branches choice.branch blank).span.to)) where
     abbrev us' : List (List ℕ)
     us' = us ++ v ∷ []
 
@@ -179,9 +195,11 @@ module _ (pass : Pass) (us : List (List ℕ)) (branches : List Branch) (choice :
         (All-set (IsBranchOf pass us') branches i next.parts.before (old_branch next.parts.before before_span.0 before)
         (All-weaker (IsBranchOf pass us) (IsBranchOf pass us') (λ b is_b. branch_kept pass us v b is_b) branches all))
         (All-cons (IsBranchOf pass us') next.parts.behind [] new_branch (All-nil (IsBranchOf pass us'))))
-        (All-cons (IsBranchOf pass us') next.parts.after [] (old_branch next.parts.after after_span.0 after) (All-nil (IsBranchOf pass us')))
+        (All-cons (IsBranchOf pass us') next.parts.after [] (old_branch next.parts.after after_span.0 after)
+        (All-nil (IsBranchOf pass us')))
 
-    classes : ((map (class_of us) (take choice.branch branches) ++ leaving u next.parts.before.span ∷ map (class_of us) (drop (suc choice.branch) branches))
+    classes : ((map (class_of us) (take choice.branch branches) ++ leaving u next.parts.before.span ∷ map (class_of us)
+        (drop (suc choice.branch) branches))
         ++ leaving v next.parts.behind.span ∷ []) ++ leaving u next.parts.after.span ∷ [] ≡
         map f ((set branches choice.branch next.parts.before ++ next.parts.behind ∷ []) ++ next.parts.after ∷ [])
     classes =
@@ -204,13 +222,18 @@ module _ (pass : Pass) (us : List (List ℕ)) (branches : List Branch) (choice :
     is_next_stray = record {
       within = subst (λ k. k < length branches) (sym at) inside;
       value = value ∙ has.stray.value;
-      each = subst (λ k. All (IsBranchOf pass us') ((set branches k next.parts.before ++ next.parts.behind ∷ []) ++ next.parts.after ∷ [])) (sym at) each;
+      each = subst (λ k. All (IsBranchOf pass us') ((set branches k next.parts.before ++ next.parts.behind ∷ []) ++ next.parts.after ∷ []))
+          (sym at) each;
       covers = (λ ranked covers.
           let went = goes_on pass us u b.span choice.stray is has.candidate has.stray v_is has.from has.to
-          (map (class_of us) (take i branches)) (map (class_of us) (drop (suc i) branches)) next.parts.before.span next.parts.behind.span next.parts.after.span
+          (map (class_of us) (take i branches)) (map (class_of us) (drop (suc i) branches)) next.parts.before.span next.parts.behind.span
+          next.parts.after.span
           ranked (subst (Covers (soft_of pass) us) split covers) (λ e w member. best e w (subst (λ cs. Contains cs e) (sym split) member))
-          before_span.1 before_span.2 behind_span.1 behind_span.2 after_span.1 after_span.2 in
-          (went.0, subst (Covers (soft_of pass) us') (classes ∙ ap (λ k. map f ((set branches k next.parts.before ++ next.parts.behind ∷ []) ++ next.parts.after ∷ [])) (sym at)) went.1));
+          before_span.1 before_span.2 behind_span.1 behind_span.2 after_span.1 after_span.2 in (
+            went.0,
+            subst (Covers (soft_of pass) us') (classes
+                ∙ ap (λ k. map f ((set branches k next.parts.before ++ next.parts.behind ∷ []) ++ next.parts.after ∷ [])) (sym at)) went.1,
+          ));
     }
 
     pub is_next : (written : List ℕ) → written ≡ stray_of pass (get_or us (get_or branches choice.branch blank).span.list []) choice.stray →

@@ -19,9 +19,11 @@ use Rattle.list_decode.specs.Ranking.{IsCandidate, IsSecond}
 pub gain-more : (state x : ℕ) (u : List ℕ) (soft : List ℤ) → 2 ≤ length soft →
     gain state (x ∷ u) soft ≡ edge state x (take 2 soft) +ℤ gain (next state x) u (drop 2 soft)
 gain-more state x u soft long =
-    ap (gain state (x ∷ u)) (sym (take-append-drop 2 soft)) ∙ gain-cons state x u (take 2 soft) (drop 2 soft) (omega (arith, length-take 2 soft))
+    ap (gain state (x ∷ u)) (sym (take-append-drop 2 soft)) ∙ gain-cons state x u (take 2 soft) (drop 2 soft)
+    (omega (arith, length-take 2 soft))
 
-Loses-more : (state x : ℕ) (w u : List ℕ) (soft : List ℤ) → 2 ≤ length soft → Loses (next state x) (drop 2 soft) w u → Loses state soft (x ∷ w) (x ∷ u)
+Loses-more : (state x : ℕ) (w u : List ℕ) (soft : List ℤ) → 2 ≤ length soft → Loses (next state x) (drop 2 soft) w u →
+    Loses state soft (x ∷ w) (x ∷ u)
 Loses-more state x w u soft long h =
     subst (λ soft. Loses state soft (x ∷ w) (x ∷ u)) (take-append-drop 2 soft)
     (Loses-same state x w u (take 2 soft) (drop 2 soft) (omega (arith, length-take 2 soft)) h)
@@ -32,13 +34,15 @@ kept_best [] losses soft kept some s lt = absurd (omega arith)
 kept_best (row ∷ rows) [] soft kept some s lt = absurd kept
 kept_best (row ∷ rows) (lost ∷ losses) soft kept some s lt = kept.1.best s lt
 
-pub AllBits-kept : (rows : List ℕ) (losses : List (List ℤ)) (soft : List ℤ) → IsKept rows losses soft → 1 ≤ length rows → AllBits (read_out rows 0)
+pub AllBits-kept : (rows : List ℕ) (losses : List (List ℤ)) (soft : List ℤ) → IsKept rows losses soft → 1 ≤ length rows →
+    AllBits (read_out rows 0)
 AllBits-kept rows losses soft kept some = Ends-bits (read_out rows 0) (kept_best rows losses soft kept some 0 (omega arith)).ends
 
 -- ---- the detour at a place
 
 pub record IsDetour (rows : List ℕ) (losses : List (List ℤ)) (soft : List ℤ) (state place : ℕ) : Type 0 where
-  pub gained : gain state (detour rows state place) soft ≡ gain state (read_out rows state) soft -ℤ loss_at state (read_out rows state) losses place
+  pub gained : gain state (detour rows state place) soft ≡ gain state (read_out rows state) soft -ℤ loss_at state
+      (read_out rows state) losses place
   pub ends : Ends (detour rows state place)
   pub count : length (detour rows state place) ≡ length rows
   pub leaves : LeavesAt (read_out rows state) (detour rows state place) place
@@ -52,8 +56,8 @@ agree-cons x u w place h = record { within = (let i = h.within in omega arith); 
 leaves_now : (x y : ℕ) (u w : List ℕ) → x ≢ y → LeavesAt (x ∷ u) (y ∷ w) 0
 leaves_now x y u w ne = record { within = omega arith; same = (λ j lt. absurd (omega arith)); differs = ne }
 
-pub is_detour : (rows : List ℕ) (losses : List (List ℤ)) (soft : List ℤ) (state place : ℕ) → IsKept rows losses soft → state < 16 → place + 4 < length rows →
-    IsDetour rows losses soft state place
+pub is_detour : (rows : List ℕ) (losses : List (List ℤ)) (soft : List ℤ) (state place : ℕ) → IsKept rows losses soft → state < 16 →
+    place + 4 < length rows → IsDetour rows losses soft state place
 is_detour [] losses soft state place kept lt within = absurd (omega arith)
 is_detour (row ∷ rows) [] soft state place kept lt within = absurd kept
 is_detour (row ∷ rows) (lost ∷ losses) soft state zero kept lt within =
@@ -88,7 +92,8 @@ pub record Left (rows : List ℕ) (losses : List (List ℤ)) (soft : List ℤ) (
   pub within : place + 4 < length rows
   pub leaves : LeavesAt (read_out rows state) w place
   pub behind : (gain state w soft <ℤ (gain state (read_out rows state) soft -ℤ loss_at state (read_out rows state) losses place)) ⊎
-      ((gain state w soft ≡ (gain state (read_out rows state) soft -ℤ loss_at state (read_out rows state) losses place)) × IsNotAfter (detour rows state place) w)
+      ((gain state w soft ≡ (gain state (read_out rows state) soft -ℤ loss_at state (read_out rows state) losses place))
+      × IsNotAfter (detour rows state place) w)
 
 other_bit : (x y : ℕ) → x ≤ 1 → y ≤ 1 → x ≢ y → y ≡ 1 - x
 other_bit zero zero hx hy ne = absurd (ne refl)
@@ -96,7 +101,8 @@ other_bit zero (suc y) hx hy ne = omega arith
 other_bit (suc x) zero hx hy ne = omega arith
 other_bit (suc x) (suc y) hx hy ne = absurd (ne (omega arith))
 
-module _ (row : ℕ) (rows : List ℕ) (lost : List ℤ) (losses : List (List ℤ)) (soft : List ℤ) (state : ℕ) (kept : IsKept (row ∷ rows) (lost ∷ losses) soft) (lt : state < 16) where
+module _ (row : ℕ) (rows : List ℕ) (lost : List ℤ) (losses : List (List ℤ)) (soft : List ℤ) (state : ℕ)
+    (kept : IsKept (row ∷ rows) (lost ∷ losses) soft) (lt : state < 16) where
   abbrev bit : ℕ
   bit = row / 2 ^ state % 2
 
@@ -108,13 +114,17 @@ module _ (row : ℕ) (rows : List ℕ) (lost : List ℤ) (losses : List (List �
         place = suc rest.place;
         within = let i = rest.within in omega arith;
         leaves = agree-cons bit _ _ rest.place rest.leaves;
-        behind = elim rest.behind [ inl less ↦ inl (omega (arith, ints)) | inr tie ↦ inr ((let e = tie.0 in omega (arith, ints)), inr (refl, tie.1)) ];
+        behind = elim rest.behind [
+          | inl less ↦ inl (omega (arith, ints))
+          | inr tie ↦ inr ((let e = tie.0 in omega (arith, ints)), inr (refl, tie.1))
+        ];
       }
 
   -- the last four bits are 0 in every list, so that it is left before them
   long : (y : ℕ) (w : List ℕ) → Ends (y ∷ w) → length w ≡ length rows → bit ≢ y → 4 ≤ length rows
   long y w ends same ne = elim (cases_lt (length rows) 4) [
-    | inl short ↦ absurd (ne ((kept.1.best state lt).ends.1 (let n = length-read_out rows (next state bit) in omega arith) ∙ sym (ends.1 (omega arith))))
+    | inl short ↦ absurd
+        (ne ((kept.1.best state lt).ends.1 (let n = length-read_out rows (next state bit) in omega arith) ∙ sym (ends.1 (omega arith))))
     | inr fine ↦ omega arith
   ]
 
@@ -128,14 +138,15 @@ module _ (row : ℕ) (rows : List ℕ) (lost : List ℤ) (losses : List (List �
         place = 0;
         within = omega arith;
         leaves = leaves_now bit (1 - bit) _ w (λ e. omega arith);
-        behind = elim (Loses-more state (1 - bit) w rest soft kept.0 (best.wins w ends (same ∙ sym (length-read_out rows (next state (1 - bit)))))) [
-          | Less h ↦ inl (omega (arith, ints))
-          | Later h after ↦ inr (omega (arith, ints), after)
-        ];
+        behind = elim (Loses-more state (1 - bit) w rest soft kept.0
+            (best.wins w ends (same ∙ sym (length-read_out rows (next state (1 - bit)))))) [
+              | Less h ↦ inl (omega (arith, ints))
+              | Later h after ↦ inr (omega (arith, ints), after)
+            ];
       }
 
-pub left : (rows : List ℕ) (losses : List (List ℤ)) (soft : List ℤ) (state : ℕ) (w : List ℕ) → IsKept rows losses soft → state < 16 → Ends w →
-    length w ≡ length rows → read_out rows state ≢ w → Left rows losses soft state w
+pub left : (rows : List ℕ) (losses : List (List ℤ)) (soft : List ℤ) (state : ℕ) (w : List ℕ) → IsKept rows losses soft →
+    state < 16 → Ends w → length w ≡ length rows → read_out rows state ≢ w → Left rows losses soft state w
 left [] losses soft state [] kept lt ends same ne = absurd (ne refl)
 left [] losses soft state (y ∷ w) kept lt ends same ne = absurd (omega arith)
 left (row ∷ rows) [] soft state w kept lt ends same ne = absurd kept
@@ -148,12 +159,14 @@ left (row ∷ rows) (lost ∷ losses) soft state (y ∷ w) kept lt ends same ne 
   | inr other ↦
       let is = other_bit (row / 2 ^ state % 2) y (omega arith) ends.0 other in
       subst (λ y. Left (row ∷ rows) (lost ∷ losses) soft state (y ∷ w)) (sym is)
-      (left_now row rows lost losses soft state kept lt w ends.2 (omega arith) (long row rows lost losses soft state kept lt y w ends (omega arith) other))
+      (left_now row rows lost losses soft state kept lt w ends.2 (omega arith)
+      (long row rows lost losses soft state kept lt y w ends (omega arith) other))
 ]
 
 -- ---- the best of all detours
 
-module _ (soft : List ℤ) (rows : List ℕ) (losses : List (List ℤ)) (place : ℕ) (loss : ℤ) (kept : IsKept rows losses soft) (within : place + 4 < length rows)
+module _ (soft : List ℤ) (rows : List ℕ) (losses : List (List ℤ)) (place : ℕ) (loss : ℤ) (kept : IsKept rows losses soft)
+    (within : place + 4 < length rows)
     (least : IsLeastLoss (read_out rows 0) losses (length (read_out rows 0) - 4) place loss) where
   abbrev u : List ℕ
   u = read_out rows 0
@@ -212,7 +225,8 @@ module _ (soft : List ℤ) (rows : List ℕ) (losses : List (List ℤ)) (place :
             inr (
               omega (arith, ints),
               elim (same_number at.place place) [
-                | inl there ↦ IsBefore-not_after v w is.information.bits (same ∙ sym here.count) (subst (λ k. IsNotAfter (detour rows 0 k) w) there tie.1) ne
+                | inl there ↦ IsBefore-not_after v w is.information.bits (same ∙ sym here.count)
+                    (subst (λ k. IsNotAfter (detour rows 0 k) w) there tie.1) ne
                 | inr elsewhere ↦ before_at w at.place at.within at.leaves equal elsewhere
               ],
             ))
@@ -226,7 +240,8 @@ module _ (soft : List ℤ) (rows : List ℕ) (losses : List (List ℤ)) (place :
     };
     differs = λ e. here.leaves.differs (ap (λ w. get_or w place 0) (sym e));
     others = λ w is not_u not_v. falls_behind w is (let c = is.count in omega arith) not_v
-        (left rows losses soft 0 w kept (omega arith) (Ends-from_tail w is.information.bits is.information.tail) (let c = is.count in omega arith) (λ e. not_u (sym e)));
+        (left rows losses soft 0 w kept (omega arith) (Ends-from_tail w is.information.bits is.information.tail)
+        (let c = is.count in omega arith) (λ e. not_u (sym e)));
   }
 
   loss_is : loss ≡ likelihood soft (coded u) -ℤ likelihood soft (coded v)
@@ -256,10 +271,12 @@ pub record AreFirstTwo (soft : List ℤ) (u v : List ℕ) (margin : ℤ) : Type 
   pub second : IsSecond soft u v
   pub value : margin ≡ likelihood soft (coded u) -ℤ likelihood soft (coded v)
 
-pub first_two : (soft : List ℤ) (rows : List ℕ) (losses : List (List ℤ)) (u v : List ℕ) (place state : ℕ) (loss : ℤ) → IsKept rows losses soft →
-    length soft ≡ 2 * length rows → 5 ≤ length rows → u ≡ read_out rows 0 → IsLeastLoss u losses (length u - 4) place loss → place + 4 < length u →
+pub first_two : (soft : List ℤ) (rows : List ℕ) (losses : List (List ℤ)) (u v : List ℕ) (place state : ℕ) (loss : ℤ) →
+    IsKept rows losses soft → length soft ≡ 2 * length rows → 5 ≤ length rows → u ≡ read_out rows 0 →
+    IsLeastLoss u losses (length u - 4) place loss → place + 4 < length u →
     state ≡ reached 0 (take place u) →
-    v ≡ take place u ++ (1 - get_or u place 0) ∷ read_out (drop (place + 1) rows) (next state (1 - get_or u place 0)) → AreFirstTwo soft u v loss
+    v ≡ take place u ++ (1 - get_or u place 0) ∷ read_out (drop (place + 1) rows) (next state (1 - get_or u place 0)) →
+    AreFirstTwo soft u v loss
 first_two soft rows losses u v place state loss kept pairs five is least within known written =
     let n = length-read_out rows 0 in
     let inside : place + 4 < length rows = let i = subst (λ u. place + 4 < length u) is within in omega arith in
@@ -267,10 +284,12 @@ first_two soft rows losses u v place state loss kept pairs five is least within 
     let v_is : v ≡ detour rows 0 place =
     written
     ∙ ap (λ s. take place u ++ (1 - get_or u place 0) ∷ read_out (drop (place + 1) rows) (next s (1 - get_or u place 0))) known
-    ∙ ap (λ u. take place u ++ (1 - get_or u place 0) ∷ read_out (drop (place + 1) rows) (next (reached 0 (take place u)) (1 - get_or u place 0))) is
+    ∙ ap (λ u. take place u ++ (1 - get_or u place 0) ∷ read_out (drop (place + 1) rows)
+    (next (reached 0 (take place u)) (1 - get_or u place 0))) is
     ∙ detour_written rows 0 place (omega arith) in
     subst (λ u. AreFirstTwo soft u v loss) (sym is) (subst (λ v. AreFirstTwo soft (read_out rows 0) v loss) (sym v_is) (record {
-      best = IsMostLikely-best soft (read_out rows 0) _ (omega arith) (omega arith) (kept_best rows losses soft kept (omega arith) 0 (omega arith));
+      best = IsMostLikely-best soft (read_out rows 0) _ (omega arith) (omega arith)
+          (kept_best rows losses soft kept (omega arith) 0 (omega arith));
       second = second soft rows losses place loss kept inside least' pairs;
       value = loss_is soft rows losses place loss kept inside least';
     }))

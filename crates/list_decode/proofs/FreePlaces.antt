@@ -77,7 +77,8 @@ module _ (u : List ℕ) (losses : List (List ℤ)) (free : ℕ → Bool) (k : �
     unlocked = is_free;
     least = (λ j lt free_j. elim (same_number j k) [
       | inl here ↦ subst (λ j. loss k ≤ℤ loss j) (sym here) (omega (arith, ints))
-      | inr earlier ↦ let low = old.least j (omega arith) free_j in elim less [ inl less ↦ omega (arith, ints) | inr tie ↦ let e = tie.0 in omega (arith, ints) ]
+      | inr earlier ↦ let low = old.least j (omega arith) free_j in
+          elim less [ inl less ↦ omega (arith, ints) | inr tie ↦ let e = tie.0 in omega (arith, ints) ]
     ]);
     before = (λ j lt free_j equal. elim less [
       | inl less ↦ absurd (let low = old.least j lt free_j in omega (arith, ints))

@@ -42,8 +42,8 @@ first_chosen pass u is best =
     (kept_best (rows_of pass) (losses_of pass) (soft_of pass) is.kept (omega arith) 0 (omega arith)))
     best
 
-pub first_span : (pass : Pass) (u : List ℕ) (span : Span) → IsPass pass → IsMostLikely (soft_of pass) u → span.likelihood ≡ likelihood (soft_of pass) (coded u) →
-    span.from ≡ 0 → span.to + 4 ≡ pass.bits → span.state ≡ 0 → IsSpan pass u span
+pub first_span : (pass : Pass) (u : List ℕ) (span : Span) → IsPass pass → IsMostLikely (soft_of pass) u →
+    span.likelihood ≡ likelihood (soft_of pass) (coded u) → span.from ≡ 0 → span.to + 4 ≡ pass.bits → span.state ≡ 0 → IsSpan pass u span
 first_span pass u span is best value from to state =
     let n = best.count in
     let m = is.pairs in record {
@@ -55,7 +55,8 @@ first_span pass u span is best value from to state =
       state = state ∙ ap (λ from. reached 0 (take from u)) (sym from);
     }
 
-module _ (r : Inside) (sound : IsSound r) (many : length r.lists ≡ 64) (room : length r.branches ≡ 127) (u row : List ℕ) (reads : take r.pass.bits row ≡ u)
+module _ (r : Inside) (sound : IsSound r) (many : length r.lists ≡ 64) (room : length r.branches ≡ 127) (u row : List ℕ)
+    (reads : take r.pass.bits row ≡ u)
     (b : Branch) where
   abbrev started : Inside
   started = record { pass = r.pass; lists = set r.lists 0 row; branches = set r.branches 0 b; given = 1 }
@@ -66,8 +67,8 @@ module _ (r : Inside) (sound : IsSound r) (many : length r.lists ≡ 64) (room :
   one_branch : branches_of (record { pass = r.pass; lists = set r.lists 0 row; branches = set r.branches 0 b; given = 1 }) ≡ b ∷ []
   one_branch = take-set_at r.branches 0 (2 * 1 - 1) b (omega arith) (omega arith)
 
-  pub sound_first : IsMostLikely (soft_of r.pass) u → IsBranch r.pass u b → b.span.list ≡ 0 → b.span.from ≡ 0 → b.span.to + 4 ≡ r.pass.bits →
-      IsSound (record { pass = r.pass; lists = set r.lists 0 row; branches = set r.branches 0 b; given = 1 })
+  pub sound_first : IsMostLikely (soft_of r.pass) u → IsBranch r.pass u b → b.span.list ≡ 0 → b.span.from ≡ 0 →
+      b.span.to + 4 ≡ r.pass.bits → IsSound (record { pass = r.pass; lists = set r.lists 0 row; branches = set r.branches 0 b; given = 1 })
   sound_first best is_b list from to =
       let first = begins r.pass u b.span sound.pass best (first_chosen r.pass u sound.pass best) from to in
       let read : get_or (u ∷ []) b.span.list [] ≡ u = ap (λ k. get_or (u ∷ []) k []) list in
@@ -87,13 +88,15 @@ module _ (r : Inside) (sound : IsSound r) (many : length r.lists ≡ 64) (room :
 
 -- ---- the lists behind it
 
-module _ (r : Inside) (sound : IsSound r) (some : 0 < r.given) (few : r.given < 64) (many : length r.lists ≡ 64) (room : length r.branches ≡ 127)
+module _ (r : Inside) (sound : IsSound r) (some : 0 < r.given) (few : r.given < 64) (many : length r.lists ≡ 64)
+    (room : length r.branches ≡ 127)
     (u row : List ℕ) (reads : take r.pass.bits row ≡ u) (next : Next) (is : IsNext r.pass (given_lists r) (branches_of r) u next) where
   abbrev after : Inside
   after = record {
     pass = r.pass;
     lists = set r.lists r.given row;
-    branches = set (set (set r.branches next.branch next.parts.before) (2 * r.given - 1) next.parts.behind) (2 * r.given - 1 + 1) next.parts.after;
+    branches = set (set (set r.branches next.branch next.parts.before) (2 * r.given - 1) next.parts.behind)
+        (2 * r.given - 1 + 1) next.parts.after;
     given = r.given + 1;
   }
 
@@ -118,7 +121,8 @@ module _ (r : Inside) (sound : IsSound r) (some : 0 < r.given) (few : r.given < 
   pub sound_next : IsSound (record {
     pass = r.pass;
     lists = set r.lists r.given row;
-    branches = set (set (set r.branches next.branch next.parts.before) (2 * r.given - 1) next.parts.behind) (2 * r.given - 1 + 1) next.parts.after;
+    branches = set (set (set r.branches next.branch next.parts.before) (2 * r.given - 1) next.parts.behind)
+        (2 * r.given - 1 + 1) next.parts.after;
     given = r.given + 1;
   })
   sound_next =
@@ -130,13 +134,15 @@ module _ (r : Inside) (sound : IsSound r) (some : 0 < r.given) (few : r.given < 
         branches = subst (λ us. All (IsBranchOf r.pass us) (branches_of after)) (sym next_given)
             (subst (All (IsBranchOf r.pass (given_lists r ++ u ∷ []))) (sym next_branches) is.each);
         covers = (λ some. subst (λ us. Covers (soft_of r.pass) us (map (class_of us) (branches_of after))) (sym next_given)
-            (subst (λ bs. Covers (soft_of r.pass) (given_lists r ++ u ∷ []) (map (class_of (given_lists r ++ u ∷ [])) bs)) (sym next_branches) went.1));
+            (subst (λ bs. Covers (soft_of r.pass) (given_lists r ++ u ∷ []) (map (class_of (given_lists r ++ u ∷ [])) bs))
+            (sym next_branches) went.1));
       }
 
 -- ---- the end
 
 -- where no branch has a best list, all are given
-pub all_given : (r : Inside) → IsSound r → 0 < r.given → HasNone (branches_of r) → (w : List ℕ) → IsCandidate (soft_of r.pass) w → Contains (given_lists r) w
+pub all_given : (r : Inside) → IsSound r → 0 < r.given → HasNone (branches_of r) → (w : List ℕ) → IsCandidate (soft_of r.pass) w →
+    Contains (given_lists r) w
 all_given r sound some none w is_w =
     ends_ranked (soft_of r.pass) (given_lists r) (map (class_of (given_lists r)) (branches_of r)) (sound.covers some)
     (λ e w member is_w stands.
@@ -177,8 +183,8 @@ reads_as bits row u reads same = subst (λ n. take n row ≡ u) same reads
 
 -- ---- what `next` answers
 
-pub not_done_at_first : (old new : Ranking) (u : List ℕ) → length old.given ≡ 0 → new.soft ≡ old.soft → new.given ≡ u ∷ [] → IsRanked new.soft new.given →
-    IsDone old → ⊥
+pub not_done_at_first : (old new : Ranking) (u : List ℕ) → length old.given ≡ 0 → new.soft ≡ old.soft → new.given ≡ u ∷ [] →
+    IsRanked new.soft new.given → IsDone old → ⊥
 not_done_at_first old new u none soft given ranked (inl full) = omega arith
 not_done_at_first old new u none soft given ranked (inr all) =
     let found = all u (subst (λ s. IsCandidate s u) soft (candidate_last new.soft [] u (subst (IsRanked new.soft) given ranked))) in
@@ -187,7 +193,8 @@ not_done_at_first old new u none soft given ranked (inr all) =
 pub none_some : {X : Type 0} {x : X} → Some x ≡ None → ⊥
 none_some e = cc
 
-module _ (old new : Ranking) (u : List ℕ) (P Q : Type 0) (few : length old.given < 64) (soft : new.soft ≡ old.soft) (ranked : IsRanked new.soft new.given) where
+module _ (old new : Ranking) (u : List ℕ) (P Q : Type 0) (few : length old.given < 64) (soft : new.soft ≡ old.soft)
+    (ranked : IsRanked new.soft new.given) where
   last_ranked : new.given ≡ old.given ++ u ∷ [] → IsRanked old.soft (old.given ++ u ∷ [])
   last_ranked given = subst (λ s. IsRanked s (old.given ++ u ∷ [])) soft (subst (IsRanked new.soft) given ranked)
 

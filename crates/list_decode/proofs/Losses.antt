@@ -11,7 +11,8 @@ use Rattle.list_decode.specs.declared.leaving.Reading.{Reading}
 use Rattle.trellis_decode.proofs.Lemmas.{length-read_out}
 use Rattle.std.proofs.lemmas.List.{take_more, take_more_set}
 
-pub reached_more : (u : List ℕ) (k state : ℕ) → k < length u → reached state (take (k + 1) u) ≡ next (reached state (take k u)) (get_or u k 0)
+pub reached_more : (u : List ℕ) (k state : ℕ) → k < length u →
+    reached state (take (k + 1) u) ≡ next (reached state (take k u)) (get_or u k 0)
 reached_more [] k state within = absurd (omega arith)
 reached_more (x ∷ u) zero state within = refl
 reached_more (x ∷ u) (suc k) state within =
@@ -51,14 +52,15 @@ chosen_behind rows u place state is within count at =
     ∙ ap (λ w. read_out (drop (place + 1) rows) (reached 0 (take (place + 1) w))) (sym is)
     ∙ ap (read_out (drop (place + 1) rows)) there
 
-pub leave_at : (u : List ℕ) (losses : List (List ℤ)) (k state : ℕ) (loss : ℤ) (new : Leave) → k + 4 < length u → state ≡ reached 0 (take k u) →
-    loss ≡ loss_at 0 u losses k → IsLeastLoss u losses (k + 1) k (loss_at 0 u losses k) →
-    new.place ≡ k → new.state ≡ state → new.loss ≡ loss → new.limit ≡ loss +ℤ pos 1 -ℤ pos (get_or u k 0) → IsBestLeave u losses (k + 1) new
+pub leave_at : (u : List ℕ) (losses : List (List ℤ)) (k state : ℕ) (loss : ℤ) (new : Leave) → k + 4 < length u →
+    state ≡ reached 0 (take k u) → loss ≡ loss_at 0 u losses k → IsLeastLoss u losses (k + 1) k (loss_at 0 u losses k) → new.place ≡ k →
+    new.state ≡ state → new.loss ≡ loss → new.limit ≡ loss +ℤ pos 1 -ℤ pos (get_or u k 0) → IsBestLeave u losses (k + 1) new
 leave_at u losses k state loss new inside reached_is loss_is least at s l m = record {
   found = omega arith;
   within = omega arith;
   state = s ∙ reached_is ∙ ap (λ k. reached 0 (take k u)) (sym at);
-  least = subst (λ place. IsLeastLoss u losses (k + 1) place new.loss) (sym at) (subst (IsLeastLoss u losses (k + 1) k) (sym (l ∙ loss_is)) least);
+  least = subst (λ place. IsLeastLoss u losses (k + 1) place new.loss) (sym at)
+      (subst (IsLeastLoss u losses (k + 1) k) (sym (l ∙ loss_is)) least);
   limit = m ∙ ap₂ (λ loss place. loss +ℤ pos 1 -ℤ pos (get_or u place 0)) (sym l) (sym at);
 }
 
@@ -84,7 +86,10 @@ pub least_taken : (u : List ℕ) (losses : List (List ℤ)) (k place : ℕ) (los
     IsLeastLoss u losses (k + 1) k (loss_at 0 u losses k)
 least_taken u losses k place loss found old less = record {
   value = refl;
-  least = below_more _ _ (λ j lt. let low = old.least j lt in elim less [ inl less ↦ omega (arith, ints) | inr tie ↦ let e = tie.0 in omega (arith, ints) ]) (omega (arith, ints));
+  least = below_more _ _ (λ j lt. let low = old.least j lt in elim less [
+    | inl less ↦ omega (arith, ints)
+    | inr tie ↦ let e = tie.0 in omega (arith, ints)
+  ]) (omega (arith, ints));
   before = λ j lt equal. elim less [
     | inl less ↦ absurd (let low = old.least j lt in omega (arith, ints))
     | inr tie ↦ elim (cases_lt j place) [
@@ -99,14 +104,17 @@ least_taken u losses k place loss found old less = record {
 }
 
 -- below the limit a later place comes first, and else it does not
-pub below_limit : (loss least : ℤ) (bit : ℕ) → bit ≤ 1 → loss <ℤ (least +ℤ pos 1 -ℤ pos bit) → (loss <ℤ least) ⊎ ((loss ≡ least) × (bit ≡ 0))
+pub below_limit : (loss least : ℤ) (bit : ℕ) → bit ≤ 1 → loss <ℤ (least +ℤ pos 1 -ℤ pos bit) →
+    (loss <ℤ least) ⊎ ((loss ≡ least) × (bit ≡ 0))
 below_limit loss least zero one h = by_lt_z loss least (λ less. inl less) (λ not_less. inr (omega (arith, ints), refl))
 below_limit loss least (suc zero) one h = inl (omega (arith, ints))
 below_limit loss least (suc (suc bit)) one h = absurd (omega arith)
 
-pub not_below_limit : (loss least : ℤ) (bit : ℕ) → bit ≤ 1 → (least +ℤ pos 1 -ℤ pos bit) ≤ℤ loss → (least <ℤ loss) ⊎ ((loss ≡ least) × (bit ≢ 0))
+pub not_below_limit : (loss least : ℤ) (bit : ℕ) → bit ≤ 1 → (least +ℤ pos 1 -ℤ pos bit) ≤ℤ loss →
+    (least <ℤ loss) ⊎ ((loss ≡ least) × (bit ≢ 0))
 not_below_limit loss least zero one h = inl (omega (arith, ints))
-not_below_limit loss least (suc zero) one h = by_lt_z least loss (λ less. inl less) (λ not_less. inr (omega (arith, ints), (λ e. omega arith)))
+not_below_limit loss least (suc zero) one h =
+    by_lt_z least loss (λ less. inl less) (λ not_less. inr (omega (arith, ints), (λ e. omega arith)))
 not_below_limit loss least (suc (suc bit)) one h = absurd (omega arith)
 
 -- ---- a list that is read out by one place more

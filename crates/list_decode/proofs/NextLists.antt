@@ -41,8 +41,9 @@ below_best pass us span x w (Some y) best most is at ne =
     ]
 
 -- a class of a list that follows the choices from a place on holds no candidate that leaves it in the last four places
-before_the_last : (pass : Pass) (c : Class) (from : ℕ) (w : List ℕ) → IsPass pass → IsCandidate (soft_of pass) c.list → Follows from c.list (rows_of pass) 0 →
-    ((k : ℕ) → c.free k ≡ true → from ≤ k) → IsCandidate (soft_of pass) w → (at : StandsIn c w) → at.place + 4 < pass.bits
+before_the_last : (pass : Pass) (c : Class) (from : ℕ) (w : List ℕ) → IsPass pass → IsCandidate (soft_of pass) c.list →
+    Follows from c.list (rows_of pass) 0 → ((k : ℕ) → c.free k ≡ true → from ≤ k) → IsCandidate (soft_of pass) w → (at : StandsIn c w) →
+    at.place + 4 < pass.bits
 before_the_last pass c from w is candidate follows later is_w at =
     let places = is.places in
     let followed : IsFollowed (soft_of pass) (rows_of pass) (losses_of pass) c from =
@@ -65,8 +66,10 @@ begins pass u span is best follows from to =
           record { place = at.place; leaves = at.leaves; free = is_between span.from span.to at.place (omega arith) (omega arith) }),
     )
 
-module _ (pass : Pass) (us : List (List ℕ)) (u : List ℕ) (span : Span) (x : Stray) (is : IsPass pass) (candidate : IsCandidate (soft_of pass) u)
-    (is_x : IsStray pass u x) (v_is : IsCandidate (soft_of pass) (stray_of pass u x)) (from : span.from ≤ x.leave.place) (to : x.leave.place < span.to) where
+module _ (pass : Pass) (us : List (List ℕ)) (u : List ℕ) (span : Span) (x : Stray) (is : IsPass pass)
+    (candidate : IsCandidate (soft_of pass) u)
+    (is_x : IsStray pass u x) (v_is : IsCandidate (soft_of pass) (stray_of pass u x)) (from : span.from ≤ x.leave.place)
+    (to : x.leave.place < span.to) where
   abbrev place : ℕ
   place = x.leave.place
 
@@ -89,8 +92,8 @@ module _ (pass : Pass) (us : List (List ℕ)) (u : List ℕ) (span : Span) (x : 
 
   module _ (before after : List Class) (first behind_v rest : Span) (ranked : IsRanked (soft_of pass) us)
       (covers : Covers (soft_of pass) us (before ++ leaving u span ∷ after))
-      (best : (e : Class) (w : List ℕ) → Contains (before ++ leaving u span ∷ after) e → IsCandidate (soft_of pass) w → StandsIn e w → w ≢ stray_of pass u x →
-      FallsBehind (soft_of pass) w (stray_of pass u x))
+      (best : (e : Class) (w : List ℕ) → Contains (before ++ leaving u span ∷ after) e → IsCandidate (soft_of pass) w → StandsIn e w →
+      w ≢ stray_of pass u x → FallsBehind (soft_of pass) w (stray_of pass u x))
       (first_from : first.from ≡ span.from) (first_to : first.to ≡ x.leave.place) (behind_from : behind_v.from ≡ x.leave.place + 1)
       (behind_to : behind_v.to + 4 ≡ pass.bits) (rest_from : rest.from ≡ x.leave.place + 1) (rest_to : rest.to ≡ span.to) where
     abbrev s : List ℤ
@@ -119,29 +122,29 @@ module _ (pass : Pass) (us : List (List ℕ)) (u : List ℕ) (span : Span) (x : 
           free = place-behind v place at.place (let f = between_from behind_v.from behind_v.to at.place at.free in omega arith);
         })
         (λ w is_w at.
-        let short = before_the_last pass (behind v place) (place + 1) w is v_is v_follows (λ k free. let l = behind-place v place k free in omega arith) is_w at in
+        let short = before_the_last pass (behind v place) (place + 1) w is v_is v_follows
+        (λ k free. let l = behind-place v place k free in omega arith) is_w at in
         let later = behind-place v place at.place at.free in
         record { place = at.place; leaves = at.leaves; free = is_between behind_v.from behind_v.to at.place (omega arith) (omega arith) })
 
-    in_first : Part (leaving u first) (closed (leaving u span) x.leave.place)
-    in_first w at =
-        let t = between_to first.from first.to at.place at.free in
-        let f = between_from first.from first.to at.place at.free in
+    in_part : (part : Span) → span.from ≤ part.from → part.to ≤ span.to → (part.to ≤ place) ⊎ (place < part.from) →
+        Part (leaving u part) (closed (leaving u span) x.leave.place)
+    in_part part from_in to_in aside w at =
+        let t = between_to part.from part.to at.place at.free in
+        let f = between_from part.from part.to at.place at.free in
         record {
           place = at.place;
           leaves = at.leaves;
-          free = free-closed c place at.place (λ e. omega arith) (is_between span.from span.to at.place (omega arith) (omega arith));
+          free = free-closed c place at.place
+              (λ e. elim aside [ inl before ↦ omega arith | inr behind ↦ omega arith ])
+              (is_between span.from span.to at.place (omega arith) (omega arith));
         }
 
+    in_first : Part (leaving u first) (closed (leaving u span) x.leave.place)
+    in_first = in_part first (omega arith) (omega arith) (inl (omega arith))
+
     in_rest : Part (leaving u rest) (closed (leaving u span) x.leave.place)
-    in_rest w at =
-        let t = between_to rest.from rest.to at.place at.free in
-        let f = between_from rest.from rest.to at.place at.free in
-        record {
-          place = at.place;
-          leaves = at.leaves;
-          free = free-closed c place at.place (λ e. omega arith) (is_between span.from span.to at.place (omega arith) (omega arith));
-        }
+    in_rest = in_part rest (omega arith) (omega arith) (inr (omega arith))
 
     not_both : Disjoint (leaving u first) (leaving u rest)
     not_both w at at' =
@@ -156,15 +159,24 @@ module _ (pass : Pass) (us : List (List ℕ)) (u : List ℕ) (span : Span) (x : 
         let t = between_to span.from span.to at.place open_at.1 in
         let f = between_from span.from span.to at.place open_at.1 in
         elim (cases_lt at.place place) [
-          | inl early ↦ inl (record { place = at.place; leaves = at.leaves; free = is_between first.from first.to at.place (omega arith) (omega arith) })
+          | inl early ↦ inl
+              (record { place = at.place; leaves = at.leaves; free = is_between first.from first.to at.place (omega arith) (omega arith) })
           | inr not_early ↦
-              let late : place < at.place = elim (cases_lt place at.place) [ inl lt ↦ lt | inr not_late ↦ absurd (open_at.0 (omega arith)) ] in
-              inr (record { place = at.place; leaves = at.leaves; free = is_between rest.from rest.to at.place (omega arith) (omega arith) })
+              let late : place < at.place = elim (cases_lt place at.place) [
+                | inl lt ↦ lt
+                | inr not_late ↦ absurd (open_at.0 (omega arith))
+              ] in
+              inr (record {
+                place = at.place;
+                leaves = at.leaves;
+                free = is_between rest.from rest.to at.place (omega arith) (omega arith);
+              })
         ]
 
     -- the places before, behind and after the one at which x leaves u take the place of the span
     pub goes_on : IsRanked (soft_of pass) (us ++ stray_of pass u x ∷ []) ×
-        Covers (soft_of pass) (us ++ stray_of pass u x ∷ []) (((before ++ leaving u first ∷ after) ++ leaving (stray_of pass u x) behind_v ∷ []) ++ leaving u rest ∷ [])
+        Covers (soft_of pass) (us ++ stray_of pass u x ∷ [])
+        (((before ++ leaving u first ∷ after) ++ leaving (stray_of pass u x) behind_v ∷ []) ++ leaving u rest ∷ [])
     goes_on = (
       next.0,
       subst (λ cs. Covers s (us ++ v ∷ []) (cs ++ leaving u rest ∷ [])) (sym (append_assoc before (a ∷ after) (b ∷ [])))

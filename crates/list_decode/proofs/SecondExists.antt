@@ -26,7 +26,8 @@ module _ (soft : List ℤ) (n passed : ℕ) where
     other : chosen ≢ passed
     leads : (m : ℕ) → m < number → m ≢ chosen → m ≢ passed → FallsBehind soft (list_of m) (list_of chosen)
 
-  behind_more : (a b : List ℕ) (v : List ℕ) → FallsBehind soft v a → likelihood soft (coded a) <ℤ likelihood soft (coded b) → FallsBehind soft v b
+  behind_more : (a b : List ℕ) (v : List ℕ) → FallsBehind soft v a → likelihood soft (coded a) <ℤ likelihood soft (coded b) →
+      FallsBehind soft v b
   behind_more a b v (inl less) more = inl (omega (arith, ints))
   behind_more a b v (inr same) more = let e = same.0 in inl (omega (arith, ints))
 
@@ -35,7 +36,8 @@ module _ (soft : List ℤ) (n passed : ℕ) where
       (likelihood soft (coded (list_of a)) <ℤ likelihood soft (coded (list_of b))) ⊎ FallsBehind soft (list_of b) (list_of a)
   compared a b less within =
       let lower : 16 * a < 2 ^ n = omega arith in
-      let before : IsBefore (list_of a) (list_of b) = IsBefore-word n (16 * a) (16 * b) (omega arith) (div-eq_of_lt lower ∙ sym (div-eq_of_lt within)) in
+      let before : IsBefore (list_of a) (list_of b) =
+      IsBefore-word n (16 * a) (16 * b) (omega arith) (div-eq_of_lt lower ∙ sym (div-eq_of_lt within)) in
       by_lt_z (likelihood soft (coded (list_of a))) (likelihood soft (coded (list_of b)))
       (λ more. inl more)
       (λ most. inr (by_lt_z (likelihood soft (coded (list_of b))) (likelihood soft (coded (list_of a)))
@@ -104,7 +106,8 @@ module _ (soft : List ℤ) (n passed : ℕ) where
     ordered : (a b : ℕ) → a < b → 16 * b < 2 ^ n → list_of a ≢ list_of b
     ordered a b less within =
         let lower : 16 * a < 2 ^ n = omega arith in
-        differs_before (list_of a) (list_of b) (IsBefore-word n (16 * a) (16 * b) (omega arith) (div-eq_of_lt lower ∙ sym (div-eq_of_lt within)))
+        differs_before (list_of a) (list_of b)
+        (IsBefore-word n (16 * a) (16 * b) (omega arith) (div-eq_of_lt lower ∙ sym (div-eq_of_lt within)))
 
     apart : list_of l.chosen ≢ list_of passed
     apart same =

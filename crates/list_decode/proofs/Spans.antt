@@ -42,7 +42,8 @@ follows_all (suc n) [] state within = absurd (omega arith)
 follows_all (suc n) (row ∷ rows) state within = follows_all n rows (next state (row / 2 ^ state % 2)) (omega arith)
 
 -- what follows the choices from a place on does so from later places on
-pub follows_later : (from n : ℕ) (u rows : List ℕ) (state : ℕ) → Follows from u rows state → from ≤ n → n ≤ length rows → Follows n u rows state
+pub follows_later : (from n : ℕ) (u rows : List ℕ) (state : ℕ) → Follows from u rows state → from ≤ n → n ≤ length rows →
+    Follows n u rows state
 follows_later zero n u rows state follows le within = subst (λ u. Follows n u rows state) (sym follows) (follows_all n rows state within)
 follows_later (suc from) zero u rows state follows le within = absurd (omega arith)
 follows_later (suc from) (suc n) [] rows state follows le within = absurd follows
@@ -51,7 +52,8 @@ follows_later (suc from) (suc n) (x ∷ u) (row ∷ rows) state follows le withi
     follows_later from n u rows (next state x) follows (omega arith) (omega arith)
 
 -- from that place on it is what the rows choose
-pub chosen_after : (n : ℕ) (u rows : List ℕ) (state : ℕ) → Follows n u rows state → drop n u ≡ read_out (drop n rows) (reached state (take n u))
+pub chosen_after : (n : ℕ) (u rows : List ℕ) (state : ℕ) → Follows n u rows state →
+    drop n u ≡ read_out (drop n rows) (reached state (take n u))
 chosen_after zero u rows state follows = follows
 chosen_after (suc n) [] rows state follows = absurd follows
 chosen_after (suc n) (x ∷ u) [] state follows = absurd follows
@@ -94,7 +96,8 @@ likelihood_fits s c soft bits few = fits_wide (likelihood s c) (length s) few (l
 
 -- ---- the best list that leaves u in a span
 
-module _ (pass : Pass) (u : List ℕ) (span : Span) (is : IsPass pass) (candidate : IsCandidate (soft_of pass) u) (is_span : IsSpan pass u span) where
+module _ (pass : Pass) (u : List ℕ) (span : Span) (is : IsPass pass) (candidate : IsCandidate (soft_of pass) u)
+    (is_span : IsSpan pass u span) where
   followed : IsFollowed (soft_of pass) (rows_of pass) (losses_of pass) (leaving u span) span.from
   followed = record {
     kept = is.kept;
@@ -142,12 +145,14 @@ module _ (pass : Pass) (u : List ℕ) (span : Span) (is : IsPass pass) (candidat
         (likelihood_fits (soft_of pass) (coded (stray u (rows_of pass) 0 leave.place)) is.soft
         (AllBits-coded (stray u (rows_of pass) 0 leave.place)) (let p = is.pairs in let m = is.at_most in omega arith))
 
-    pub best_stray : (x : Stray) → x.list ≡ span.list → x.leave ≡ leave → x.likelihood ≡ span.likelihood -ℤ leave.loss → IsBestStray pass u span (Some x)
+    pub best_stray : (x : Stray) → x.list ≡ span.list → x.leave ≡ leave → x.likelihood ≡ span.likelihood -ℤ leave.loss →
+        IsBestStray pass u span (Some x)
     best_stray x list left likely =
         subst (λ leave. IsBestStray pass u span (Some (record { list = x.list; leave = leave; likelihood = x.likelihood }))) (sym left) (
           record {
             within = let i = best.1.within in let e = is_span.end in omega arith;
-            follows = follows_later span.from leave.place u (rows_of pass) 0 is_span.follows (between_from span.from span.to leave.place best.1.unlocked)
+            follows = follows_later span.from leave.place u (rows_of pass) 0 is_span.follows
+                (between_from span.from span.to leave.place best.1.unlocked)
                 (let i = best.1.within in let e = is_span.end in let n = long in omega arith);
             value = likely ∙ sym value_is;
             small = subst (λ state. state < 16) (sym best.0.state) (reached_small 0 (take leave.place u) (omega arith));
@@ -167,7 +172,8 @@ take_stray (x ∷ u) [] state place same = absurd (omega arith)
 take_stray (x ∷ u) (row ∷ rows) state zero same = refl
 take_stray (x ∷ u) (row ∷ rows) state (suc place) same = ap (λ rest. x ∷ rest) (take_stray u rows (next state x) place (omega arith))
 
-module _ (pass : Pass) (u : List ℕ) (x : Stray) (is : IsPass pass) (candidate : IsCandidate (soft_of pass) u) (is_stray : IsStray pass u x) where
+module _ (pass : Pass) (u : List ℕ) (x : Stray) (is : IsPass pass) (candidate : IsCandidate (soft_of pass) u)
+    (is_stray : IsStray pass u x) where
   u_long : length u ≡ length (rows_of pass)
   u_long = let n = candidate.count in let m = is.pairs in let p = is.places in omega arith
 
@@ -190,7 +196,8 @@ module _ (pass : Pass) (u : List ℕ) (x : Stray) (is : IsPass pass) (candidate 
 
   -- what is behind it in the list that leaves u
   pub span_behind : (v : List ℕ) (span : Span) → v ≡ stray_of pass u x → IsCandidate (soft_of pass) v → span.from ≡ x.leave.place + 1 →
-      span.to + 4 ≡ pass.bits → span.likelihood ≡ x.likelihood → span.state ≡ next x.leave.state (get_or v x.leave.place 0) → IsSpan pass v span
+      span.to + 4 ≡ pass.bits → span.likelihood ≡ x.likelihood → span.state ≡ next x.leave.state (get_or v x.leave.place 0) →
+      IsSpan pass v span
   span_behind v span written v_is from to likely state =
       let i = is_stray.within in
       let n = u_long in
@@ -198,7 +205,8 @@ module _ (pass : Pass) (u : List ℕ) (x : Stray) (is : IsPass pass) (candidate 
       let m = is.pairs in
       let c = v_is.count in record {
         follows = subst (λ from. Follows from v (rows_of pass) 0) (sym from)
-            (subst (λ v. Follows (x.leave.place + 1) v (rows_of pass) 0) (sym written) (follows_behind u (rows_of pass) 0 x.leave.place n (omega arith)));
+            (subst (λ v. Follows (x.leave.place + 1) v (rows_of pass) 0) (sym written)
+            (follows_behind u (rows_of pass) 0 x.leave.place n (omega arith)));
         value = likely ∙ is_stray.value ∙ ap (λ v. likelihood (soft_of pass) (coded v)) (sym written);
         order = omega arith;
         end = omega arith;

@@ -66,8 +66,8 @@ pub record IsStray (u rows : List ℕ) (losses : List (List ℤ)) (soft : List �
   pub count : length (stray u rows state place) ≡ length rows
   pub leaves : LeavesAt u (stray u rows state place) place
 
-pub is_stray : (from : ℕ) (u rows : List ℕ) (losses : List (List ℤ)) (soft : List ℤ) (state place : ℕ) → IsKept rows losses soft → state < 16 → Ends u →
-    Follows from u rows state → from ≤ place → place + 4 < length rows → IsStray u rows losses soft state place
+pub is_stray : (from : ℕ) (u rows : List ℕ) (losses : List (List ℤ)) (soft : List ℤ) (state place : ℕ) → IsKept rows losses soft →
+    state < 16 → Ends u → Follows from u rows state → from ≤ place → place + 4 < length rows → IsStray u rows losses soft state place
 is_stray zero u rows losses soft state place kept lt ends follows le within =
     let d = is_detour rows losses soft state place kept lt within in
     subst (λ u. IsStray u rows losses soft state place) (sym follows) (record {
@@ -99,8 +99,9 @@ pub record FallsShort (u rows : List ℕ) (losses : List (List ℤ)) (soft : Lis
   pub short : (gain state w soft <ℤ (gain state u soft -ℤ loss_at state u losses place)) ⊎
       ((gain state w soft ≡ (gain state u soft -ℤ loss_at state u losses place)) × IsNotAfter (stray u rows state place) w)
 
-falls_short : (from : ℕ) (u rows : List ℕ) (losses : List (List ℤ)) (soft : List ℤ) (state place : ℕ) (w : List ℕ) → IsKept rows losses soft → state < 16 →
-    Ends u → Ends w → length w ≡ length rows → Follows from u rows state → from ≤ place → LeavesAt u w place → FallsShort u rows losses soft state place w
+falls_short : (from : ℕ) (u rows : List ℕ) (losses : List (List ℤ)) (soft : List ℤ) (state place : ℕ) (w : List ℕ) →
+    IsKept rows losses soft → state < 16 → Ends u → Ends w → length w ≡ length rows → Follows from u rows state → from ≤ place →
+    LeavesAt u w place → FallsShort u rows losses soft state place w
 falls_short zero u rows losses soft state place w kept lt ends wends same follows le leaves =
     subst (λ u. FallsShort u rows losses soft state place w) (sym follows) (chosen (subst (λ u. LeavesAt u w place) follows leaves))
   where
@@ -118,11 +119,14 @@ falls_short zero u rows losses soft state place w kept lt ends wends same follow
 falls_short (suc from) [] rows losses soft state place w kept lt ends wends same follows le leaves = absurd follows
 falls_short (suc from) (x ∷ u) [] losses soft state place w kept lt ends wends same follows le leaves = absurd follows
 falls_short (suc from) (x ∷ u) (row ∷ rows) [] soft state place w kept lt ends wends same follows le leaves = absurd kept
-falls_short (suc from) (x ∷ u) (row ∷ rows) (lost ∷ losses) soft state zero w kept lt ends wends same follows le leaves = absurd (omega arith)
-falls_short (suc from) (x ∷ u) (row ∷ rows) (lost ∷ losses) soft state (suc place) [] kept lt ends wends same follows le leaves = absurd (omega arith)
+falls_short (suc from) (x ∷ u) (row ∷ rows) (lost ∷ losses) soft state zero w kept lt ends wends same follows le leaves =
+    absurd (omega arith)
+falls_short (suc from) (x ∷ u) (row ∷ rows) (lost ∷ losses) soft state (suc place) [] kept lt ends wends same follows le leaves =
+    absurd (omega arith)
 falls_short (suc from) (x ∷ u) (row ∷ rows) (lost ∷ losses) soft state (suc place) (y ∷ w) kept lt ends wends same follows le leaves =
     subst (λ y. FallsShort (x ∷ u) (row ∷ rows) (lost ∷ losses) soft state (suc place) (y ∷ w)) (leaves.same 0 (omega arith))
-    (later (falls_short from u rows losses (drop 2 soft) (next state x) place w kept.2 (omega arith) ends.2 wends.2 (omega arith) follows (omega arith) behind))
+    (later (falls_short from u rows losses (drop 2 soft) (next state x) place w kept.2 (omega arith) ends.2 wends.2 (omega arith) follows
+    (omega arith) behind))
   where
     behind : LeavesAt u w place
     behind = record {
@@ -131,17 +135,22 @@ falls_short (suc from) (x ∷ u) (row ∷ rows) (lost ∷ losses) soft state (su
       differs = leaves.differs;
     }
 
-    later : FallsShort u rows losses (drop 2 soft) (next state x) place w → FallsShort (x ∷ u) (row ∷ rows) (lost ∷ losses) soft state (suc place) (x ∷ w)
+    later : FallsShort u rows losses (drop 2 soft) (next state x) place w →
+        FallsShort (x ∷ u) (row ∷ rows) (lost ∷ losses) soft state (suc place) (x ∷ w)
     later rest =
         let gu = gain-more state x u soft kept.0 in
         let gw = gain-more state x w soft kept.0 in
         record {
           within = let i = rest.within in omega arith;
-          short = elim rest.short [ inl less ↦ inl (omega (arith, ints)) | inr tie ↦ inr ((let e = tie.0 in omega (arith, ints)), inr (refl, tie.1)) ];
+          short = elim rest.short [
+            | inl less ↦ inl (omega (arith, ints))
+            | inr tie ↦ inr ((let e = tie.0 in omega (arith, ints)), inr (refl, tie.1))
+          ];
         }
 
 -- behind the place at which it strays a list follows the choices
-pub follows_behind : (u rows : List ℕ) (state place : ℕ) → length u ≡ length rows → place < length rows → Follows (place + 1) (stray u rows state place) rows state
+pub follows_behind : (u rows : List ℕ) (state place : ℕ) → length u ≡ length rows → place < length rows →
+    Follows (place + 1) (stray u rows state place) rows state
 follows_behind [] [] state place same within = absurd (omega arith)
 follows_behind [] (row ∷ rows) state place same within = absurd (omega arith)
 follows_behind (x ∷ u) [] state place same within = absurd (omega arith)
@@ -172,7 +181,8 @@ pub record IsFollowed (soft : List ℤ) (rows : List ℕ) (losses : List (List �
   pub follows : Follows from c.list rows 0
   pub later : (k : ℕ) → c.free k ≡ true → from ≤ k
 
-module _ (soft : List ℤ) (rows : List ℕ) (losses : List (List ℤ)) (c : Class) (from : ℕ) (followed : IsFollowed soft rows losses c from) where
+module _ (soft : List ℤ) (rows : List ℕ) (losses : List (List ℤ)) (c : Class) (from : ℕ)
+    (followed : IsFollowed soft rows losses c from) where
   list_ends : Ends c.list
   list_ends = Ends-from_tail c.list followed.candidate.information.bits followed.candidate.information.tail
 
@@ -185,7 +195,8 @@ module _ (soft : List ℤ) (rows : List ℕ) (losses : List (List ℤ)) (c : Cla
       let count = candidate.count in
       let pairs = followed.pairs in
       falls_short from c.list rows losses soft 0 at.place w followed.kept (omega arith) list_ends
-      (Ends-from_tail w candidate.information.bits candidate.information.tail) (omega arith) followed.follows (followed.later at.place at.free) at.leaves
+      (Ends-from_tail w candidate.information.bits candidate.information.tail) (omega arith) followed.follows
+      (followed.later at.place at.free) at.leaves
 
   -- where no such place is free no candidate stands in the class
   pub none_stands : ((k : ℕ) → k + 4 < length rows → c.free k ≡ true → ⊥) → (w : List ℕ) → IsCandidate soft w → StandsIn c w → ⊥
@@ -199,7 +210,8 @@ module _ (soft : List ℤ) (rows : List ℕ) (losses : List (List ℤ)) (c : Cla
     inside = let i = least.within in let n = same_length in let five = followed.candidate.information.count in omega arith
 
     here : IsStray c.list rows losses soft 0 place
-    here = is_stray from c.list rows losses soft 0 place followed.kept (omega arith) list_ends followed.follows (followed.later place least.unlocked) inside
+    here = is_stray from c.list rows losses soft 0 place followed.kept (omega arith) list_ends followed.follows
+        (followed.later place least.unlocked) inside
 
     pub stray_candidate : IsCandidate soft v
     stray_candidate = record {
@@ -263,7 +275,8 @@ module _ (soft : List ℤ) (rows : List ℕ) (losses : List (List ℤ)) (c : Cla
               inr (
                 omega (arith, ints),
                 elim (same_number at.place place) [
-                  | inl there ↦ IsBefore-not_after v w candidate.information.bits count (subst (λ k. IsNotAfter (stray c.list rows 0 k) w) there tie.1) ne
+                  | inl there ↦ IsBefore-not_after v w candidate.information.bits count
+                      (subst (λ k. IsNotAfter (stray c.list rows 0 k) w) there tie.1) ne
                   | inr elsewhere ↦ before_at w at.place short.within at.leaves at.free equal elsewhere
                 ],
               ))

@@ -54,7 +54,8 @@ not_before (x ∷ u) (y ∷ v) same h = elim (same_number x y) [
 
 -- where the test holds u stands before v
 pub before_tested : (u v : List ℕ) → AllBits v → length v ≡ length u → test u v ≡ true → IsBefore u v
-before_tested u v bits same h = IsBefore-not_after u v bits same (not_after u v same h) (λ e. not_itself u (subst (λ v. test u v ≡ true) e h))
+before_tested u v bits same h = IsBefore-not_after u v bits same (not_after u v same h)
+    (λ e. not_itself u (subst (λ v. test u v ≡ true) e h))
 
 -- and where it does not, v is u or stands before it
 pub behind_tested : (u v : List ℕ) → AllBits u → length v ≡ length u → test u v ≡ false → (u ≡ v) ⊎ IsBefore v u

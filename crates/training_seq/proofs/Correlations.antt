@@ -19,7 +19,8 @@ correlation_more soft bits i total all hs hb before =
 
 -- the wrong places from one place on
 pub wrong_more : (soft : List ℤ) (bits : List ℕ) (i : ℕ) → i < length soft → i < length bits →
-    wrong_places (drop i soft) (drop i bits) ≡ wrong_at soft i (sign_of (get_or bits i 0)) + wrong_places (drop (i + 1) soft) (drop (i + 1) bits)
+    wrong_places (drop i soft) (drop i bits) ≡ wrong_at soft i (sign_of (get_or bits i 0)) + wrong_places (drop (i + 1) soft)
+    (drop (i + 1) bits)
 wrong_more soft bits i hs hb = rw (drop_more soft i (pos 0), drop_more bits i 0) refl
 
 agreement-add : (x y : ℤ) (bit : ℕ) → bit ≤ 1 → agreement (x +ℤ y) bit ≡ agreement x bit +ℤ agreement y bit

@@ -25,7 +25,10 @@ LeadsBelow-overtaken score end best leads more = record {
 } where
   behind : (n : ℕ) → n < end → (n ≡ best) ⊎ (n ≢ best) → score n <ℤ score end
   behind n h (inl same) = rw same more
-  behind n h (inr other) = elim (leads.others n h other) [ inl less ↦ omega (arith, ints) | inr equal ↦ let e = equal.0 in omega (arith, ints) ]
+  behind n h (inr other) = elim (leads.others n h other) [
+    | inl less ↦ omega (arith, ints)
+    | inr equal ↦ let e = equal.0 in omega (arith, ints)
+  ]
 
 -- the next number has no greater score
 pub LeadsBelow-kept : (score : ℕ → ℤ) (end best : ℕ) → LeadsBelow score end best → score end ≤ℤ score best →

@@ -42,30 +42,37 @@ picked_is : (number y : ℤ) (next_place : ℕ → ℕ) (places : List ℕ) (i j
     number ≡ cast_signed w8 (cast_unsigned w8 y) → (y ≡ negsuc 0) ⊎ (y ≡ pos 0) → next_place 1 ≡ i → next_place 0 ≡ j →
     picked number (get_or (places ++ places) i 0) (get_or (places ++ places) j 0) ≡ get_or places (next_place (taken_bit y)) 0
 picked_is number y next_place places i j count li lj is (inl one) at_one at_zero =
-    ap (λ n. picked n (get_or (places ++ places) i 0) (get_or (places ++ places) j 0)) (is ∙ ap (λ y. cast_signed w8 (cast_unsigned w8 y)) one)
+    ap (λ n. picked n (get_or (places ++ places) i 0) (get_or (places ++ places) j 0))
+    (is ∙ ap (λ y. cast_signed w8 (cast_unsigned w8 y)) one)
     ∙ in_first places places i (omega arith)
     ∙ ap (λ p. get_or places p 0) (sym at_one ∙ ap (λ y. next_place (taken_bit y)) (sym one))
 picked_is number y next_place places i j count li lj is (inr none) at_one at_zero =
-    ap (λ n. picked n (get_or (places ++ places) i 0) (get_or (places ++ places) j 0)) (is ∙ ap (λ y. cast_signed w8 (cast_unsigned w8 y)) none)
+    ap (λ n. picked n (get_or (places ++ places) i 0) (get_or (places ++ places) j 0))
+    (is ∙ ap (λ y. cast_signed w8 (cast_unsigned w8 y)) none)
     ∙ in_first places places j (omega arith)
     ∙ ap (λ p. get_or places p 0) (sym at_zero ∙ ap (λ y. next_place (taken_bit y)) (sym none))
 
 module _ (low high : List ℤ) (places : List ℕ) (hl : AreTaken low) (hh : AreTaken high) (count : length places ≡ 16) where
   low_picked : (next_place : ℕ → ℕ) (k i j : ℕ) → k < 8 → i < 16 → j < 16 → next_place 1 ≡ i → next_place 0 ≡ j →
-      picked (cast_signed w8 (get_or (map (cast_unsigned w8) low ++ map (cast_unsigned w8) high) k 0)) (get_or (places ++ places) i 0) (get_or (places ++ places) j 0)
+      picked (cast_signed w8 (get_or (map (cast_unsigned w8) low ++ map (cast_unsigned w8) high) k 0)) (get_or (places ++ places) i 0)
+      (get_or (places ++ places) j 0)
       ≡ get_or places (next_place (taken_bit (lane low k))) 0
   low_picked next_place k i j lt li lj to_one to_zero =
-      picked_is _ (lane low k) next_place places i j count li lj (octet_first low (map (cast_unsigned w8) high) k (omega (arith, hl.count))) (hl.each k lt) to_one to_zero
+      picked_is _ (lane low k) next_place places i j count li lj (octet_first low (map (cast_unsigned w8) high) k (omega (arith, hl.count)))
+      (hl.each k lt) to_one to_zero
 
   high_picked : (next_place : ℕ → ℕ) (k at i j : ℕ) → k < 8 → 8 + k ≡ at → i < 16 → j < 16 → next_place 1 ≡ i → next_place 0 ≡ j →
-      picked (cast_signed w8 (get_or (map (cast_unsigned w8) low ++ map (cast_unsigned w8) high) at 0)) (get_or (places ++ places) i 0) (get_or (places ++ places) j 0)
+      picked (cast_signed w8 (get_or (map (cast_unsigned w8) low ++ map (cast_unsigned w8) high) at 0)) (get_or (places ++ places) i 0)
+      (get_or (places ++ places) j 0)
       ≡ get_or places (next_place (taken_bit (lane high k))) 0
   high_picked next_place k at i j lt e li lj to_one to_zero =
-      picked_is _ (lane high k) next_place places i j count li lj (octet_after low high 8 k at hl.count e (omega (arith, hh.count))) (hh.each k lt) to_one to_zero
+      picked_is _ (lane high k) next_place places i j count li lj (octet_after low high 8 k at hl.count e (omega (arith, hh.count)))
+      (hh.each k lt) to_one to_zero
 
   -- a lane of the map: the choice between two places
   abbrev lane_at : ℕ → ℕ → ℕ → ℕ
-  lane_at k i j = picked (cast_signed w8 (get_or (map (cast_unsigned w8) low ++ map (cast_unsigned w8) high) k 0)) (get_or (places ++ places) i 0) (get_or (places ++ places) j 0)
+  lane_at k i j = picked (cast_signed w8 (get_or (map (cast_unsigned w8) low ++ map (cast_unsigned w8) high) k 0))
+      (get_or (places ++ places) i 0) (get_or (places ++ places) j 0)
 
   abbrev followed_lanes : List ℕ
   followed_lanes =
@@ -74,7 +81,8 @@ module _ (low high : List ℤ) (places : List ℕ) (hl : AreTaken low) (hh : Are
       lane_at 8 4 0 ∷ lane_at 9 12 8 ∷ lane_at 10 5 1 ∷ lane_at 11 13 9 ∷
       lane_at 12 6 2 ∷ lane_at 13 14 10 ∷ lane_at 14 7 3 ∷ lane_at 15 15 11 ∷ []
 
-  pub followed_places : (s : ℕ) → s < 16 → get_or followed_lanes (place s) 0 ≡ get_or places (place (next s (get_or (choices low high) s 0))) 0
+  pub followed_places : (s : ℕ) → s < 16 →
+      get_or followed_lanes (place s) 0 ≡ get_or places (place (next s (get_or (choices low high) s 0))) 0
   followed_places = each (λ s. get_or followed_lanes (place s) 0 ≡ get_or places (place (next s (get_or (choices low high) s 0))) 0) 16
       ((
         (

@@ -48,25 +48,15 @@ module _ (pair : List ℤ) (count : length pair ≡ 2) (a b c d : ℤ)
   counted : (s : ℕ) → s < 16 → lane (zero_lanes pair count a b c d at_a at_b at_c at_d) s ≡ edge s 0 pair
   counted = zero_edges pair count a b c d at_a at_b at_c at_d
 
-  HasEdges-pair : HasEdges (edge_lanes a b c d) pair
-  HasEdges-pair = record {
-    count = count;
-    each = each (λ k. lane (edge_lanes a b c d) k ≡ edge (turned k) 0 pair) 8 (
-      (
-        (
-          (
-            ((((tt, counted 0 (lit≤ tt)), counted 4 (lit≤ tt)), counted 2 (lit≤ tt)), counted 6 (lit≤ tt)),
-            counted 1 (lit≤ tt),
-          ),
-          counted 5 (lit≤ tt),
-        ),
-        counted 3 (lit≤ tt),
-      ),
-      counted 7 (lit≤ tt),
-    );
-  }
+  zero_lane : (k : ℕ) → k < 8 → lane (edge_lanes a b c d) k ≡ lane (zero_lanes pair count a b c d at_a at_b at_c at_d) (turned k)
+  zero_lane = each (λ k. lane (edge_lanes a b c d) k ≡ lane (zero_lanes pair count a b c d at_a at_b at_c at_d) (turned k)) 8
+      ((((((((tt, refl), refl), refl), refl), refl), refl), refl), refl)
 
-  module _ (lp : negsuc 127 ≤ℤ lane pair 0) (hp : lane pair 0 ≤ℤ pos 127) (lq : negsuc 127 ≤ℤ lane pair 1) (hq : lane pair 1 ≤ℤ pos 127) where
+  HasEdges-pair : HasEdges (edge_lanes a b c d) pair
+  HasEdges-pair = record { count = count; each = λ k lt. zero_lane k lt ∙ counted (turned k) (omega arith) }
+
+  module _ (lp : negsuc 127 ≤ℤ lane pair 0) (hp : lane pair 0 ≤ℤ pos 127) (lq : negsuc 127 ≤ℤ lane pair 1)
+      (hq : lane pair 1 ≤ℤ pos 127) where
     low_a : negsuc 255 ≤ℤ a
     low_a = omega (arith, ints)
 
@@ -94,8 +84,10 @@ module _ (pair : List ℤ) (count : length pair ≡ 2) (a b c d : ℤ)
     AreEdges-pair : AreEdges (edge_lanes a b c d)
     AreEdges-pair = record {
       count = refl;
-      low = each (λ k. negsuc 255 ≤ℤ lane (edge_lanes a b c d) k) 8 ((((((((tt, low_a), low_c), low_a), low_c), low_b), low_d), low_b), low_d);
-      high = each (λ k. lane (edge_lanes a b c d) k ≤ℤ pos 256) 8 ((((((((tt, high_a), high_c), high_a), high_c), high_b), high_d), high_b), high_d);
+      low = each (λ k. negsuc 255 ≤ℤ lane (edge_lanes a b c d) k) 8
+          ((((((((tt, low_a), low_c), low_a), low_c), low_b), low_d), low_b), low_d);
+      high = each (λ k. lane (edge_lanes a b c d) k ≤ℤ pos 256) 8
+          ((((((((tt, high_a), high_c), high_a), high_c), high_b), high_d), high_b), high_d);
     }
 
 -- ---- the places of eight soft values
@@ -125,7 +117,8 @@ module _ (soft : List ℤ) (octets : AreOctets soft) (count : length soft ≡ 8)
 
   bits_are : (k : ℕ) → k < 8 → bits_at soft k ≡ cast_unsigned w16 (lane soft k)
   bits_are k lt = in_first soft k (omega arith) where
-    in_first : (xs : List ℤ) (k : ℕ) → k < length xs → get_or (map (cast_unsigned w16) xs ++ map (cast_unsigned w16) soft) k 0 ≡ cast_unsigned w16 (lane xs k)
+    in_first : (xs : List ℤ) (k : ℕ) → k < length xs → get_or (map (cast_unsigned w16) xs ++ map (cast_unsigned w16) soft) k 0
+        ≡ cast_unsigned w16 (lane xs k)
     in_first [] k lt = absurd (omega arith)
     in_first (x ∷ xs) zero lt = refl
     in_first (x ∷ xs) (suc k) lt = let lt' : k < length xs = omega arith in in_first xs k lt'
@@ -149,10 +142,12 @@ module _ (soft : List ℤ) (octets : AreOctets soft) (count : length soft ≡ 8)
       ∙ difference-lane (lane soft i) (lane soft j) (fits_at i hi) (fits_at j hj)
       (fits_between (lane soft i -ℤ lane soft j) (omega (arith, ints, a.0, a.1, b.0, b.1)) (omega (arith, ints, a.0, a.1, b.0, b.1)))
 
-  turned_is : (x : ℕ) (y : ℤ) → x < 65536 → cast_signed w16 x ≡ y → negsuc 32766 ≤ℤ y → y ≤ℤ pos 32767 → cast_signed w16 (turned_round x) ≡ pos 0 -ℤ y
+  turned_is : (x : ℕ) (y : ℤ) → x < 65536 → cast_signed w16 x ≡ y → negsuc 32766 ≤ℤ y → y ≤ℤ pos 32767 →
+      cast_signed w16 (turned_round x) ≡ pos 0 -ℤ y
   turned_is x y small is low high =
       ap (λ x. cast_signed w16 ((0 + (65536 - x)) % 65536)) (sym (of_z-to_z w16 x small) ∙ ap (cast_unsigned w16) is)
-      ∙ difference-lane (pos 0) y (fits_between (pos 0) (omega (arith, ints)) (omega (arith, ints))) (fits_between y (omega (arith, ints)) (omega (arith, ints)))
+      ∙ difference-lane (pos 0) y (fits_between (pos 0) (omega (arith, ints)) (omega (arith, ints)))
+      (fits_between y (omega (arith, ints)) (omega (arith, ints)))
       (fits_between (pos 0 -ℤ y) (omega (arith, ints)) (omega (arith, ints)))
 
   -- the pair that begins at an even place
@@ -210,7 +205,8 @@ module _ (soft : List ℤ) (octets : AreOctets soft) (count : length soft ≡ 8)
         let q = octet_at (i + 1) hj in
         let is = difference_is i (i + 1) hi hj in
         let small : difference_at soft i (i + 1) < 65536 = omega arith in
-        turned_is (difference_at soft i (i + 1)) b small refl (omega (arith, ints, p.0, p.1, q.0, q.1)) (omega (arith, ints, p.0, p.1, q.0, q.1))
+        turned_is (difference_at soft i (i + 1)) b small refl (omega (arith, ints, p.0, p.1, q.0, q.1))
+        (omega (arith, ints, p.0, p.1, q.0, q.1))
 
     pub HasEdges-at : HasEdges (edges_at soft i) pair
     HasEdges-at = HasEdges-pair pair length_pair a b c d at_a at_b at_c at_d
@@ -292,7 +288,8 @@ pub pair_back : (pair : List ℤ) → length pair ≡ 2 → AreOctets pair →
 pair_back pair two octets =
     let first = octets 0 (pos 0) (omega arith) in
     let second = octets 1 (pos 0) (omega arith) in
-    ap₂ (λ x y. x ∷ y ∷ []) (to_z-of_z w8 (lane pair 0) (fits_octet (lane pair 0) first)) (to_z-of_z w8 (lane pair 1) (fits_octet (lane pair 1) second))
+    ap₂ (λ x y. x ∷ y ∷ []) (to_z-of_z w8 (lane pair 0) (fits_octet (lane pair 0) first))
+    (to_z-of_z w8 (lane pair 1) (fits_octet (lane pair 1) second))
     ∙ sym (pair_is pair two)
 
 zeros : List ℤ

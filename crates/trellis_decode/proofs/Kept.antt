@@ -43,11 +43,13 @@ IsKept-closing (row ∷ rows) [] soft short same pairs blank = absurd (omega ari
 IsKept-closing (row ∷ rows) (lost ∷ losses) soft short same pairs blank = (
   omega arith,
   record {
-    best = λ s lt. IsBest-short s (read_out (row ∷ rows) s) soft (subst Ends (sym (read_out-zeros (row ∷ rows) s blank)) (Ends-zeros (suc (length rows))))
+    best = λ s lt. IsBest-short s (read_out (row ∷ rows) s) soft
+        (subst Ends (sym (read_out-zeros (row ∷ rows) s blank)) (Ends-zeros (suc (length rows))))
         (let n = length-read_out (row ∷ rows) s in omega arith);
     lost = λ s lt four. absurd (omega arith);
   },
-  IsKept-closing rows losses (drop 2 soft) (omega arith) (omega arith) (omega (arith, length-drop 2 soft)) (All-tail (λ row. row ≡ 0) row rows blank),
+  IsKept-closing rows losses (drop 2 soft) (omega arith) (omega arith) (omega (arith, length-drop 2 soft))
+      (All-tail (λ row. row ≡ 0) row rows blank),
 )
 
 -- ---- one place more
@@ -58,7 +60,8 @@ rest_of (p ∷ []) soft two = absurd (omega arith)
 rest_of (p ∷ q ∷ []) soft two = refl
 rest_of (p ∷ q ∷ r ∷ pair) soft two = absurd (omega arith)
 
-module _ (after values lost pair soft : List ℤ) (rows : List ℕ) (losses : List (List ℤ)) (row : ℕ) (two : length pair ≡ 2) (octets : AreOctets pair)
+module _ (after values lost pair soft : List ℤ) (rows : List ℕ) (losses : List (List ℤ)) (row : ℕ) (two : length pair ≡ 2)
+    (octets : AreOctets pair)
     (chosen : (s : ℕ) → s < 16 → Chooses after pair s (lane values s) (row / 2 ^ s % 2))
     (loses : (s : ℕ) → s < 16 → lane lost s ≡ way after pair s (row / 2 ^ s % 2) -ℤ way after pair s (1 - row / 2 ^ s % 2))
     (old : Keeps rows losses soft after) where
@@ -96,7 +99,8 @@ module _ (after values lost pair soft : List ℤ) (rows : List ℕ) (losses : Li
 gain-more : (state x : ℕ) (u : List ℕ) (soft : List ℤ) → 2 ≤ length soft →
     gain state (x ∷ u) soft ≡ edge state x (take 2 soft) +ℤ gain (next state x) u (drop 2 soft)
 gain-more state x u soft long =
-    ap (gain state (x ∷ u)) (sym (take-append-drop 2 soft)) ∙ gain-cons state x u (take 2 soft) (drop 2 soft) (omega (arith, length-take 2 soft))
+    ap (gain state (x ∷ u)) (sym (take-append-drop 2 soft)) ∙ gain-cons state x u (take 2 soft) (drop 2 soft)
+    (omega (arith, length-take 2 soft))
 
 -- a list is worth in one state at most n more than in another
 abbrev IsNear : ℕ → ℕ → ℕ → List ℕ → List ℤ → Type 0
@@ -184,8 +188,9 @@ module _ (rows : List ℕ) (losses : List (List ℤ)) (soft even odd : List ℤ)
 
 -- ---- the last four places
 
-pub Keeps-closing : (rows : List ℕ) (losses : List (List ℤ)) (soft values : List ℤ) → length rows ≡ 4 → length losses ≡ 4 → length soft ≡ 8 →
-    AreOctets soft → All (λ row. row ≡ 0) rows → ((s : ℕ) → s < 16 → IsBest s (replicate 4 0) soft (lane values s)) → Keeps rows losses soft values
+pub Keeps-closing : (rows : List ℕ) (losses : List (List ℤ)) (soft values : List ℤ) → length rows ≡ 4 → length losses ≡ 4 →
+    length soft ≡ 8 → AreOctets soft → All (λ row. row ≡ 0) rows → ((s : ℕ) → s < 16 → IsBest s (replicate 4 0) soft (lane values s)) →
+    Keeps rows losses soft values
 Keeps-closing rows losses soft values four same eight octets blank best = record {
   kept = IsKept-closing rows losses soft (omega arith) (same ∙ sym four) (omega arith) blank;
   count = omega arith;
@@ -196,10 +201,11 @@ Keeps-closing rows losses soft values four same eight octets blank best = record
   best = λ s lt. IsBest-same s (closing_rows rows s four blank) refl refl (best s lt);
 }
 
-pub Keeps-same : {rows rows' : List ℕ} {losses losses' : List (List ℤ)} {soft soft' values : List ℤ} → rows ≡ rows' → losses ≡ losses' → soft ≡ soft' →
-    Keeps rows losses soft values → Keeps rows' losses' soft' values
+pub Keeps-same : {rows rows' : List ℕ} {losses losses' : List (List ℤ)} {soft soft' values : List ℤ} → rows ≡ rows' → losses ≡ losses' →
+    soft ≡ soft' → Keeps rows losses soft values → Keeps rows' losses' soft' values
 Keeps-same {rows} {rows'} {losses} {losses'} {soft} {soft'} {values} er el es keeps =
-    subst (λ rows. Keeps rows losses' soft' values) er (subst (λ losses. Keeps rows losses soft' values) el (subst (λ soft. Keeps rows losses soft values) es keeps))
+    subst (λ rows. Keeps rows losses' soft' values) er
+    (subst (λ losses. Keeps rows losses soft' values) el (subst (λ soft. Keeps rows losses soft values) es keeps))
 
 -- what was written to the end of a list
 pub drop-put_mid_here : {A : Type 0} (a k : ℕ) (xs ys : List A) → a + k ≡ length xs → length ys ≡ k → drop a (put_mid a k xs ys) ≡ ys

@@ -1,13 +1,12 @@
 -- What the bit 0 is worth more than the bit 1: its sign is the choice, and its size the loss.
-use Rattle.std.proofs.Common.{◌≡◌, ℕ, true, false, if◌then◌else◌, ℤ, pos, negsuc, ◌+ℤ◌, ◌-ℤ◌, ◌≤ℤ◌, ◌+◌, ◌-◌, ◌<◌, List, ap, ap₂, sym, ◌∙◌, subst, arith, int_lt, inl, inr, lit≤, refl}
+use Rattle.std.proofs.Common.{◌≡◌, ℕ, true, false, if◌then◌else◌, ℤ, pos, negsuc, ◌+ℤ◌, ◌-ℤ◌, ◌≤ℤ◌, ◌+◌, ◌-◌, ◌<◌, ◌⊎◌, List, ap, ap₂, sym, ◌∙◌, subst, arith, int_lt, inl, inr, refl}
 use Rattle.std.proofs.lemmas.Int.{ints, by_lt_z}
 use Rattle.trellis_decode.specs.Lanes.{lane}
 use Rattle.trellis_decode.specs.Trellis.{next, edge, way, Chooses}
 use Rattle.trellis_decode.specs.Turned.{AreClose, AreEdges, AreGaps, AreNarrow, AreNear, HasEdges, in_order, raised, turned, worths}
 use Rattle.trellis_decode.specs.Ways.{AreWays}
 use Rattle.trellis_decode.specs.declared.turned_step.Ways.{Ways}
-use Rattle.trellis_decode.proofs.EdgeLanes.{each}
-use Rattle.trellis_decode.proofs.TurnedSteps.{even_worth, odd_worth, even_worth_high, odd_worth_high, edge-one, edge-high}
+use Rattle.trellis_decode.proofs.TurnedSteps.{each_state, low_in_order, high_in_order, even_worth, odd_worth, even_worth_high, odd_worth_high, edge-one, edge-high}
 use Rattle.trellis_decode.proofs.TurnedVectors.{passed, passed-lanes, passed-gaps, AreNarrow-edges, fits_between}
 
 pub AreNear-passed : (a b : List ℤ) → AreNarrow a → AreNarrow b → AreNear a b → AreNear (passed a) (passed b)
@@ -58,6 +57,11 @@ loss_is after pair s bit value lead loss chooses is l =
 
 -- ---- what the bit 0 is worth more than 1, from what either is worth
 
+pub record AreLeads (even odd edges leads : List ℤ) : Type 0 where
+  pub gaps : AreGaps leads
+  pub each : (pair : List ℤ) → HasEdges edges pair → (s : ℕ) → s < 16 →
+      lane leads s ≡ way (worths even odd) pair s 0 -ℤ way (worths even odd) pair s 1
+
 module _ (even odd edges : List ℤ) (ways : Ways) (is : AreWays even odd (passed edges) ways) (close : AreClose even odd)
     (bounded : AreEdges edges) where
   edge_lane : (k : ℕ) → lane (passed edges) k ≡ lane edges k
@@ -72,23 +76,24 @@ module _ (even odd edges : List ℤ) (ways : Ways) (is : AreWays even odd (passe
   abbrev Fits : ℤ → Type 0
   Fits x = (negsuc 32766 ≤ℤ x) × (x ≤ℤ pos 32767)
 
-  low_fits : (k : ℕ) → k < 8 → Fits (lane ways.low_zero k -ℤ lane ways.low_one k)
-  low_fits k lt =
-      let gap = low_gap k lt in
+  -- twice an edge more or less, a difference of both values fits
+  fits : (k : ℕ) (gap : ℤ) → k < 8 → (gap ≡ lane even k -ℤ lane odd k +ℤ lane edges k +ℤ lane edges k)
+      ⊎ (gap ≡ lane even k -ℤ lane odd k -ℤ lane edges k -ℤ lane edges k) → Fits gap
+  fits k gap lt is =
       let low = close.low k lt in
       let high = close.high k lt in
       let low' = bounded.low k lt in
       let high' = bounded.high k lt in
-      (omega (arith, ints), omega (arith, ints))
+      elim is [
+        | inl more ↦ (omega (arith, ints), omega (arith, ints))
+        | inr less ↦ (omega (arith, ints), omega (arith, ints))
+      ]
+
+  low_fits : (k : ℕ) → k < 8 → Fits (lane ways.low_zero k -ℤ lane ways.low_one k)
+  low_fits k lt = fits k _ lt (inl (low_gap k lt))
 
   high_fits : (k : ℕ) → k < 8 → Fits (lane ways.high_zero k -ℤ lane ways.high_one k)
-  high_fits k lt =
-      let gap = high_gap k lt in
-      let low = close.low k lt in
-      let high = close.high k lt in
-      let low' = bounded.low k lt in
-      let high' = bounded.high k lt in
-      (omega (arith, ints), omega (arith, ints))
+  high_fits k lt = fits k _ lt (inr (high_gap k lt))
 
   pub low_near : AreNear (passed ways.low_zero) (passed ways.low_one)
   low_near = AreNear-passed ways.low_zero ways.low_one is.low_zero is.low_one
@@ -112,13 +117,12 @@ module _ (even odd edges : List ℤ) (ways : Ways) (is : AreWays even odd (passe
 
     leads_fit : AreGaps leads
     leads_fit =
-        let l = λ (k : ℕ) (lt : k < 8). subst Fits (sym (low_lane k lt)) (low_fits k lt) in
-        let h = λ (k : ℕ) (lt : k < 8). subst Fits (sym (high_lane k lt)) (high_fits k lt) in
-        let fit = each (λ s. Fits (lane (in_order (passed low) (passed high)) s)) 16
-        ((((((((((((((((tt, l 0 (lit≤ tt)), l 4 (lit≤ tt)), l 2 (lit≤ tt)), l 6 (lit≤ tt)), l 1 (lit≤ tt)), l 5 (lit≤ tt)), l 3 (lit≤ tt)), l 7 (lit≤ tt)), h 0 (lit≤ tt)), h 4 (lit≤ tt)), h 2 (lit≤ tt)), h 6 (lit≤ tt)), h 1 (lit≤ tt)), h 5 (lit≤ tt)), h 3 (lit≤ tt)), h 7 (lit≤ tt)) in
+        let fit = each_state (λ s. Fits (lane (in_order (passed low) (passed high)) s))
+        (λ k lt. subst Fits (sym (low_in_order (passed low) (passed high) k lt ∙ low_lane k lt)) (low_fits k lt))
+        (λ k lt. subst Fits (sym (high_in_order (passed low) (passed high) k lt ∙ high_lane k lt)) (high_fits k lt)) in
         subst AreGaps (sym ordered) (record { count = refl; low = λ s lt. (fit s lt).0; high = λ s lt. (fit s lt).1 })
 
-    pub leads_passed : AreGaps (passed leads)
+    leads_passed : AreGaps (passed leads)
     leads_passed = subst AreGaps (sym (passed-gaps leads leads_fit)) leads_fit
 
     low_state : (pair : List ℤ) → HasEdges edges pair → (k : ℕ) → k < 8 →
@@ -138,11 +142,15 @@ module _ (even odd edges : List ℤ) (ways : Ways) (is : AreWays even odd (passe
         (even_worth_high even odd k lt) (odd_worth_high even odd k lt)
         counted (edge-one pair has.count (8 + turned k) (omega arith) ∙ ap (λ e. pos 0 -ℤ e) counted) (omega (arith, ints))
 
-    pub each_lead : (pair : List ℤ) → HasEdges edges pair → (s : ℕ) → s < 16 →
+    each_lead : (pair : List ℤ) → HasEdges edges pair → (s : ℕ) → s < 16 →
         lane (passed leads) s ≡ way (worths even odd) pair s 0 -ℤ way (worths even odd) pair s 1
     each_lead pair has s lt =
-        let l = low_state pair has in
-        let h = high_state pair has in
+        let Leads : ℕ → Type 0 = λ s. lane (in_order (passed low) (passed high)) s ≡
+        way (worths even odd) pair s 0 -ℤ way (worths even odd) pair s 1 in
         ap (λ l. lane l s) (passed-gaps leads leads_fit ∙ ordered)
-        ∙ each (λ s. lane (in_order (passed low) (passed high)) s ≡ way (worths even odd) pair s 0 -ℤ way (worths even odd) pair s 1) 16
-        ((((((((((((((((tt, l 0 (lit≤ tt)), l 4 (lit≤ tt)), l 2 (lit≤ tt)), l 6 (lit≤ tt)), l 1 (lit≤ tt)), l 5 (lit≤ tt)), l 3 (lit≤ tt)), l 7 (lit≤ tt)), h 0 (lit≤ tt)), h 4 (lit≤ tt)), h 2 (lit≤ tt)), h 6 (lit≤ tt)), h 1 (lit≤ tt)), h 5 (lit≤ tt)), h 3 (lit≤ tt)), h 7 (lit≤ tt)) s lt
+        ∙ each_state Leads
+        (λ k lt. low_in_order (passed low) (passed high) k lt ∙ low_state pair has k lt)
+        (λ k lt. high_in_order (passed low) (passed high) k lt ∙ high_state pair has k lt) s lt
+
+    pub leads_are : AreLeads even odd edges (passed leads)
+    leads_are = record { gaps = leads_passed; each = each_lead }

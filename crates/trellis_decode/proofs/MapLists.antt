@@ -17,7 +17,8 @@ place-inside s lt = omega arith
 
 -- a state's place has that state's place in turn
 place-back : (s : ℕ) → s < 16 → place (place s) ≡ s
-place-back = each (λ s. place (place s) ≡ s) 16 ((((((((((((((((tt, refl), refl), refl), refl), refl), refl), refl), refl), refl), refl), refl), refl), refl), refl), refl), refl)
+place-back = each (λ s. place (place s) ≡ s) 16
+    ((((((((((((((((tt, refl), refl), refl), refl), refl), refl), refl), refl), refl), refl), refl), refl), refl), refl), refl), refl)
 
 pub length-read_maps : (maps : List (List ℕ)) (at : ℕ) → length (read_maps maps at) ≡ 4 * length maps
 length-read_maps [] at = refl
@@ -75,7 +76,8 @@ list_of_few (a ∷ b ∷ c ∷ []) few bits =
     ap (λ r. drop 1 (word 4 r)) is ∙ ap₂ (λ x u. x ∷ u) second (ap₂ (λ x y. x ∷ y ∷ []) third fourth)
 list_of_few (a ∷ b ∷ c ∷ d ∷ u) few bits = absurd (omega arith)
 
-module _ (after values soft rest : List ℤ) (map : List ℕ) (maps : List (List ℕ)) (walk : IsWalk after values map soft) (some : 1 ≤ length maps)
+module _ (after values soft rest : List ℤ) (map : List ℕ) (maps : List (List ℕ)) (walk : IsWalk after values map soft)
+    (some : 1 ≤ length maps)
     (best : (s : ℕ) → s < 16 → IsBest s (read_maps maps (place s)) rest (lane after s)) where
   abbrev bits : ℕ → List ℕ
   bits = walk.bits
@@ -107,6 +109,8 @@ module _ (after values soft rest : List ℤ) (map : List ℕ) (maps : List (List
       subst (λ u. IsBest s (u ++ read_maps maps (get_or map (place s) 0 % 16)) (soft ++ rest) (lane values s)) (sym is) (walked s lt)
 
 -- the map of the last four places leads to state 0
-pub read_last : (s : ℕ) → s < 16 → read_maps ((0 ∷ 0 ∷ 0 ∷ 0 ∷ 0 ∷ 0 ∷ 0 ∷ 0 ∷ 0 ∷ 0 ∷ 0 ∷ 0 ∷ 0 ∷ 0 ∷ 0 ∷ 0 ∷ []) ∷ []) (place s) ≡ 0 ∷ 0 ∷ 0 ∷ 0 ∷ []
-read_last = each (λ s. read_maps ((0 ∷ 0 ∷ 0 ∷ 0 ∷ 0 ∷ 0 ∷ 0 ∷ 0 ∷ 0 ∷ 0 ∷ 0 ∷ 0 ∷ 0 ∷ 0 ∷ 0 ∷ 0 ∷ []) ∷ []) (place s) ≡ 0 ∷ 0 ∷ 0 ∷ 0 ∷ []) 16
+pub read_last : (s : ℕ) → s < 16 →
+    read_maps ((0 ∷ 0 ∷ 0 ∷ 0 ∷ 0 ∷ 0 ∷ 0 ∷ 0 ∷ 0 ∷ 0 ∷ 0 ∷ 0 ∷ 0 ∷ 0 ∷ 0 ∷ 0 ∷ []) ∷ []) (place s) ≡ 0 ∷ 0 ∷ 0 ∷ 0 ∷ []
+read_last = each
+    (λ s. read_maps ((0 ∷ 0 ∷ 0 ∷ 0 ∷ 0 ∷ 0 ∷ 0 ∷ 0 ∷ 0 ∷ 0 ∷ 0 ∷ 0 ∷ 0 ∷ 0 ∷ 0 ∷ 0 ∷ []) ∷ []) (place s) ≡ 0 ∷ 0 ∷ 0 ∷ 0 ∷ []) 16
     ((((((((((((((((tt, refl), refl), refl), refl), refl), refl), refl), refl), refl), refl), refl), refl), refl), refl), refl), refl)

@@ -140,7 +140,8 @@ IsBest-closing after pair soft state u e closing best = record {
   closing_wins (x ∷ v) ends count =
       let count' : length v ≡ length u = omega arith in
       let short : length v < 4 = omega arith in
-      subst (λ x. Loses state (pair ++ soft) (x ∷ v) (0 ∷ u)) (sym (ends.1 short)) (Loses-same state 0 v u pair soft e (best.wins v ends.2 count'))
+      subst (λ x. Loses state (pair ++ soft) (x ∷ v) (0 ∷ u)) (sym (ends.1 short))
+      (Loses-same state 0 v u pair soft e (best.wins v ends.2 count'))
 
 -- before the end no list is worth more than another
 pub IsBest-none : (state : ℕ) → IsBest state [] [] (pos 0)
@@ -200,7 +201,8 @@ IsBest-same s {u} {u'} {soft} {soft'} {value} {value'} eu es ev best =
 pub read_out-zeros : (rows : List ℕ) (state : ℕ) → All (λ row. row ≡ 0) rows → read_out rows state ≡ replicate (length rows) 0
 read_out-zeros [] state zeros = refl
 read_out-zeros (row ∷ rows) state zeros =
-    let bit : row / 2 ^ state % 2 ≡ 0 = ap (λ row. row / 2 ^ state % 2) (All-head (λ row. row ≡ 0) row rows zeros) ∙ ap (λ x. x % 2) (zero-div (2 ^ state)) in
+    let bit : row / 2 ^ state % 2 ≡ 0 = ap (λ row. row / 2 ^ state % 2) (All-head (λ row. row ≡ 0) row rows zeros)
+    ∙ ap (λ x. x % 2) (zero-div (2 ^ state)) in
     ap (λ bit. bit ∷ read_out rows (next state bit)) bit
     ∙ ap (λ rest. 0 ∷ rest) (read_out-zeros rows (next state 0) (All-tail (λ row. row ≡ 0) row rows zeros))
 

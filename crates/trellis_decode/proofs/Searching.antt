@@ -61,7 +61,8 @@ IsMostLikely-chosen soft n chosen lists long pairs all others = record {
   count = rw (length-word n (16 * chosen)) pairs;
   others = every;
 } where
-  every : (v : List ℕ) → IsInformation v → length v ≡ length (word n (16 * chosen)) → v ≢ word n (16 * chosen) → FallsBehind soft v (word n (16 * chosen))
+  every : (v : List ℕ) → IsInformation v → length v ≡ length (word n (16 * chosen)) → v ≢ word n (16 * chosen) →
+      FallsBehind soft v (word n (16 * chosen))
   every v information count ne =
       let spelt = word-information v information in
       let m = spelt.0 in

@@ -1,10 +1,11 @@
 -- A step of the trellis, from lanes of 16 bits.
-use Rattle.std.proofs.Common.{◌≡◌, ℕ, ◌+◌, ◌<◌, true, false, if◌then◌else◌, ℤ, pos, negsuc, ◌+ℤ◌, ◌-ℤ◌, ◌≤ℤ◌, List, length, refl, ap, sym, ◌∙◌, arith, int_lt, inl, inr}
+use Rattle.std.proofs.Common.{◌≡◌, ℕ, ◌+◌, ◌-◌, ◌<◌, true, false, if◌then◌else◌, ℤ, pos, negsuc, ◌+ℤ◌, ◌-ℤ◌, ◌≤ℤ◌, List, get_or, length, refl, ap, sym, ◌∙◌, subst, arith, int_lt, inl, inr}
+use Rattle.std.proofs.lemmas.Bool.{cases_lt}
 use Rattle.std.proofs.lemmas.Int.{ints, by_lt_z}
 use Rattle.trellis_decode.specs.Trellis.{next, edge, way, Chooses}
 use Rattle.trellis_decode.proofs.EdgeLanes.{each, zero_lanes, one_lanes, zero_edges, one_edges}
 use Rattle.trellis_decode.specs.Lanes.{lane}
-use Rattle.trellis_decode.specs.Turned.{in_turns, raised, taken_bit, turned, worths}
+use Rattle.trellis_decode.specs.Turned.{choices, in_order, in_turns, raised, taken_bit, turned, worths}
 
 -- the larger of both ways in one lane, and its bit
 pub chosen_lane : (after pair : List ℤ) (s : ℕ) (v o e zero_way one_way value taken : ℤ) →
@@ -25,6 +26,38 @@ chosen_lane after pair s v o e zero_way one_way value taken hv ho e0 e1 z w chos
     let t : int_lt zero_way one_way ≡ false = grind (arith, ints) in
     let v0 : value ≡ zero_way = chosen ∙ ap (λ t. if t then one_way else zero_way) t in
     inl (ap taken_bit (bit ∙ ap (λ t. if t then negsuc 0 else pos 0) t), omega (arith, ints), omega (arith, ints)))
+
+-- ---- the states, by their places in two vectors
+
+turned_twice : (k : ℕ) → k < 8 → turned (turned k) ≡ k
+turned_twice = each (λ k. turned (turned k) ≡ k) 8 ((((((((tt, refl), refl), refl), refl), refl), refl), refl), refl)
+
+-- what holds of the state at each place holds of each state
+pub each_state : (P : ℕ → Type 0) → ((k : ℕ) → k < 8 → P (turned k)) → ((k : ℕ) → k < 8 → P (8 + turned k)) →
+    (s : ℕ) → s < 16 → P s
+each_state P low high s lt = elim (cases_lt s 8) [
+  | inl below ↦ subst P (turned_twice s below) (low (turned s) (omega arith))
+  | inr from ↦
+      let twice = turned_twice (s - 8) (omega arith) in
+      let at : 8 + turned (turned (s - 8)) ≡ s = omega arith in
+      subst P at (high (turned (s - 8)) (omega arith))
+]
+
+pub low_in_order : (low high : List ℤ) (k : ℕ) → k < 8 → lane (in_order low high) (turned k) ≡ lane low k
+low_in_order low high = each (λ k. lane (in_order low high) (turned k) ≡ lane low k) 8
+    ((((((((tt, refl), refl), refl), refl), refl), refl), refl), refl)
+
+pub high_in_order : (low high : List ℤ) (k : ℕ) → k < 8 → lane (in_order low high) (8 + turned k) ≡ lane high k
+high_in_order low high = each (λ k. lane (in_order low high) (8 + turned k) ≡ lane high k) 8
+    ((((((((tt, refl), refl), refl), refl), refl), refl), refl), refl)
+
+pub low_choice : (low high : List ℤ) (k : ℕ) → k < 8 → get_or (choices low high) (turned k) 0 ≡ taken_bit (lane low k)
+low_choice low high = each (λ k. get_or (choices low high) (turned k) 0 ≡ taken_bit (lane low k)) 8
+    ((((((((tt, refl), refl), refl), refl), refl), refl), refl), refl)
+
+pub high_choice : (low high : List ℤ) (k : ℕ) → k < 8 → get_or (choices low high) (8 + turned k) 0 ≡ taken_bit (lane high k)
+high_choice low high = each (λ k. get_or (choices low high) (8 + turned k) 0 ≡ taken_bit (lane high k)) 8
+    ((((((((tt, refl), refl), refl), refl), refl), refl), refl), refl)
 
 pub even_worth : (even odd : List ℤ) (k : ℕ) → k < 8 → lane (worths even odd) (next (turned k) 0) ≡ raised (lane even k)
 even_worth even odd = each (λ k. lane (worths even odd) (next (turned k) 0) ≡ raised (lane even k)) 8
@@ -81,9 +114,13 @@ module _ (pair : List ℤ) (count : length pair ≡ 2) where
   turned_difference = omega (arith, ints)
 
   pub edge-one : (s : ℕ) → s < 16 → edge s 1 pair ≡ pos 0 -ℤ edge s 0 pair
-  edge-one s lt = sym (one_at s lt)
+  edge-one s lt =
+      let sums = turned_sum in
+      let gaps = turned_difference in
+      sym (one_at s lt)
       ∙ each (λ s. lane ones s ≡ pos 0 -ℤ lane zeros s) 16
-      ((((((((((((((((tt, refl), refl), refl), refl), turned_sum), turned_difference), turned_sum), turned_difference), turned_sum), turned_difference), turned_sum), turned_difference), refl), refl), refl), refl) s lt
+      ((((((((((((((((tt, refl), refl), refl), refl), sums), gaps), sums), gaps), sums), gaps), sums), gaps), refl), refl), refl), refl) s
+      lt
       ∙ ap (λ e. pos 0 -ℤ e) (zero_at s lt)
 
   pub edge-high : (s : ℕ) → s < 8 → edge (8 + s) 0 pair ≡ pos 0 -ℤ edge s 0 pair

@@ -64,7 +64,8 @@ differences_fit a b ha hb k lt =
     fits_between (lane a k -ℤ lane b k) (omega (arith, ints)) (omega (arith, ints))
 
 pub lane-sums : (a b : List ℤ) → HaveRoom a → AreEdges b → (k : ℕ) → k < 8 →
-    lane (map (cast_signed w16) (zip2 (λ x y. (x + y) % 2 ^ 16) (map (cast_unsigned w16) a) (map (cast_unsigned w16) b))) k ≡ lane a k +ℤ lane b k
+    lane (map (cast_signed w16) (zip2 (λ x y. (x + y) % 2 ^ 16) (map (cast_unsigned w16) a) (map (cast_unsigned w16) b))) k
+    ≡ lane a k +ℤ lane b k
 lane-sums a b ha hb k lt =
     let sa : k < length a = omega (arith, ha.count) in
     let sb : k < length b = omega (arith, hb.count) in
@@ -79,12 +80,14 @@ AreNarrow-sums a b ha hb = record {
 }
 
 pub lane-differences : (a b : List ℤ) → HaveRoom a → AreEdges b → (k : ℕ) → k < 8 →
-    lane (map (cast_signed w16) (zip2 (λ x y. (x + (2 ^ 16 - y)) % 2 ^ 16) (map (cast_unsigned w16) a) (map (cast_unsigned w16) b))) k ≡ lane a k -ℤ lane b k
+    lane (map (cast_signed w16) (zip2 (λ x y. (x + (2 ^ 16 - y)) % 2 ^ 16) (map (cast_unsigned w16) a) (map (cast_unsigned w16) b))) k
+    ≡ lane a k -ℤ lane b k
 lane-differences a b ha hb k lt =
     let sa : k < length a = omega (arith, ha.count) in
     let sb : k < length b = omega (arith, hb.count) in
     lane-zip2 (λ x y. (x + (2 ^ 16 - y)) % 2 ^ 16) a b k sa sb
-    ∙ difference-lane (lane a k) (lane b k) ((AreNarrow-modest a ha).fits k lt) ((AreNarrow-edges b hb).fits k lt) (differences_fit a b ha hb k lt)
+    ∙ difference-lane (lane a k) (lane b k) ((AreNarrow-modest a ha).fits k lt) ((AreNarrow-edges b hb).fits k lt)
+    (differences_fit a b ha hb k lt)
 
 pub AreNarrow-differences : (a b : List ℤ) → HaveRoom a → AreEdges b →
     AreNarrow (map (cast_signed w16) (zip2 (λ x y. (x + (2 ^ 16 - y)) % 2 ^ 16) (map (cast_unsigned w16) a) (map (cast_unsigned w16) b)))
@@ -110,7 +113,10 @@ int_lt-lanes : (a b : List ℤ) → AreNarrow a → AreNarrow b → (s : ℕ) �
 int_lt-lanes a b ha hb s lt = ap₂ int_lt (to_z-of_z w16 (lane a s) (ha.fits s lt)) (to_z-of_z w16 (lane b s) (hb.fits s lt))
 
 top-compared : (x y : ℕ) → top 15 (compared x y) ≡ int_lt (cast_signed w16 x) (cast_signed w16 y)
-top-compared x y = elim (int_lt (cast_signed w16 x) (cast_signed w16 y)) as (λ t. top 15 (if t then 65535 else 0) ≡ t) [ true ↦ refl | false ↦ refl ]
+top-compared x y = elim (int_lt (cast_signed w16 x) (cast_signed w16 y)) as (λ t. top 15 (if t then 65535 else 0) ≡ t) [
+  | true ↦ refl
+  | false ↦ refl
+]
 
 abbrev compared_lanes : List ℤ → List ℤ → List Bool
 compared_lanes a b = map (top 15) (zip2 compared (map (cast_unsigned w16) a) (map (cast_unsigned w16) b))
@@ -130,7 +136,8 @@ compared-at (x ∷ a) (y ∷ b) (suc s) ha hb =
     let hb' : s < length b = omega arith in
     compared-at a b s ha' hb'
 
-compared-lanes : (a b : List ℤ) → AreNarrow a → AreNarrow b → (s : ℕ) → s < 8 → get_or (compared_lanes a b) s false ≡ int_lt (lane a s) (lane b s)
+compared-lanes : (a b : List ℤ) → AreNarrow a → AreNarrow b → (s : ℕ) → s < 8 →
+    get_or (compared_lanes a b) s false ≡ int_lt (lane a s) (lane b s)
 compared-lanes a b ha hb s lt =
     let sa : s < length a = omega (arith, ha.count) in
     let sb : s < length b = omega (arith, hb.count) in
@@ -142,7 +149,8 @@ abbrev larger_lanes : List ℤ → List ℤ → List ℤ
 larger_lanes a b = map (cast_signed w16) (sel_l (compared_lanes a b) (map (cast_unsigned w16) b) (map (cast_unsigned w16) a))
 
 larger-at : (a b : List ℤ) (s : ℕ) → s < length a → s < length b →
-    lane (larger_lanes a b) s ≡ cast_signed w16 (if get_or (compared_lanes a b) s false then cast_unsigned w16 (lane b s) else cast_unsigned w16 (lane a s))
+    lane (larger_lanes a b) s
+    ≡ cast_signed w16 (if get_or (compared_lanes a b) s false then cast_unsigned w16 (lane b s) else cast_unsigned w16 (lane a s))
 larger-at [] b s ha hb = absurd (omega arith)
 larger-at (x ∷ a) [] s ha hb = absurd (omega arith)
 larger-at (x ∷ a) (y ∷ b) zero ha hb = refl
@@ -163,7 +171,8 @@ lane-larger a b ha hb s lt =
     let sb : s < length b = omega (arith, hb.count) in
     larger-at a b s sa sb
     ∙ ap (λ t. cast_signed w16 (if t then cast_unsigned w16 (lane b s) else cast_unsigned w16 (lane a s))) (compared-lanes a b ha hb s lt)
-    ∙ elim (int_lt (lane a s) (lane b s)) as (λ t. cast_signed w16 (if t then cast_unsigned w16 (lane b s) else cast_unsigned w16 (lane a s)) ≡ (if t then lane b s else lane a s)) [
+    ∙ elim (int_lt (lane a s) (lane b s)) as (λ t. cast_signed w16
+    (if t then cast_unsigned w16 (lane b s) else cast_unsigned w16 (lane a s)) ≡ (if t then lane b s else lane a s)) [
       | true ↦ to_z-of_z w16 (lane b s) (hb.fits s lt)
       | false ↦ to_z-of_z w16 (lane a s) (ha.fits s lt)
     ]
@@ -172,7 +181,10 @@ pub AreNarrow-larger : (a b : List ℤ) → AreNarrow a → AreNarrow b → AreN
 AreNarrow-larger a b ha hb = record {
   count = length-larger a b (ha.count ∙ sym hb.count) ∙ ha.count;
   fits = λ s lt. subst (FitsSigned w16) (sym (lane-larger a b ha hb s lt))
-      (elim (int_lt (lane a s) (lane b s)) as (λ t. FitsSigned w16 (if t then lane b s else lane a s)) [ true ↦ hb.fits s lt | false ↦ ha.fits s lt ]);
+      (elim (int_lt (lane a s) (lane b s)) as (λ t. FitsSigned w16 (if t then lane b s else lane a s)) [
+        | true ↦ hb.fits s lt
+        | false ↦ ha.fits s lt
+      ]);
 }
 
 -- a vector that is passed to a function or handed back
@@ -183,7 +195,8 @@ passed-each : (lanes : List ℤ) → ((s : ℕ) → s < length lanes → FitsSig
 passed-each [] fits = refl
 passed-each (x ∷ lanes) fits =
     let here : 0 < suc (length lanes) = omega arith in
-    ap₂ (λ y ys. y ∷ ys) (to_z-of_z w16 x (fits 0 here)) (passed-each lanes (λ s lt. fits (suc s) (let lt' : suc s < suc (length lanes) = omega arith in lt')))
+    ap₂ (λ y ys. y ∷ ys) (to_z-of_z w16 x (fits 0 here))
+    (passed-each lanes (λ s lt. fits (suc s) (let lt' : suc s < suc (length lanes) = omega arith in lt')))
 
 pub passed-lanes : (lanes : List ℤ) → AreNarrow lanes → passed lanes ≡ lanes
 passed-lanes lanes h = passed-each lanes (λ s lt. h.fits s (omega (arith, h.count)))
@@ -191,7 +204,8 @@ passed-lanes lanes h = passed-each lanes (λ s lt. h.fits s (omega (arith, h.cou
 pub AreNarrow-passed : (lanes : List ℤ) → AreNarrow lanes → AreNarrow (passed lanes)
 AreNarrow-passed lanes h = subst AreNarrow (sym (passed-lanes lanes h)) h
 
-lane_alone : (b : List ℤ) (k : ℕ) → k < length b → FitsSigned w16 (lane b k) → cast_signed w16 (get_or (map (cast_unsigned w16) b) k 0) ≡ lane b k
+lane_alone : (b : List ℤ) (k : ℕ) → k < length b → FitsSigned w16 (lane b k) →
+    cast_signed w16 (get_or (map (cast_unsigned w16) b) k 0) ≡ lane b k
 lane_alone [] k lt fits = absurd (omega arith)
 lane_alone (x ∷ b) zero lt fits = to_z-of_z w16 x fits
 lane_alone (x ∷ b) (suc k) lt fits = let lt' : k < length b = omega arith in lane_alone b k lt' fits
@@ -230,10 +244,14 @@ module _ (a b : List ℤ) (ha : AreNarrow a) (hb : AreNarrow b) where
   pub ordered : (at a b 0 ∷ at a b 4 ∷ at a b 2 ∷ at a b 6 ∷ at a b 1 ∷ at a b 5 ∷ at a b 3 ∷ at a b 7 ∷
       at a b 8 ∷ at a b 12 ∷ at a b 10 ∷ at a b 14 ∷ at a b 9 ∷ at a b 13 ∷ at a b 11 ∷ at a b 15 ∷ []) ≡ in_order a b
   ordered =
-      cons_is (at_first 0 (omega arith)) (cons_is (at_first 4 (omega arith)) (cons_is (at_first 2 (omega arith)) (cons_is (at_first 6 (omega arith))
-      (cons_is (at_first 1 (omega arith)) (cons_is (at_first 5 (omega arith)) (cons_is (at_first 3 (omega arith)) (cons_is (at_first 7 (omega arith))
-      (cons_is (at_second 0 8 (omega arith) refl) (cons_is (at_second 4 12 (omega arith) refl) (cons_is (at_second 2 10 (omega arith) refl) (cons_is (at_second 6 14 (omega arith) refl)
-      (cons_is (at_second 1 9 (omega arith) refl) (cons_is (at_second 5 13 (omega arith) refl) (cons_is (at_second 3 11 (omega arith) refl) (cons_is (at_second 7 15 (omega arith) refl) refl)))))))))))))))
+      cons_is (at_first 0 (omega arith)) (cons_is (at_first 4 (omega arith))
+      (cons_is (at_first 2 (omega arith)) (cons_is (at_first 6 (omega arith))
+      (cons_is (at_first 1 (omega arith)) (cons_is (at_first 5 (omega arith))
+      (cons_is (at_first 3 (omega arith)) (cons_is (at_first 7 (omega arith))
+      (cons_is (at_second 0 8 (omega arith) refl) (cons_is (at_second 4 12 (omega arith) refl)
+      (cons_is (at_second 2 10 (omega arith) refl) (cons_is (at_second 6 14 (omega arith) refl)
+      (cons_is (at_second 1 9 (omega arith) refl) (cons_is (at_second 5 13 (omega arith) refl)
+      (cons_is (at_second 3 11 (omega arith) refl) (cons_is (at_second 7 15 (omega arith) refl) refl)))))))))))))))
 
 -- an all-ones or all-zeros lane of 16 bits as one of 8
 abbrev narrowed : ℕ → ℕ
@@ -241,13 +259,18 @@ narrowed x = cast_unsigned w8 (cast_signed w16 x)
 
 -- where a lane is less than that of another vector, in lanes of 8 bits
 abbrev taken_lanes : ℕ → List ℤ → List ℤ → List ℤ
-taken_lanes n a b = map (cast_signed w8) (sel_l (map (top 7) (map narrowed (zip2 compared (zip2 compared (map (cast_unsigned w16) a) (map (cast_unsigned w16) b)) (replicate n 0)))) (replicate n 255) (replicate n 0))
+taken_lanes n a b =
+    map (cast_signed w8)
+    (sel_l (map (top 7)
+    (map narrowed (zip2 compared (zip2 compared (map (cast_unsigned w16) a) (map (cast_unsigned w16) b)) (replicate n 0))))
+    (replicate n 255) (replicate n 0))
 
 abbrev taken_one : Bool → ℤ
 taken_one t = cast_signed w8 (if top 7 (narrowed (compared (if t then 65535 else 0) 0)) then 255 else 0)
 
 taken-at : (a b : List ℤ) (n k : ℕ) → length a ≡ n → length b ≡ n → k < n →
-    lane (taken_lanes n a b) k ≡ taken_one (int_lt (cast_signed w16 (cast_unsigned w16 (lane a k))) (cast_signed w16 (cast_unsigned w16 (lane b k))))
+    lane (taken_lanes n a b) k
+    ≡ taken_one (int_lt (cast_signed w16 (cast_unsigned w16 (lane a k))) (cast_signed w16 (cast_unsigned w16 (lane b k))))
 taken-at [] b zero k ea eb lt = absurd (omega arith)
 taken-at [] b (suc n) k ea eb lt = absurd (omega arith)
 taken-at (x ∷ a) b zero k ea eb lt = absurd (omega arith)
@@ -260,7 +283,10 @@ length-taken [] b zero ea eb = refl
 length-taken [] b (suc n) ea eb = absurd (omega arith)
 length-taken (x ∷ a) b zero ea eb = absurd (omega arith)
 length-taken (x ∷ a) [] (suc n) ea eb = absurd (omega arith)
-length-taken (x ∷ a) (y ∷ b) (suc n) ea eb = let ea' : length a ≡ n = omega arith in let eb' : length b ≡ n = omega arith in ap suc (length-taken a b n ea' eb')
+length-taken (x ∷ a) (y ∷ b) (suc n) ea eb =
+    let ea' : length a ≡ n = omega arith in
+    let eb' : length b ≡ n = omega arith in
+    ap suc (length-taken a b n ea' eb')
 
 taken_one_is : (t : Bool) → taken_one t ≡ (if t then negsuc 0 else pos 0)
 taken_one_is true = refl
@@ -288,7 +314,8 @@ module _ (a edges result : List ℤ) (ha : HaveRoom a) (he : AreEdges edges) (h 
       ap (λ l. lane l k) (passed-lanes result h) ∙ is
       ∙ ap₂ (λ l m. lane l k +ℤ lane m k) (passed-lanes a (AreNarrow-modest a ha)) (passed-lanes edges (AreNarrow-edges edges he))
 
-  pub difference_passed : (k : ℕ) → lane result k ≡ lane (passed a) k -ℤ lane (passed edges) k → lane (passed result) k ≡ lane a k -ℤ lane edges k
+  pub difference_passed : (k : ℕ) → lane result k ≡ lane (passed a) k -ℤ lane (passed edges) k →
+      lane (passed result) k ≡ lane a k -ℤ lane edges k
   difference_passed k is =
       ap (λ l. lane l k) (passed-lanes result h) ∙ is
       ∙ ap₂ (λ l m. lane l k -ℤ lane m k) (passed-lanes a (AreNarrow-modest a ha)) (passed-lanes edges (AreNarrow-edges edges he))
@@ -311,8 +338,8 @@ pub taken_passed : (lanes : List ℤ) (t : Bool) (k : ℕ) → length lanes ≡ 
 taken_passed lanes t k count lt is =
     passed_octet lanes k (omega arith) ∙ ap (λ x. cast_signed w8 (cast_unsigned w8 x)) is ∙ kept_octet t
 
-pub AreTaken-passed : (lanes : List ℤ) (t : ℕ → Bool) → length lanes ≡ 8 → ((k : ℕ) → k < 8 → lane lanes k ≡ (if t k then negsuc 0 else pos 0)) →
-    AreTaken (passed_octets lanes)
+pub AreTaken-passed : (lanes : List ℤ) (t : ℕ → Bool) → length lanes ≡ 8 →
+    ((k : ℕ) → k < 8 → lane lanes k ≡ (if t k then negsuc 0 else pos 0)) → AreTaken (passed_octets lanes)
 AreTaken-passed lanes t count is = record {
   count = length-map (map (cast_unsigned w8) lanes) (cast_signed w8) ∙ length-map lanes (cast_unsigned w8) ∙ count;
   each = λ k lt. one_of (lane (passed_octets lanes) k) (t k) (taken_passed lanes (t k) k count lt (is k lt));
@@ -321,11 +348,13 @@ AreTaken-passed lanes t count is = record {
   one_of x true is = inl is
   one_of x false is = inr is
 
-passed_octets-each : (lanes : List ℤ) → ((k : ℕ) → k < length lanes → (lane lanes k ≡ negsuc 0) ⊎ (lane lanes k ≡ pos 0)) → passed_octets lanes ≡ lanes
+passed_octets-each : (lanes : List ℤ) → ((k : ℕ) → k < length lanes → (lane lanes k ≡ negsuc 0) ⊎ (lane lanes k ≡ pos 0)) →
+    passed_octets lanes ≡ lanes
 passed_octets-each [] is = refl
 passed_octets-each (x ∷ lanes) is =
     let here : 0 < suc (length lanes) = omega arith in
-    ap₂ (λ y ys. y ∷ ys) (kept x (is 0 here)) (passed_octets-each lanes (λ k lt. is (suc k) (let lt' : suc k < suc (length lanes) = omega arith in lt')))
+    ap₂ (λ y ys. y ∷ ys) (kept x (is 0 here))
+    (passed_octets-each lanes (λ k lt. is (suc k) (let lt' : suc k < suc (length lanes) = omega arith in lt')))
   where
     kept : (x : ℤ) → (x ≡ negsuc 0) ⊎ (x ≡ pos 0) → cast_signed w8 (cast_unsigned w8 x) ≡ x
     kept x (inl is) = subst (λ x. cast_signed w8 (cast_unsigned w8 x) ≡ x) (sym is) refl
@@ -337,7 +366,8 @@ passed_octets-taken lanes h = passed_octets-each lanes (λ k lt. h.each k (omega
 -- ---- what the lanes of one vector are more than those of another, without sign and by their signs
 
 pub lane-gaps : (a b : List ℤ) → AreNarrow a → AreNarrow b → AreNear a b → (k : ℕ) → k < 8 →
-    lane (map (cast_signed w16) (zip2 (λ x y. (x + (2 ^ 16 - y)) % 2 ^ 16) (map (cast_unsigned w16) a) (map (cast_unsigned w16) b))) k ≡ lane a k -ℤ lane b k
+    lane (map (cast_signed w16) (zip2 (λ x y. (x + (2 ^ 16 - y)) % 2 ^ 16) (map (cast_unsigned w16) a) (map (cast_unsigned w16) b))) k
+    ≡ lane a k -ℤ lane b k
 lane-gaps a b ha hb near k lt =
     let sa : k < length a = omega (arith, ha.count) in
     let sb : k < length b = omega (arith, hb.count) in
@@ -352,7 +382,10 @@ AreNarrow-gaps a b ha hb near = record {
 }
 
 AreGaps-fits : (a : List ℤ) → AreGaps a → (s : ℕ) → s < 16 → FitsSigned w16 (lane a s)
-AreGaps-fits a h s lt = let low = h.low s lt in let high = h.high s lt in fits_between (lane a s) (omega (arith, ints)) (omega (arith, ints))
+AreGaps-fits a h s lt =
+    let low = h.low s lt in
+    let high = h.high s lt in
+    fits_between (lane a s) (omega (arith, ints)) (omega (arith, ints))
 
 pub passed-gaps : (a : List ℤ) → AreGaps a → passed a ≡ a
 passed-gaps a h = passed-each a (λ s lt. AreGaps-fits a h s (omega (arith, h.count)))
@@ -362,7 +395,10 @@ turned_bits x = (0 + (65536 - x)) % 65536
 
 -- the lanes without their sign, as the larger of each and its negative
 abbrev pub sizes_of : ℕ → List ℤ → List ℤ
-sizes_of n a = map (cast_signed w16) (sel_l (map (top 15) (zip2 compared (map (cast_unsigned w16) a) (zip2 (λ x y. (x + (65536 - y)) % 65536) (replicate n 0) (map (cast_unsigned w16) a))))
+sizes_of n a =
+    map (cast_signed w16)
+    (sel_l (map (top 15)
+    (zip2 compared (map (cast_unsigned w16) a) (zip2 (λ x y. (x + (65536 - y)) % 65536) (replicate n 0) (map (cast_unsigned w16) a))))
     (zip2 (λ x y. (x + (65536 - y)) % 65536) (replicate n 0) (map (cast_unsigned w16) a)) (map (cast_unsigned w16) a))
 
 abbrev size_one : ℕ → ℤ
@@ -391,7 +427,8 @@ size_one_is x low high =
     let negative : cast_signed w16 (turned_bits (cast_unsigned w16 x)) ≡ pos 0 -ℤ x = difference-lane (pos 0) x none fits fits' in
     ap (λ t. cast_signed w16 (if t then turned_bits (cast_unsigned w16 x) else cast_unsigned w16 x))
     (top-compared (cast_unsigned w16 x) (turned_bits (cast_unsigned w16 x)) ∙ ap₂ int_lt back negative)
-    ∙ elim (int_lt x (pos 0 -ℤ x)) as (λ t. cast_signed w16 (if t then turned_bits (cast_unsigned w16 x) else cast_unsigned w16 x) ≡ (if t then pos 0 -ℤ x else x)) [
+    ∙ elim (int_lt x (pos 0 -ℤ x)) as (λ t. cast_signed w16 (if t then turned_bits (cast_unsigned w16 x) else cast_unsigned w16 x)
+    ≡ (if t then pos 0 -ℤ x else x)) [
       | true ↦ negative
       | false ↦ back
     ]
@@ -404,16 +441,23 @@ pub AreGaps-sizes : (a : List ℤ) → AreGaps a → AreGaps (sizes_of 16 a)
 AreGaps-sizes a h = record {
   count = length-sizes a 16 h.count;
   low = λ s lt. subst (λ x. negsuc 32766 ≤ℤ x) (sym (lane-sizes a h s lt)) (let low = h.low s lt in let high = h.high s lt in
-      elim (int_lt (lane a s) (pos 0 -ℤ lane a s)) as (λ t. negsuc 32766 ≤ℤ (if t then pos 0 -ℤ lane a s else lane a s)) [ true ↦ omega (arith, ints) | false ↦ low ]);
+      elim (int_lt (lane a s) (pos 0 -ℤ lane a s)) as (λ t. negsuc 32766 ≤ℤ (if t then pos 0 -ℤ lane a s else lane a s)) [
+        | true ↦ omega (arith, ints)
+        | false ↦ low
+      ]);
   high = λ s lt. subst (λ x. x ≤ℤ pos 32767) (sym (lane-sizes a h s lt)) (let low = h.low s lt in let high = h.high s lt in
-      elim (int_lt (lane a s) (pos 0 -ℤ lane a s)) as (λ t. (if t then pos 0 -ℤ lane a s else lane a s) ≤ℤ pos 32767) [ true ↦ omega (arith, ints) | false ↦ high ]);
+      elim (int_lt (lane a s) (pos 0 -ℤ lane a s)) as (λ t. (if t then pos 0 -ℤ lane a s else lane a s) ≤ℤ pos 32767) [
+        | true ↦ omega (arith, ints)
+        | false ↦ high
+      ]);
 }
 
 -- where a lane is below 0
 abbrev pub signs_of : ℕ → List ℤ → List Bool
 signs_of n a = map (top 15) (zip2 compared (map (cast_unsigned w16) a) (replicate n 0))
 
-signs-at : (a : List ℤ) (n s : ℕ) → length a ≡ n → s < n → get_or (signs_of n a) s false ≡ top 15 (compared (cast_unsigned w16 (lane a s)) 0)
+signs-at : (a : List ℤ) (n s : ℕ) → length a ≡ n → s < n →
+    get_or (signs_of n a) s false ≡ top 15 (compared (cast_unsigned w16 (lane a s)) 0)
 signs-at [] zero s e lt = absurd (omega arith)
 signs-at [] (suc n) s e lt = absurd (omega arith)
 signs-at (x ∷ a) zero s e lt = absurd (omega arith)
@@ -433,7 +477,8 @@ bit-signs a h s lt =
     ap (λ row. row / 2 ^ s % 2) (mask_l-mod (signs_of 16 a) 64 few)
     ∙ bit_mask_l (signs_of 16 a) s
     ∙ ap (λ t. if t then 1 else 0)
-    (signs-at a 16 s h.count lt ∙ top-compared (cast_unsigned w16 (lane a s)) 0 ∙ ap (λ x. int_lt x (pos 0)) (to_z-of_z w16 (lane a s) (AreGaps-fits a h s lt)))
+    (signs-at a 16 s h.count lt ∙ top-compared (cast_unsigned w16 (lane a s)) 0
+    ∙ ap (λ x. int_lt x (pos 0)) (to_z-of_z w16 (lane a s) (AreGaps-fits a h s lt)))
 
 pub signs-fit : (a : List ℤ) → AreGaps a → mask_l (signs_of 16 a) % 18446744073709551616 < 65536
 signs-fit a h =

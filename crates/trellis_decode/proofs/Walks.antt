@@ -6,7 +6,7 @@ use Rattle.std.proofs.lemmas.List.Elements.{All-nil, All-cons}
 use Rattle.bit_blocks.specs.Bits.{AllBits, IsBit}
 use Rattle.trellis_decode.specs.Lanes.{lane, AreOctets}
 use Rattle.trellis_decode.specs.Trellis.{next, first_bit, second_bit, coded_from, gain, edge, way, Chooses, IsBest}
-use Rattle.trellis_decode.specs.Turned.{HaveRoom, place, turned, worths}
+use Rattle.trellis_decode.specs.Turned.{HaveRoom, place, raised, turned, worths}
 use Rattle.trellis_decode.specs.Walks.{reached, AreWithin, IsWalk}
 use Rattle.trellis_decode.proofs.EdgeLanes.{each}
 use Rattle.trellis_decode.proofs.FourPairs.{AreFew}
@@ -19,7 +19,8 @@ reached-inside s (x ∷ u) lt = reached-inside (next s x) u (let inside : next s
 
 -- the lists of all states are equally long
 same_lengths : {after values soft : List ℤ} {map : List ℕ} (walk : IsWalk after values map soft) (lists : ℕ → List ℕ) (n : ℕ) →
-    ((s : ℕ) → s < 16 → length (lists s) ≡ n) → (s : ℕ) → s < 16 → 2 * length (walk.bits s ++ lists (reached s (walk.bits s))) ≡ length soft + 2 * n
+    ((s : ℕ) → s < 16 → length (lists s) ≡ n) → (s : ℕ) → s < 16 →
+    2 * length (walk.bits s ++ lists (reached s (walk.bits s))) ≡ length soft + 2 * n
 same_lengths walk lists n same s lt =
     let shorter = walk.count s lt in
     let rest = same (reached s (walk.bits s)) (reached-inside s (walk.bits s) lt) in
@@ -68,12 +69,14 @@ module _ (after middle values pair soft : List ℤ) (map map' : List ℕ) (bit :
 -- ---- what the states are worth stays small
 
 -- what one place counts
-pub edge_bound : (pair : List ℤ) (s bit : ℕ) → length pair ≡ 2 → AreOctets pair → (negsuc 255 ≤ℤ edge s bit pair) × (edge s bit pair ≤ℤ pos 256)
+pub edge_bound : (pair : List ℤ) (s bit : ℕ) → length pair ≡ 2 → AreOctets pair →
+    (negsuc 255 ≤ℤ edge s bit pair) × (edge s bit pair ≤ℤ pos 256)
 unfolding edge
 edge_bound pair s bit two octets =
     let first : first_bit s bit ≤ 1 = omega arith in
     let second : second_bit s bit ≤ 1 = omega arith in
-    let bits : AllBits (first_bit s bit ∷ second_bit s bit ∷ []) = All-cons IsBit (first_bit s bit) (second_bit s bit ∷ []) first (All-cons IsBit (second_bit s bit) [] second (All-nil IsBit)) in
+    let bits : AllBits (first_bit s bit ∷ second_bit s bit ∷ []) =
+    All-cons IsBit (first_bit s bit) (second_bit s bit ∷ []) first (All-cons IsBit (second_bit s bit) [] second (All-nil IsBit)) in
     let bound = likelihood_bound pair (first_bit s bit ∷ second_bit s bit ∷ []) octets bits in
     (omega (arith, ints, bound.0), omega (arith, ints, bound.1))
 
@@ -96,49 +99,39 @@ AreWithin-more after values pair most bit two octets chosen within = record { lo
   low s lt =
       let zero_in : next s 0 < 16 = omega arith in
       let one_in : next s 1 < 16 = omega arith in
-      floor_kept after pair s (bit s) (lane values s) (negsuc 1023) two lt (within.low (next s 0) zero_in) (within.low (next s 1) one_in) (chosen s lt)
+      floor_kept after pair s (bit s) (lane values s) (negsuc 1023) two lt (within.low (next s 0) zero_in) (within.low (next s 1) one_in)
+      (chosen s lt)
 
   high : (s : ℕ) → s < 16 → lane values s ≤ℤ pos (most + 256)
   high s lt =
       let zero_in : next s 0 < 16 = omega arith in
       let one_in : next s 1 < 16 = omega arith in
-      top_kept after pair s (bit s) most (lane values s) two octets (within.high (next s 0) zero_in) (within.high (next s 1) one_in) (chosen s lt)
+      top_kept after pair s (bit s) most (lane values s) two octets (within.high (next s 0) zero_in) (within.high (next s 1) one_in)
+      (chosen s lt)
 
 -- values within bounds stand so far from the ends of 16 bits that an edge may be added
 module _ (even odd : List ℤ) (most : ℕ) (few : most ≤ 63000) (within : AreWithin most (worths even odd)) where
-  even_low : (k : ℕ) → k < 8 → negsuc 32499 ≤ℤ lane even k
-  even_low k lt =
-      let is = even_worth even odd k lt in
-      let inside : next (turned k) 0 < 16 = omega arith in
-      let low = within.low (next (turned k) 0) inside in
-      omega (arith, ints)
-
-  even_high : (k : ℕ) → k < 8 → lane even k ≤ℤ pos 32500
-  even_high k lt =
-      let is = even_worth even odd k lt in
-      let inside : next (turned k) 0 < 16 = omega arith in
-      let high = within.high (next (turned k) 0) inside in
-      omega (arith, ints)
-
-  odd_low : (k : ℕ) → k < 8 → negsuc 32499 ≤ℤ lane odd k
-  odd_low k lt =
-      let is = odd_worth even odd k lt in
-      let inside : next (turned k) 1 < 16 = omega arith in
-      let low = within.low (next (turned k) 1) inside in
-      omega (arith, ints)
-
-  odd_high : (k : ℕ) → k < 8 → lane odd k ≤ℤ pos 32500
-  odd_high k lt =
-      let is = odd_worth even odd k lt in
-      let inside : next (turned k) 1 < 16 = omega arith in
-      let high = within.high (next (turned k) 1) inside in
-      omega (arith, ints)
+  has_room : (lanes : List ℤ) (bit : ℕ) → length lanes ≡ 8 →
+      ((k : ℕ) → k < 8 → lane (worths even odd) (next (turned k) bit) ≡ raised (lane lanes k)) → HaveRoom lanes
+  has_room lanes bit count worth = record {
+    count = count;
+    low = λ k lt.
+        let is = worth k lt in
+        let inside : next (turned k) bit < 16 = omega arith in
+        let low = within.low (next (turned k) bit) inside in
+        omega (arith, ints);
+    high = λ k lt.
+        let is = worth k lt in
+        let inside : next (turned k) bit < 16 = omega arith in
+        let high = within.high (next (turned k) bit) inside in
+        omega (arith, ints);
+  }
 
   pub HaveRoom-even : length even ≡ 8 → HaveRoom even
-  HaveRoom-even count = record { count = count; low = even_low; high = even_high }
+  HaveRoom-even count = has_room even 0 count (even_worth even odd)
 
   pub HaveRoom-odd : length odd ≡ 8 → HaveRoom odd
-  HaveRoom-odd count = record { count = count; low = odd_low; high = odd_high }
+  HaveRoom-odd count = has_room odd 1 count (odd_worth even odd)
 
 -- a best list is worth no more than its soft values count
 pub best_bound : (s : ℕ) (u : List ℕ) (soft : List ℤ) (value : ℤ) → AreOctets soft → IsBest s u soft value →
@@ -164,7 +157,8 @@ AreWithin-few values soft lists n few short best =
     AreWithin-best values soft lists short.0 (omega arith) best
 
 pub AreWithin-most : (values soft : List ℤ) (lists : ℕ → List ℕ) → AreOctets soft → length soft ≤ 456 →
-    ((s : ℕ) → s < 16 → negsuc 1023 ≤ℤ lane values s) → ((s : ℕ) → s < 16 → IsBest s (lists s) soft (lane values s)) → AreWithin 58368 values
+    ((s : ℕ) → s < 16 → negsuc 1023 ≤ℤ lane values s) → ((s : ℕ) → s < 16 → IsBest s (lists s) soft (lane values s)) →
+    AreWithin 58368 values
 AreWithin-most values soft lists octets few low best = record {
   low = low;
   high = λ s lt. let bound = (best_bound s (lists s) soft (lane values s) octets (best s lt)).1 in omega (arith, ints);

@@ -34,7 +34,8 @@ pub IsInformation-word : (n number : ℕ) → 5 ≤ n → IsInformation (word n 
 IsInformation-word n number long = record {
   count = rw (length-word n (16 * number)) long;
   bits = AllBits-word n (16 * number);
-  tail = rw (length-word n (16 * number)) (subst (All (λ bit. bit ≡ 0)) (sym (drop-word n (16 * number) (n - 4) 4 (omega arith))) last_four);
+  tail = rw (length-word n (16 * number))
+      (subst (All (λ bit. bit ≡ 0)) (sym (drop-word n (16 * number) (n - 4) 4 (omega arith))) last_four);
 } where
   b8 : 16 * number / 8 % 2 ≡ 0
   b8 = omega arith
@@ -73,8 +74,11 @@ spelled (x ∷ v) bits =
     let power = 2 ^ length v in
     let small : r < power = rest.1 in
     let x_bit : x ≤ 1 = All-head IsBit x v bits in
-    let head : (r + power * x) / power % 2 ≡ x = rw (add-mul-div_left r x (pow_pos (length v)), div-eq_of_lt small) (omega arith) in
-    (r + power * x, rw (pow-succ' 2 (length v)) (below_twice r power x small x_bit), ap₂ (λ bit rest. bit ∷ rest) head (word-high (length v) r x ∙ rest.2))
+    let head : (r + power * x) / power % 2 ≡ x = rw (add-mul-div_left r x (pow_pos (length v)), div-eq_of_lt small) (omega arith) in (
+      r + power * x,
+      rw (pow-succ' 2 (length v)) (below_twice r power x small x_bit),
+      ap₂ (λ bit rest. bit ∷ rest) head (word-high (length v) r x ∙ rest.2),
+    )
   where
     below_twice : (r power x : ℕ) → r < power → x ≤ 1 → r + power * x < 2 * power
     below_twice r power zero small bit = omega arith
@@ -95,7 +99,8 @@ pub IsBefore-word : (n a b : ℕ) → a < b → a / 2 ^ n ≡ b / 2 ^ n → IsBe
 IsBefore-word zero a b less same = absurd (let same' : a ≡ b = sym (div-one a) ∙ same ∙ div-one b in omega arith)
 IsBefore-word (suc n) a b less same =
     let halves : a / 2 ^ n / 2 ≡ b / 2 ^ n / 2 =
-    div-div-eq-div-mul a (2 ^ n) 2 ∙ ap (λ p. a / p) (sym (pow-suc 2 n)) ∙ same ∙ ap (λ p. b / p) (pow-suc 2 n) ∙ sym (div-div-eq-div-mul b (2 ^ n) 2) in
+    div-div-eq-div-mul a (2 ^ n) 2 ∙ ap (λ p. a / p) (sym (pow-suc 2 n)) ∙ same ∙ ap (λ p. b / p) (pow-suc 2 n)
+    ∙ sym (div-div-eq-div-mul b (2 ^ n) 2) in
     let ordered : a / 2 ^ n ≤ b / 2 ^ n = div-le a b (2 ^ n) (pow_pos n) (omega arith) in
     elim (eq-or-lt_of_le ordered) [
       | inl equal ↦ later (ap (λ q. q % 2) equal) (IsBefore-word n a b less equal)
@@ -111,7 +116,13 @@ IsBefore-word (suc n) a b less same =
     same_places head rest (suc j) lt = rest.same j (omega arith)
 
     later : a / 2 ^ n % 2 ≡ b / 2 ^ n % 2 → IsBefore (word n a) (word n b) → IsBefore (word (suc n) a) (word (suc n) b)
-    later head rest = record { place = suc rest.place; within = omega arith; same = same_places head rest; zero = rest.zero; differs = rest.differs }
+    later head rest = record {
+      place = suc rest.place;
+      within = omega arith;
+      same = same_places head rest;
+      zero = rest.zero;
+      differs = rest.differs;
+    }
 
 -- each information list is one of the words that end in four zeros
 pub word-information : (v : List ℕ) → IsInformation v → (number : ℕ) × (16 * number < 2 ^ length v) × (word (length v) (16 * number) ≡ v)

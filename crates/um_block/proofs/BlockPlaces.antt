@@ -187,7 +187,8 @@ pub few_spoilt : (soft : List ℤ) (c places : List ℕ) → length soft ≡ 456
     wrong_places soft c ≤ length places
 unfolding spoilt
 few_spoilt soft c places count long bits same =
-    let most = wrong-hits soft c places 0 (count ∙ sym long) bits (λ k lt h. let e : k ≡ 0 + k = omega arith in same k (omega arith) (ap (λ i. listed (burst_place i) places) e ∙ h)) in
+    let most = wrong-hits soft c places 0 (count ∙ sym long) bits
+    (λ k lt h. let e : k ≡ 0 + k = omega arith in same k (omega arith) (ap (λ i. listed (burst_place i) places) e ∙ h)) in
     omega (arith, most, few_hits places 0 (length soft) (omega arith))
 
 -- a place that is not listed is none of the places
@@ -206,8 +207,8 @@ not_among q (p ∷ ps) h (suc n, lt, e) = not_among q ps (or_false (nat_eq q p) 
 pub few_wrong : (octets c : List ℕ) (tsc : ℕ) (sent : List (List ℕ)) (bursts : List (List ℤ)) (soft : List ℤ) (places : List ℕ) →
     IsSentBlock octets tsc sent → IsCodedBlock octets c → length bursts ≡ 4 → All (λ burst. length burst ≡ 148) bursts →
     IsInterleaved soft (map coded_places bursts) →
-    ((q : ℕ) → q < 592 → (Contains places q → ⊥) → get_or (end_to_end bursts) q (pos 0) ≡ get_or (end_to_end (map softened sent)) q (pos 0)) →
-    wrong_places soft c ≤ length places
+    ((q : ℕ) → q < 592 → (Contains places q → ⊥) →
+    get_or (end_to_end bursts) q (pos 0) ≡ get_or (end_to_end (map softened sent)) q (pos 0)) → wrong_places soft c ≤ length places
 few_wrong octets c tsc sent bursts soft places s code four each gathered same =
     let bits = coded_block_bits octets c code in
     let clean : IsInterleaved (softened c) (map coded_places (map softened sent)) =
@@ -219,7 +220,8 @@ few_wrong octets c tsc sent bursts soft places s code four each gathered same =
     let q = burst_place k in
     received_place bursts soft four each gathered k (pos 0) h
     ∙ same q (burst_place-below k) (not_among q places unlisted)
-    ∙ sym (received_place (map softened sent) (softened c) (length-map sent softened ∙ shape.0) (softened_bursts sent (λ b d lt. (shape.1 b d lt).many)) clean k (pos 0) h)
+    ∙ sym (received_place (map softened sent) (softened c) (length-map sent softened ∙ shape.0)
+    (softened_bursts sent (λ b d lt. (shape.1 b d lt).many)) clean k (pos 0) h)
     ∙ get_or-map soft_value c k 0 (pos 0) (omega (arith, bits.many)))
   where
     softened_bursts : (xs : List (List ℕ)) → All IsBurst xs → All (λ burst. length burst ≡ 148) (map softened xs)

@@ -56,7 +56,8 @@ agrees_less (x ∷ c) (y ∷ d) bc bd e =
           let here = agreement-other x y hx hy other in
           elim rest [
             | inl all ↦
-                let own : likelihood (softened c) d ≡ pos (127 * length c) = ap (likelihood (softened c)) (sym all) ∙ likelihood-own c bc' in
+                let own : likelihood (softened c) d ≡ pos (127 * length c) = ap (likelihood (softened c)) (sym all)
+                ∙ likelihood-own c bc' in
                 inr (omega (arith, ints, here, own))
             | inr less ↦ inr (omega (arith, ints, here, less))
           ]
@@ -66,7 +67,8 @@ same_bit : (x y a b : ℕ) → x ≤ 1 → y ≤ 1 → (x + a + b) % 2 ≡ (y + 
 same_bit x y a b hx hy e = omega arith
 
 -- from one state two lists have different coded bits
-same_information : (state : ℕ) (u v : List ℕ) → AllBits u → AllBits v → length u ≡ length v → coded_from state u ≡ coded_from state v → u ≡ v
+same_information : (state : ℕ) (u v : List ℕ) → AllBits u → AllBits v → length u ≡ length v →
+    coded_from state u ≡ coded_from state v → u ≡ v
 same_information state [] [] bu bv e same = refl
 same_information state [] (y ∷ v) bu bv e same = absurd (omega arith)
 same_information state (x ∷ u) [] bu bv e same = absurd (omega arith)

@@ -77,7 +77,8 @@ module _ (octets : List ℕ) (tsc : ℕ) (sent : List (List ℕ)) (r : Received)
       let own = softened (training_sequence tsc) in
       let none = wrong_places-own (training_sequence tsc) (AllBits-training_sequence tsc s.known) in
       h.wrong_training
-      ∙ ap₂ (λ a b. total_wrong_places a b (training_of bursts 2) (training_of bursts 3) r.tsc) (training 0 (lit< tt)) (training 1 (lit< tt))
+      ∙ ap₂ (λ a b. total_wrong_places a b (training_of bursts 2) (training_of bursts 3) r.tsc) (training 0 (lit< tt))
+      (training 1 (lit< tt))
       ∙ ap₂ (λ a b. total_wrong_places own own a b r.tsc) (training 2 (lit< tt)) (training 3 (lit< tt))
       ∙ ap (total_wrong_places own own own own) sequence
       ∙ ap (λ n. n + n + n + n) none

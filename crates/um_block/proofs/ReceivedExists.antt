@@ -123,7 +123,8 @@ some_received_access burst bsic count code code_bits =
     let best = some_most_likely soft 18 (length-range burst 49 85 (lit≤ tt) (omega arith)) (lit≤ tt) in
     let u = best.0 in
     let answer = answered (IsRachWord (take 14 u) bsic) (take 8 u)
-    (rach_decided (take 14 u) bsic (length-front 14 u (omega (arith, best.2))) (AllBits-front 14 u best.1.information.bits) code code_bits) in (
+    (rach_decided (take 14 u) bsic (length-front 14 u (omega (arith, best.2)))
+    (AllBits-front 14 u best.1.information.bits) code code_bits) in (
       record {
         u = u;
         metric = likelihood soft (coded u);

@@ -32,7 +32,8 @@ restored_block bursts octets c soft r code gathered damage h =
     let same : h.soft ≡ soft = same_coded h.soft soft (map coded_places bursts) h.gathered gathered in
     let u = restored_list soft code.u r.u c 228 carried.information carried.count gathered.coded_count code.code damage
     (subst (λ s. IsMostLikely s r.u) same h.best) in
-    accepted_of IsXcchWord octets_of 224 184 code.u r.u (bits_of octets) octets r.accepted carried u (octets_of-bits_of octets code.each) h.accepted
+    accepted_of IsXcchWord octets_of 224 184 code.u r.u (bits_of octets) octets r.accepted carried u
+    (octets_of-bits_of octets code.each) h.accepted
 
 pub restored_access : (burst : List ℤ) (info bsic c : List ℕ) (r : ReceivedAccess) → length (access_places burst) ≡ 36 →
     IsCodedAccess info bsic c → IsLightlyDamaged (access_places burst) c → IsReceivedAccess burst bsic r → r.accepted ≡ Some info

@@ -24,7 +24,8 @@ some_coded_block octets count small =
       },
     )
 
-pub some_sent_block : (octets : List ℕ) (tsc : ℕ) → length octets ≡ 23 → AllOctets octets → tsc ≤ 7 → (x : List (List ℕ)) × IsSentBlock octets tsc x
+pub some_sent_block : (octets : List ℕ) (tsc : ℕ) → length octets ≡ 23 → AllOctets octets → tsc ≤ 7 →
+    (x : List (List ℕ)) × IsSentBlock octets tsc x
 some_sent_block octets tsc count small known =
     let c = some_coded_block octets count small in
     let parts = some_spread c.0 (coded_block_bits octets c.0 c.1).many in

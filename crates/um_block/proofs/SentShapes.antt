@@ -29,7 +29,8 @@ flag = record { many = refl; each = AllBits-table (1 ∷ []) refl }
 
 -- ---- the three bursts
 
-normal_bits : (first second : List ℕ) (tsc : ℕ) → tsc ≤ 7 → AreBits 57 first → AreBits 57 second → AreBits 148 (normal_burst first second tsc)
+normal_bits : (first second : List ℕ) (tsc : ℕ) → tsc ≤ 7 → AreBits 57 first → AreBits 57 second →
+    AreBits 148 (normal_burst first second tsc)
 normal_bits first second tsc known f s =
     let sequence : AreBits 26 (training_sequence tsc) =
     record { many = length-training_sequence tsc known; each = AllBits-training_sequence tsc known } in
@@ -74,7 +75,8 @@ dropped m n bits b = record {
 bursts_of : ℕ → List (List ℕ) → List (List ℕ)
 bursts_of tsc parts = map (λ part. normal_burst (take 57 part) (drop 57 part) tsc) parts
 
-each_burst : (tsc : ℕ) (parts : List (List ℕ)) → tsc ≤ 7 → All (λ part. length part ≡ 114) parts → All AllBits parts → All (AreBits 148) (bursts_of tsc parts)
+each_burst : (tsc : ℕ) (parts : List (List ℕ)) → tsc ≤ 7 → All (λ part. length part ≡ 114) parts → All AllBits parts →
+    All (AreBits 148) (bursts_of tsc parts)
 unfolding bursts_of
 each_burst tsc [] known counts bits = All-nil (AreBits 148)
 each_burst tsc (part ∷ parts) known counts bits =

@@ -46,7 +46,8 @@ softened-more bits at old new within room before more =
 -- and all places are still there
 pub length-put : (at : ℕ) (old new : List ℤ) → at + 16 ≤ length old → length new ≡ 16 → length (put_mid at 16 old new) ≡ length old
 length-put at old new room few =
-    let rest : length (drop 16 (drop at old)) ≡ length old - at - 16 = length-drop 16 (drop at old) ∙ ap (λ n. n - 16) (length-drop at old) in
+    let rest : length (drop 16 (drop at old)) ≡ length old - at - 16 = length-drop 16 (drop at old)
+    ∙ ap (λ n. n - 16) (length-drop at old) in
     length-append (take at old) (new ++ drop 16 (drop at old))
     ∙ omega (arith, length-take-le at old (omega arith), length-append new (drop 16 (drop at old)), few, rest)
 
@@ -68,7 +69,8 @@ pub map-four : (f : List ℤ → List ℤ) (bursts : List (List ℤ)) → length
 map-four f (a ∷ b ∷ c ∷ d ∷ []) four = refl
 map-four f _ four = absurd (omega arith)
 
-pub AllSoft-gathered : (bursts : List (List ℤ)) (soft : List ℤ) → IsInterleaved soft (map coded_places bursts) → All AllSoft bursts → AllSoft soft
+pub AllSoft-gathered : (bursts : List (List ℤ)) (soft : List ℤ) → IsInterleaved soft (map coded_places bursts) → All AllSoft bursts →
+    AllSoft soft
 AllSoft-gathered bursts soft gathered all =
     All-interleaved IsSoft soft (map coded_places bursts) gathered
     (All-map AllSoft coded_places bursts (λ i d h. AllSoft-coded_places (get_or bursts i d) (all i d h)))

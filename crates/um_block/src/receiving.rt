@@ -104,7 +104,8 @@ pub fn receive_access(burst: &[i8; 88], bsic: &Bits<6>) -> ReceivedAccess
     requires { AllSoft burst.now }
     ensures received { IsReceivedAccess burst.now bsic.now result }
     ensures only { (other : ReceivedAccess) → IsReceivedAccess burst.now bsic.now other → other ≡ result }
-    ensures clean { (info sent : List ℕ) → IsSentAccess info bsic.now sent → burst.now ≡ softened sent → IsCleanAccess info bsic.now result }
+    ensures clean { (info sent : List ℕ) → IsSentAccess info bsic.now sent → burst.now ≡ softened sent
+        → IsCleanAccess info bsic.now result }
     ensures restores { (info c : List ℕ) → IsCodedAccess info bsic.now c → IsLightlyDamaged (access_places burst.now) c →
         result.accepted ≡ Some info }
 {

@@ -1,11 +1,10 @@
 -- A command over bursts answers each good line in one way, where it answers bursts in one way.
-use Rattle.std.proofs.Common.{◌≡◌, ℕ, ℤ, ◌+◌, ◌≤◌, inl, inr, List, [], ◌∷◌, ◌++◌, length, length-append, Option, None, Some, refl, sym, ◌∙◌, subst, arith}
+use Rattle.std.proofs.Common.{◌≡◌, ℕ, ℤ, ◌+◌, ◌≤◌, inl, inr, List, [], ◌∷◌, ◌++◌, length, length-append, refl, sym, ◌∙◌, subst, arith}
 use Rattle.std.specs.List.{All}
 use Rattle.std.proofs.lemmas.Bool.{cases_lt}
 use Rattle.std.proofs.lemmas.List.Elements.{All-nil, All-cons, All-append}
 use Rattle.bit_blocks.specs.Bits.{AllBits}
-use Rattle.um_lines.specs.declared.fault.LineFault.{LineFault}
-use Rattle.um_lines.specs.Meanings.{HasOneMeaningUnless}
+use Rattle.um_lines.proofs.OneMeaning.{same_meaning, good_meaning}
 use Rattle.um_text.specs.declared.burst_lines.BurstLine.{BurstLine}
 use Rattle.um_text.specs.declared.burst_lines.BurstLine.TheVariants.{Skip, Normal, Access, Sync}
 use Rattle.um_text.specs.BurstLines.{burst_fault, BurstMeans}
@@ -53,20 +52,6 @@ weaker_bursts a b also = record {
   step = λ held after line y (m, means, answer). (m, means, also_answer a b also held m y after answer);
 }
 
-same_meaning : (held : ℕ) (line : List ℕ) (m m' : BurstLine) → BurstMeans held line m → BurstMeans held line m' → m ≡ m'
-same_meaning held line m m' means means' = go (burst_fault held line) (one_meaning held line)
-  where
-    go : (fault : Option LineFault) → HasOneMeaningUnless fault (BurstMeans held line) → m ≡ m'
-    go None only = only.2 m means ∙ sym (only.2 m' means')
-    go (Some fault) none = absurd (none m means)
-
--- a good line has a meaning
-good_means : (held : ℕ) (line : List ℕ) → burst_fault held line ≡ None → (m : BurstLine) × BurstMeans held line m
-good_means held line good =
-    let meant : HasOneMeaningUnless None (BurstMeans held line) =
-    subst (λ fault. HasOneMeaningUnless fault (BurstMeans held line)) good (one_meaning held line) in
-    (meant.0, meant.1)
-
 -- what is held of a block: fewer than four bursts, of 148 values each
 record IsHeld (held : List (List ℤ)) : Type 0 where
   few : length held ≤ 3
@@ -98,7 +83,8 @@ module _ (a : Answers) where
 
   pub bursts_are_determined : HaveOneAnswer a → IsDetermined (burst_rules a)
   bursts_are_determined one held line y y' b b' (m, means, answer) (m', means', answer') =
-      let same = same_meaning (length held) line m m' means means' in
+      let at = length held in
+      let same = same_meaning (BurstMeans at line) (burst_fault at line) (one_meaning at line) m m' means means' in
       same_answer one held m' y y' b b' (subst (λ n. IsBurstAnswer a held n y b) same answer) answer'
 
   block_keeps : (bursts after : List (List ℤ)) (y : List ℕ) → AreWhole bursts → IsBlockAnswer a bursts y after → IsHeld after
@@ -141,8 +127,9 @@ module _ (a : Answers) where
 
   bursts_are_total : HaveSomeAnswer a → IsTotal (burst_rules a) []
   bursts_are_total some lines answers b runs line plain good =
-      let meant = good_means (length b) line good.no_fault in
-      let held = Runs-keep (burst_rules a) IsHeld (λ c after line y h step. step_keeps c after line y h step) [] b lines answers held_none runs in
+      let meant = good_meaning (BurstMeans (length b) line) (burst_fault (length b) line) (one_meaning (length b) line) good.no_fault in
+      let held = Runs-keep (burst_rules a) IsHeld (λ c after line y h step. step_keeps c after line y h step) [] b lines answers
+      held_none runs in
       let answer = some_answer some b line meant.0 held meant.1 in
       (answer.0, answer.1, (meant.0, meant.1, answer.2))
 

@@ -30,5 +30,6 @@ abbrev pub burst_rules : Answers → Rules (List (List ℤ))
 burst_rules a = record {
   fault = λ held line. burst_fault (length held) line;
   end_fault = unfinished;
-  Step = λ held line answer after. (meaning : BurstLine) × BurstMeans (length held) line meaning × IsBurstAnswer a held meaning answer after;
+  Step = λ held line answer after. (meaning : BurstLine) × BurstMeans (length held) line meaning
+      × IsBurstAnswer a held meaning answer after;
 }

@@ -15,7 +15,8 @@ use Rattle.um_session.specs.Promises.{IsLinkRun}
 use Rattle.um_cli.specs.Arrivals.{ReceivesBest, ReportsBestArrival, AnswersBest, arrival_rules}
 use Rattle.um_cli.proofs.Headlines.{best_word}
 
-receives_best : (a : AirState) (event : Event) (received : Option Received) (read : Option Frame) → Arrives a event received read → ReceivesBest a event received
+receives_best : (a : AirState) (event : Event) (received : Option Received) (read : Option Frame) → Arrives a event received read →
+    ReceivesBest a event received
 receives_best a (Deliver sender places) (Some r) read h =
     record { block = h.block; others = h.others; first = h.first; word = best_word (map softened (turned places h.block)) r h.received }
 receives_best a (Deliver sender places) None read h = tt
@@ -25,11 +26,13 @@ receives_best a (Ask role sapi request) received read h = tt
 receives_best a (Lose sender) received read h = tt
 receives_best a (Rival info) received read h = tt
 
-reports_best : (a : AirState) (event : Event) (b : AirState) (answer : Answer) → AirStep a event b answer → ReportsBestArrival a event answer
+reports_best : (a : AirState) (event : Event) (b : AirState) (answer : Answer) → AirStep a event b answer →
+    ReportsBestArrival a event answer
 reports_best a event b (Refuses why) step = tt
 reports_best a event b (Does s) (none, happens) = receives_best a event s.received happens.read happens.arrives
 
-answers_best : (s : Session) (meaning : Option Event) (text : List ℕ) (after : Session) → AnswersMeaning s meaning text after → AnswersBest s meaning text after
+answers_best : (s : Session) (meaning : Option Event) (text : List ℕ) (after : Session) → AnswersMeaning s meaning text after →
+    AnswersBest s meaning text after
 answers_best s None text after h = h
 answers_best s (Some event) text after h = record { happened = h; best = reports_best s.air event h.air h.answer h.step }
 
@@ -44,4 +47,5 @@ pub best_arrivals : (tsc : ℕ) (channel : Channel) (status : Status) (left left
     IsLinkRun tsc channel status left left' taken taken' before after →
     IsRun arrival_rules (idle tsc channel) (λ last. Unit {0}) status left left' taken taken'
 best_arrivals tsc channel status left left' taken taken' before after h =
-    weaker_run link_rules arrival_rules arrivals_are_weaker (idle tsc channel) (λ last. Unit {0}) (λ last. Unit {0}) (λ last stands. stands) status left left' taken taken' h.run
+    weaker_run link_rules arrival_rules arrivals_are_weaker (idle tsc channel) (λ last. Unit {0}) (λ last. Unit {0})
+    (λ last stands. stands) status left left' taken taken' h.run

@@ -14,7 +14,8 @@ not_empty : (word : List ℕ) → 49 ≤ slice_index word 0 → 0 < length word
 not_empty [] first = absurd (omega arith)
 not_empty (octet ∷ word) first = omega arith
 
-uncounted : (begins all some few : Bool) (n : ℕ) → (all ≡ false) ⊎ (few ≡ false) → None ≡ (if begins && all && some && few then Some n else None)
+uncounted : (begins all some few : Bool) (n : ℕ) → (all ≡ false) ⊎ (few ≡ false) →
+    None ≡ (if begins && all && some && few then Some n else None)
 uncounted false all some few n h = refl
 uncounted true false some few n h = refl
 uncounted true true false few n h = refl
@@ -41,7 +42,8 @@ number_read {E} word r n parsed first is some most =
     let below : nat_le v 1000 ≡ true = le-leb v 1000 (omega arith) in
     rw (begins, all, least, below) (ap (λ k. Some k) value)
 
-pub none_read : {E : Type 0} (word : List ℕ) (r : Result ℕ E) (e : E) → ParsesUnsigned 32 10 word r → 49 ≤ slice_index word 0 → r ≡ Err e → None ≡ count_of word
+pub none_read : {E : Type 0} (word : List ℕ) (r : Result ℕ E) (e : E) → ParsesUnsigned 32 10 word r → 49 ≤ slice_index word 0 → r ≡ Err e →
+    None ≡ count_of word
 none_read {E} word r e parsed first is =
     let read : IsRead {E = E} word (Err e) = subst (IsRead {E = E} word) is (plainly word r parsed first) in
     elim (cases_Bool (all_ascii_digits word)) [
@@ -51,9 +53,11 @@ none_read {E} word r e parsed first is =
             | inr small ↦ absurd (read (all, not_empty word first, omega arith))
           ] in
           let above : nat_le (digits_value 10 word) 1000 ≡ false = lt-leb (digits_value 10 word) 1000 large in
-          uncounted (nat_le 49 (slice_index word 0)) (all_ascii_digits word) (nat_le 1 (digits_value 10 word)) (nat_le (digits_value 10 word) 1000) (digits_value 10 word) (inr above)
+          uncounted (nat_le 49 (slice_index word 0)) (all_ascii_digits word) (nat_le 1 (digits_value 10 word))
+          (nat_le (digits_value 10 word) 1000) (digits_value 10 word) (inr above)
       | inr other ↦
-          uncounted (nat_le 49 (slice_index word 0)) (all_ascii_digits word) (nat_le 1 (digits_value 10 word)) (nat_le (digits_value 10 word) 1000) (digits_value 10 word) (inl other)
+          uncounted (nat_le 49 (slice_index word 0)) (all_ascii_digits word) (nat_le 1 (digits_value 10 word))
+          (nat_le (digits_value 10 word) 1000) (digits_value 10 word) (inl other)
     ]
 
 -- four words or more are of no shape

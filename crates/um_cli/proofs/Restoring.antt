@@ -1,5 +1,5 @@
 -- What `code` writes, `replay` restores.
-use Rattle.std.proofs.Common.{◌≡◌, ℕ, ℤ, ◌≤◌, inl, inr, List, [], ◌∷◌, ◌++◌, length, map, Option, None, Some, refl, sym, ap, ◌∙◌, subst, append_assoc, append-nil, arith, lit<}
+use Rattle.std.proofs.Common.{◌≡◌, ℕ, ℤ, ◌≤◌, inl, inr, List, [], ◌∷◌, ◌++◌, length, map, refl, sym, ap, ◌∙◌, subst, append_assoc, append-nil, arith, lit<}
 use Rattle.std.specs.List.{All}
 use Rattle.std.proofs.lemmas.List.{length-map}
 use Rattle.std.proofs.lemmas.List.Elements.{All-nil, All-cons, All-head, All-tail, All-append}
@@ -9,7 +9,6 @@ use Rattle.um_block.specs.Sent.{IsSentBlock, IsSentAccess, IsSentSync}
 use Rattle.um_block.specs.Received.{softened, soft_value, IsReceivedBlock}
 use Rattle.um_block.specs.declared.received.Received.{Received}
 use Rattle.um_block.proofs.Lemmas.{AreBits, accepted_count, clean_block, clean_access, clean_sync, sent_block_bits, sent_access_bits, sent_sync_bits, some_received_block, some_received_access, some_received_sync}
-use Rattle.um_lines.specs.declared.fault.LineFault.{LineFault}
 use Rattle.um_text.specs.declared.code.CodeLine.{CodeLine}
 use Rattle.um_text.specs.declared.code.CodeLine.TheVariants as C
 use Rattle.um_text.specs.declared.burst_lines.BurstLine.{BurstLine}
@@ -17,7 +16,7 @@ use Rattle.um_text.specs.declared.burst_lines.BurstLine.TheVariants.{Normal, Acc
 use Rattle.um_text.specs.BurstLines.{burst_fault, BurstMeans}
 use Rattle.um_text.specs.BurstTexts.{normal_text, block_text, access_text, sync_text}
 use Rattle.um_text.specs.CodeLines.{CodeMeans}
-use Rattle.um_lines.specs.Meanings.{HasOneMeaningUnless}
+use Rattle.um_lines.proofs.OneMeaning.{no_fault}
 use Rattle.um_text.specs.Reports.{IsBlockReport, access_report_text, sync_report_text}
 use Rattle.um_text.proofs.BurstLaws.{one_meaning, short}
 use Rattle.um_text.proofs.WrittenBursts.{normal_line, access_line, sync_line, normal_restored, access_restored, sync_restored, normal_whole, access_whole, sync_whole}
@@ -62,12 +61,12 @@ both_read x x' y y' r r' = record {
 
 -- a line with a meaning has no reason
 good_line : (held : List (List ℤ)) (line : List ℕ) (m : BurstLine) → BurstMeans (length held) line m → IsGood replay_rules held line
-good_line held line m means = go (burst_fault (length held) line) refl (one_meaning (length held) line)
-  where
-    go : (fault : Option LineFault) → burst_fault (length held) line ≡ fault → HasOneMeaningUnless fault (BurstMeans (length held) line) →
-        IsGood replay_rules held line
-    go None e only = record { short = short (length held) line m means; no_fault = e }
-    go (Some fault) e none = absurd (none m means)
+good_line held line m means =
+    let at = length held in
+    record {
+      short = short at line m means;
+      no_fault = no_fault (BurstMeans at line) (burst_fault at line) (one_meaning at line) m means;
+    }
 
 -- one good line and its answer before others
 then : (held mid after : List (List ℤ)) (line answer : List ℕ) (lines others : List (List ℕ)) (m : BurstLine) →
@@ -177,13 +176,15 @@ four_runs a b c d report r each received text =
     let at_last = last_line (sa ∷ sb ∷ sc ∷ []) (normal_line d) report (Normal sd) md (inr (refl, refl, (r, received, text))) in
     let from_third = then (sa ∷ sb ∷ []) (sa ∷ sb ∷ sc ∷ []) [] (normal_line c) [] (normal_line d ∷ []) (report ∷ []) (Normal sc) mc
     (inl (lit< tt, refl, refl)) at_last in
-    let from_second = then (sa ∷ []) (sa ∷ sb ∷ []) [] (normal_line b) [] (normal_line c ∷ normal_line d ∷ []) ([] ∷ report ∷ []) (Normal sb) mb
+    let from_second = then (sa ∷ []) (sa ∷ sb ∷ []) [] (normal_line b) [] (normal_line c ∷ normal_line d ∷ []) ([] ∷ report ∷ [])
+    (Normal sb) mb
     (inl (lit< tt, refl, refl)) from_third in
     then [] (sa ∷ []) [] (normal_line a) [] (normal_line b ∷ normal_line c ∷ normal_line d ∷ []) ([] ∷ [] ∷ report ∷ []) (Normal sa) ma
     (inl (lit< tt, refl, refl)) from_second
 
 block_runs : (bursts : List (List ℕ)) (report : List ℕ) (r : Received) → length bursts ≡ 4 → All (AreBits 148) bursts →
-    IsReceivedBlock (map softened bursts) r → IsBlockReport r report → Runs replay_rules [] (map normal_line bursts) ([] ∷ [] ∷ [] ∷ report ∷ []) []
+    IsReceivedBlock (map softened bursts) r → IsBlockReport r report →
+    Runs replay_rules [] (map normal_line bursts) ([] ∷ [] ∷ [] ∷ report ∷ []) []
 block_runs [] report r count each received text = absurd (omega arith)
 block_runs (a ∷ []) report r count each received text = absurd (omega arith)
 block_runs (a ∷ b ∷ []) report r count each received text = absurd (omega arith)
@@ -229,7 +230,8 @@ pub record AreBroughtBack (lines answers : List (List ℕ)) : Type 0 where
   pub restored : AreRestored lines reports
   pub read : IsRead (joined answers) reports
 
-all_brought_back : (lines answers : List (List ℕ)) (state : Unit {0}) → Runs code_rules tt lines answers state → AreBroughtBack lines answers
+all_brought_back : (lines answers : List (List ℕ)) (state : Unit {0}) → Runs code_rules tt lines answers state →
+    AreBroughtBack lines answers
 all_brought_back [] [] state same = record { reports = []; restored = refl; read = nothing_read }
 all_brought_back [] (y ∷ ys) state none = absurd none
 all_brought_back (line ∷ lines) [] state none = absurd none

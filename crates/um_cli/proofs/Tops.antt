@@ -39,8 +39,9 @@ pub for_shape : (P : Shape → Type 0) (found : Option Shape) (s : Shape) → fo
 for_shape P found s h p t k = let same : s ≡ t = cc (h, k) in subst P same p
 
 -- a run by rules, whatever its command stands for
-pub any_run : {State : Type 0} (r : Rules State) (a : State) (Stands : State → Type 0) (status : Status) (left left' taken taken' : Option (List ℕ)) →
-    IsRun r a Stands status left left' taken taken' → IsRun r a (λ _. Unit {0}) status left left' taken taken'
+pub any_run : {State : Type 0} (r : Rules State) (a : State) (Stands : State → Type 0) (status : Status)
+    (left left' taken taken' : Option (List ℕ)) → IsRun r a Stands status left left' taken taken' →
+    IsRun r a (λ _. Unit {0}) status left left' taken taken'
 any_run r a Stands status left left' taken taken' run =
     weaker_run r r (as_weak r) a Stands (λ _. Unit {0}) (λ b stands. tt) status left left' taken taken' run
 
@@ -53,13 +54,15 @@ restores status (Some x) taken taken' due = λ z good limit.
     (back.lines, back.reports, back.divided, back.restored, due Done back.reports back.output)
 
 -- a run that began in this state
-pub run_from : {State : Type 0} (r : Rules State) (start begun : State) (Stands : State → Type 0) (status : Status) (left left' taken taken' : Option (List ℕ)) →
-    start ≡ begun → IsRun r start Stands status left left' taken taken' → IsRun r begun Stands status left left' taken taken'
+pub run_from : {State : Type 0} (r : Rules State) (start begun : State) (Stands : State → Type 0) (status : Status)
+    (left left' taken taken' : Option (List ℕ)) → start ≡ begun → IsRun r start Stands status left left' taken taken' →
+    IsRun r begun Stands status left left' taken taken'
 run_from r start begun Stands status left left' taken taken' same run =
     subst (λ s. IsRun r s Stands status left left' taken taken') same run
 
-pub due_from : {State : Type 0} (r : Rules State) → IsDetermined r → (start begun : State) (status : Status) (left taken taken' : Option (List ℕ)) →
-    start ≡ begun → (IsDetermined r → EndsAsDue r start status left taken taken') → EndsAsDue r begun status left taken taken'
+pub due_from : {State : Type 0} (r : Rules State) → IsDetermined r →
+    (start begun : State) (status : Status) (left taken taken' : Option (List ℕ)) → start ≡ begun →
+    (IsDetermined r → EndsAsDue r start status left taken taken') → EndsAsDue r begun status left taken taken'
 due_from r determined start begun status left taken taken' same due =
     subst (λ s. EndsAsDue r s status left taken taken') same (due determined)
 

@@ -79,7 +79,8 @@ pub fn run<S: Source, K: Sink, R: Radio>(
 
     // `make` reads nothing. It writes what the generated session comes to, whose blocks the radio coded and received.
     ensures unread { (n tsc : ℕ) → shape_of words.now ≡ Some (Shape.Make n tsc) → input.new ≡ input.old }
-    ensures made { (n tsc : ℕ) → shape_of words.now ≡ Some (Shape.Make n tsc) → IsMakeRun n tsc result (K.taken output.old) (K.taken output.new)
+    ensures made { (n tsc : ℕ) → shape_of words.now ≡ Some (Shape.Make n tsc)
+        → IsMakeRun n tsc result (K.taken output.old) (K.taken output.new)
         (record { sent = R.sent radio.old; heard = R.heard radio.old })
         (record { sent = R.sent radio.new; heard = R.heard radio.new }) }
 

@@ -158,8 +158,9 @@ module _ {State : Type 0} {r : Rules State} {a : State} {Stands : State → Type
       (whole_of (arrive u.at.reads step) none_held ended rest at_end, sym (says u.at.state u.stands) ∙ none, text_is))
 
   pub end_refused : {reason : Option LineFault} {text : List ℕ} {number : ℕ} {fault : LineFault}
-      → IsNext reading mid left' next.End reading' → number ≡ reading'.number → text ≡ refused_text (number + 1) fault → reason ≡ Some fault →
-      ((b : State) → Stands b → reason ≡ r.end_fault b) → IsEnding r a Stands BadInput left left' taken taken' gathered text
+      → IsNext reading mid left' next.End reading' → number ≡ reading'.number → text ≡ refused_text (number + 1) fault →
+      reason ≡ Some fault → ((b : State) → Stands b → reason ≡ r.end_fault b) →
+      IsEnding r a Stands BadInput left left' taken taken' gathered text
   end_refused {text = text} {fault = fault} n number_is text_is some says =
       let (came, step) = n.goes_on u.goes_on in
       let (h, none_held, ended) = step.gives in

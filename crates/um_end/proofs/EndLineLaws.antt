@@ -23,6 +23,7 @@ use Rattle.um_text.specs.declared.burst_lines.BurstLine.{BurstLine}
 use Rattle.um_text.specs.BurstLines.{burst_line, burst_fault, BurstMeans}
 use Rattle.um_text.proofs.BurstLaws.{one_meaning as one_burst, AreSoft, hard, soft, lost}
 use Rattle.um_lines.proofs.KnownValues.{line_is}
+use Rattle.um_lines.proofs.OneMeaning.{no_fault, same_meaning}
 use Rattle.um_script.specs.ScriptLines.{event_said, ScriptMeans}
 use Rattle.um_link.specs.Naming.{event_of}
 use Rattle.um_end.specs.declared.lines.EndLine.{EndLine}
@@ -31,15 +32,6 @@ use Rattle.um_end.specs.Terminals.{IsCallOf}
 use Rattle.um_end.specs.EndLines.{Meaning, Nothing, Brings, Calls, meaning_of, IsPossible, own_forms, brought_by, called, end_line, end_fault, EndMeans, begins_own, inside, without_singles}
 
 -- ---- lines without a reason, of any table
-
-by_fault : {A : Type 0} (fault : Option LineFault) (Means : A → Type 0) (a b : A) → HasOneMeaningUnless fault Means → Means a → Means b →
-    a ≡ b
-by_fault None Means a b one m n = one.2 a m ∙ sym (one.2 b n)
-by_fault (Some fault) Means a b none m n = absurd (none a m)
-
-no_fault : {A : Type 0} (fault : Option LineFault) (Means : A → Type 0) (a : A) → HasOneMeaningUnless fault Means → Means a → fault ≡ None
-no_fault None Means a one m = refl
-no_fault (Some fault) Means a none m = absurd (none a m)
 
 module _ {Name A : Type 0} (table : Table Name) (elsewhere : Name → Bool) (make : Option (Name × List Value) → A) (line : List ℕ) where
   means_said : line_fault table elsewhere line ≡ None → LineIs table elsewhere make line (make (line_says table line))
@@ -272,10 +264,10 @@ module _ (role : Role) (held : ℕ) (line : List ℕ) (short : length line ≤ 4
     pub call_means : not (held == 0) ≡ false → (event : Option Event) → ScriptMeans line event → EndMeans role held line (called event)
     call_means none event means =
         let good : line_fault link_forms anywhere line ≡ None =
-        no_fault (line_fault link_forms anywhere line) (ScriptMeans line) event (script_one_meaning line) means in
+        no_fault (ScriptMeans line) (line_fault link_forms anywhere line) (script_one_meaning line) event means in
         let said : event ≡ event_said (line_says link_forms line) =
-        by_fault (line_fault link_forms anywhere line) (ScriptMeans line) event (event_said (line_says link_forms line))
-        (script_one_meaning line) means
+        same_meaning (ScriptMeans line) (line_fault link_forms anywhere line) (script_one_meaning line)
+        event (event_said (line_says link_forms line)) means
         (means_said link_forms anywhere event_said line good) in
         subst (EndMeans role held line) (own_says ∙ ap called (sym said))
         (means_said (end_forms (own_forms role)) (end_elsewhere held) end_line line (call_fault none ∙ good))
@@ -291,9 +283,9 @@ module _ (role : Role) (held : ℕ) (line : List ℕ) (short : length line ≤ 4
 
     pub other_means : (read : BurstLine) → BurstMeans 3 line read → EndMeans role held line (brought_by read)
     other_means read means =
-        let good : burst_fault 3 line ≡ None = no_fault (burst_fault 3 line) (BurstMeans 3 line) read (one_burst 3 line) means in
+        let good : burst_fault 3 line ≡ None = no_fault (BurstMeans 3 line) (burst_fault 3 line) (one_burst 3 line) read means in
         let said : read ≡ burst_line (line_says burst_forms line) =
-        by_fault (burst_fault 3 line) (BurstMeans 3 line) read (burst_line (line_says burst_forms line)) (one_burst 3 line) means
+        same_meaning (BurstMeans 3 line) (burst_fault 3 line) (one_burst 3 line) read (burst_line (line_says burst_forms line)) means
         (means_said burst_forms (burst_elsewhere 3) burst_line line good) in
         let says : end_line (line_says (end_forms (own_forms role)) line) ≡ brought_by (burst_line (line_says burst_forms line)) =
         ap end_line (says_of_words (end_forms (own_forms role)) (end_elsewhere held) line short kept)

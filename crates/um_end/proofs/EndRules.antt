@@ -20,8 +20,7 @@ use Rattle.lapdm_link.proofs.Lemmas.{AreOctets, CallOctets, EndOctets, SaysOctet
 use Rattle.lapdm_link.specs.Events.{Request, Send, SendUnit, Close, Tick, Idle, Open, OpenBare, Ask, Deliver, Lose, Rival, because, Because, call_of}
 use Rattle.um_block.proofs.Lemmas.{one_sent_block, some_sent_block, some_received_block, accepted_count, accepted_octets}
 use Rattle.um_block.specs.declared.received.Received.{Received}
-use Rattle.um_lines.specs.declared.fault.LineFault.{LineFault}
-use Rattle.um_lines.specs.Meanings.{HasOneMeaningUnless}
+use Rattle.um_lines.proofs.OneMeaning.{good_meaning, same_meaning}
 use Rattle.um_text.specs.BurstTexts.{block_text}
 use Rattle.um_air.specs.Air.{Octets, Block, Event, Reads, Answer, Refuses, Does, Step}
 use Rattle.um_air.specs.Sessions.{IsOctetEvent}
@@ -40,13 +39,6 @@ use Rattle.um_end.proofs.Deeds.{by_sapi}
 use Rattle.um_end.proofs.EndLineLaws.{end_one_meaning, burst_is_soft, call_is_own}
 
 -- ---- one answer
-
-same_meaning : (role : Role) (held : ℕ) (line : List ℕ) (m m' : Meaning) → EndMeans role held line m → EndMeans role held line m' → m ≡ m'
-same_meaning role held line m m' means means' = go (end_fault role held line) (end_one_meaning role held line)
-  where
-    go : (fault : Option LineFault) → HasOneMeaningUnless fault (EndMeans role held line) → m ≡ m'
-    go None only = only.2 m means ∙ sym (only.2 m' means')
-    go (Some fault) none = absurd (none m means)
 
 same_coded : (tsc : ℕ) (os : List Octets) (bs cs : List Block) → AreCoded tsc os bs → AreCoded tsc os cs → bs ≡ cs
 same_coded tsc [] [] [] h k = refl
@@ -93,7 +85,8 @@ same_answer s (Calls event) y y' b b' h h' = same_asked s event y y' b b' h h'
 
 pub end_is_determined : IsDetermined end_rules
 end_is_determined s line y y' b b' (m, means, answer) (m', means', answer') =
-    let same = same_meaning s.role (length s.held) line m m' means means' in
+    let at = length s.held in
+    let same = same_meaning (EndMeans s.role at line) (end_fault s.role at line) (end_one_meaning s.role at line) m m' means means' in
     same_answer s m' y y' b b' (subst (λ x. AnswersMeaning s x y b) same answer) answer'
 
 -- ---- some answer
@@ -387,9 +380,8 @@ module _ (role : Role) (tsc : ℕ) where
   module _ (known : tsc ≤ 7) where
     pub end_is_total : IsTotal end_rules (idle role tsc)
     end_is_total lines answers b runs line plain good =
-        let meant : HasOneMeaningUnless None (EndMeans b.role (length b.held) line) =
-        subst (λ fault. HasOneMeaningUnless fault (EndMeans b.role (length b.held) line)) good.no_fault
-        (end_one_meaning b.role (length b.held) line) in
+        let at = length b.held in
+        let meant = good_meaning (EndMeans b.role at line) (end_fault b.role at line) (end_one_meaning b.role at line) good.no_fault in
         let kept : IsKept role tsc b = Runs-keep end_rules (IsKept role tsc) step_keeps (idle role tsc) b lines answers
         (idle_kept role tsc) runs in
         let answer = some_meaning role tsc b line meant.0 known kept meant.1 in

@@ -72,7 +72,8 @@ impl Buffer {
     /// Asks the source once, for all that there is room for, and answers how many octets came.
     pub(crate) fn read<S: Source>(&mut self, source: &mut S) -> Result<usize, Failed>
         requires room { length (octets_of self.old) < held_limit }
-        ensures came { IfOk result (λ n. (came : List ℕ) × (octets_of self.new ≡ octets_of self.old ++ came) × (length came ≡ n) × Consumes (S.left source.old) (S.left source.new) came) }
+        ensures came { IfOk result (λ n. (came : List ℕ) × (octets_of self.new ≡ octets_of self.old ++ came) × (length came ≡ n)
+            × Consumes (S.left source.old) (S.left source.new) came) }
         ensures end { IfOk result (λ n. n ≡ 0 → IsAtEnd (S.left source.new)) }
         ensures failed { OnErr result ((octets_of self.new ≡ octets_of self.old) × Keeps (S.left source.old) (S.left source.new)) }
         ensures counted { OnOk result (S.faults source.new ≡ S.faults source.old) }

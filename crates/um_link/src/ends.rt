@@ -48,7 +48,8 @@ impl Ends {
     /// The mobile asks for the link of SAPI 0 with this information.
     pub(crate) fn open(&mut self, info: &[u8], effects: &mut Effects) -> Result<(), Refused>
         requires on { IsOn (ends_channel self.old) self.old }
-        ensures refusal { (es : E.Ends) → Stands self.old es → result_err result ≡ refusal_of (Opens info.now) (E.end_in R.Mobile S.Zero es) }
+        ensures refusal { (es : E.Ends) → Stands self.old es
+            → result_err result ≡ refusal_of (Opens info.now) (E.end_in R.Mobile S.Zero es) }
         ensures follows { OnOk result
             (Follows (ends_channel self.old) (E.asks R.Mobile S.Zero (Opens info.now)) self.old effects.new self.new) }
         ensures on { IsOn (ends_channel self.old) self.new }
@@ -61,7 +62,8 @@ impl Ends {
     /// An end asks for the link of SAPI 3.
     pub(crate) fn open_bare(&mut self, end: End, effects: &mut Effects) -> Result<(), Refused>
         requires on { IsOn (ends_channel self.old) self.old }
-        ensures refusal { (es : E.Ends) → Stands self.old es → result_err result ≡ refusal_of OpensBare (E.end_in (role_of end) S.Three es) }
+        ensures refusal { (es : E.Ends) → Stands self.old es
+            → result_err result ≡ refusal_of OpensBare (E.end_in (role_of end) S.Three es) }
         ensures follows { OnOk result
             (Follows (ends_channel self.old) (E.asks (role_of end) S.Three OpensBare) self.old effects.new self.new) }
         ensures on { IsOn (ends_channel self.old) self.new }
@@ -83,7 +85,8 @@ impl Ends {
         effects: &mut Effects,
     ) -> Result<(), Refused>
         requires on { IsOn (ends_channel self.old) self.old }
-        ensures refusal { (es : E.Ends) → Stands self.old es → result_err result ≡ refusal_of (call_of call.now) (E.end_in (role_of end) sapi es) }
+        ensures refusal { (es : E.Ends) → Stands self.old es
+            → result_err result ≡ refusal_of (call_of call.now) (E.end_in (role_of end) sapi es) }
         ensures follows { OnOk result
             (Follows (ends_channel self.old) (E.asks (role_of end) sapi (call_of call.now)) self.old effects.new self.new) }
         ensures on { IsOn (ends_channel self.old) self.new }

@@ -58,7 +58,8 @@ fn soften_first(way: &HeapCircularBuffer<[[u8; 148]; 4]>, places: &[u16], soft: 
     requires way { IsWay way.now }
     requires some { 0 < length way.now.items }
     requires places { ArePlaces places.now }
-    ensures value { (block : Block) (others : List Block) → way.now.items ≡ block ∷ others → soft.new ≡ map softened (turned places.now block) }
+    ensures value { (block : Block) (others : List Block) → way.now.items ≡ block ∷ others
+        → soft.new ≡ map softened (turned places.now block) }
     ensures soft { All AllSoft soft.new }
 {
     let first = way.front().unwrap();

@@ -8,13 +8,26 @@ use Rattle.lapdm_link.specs.Claims.{got_in, acked_in}
 use Rattle.um_make.specs.declared.end_summary.EndSummary.{EndSummary}
 use Rattle.um_make.specs.Counting.{Tells}
 
-got-sum : (f : List ℕ → ℕ) (xs ys : List Notice) → sum_by f (filter_map got_in (xs ++ ys)) ≡ sum_by f (filter_map got_in xs) + sum_by f (filter_map got_in ys)
+got-sum : (f : List ℕ → ℕ) (xs ys : List Notice) →
+    sum_by f (filter_map got_in (xs ++ ys)) ≡ sum_by f (filter_map got_in xs) + sum_by f (filter_map got_in ys)
 got-sum f xs ys = ap (sum_by f) (filter_map-append got_in xs ys) ∙ sum_by-append f (filter_map got_in xs) (filter_map got_in ys)
 
 pub tells-more : (xs ys : List Notice) (a b c : EndSummary) → Tells xs a b → Tells ys b c → Tells (xs ++ ys) a c
 tells-more xs ys a b c h k = record {
-  got = omega (arith, h.got, k.got, ap length (filter_map-append got_in xs ys), length-append (filter_map got_in xs) (filter_map got_in ys));
+  got = omega (
+    arith,
+    h.got,
+    k.got,
+    ap length (filter_map-append got_in xs ys),
+    length-append (filter_map got_in xs) (filter_map got_in ys),
+  );
   octets = omega (arith, h.octets, k.octets, got-sum (λ m. length m) xs ys);
   sum = omega (arith, h.sum, k.sum, got-sum (λ m. sum m) xs ys);
-  acked = omega (arith, h.acked, k.acked, ap length (filter_map-append acked_in xs ys), length-append (filter_map acked_in xs) (filter_map acked_in ys));
+  acked = omega (
+    arith,
+    h.acked,
+    k.acked,
+    ap length (filter_map-append acked_in xs ys),
+    length-append (filter_map acked_in xs) (filter_map acked_in ys),
+  );
 }

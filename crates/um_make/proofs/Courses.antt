@@ -21,7 +21,8 @@ turns_by lost again r pieces c =
     ++ (if lost then (if again then Lose r ∷ Ask r Zero Tick ∷ [] else Deliver r (places (c + 1)) ∷ Deliver (other r) [] ∷ []) else []))
     ++ turns r pieces (if lost then c + 1 else c)
 
-lost-turns : (r : Role) (pieces c : ℕ) → is_lost (c + 1) ≡ true → turns r (suc pieces) c ≡ Lose r ∷ Ask r Zero Tick ∷ turns r (suc pieces) (c + 1)
+lost-turns : (r : Role) (pieces c : ℕ) → is_lost (c + 1) ≡ true →
+    turns r (suc pieces) c ≡ Lose r ∷ Ask r Zero Tick ∷ turns r (suc pieces) (c + 1)
 lost-turns r pieces c lost =
     let kept : is_lost (c + 1 + 1) ≡ false = kept-after (c + 1) lost in
     rw (lost, kept) refl
@@ -31,7 +32,8 @@ lost-after pieces c lost =
     let kept : is_lost (c + 1 + 1) ≡ false = kept-after (c + 1) lost in
     rw (lost, kept) refl
 
-kept-turns : (r : Role) (pieces c : ℕ) → is_lost (c + 1) ≡ false → turns r (suc pieces) c ≡ Deliver r (places (c + 1)) ∷ Deliver (other r) [] ∷ turns r pieces (c + 1)
+kept-turns : (r : Role) (pieces c : ℕ) → is_lost (c + 1) ≡ false →
+    turns r (suc pieces) c ≡ Deliver r (places (c + 1)) ∷ Deliver (other r) [] ∷ turns r pieces (c + 1)
 kept-turns r pieces c kept = rw kept refl
 
 kept-after-it : (pieces c : ℕ) → is_lost (c + 1) ≡ false → turn_after (suc pieces) c ≡ turn_after pieces (c + 1)
@@ -46,23 +48,35 @@ pub left-lost : (left number pieces c : ℕ) → 0 < pieces → is_lost (c + 1) 
 left-lost left number pieces c some lost =
     by_one (λ p. left_of left number p c ≡ Lose (sender number) ∷ Ask (sender number) Zero Tick ∷ left_of left number p (c + 1)) pieces some
     (λ k. ap (λ (es : List Event). es ++ messages left (number + 1) (turn_after (suc k) c)) (lost-turns (sender number) k c lost)
-    ∙ ap (λ (n : ℕ). Lose (sender number) ∷ Ask (sender number) Zero Tick ∷ turns (sender number) (suc k) (c + 1) ++ messages left (number + 1) n) (lost-after k c lost))
+    ∙ ap (λ (n : ℕ). Lose (sender number) ∷ Ask (sender number) Zero Tick ∷ turns (sender number) (suc k) (c + 1) ++ messages left
+    (number + 1) n) (lost-after k c lost))
 
 pub left-kept : (left number pieces c : ℕ) → 0 < pieces → is_lost (c + 1) ≡ false →
-    left_of left number pieces c ≡ Deliver (sender number) (places (c + 1)) ∷ Deliver (other (sender number)) [] ∷ left_of left number (pieces - 1) (c + 1)
+    left_of left number pieces c ≡ Deliver (sender number) (places (c + 1)) ∷ Deliver (other (sender number)) [] ∷ left_of left number
+    (pieces - 1) (c + 1)
 left-kept left number pieces c some kept =
-    by_one (λ p. left_of left number p c ≡ Deliver (sender number) (places (c + 1)) ∷ Deliver (other (sender number)) [] ∷ left_of left number (p - 1) (c + 1)) pieces some
+    by_one (λ p. left_of left number p c ≡ Deliver (sender number) (places (c + 1)) ∷ Deliver (other (sender number)) []
+    ∷ left_of left number (p - 1) (c + 1)) pieces some
     (λ k. (let e : suc k - 1 ≡ k = omega arith in
     ap (λ (es : List Event). es ++ messages left (number + 1) (turn_after (suc k) c)) (kept-turns (sender number) k c kept)
-    ∙ ap (λ (n : ℕ). Deliver (sender number) (places (c + 1)) ∷ Deliver (other (sender number)) [] ∷ turns (sender number) k (c + 1) ++ messages left (number + 1) n) (kept-after-it k c kept)
-    ∙ ap (λ (n : ℕ). Deliver (sender number) (places (c + 1)) ∷ Deliver (other (sender number)) [] ∷ left_of left number n (c + 1)) (sym e)))
+    ∙ ap (λ (n : ℕ). Deliver (sender number) (places (c + 1)) ∷ Deliver (other (sender number)) [] ∷ turns (sender number) k (c + 1)
+    ++ messages left (number + 1) n) (kept-after-it k c kept)
+    ∙ ap (λ (n : ℕ). Deliver (sender number) (places (c + 1)) ∷ Deliver (other (sender number)) [] ∷ left_of left number n (c + 1))
+    (sym e)))
 
 pub left-sent : (left number c : ℕ) → 0 < left →
-    left_of left number 0 c ≡ Ask (sender (number + 1)) Zero (Send (message (number + 1))) ∷ left_of (left - 1) (number + 1) (pieces_of (number + 1)) c
+    left_of left number 0 c ≡ Ask (sender (number + 1)) Zero (Send (message (number + 1))) ∷ left_of (left - 1) (number + 1)
+    (pieces_of (number + 1)) c
 left-sent left number c some =
-    by_one (λ l. left_of l number 0 c ≡ Ask (sender (number + 1)) Zero (Send (message (number + 1))) ∷ left_of (l - 1) (number + 1) (pieces_of (number + 1)) c) left some
-    (λ k. let e : suc k - 1 ≡ k = omega arith in ap (λ (l : ℕ). Ask (sender (number + 1)) Zero (Send (message (number + 1))) ∷ left_of l (number + 1) (pieces_of (number + 1)) c) (sym e))
+    by_one (λ l. left_of l number 0 c ≡ Ask (sender (number + 1)) Zero (Send (message (number + 1))) ∷ left_of (l - 1) (number + 1)
+    (pieces_of (number + 1)) c) left some
+    (λ k. let e : suc k - 1 ≡ k =
+    omega arith in
+    ap (λ (l : ℕ). Ask (sender (number + 1)) Zero (Send (message (number + 1))) ∷ left_of l (number + 1) (pieces_of (number + 1)) c)
+    (sym e))
 
-pub sent : (stage : Stage) (left number pieces c : ℕ) (r : Role) (m : Message) (p : ℕ) → stage ≡ Turn → pieces ≡ 0 → 0 < left → r ≡ sender (number + 1) → m ≡ message (number + 1) → p ≡ pieces_of (number + 1) →
-    due stage (sender number) ++ left_of left number pieces c ≡ Ask r Zero (Send m) ∷ due stage (sender (number + 1)) ++ left_of (left - 1) (number + 1) p c
+pub sent : (stage : Stage) (left number pieces c : ℕ) (r : Role) (m : Message) (p : ℕ) → stage ≡ Turn → pieces ≡ 0 → 0 < left →
+    r ≡ sender (number + 1) → m ≡ message (number + 1) → p ≡ pieces_of (number + 1) →
+    due stage (sender number) ++ left_of left number pieces c ≡ Ask r Zero (Send m) ∷ due stage (sender (number + 1)) ++ left_of (left - 1)
+    (number + 1) p c
 sent stage left number pieces c r m p turn none some role octets count = rw (turn, none, role, octets, count) (left-sent left number c some)

@@ -26,7 +26,12 @@ use Rattle.um_make.proofs.Totals.{summary-push}
 use Rattle.um_make.proofs.Sizes.{generated-size}
 
 end-below : (n k m : ℕ) (old new : EndSummary) → n + k ≤ m → IsEndBelow n old → GrowsAtMost k old new → IsEndBelow m new
-end-below n k m old new within h g = record { got = omega (arith, h.got, g.got); octets = omega (arith, h.octets, g.octets); sum = omega (arith, h.sum, g.sum); acked = omega (arith, h.acked, g.acked) }
+end-below n k m old new within h g = record {
+  got = omega (arith, h.got, g.got);
+  octets = omega (arith, h.octets, g.octets);
+  sum = omega (arith, h.sum, g.sum);
+  acked = omega (arith, h.acked, g.acked);
+}
 
 below-more : (n k m : ℕ) (old new : Summary) → n + k ≤ m → IsBelow n old → RisesAtMost k old new → IsBelow m new
 below-more n k m old new within h g = record {
@@ -43,9 +48,18 @@ stays-end : (e : EndSummary) → GrowsAtMost 0 e e
 stays-end e = record { got = omega arith; octets = omega arith; sum = omega arith; acked = omega arith }
 
 stays : (s : Summary) → RisesAtMost 0 s s
-stays s = record { steps = omega arith; sent = omega arith; takes = omega arith; drops = omega arith; lost = omega arith; mobile = stays-end s.mobile; network = stays-end s.network }
+stays s = record {
+  steps = omega arith;
+  sent = omega arith;
+  takes = omega arith;
+  drops = omega arith;
+  lost = omega arith;
+  mobile = stays-end s.mobile;
+  network = stays-end s.network;
+}
 
-pub begins : (tsc : ℕ) (all : List Event) (world : Links) (s : Summary) → Stands world (start_on tsc Sdcch) → IsSummary [] [] s → IsBelow 0 s → IsUnderway tsc all all world s
+pub begins : (tsc : ℕ) (all : List Event) (world : Links) (s : Summary) → Stands world (start_on tsc Sdcch) → IsSummary [] [] s →
+    IsBelow 0 s → IsUnderway tsc all all world s
 begins tsc all world s stands counts small = record {
   events = [];
   answers = [];
@@ -57,7 +71,8 @@ begins tsc all world s stands counts small = record {
   small = small;
 }
 
-pub goes_on : (tsc : ℕ) (all script others : List Event) (world next : Links) (s t : Summary) (e : Event) (r : Result Step No) → IsUnderway tsc all script world s → script ≡ e ∷ others → GoesOn e world r next → Counts e (answer_of r) s t → RisesAtMost 192015 s t →
+pub goes_on : (tsc : ℕ) (all script others : List Event) (world next : Links) (s t : Summary) (e : Event) (r : Result Step No) →
+    IsUnderway tsc all script world s → script ≡ e ∷ others → GoesOn e world r next → Counts e (answer_of r) s t → RisesAtMost 192015 s t →
     IsUnderway tsc all others next t
 goes_on tsc all script others world next s t e r h first goes counts rises =
     let to = goes tsc Sdcch h.events h.answers h.state h.after in
@@ -69,29 +84,36 @@ goes_on tsc all script others world next s t e r h first goes counts rises =
       same = omega (arith, h.same, length-append h.answers (answer_of r ∷ []), length-append h.events (e ∷ []));
       after = to.1;
       summary = summary-push h.events h.answers e (answer_of r) s t h.same h.summary counts;
-      small = below-more (192015 * length h.events) 192015 (192015 * length (h.events ++ e ∷ [])) s t (omega (arith, length-append h.events (e ∷ []))) h.small rises;
+      small = below-more (192015 * length h.events) 192015 (192015 * length (h.events ++ e ∷ [])) s t
+          (omega (arith, length-append h.events (e ∷ []))) h.small rises;
     }
 
-pub small_enough : (tsc n : ℕ) (script : List Event) (world : Links) (s : Summary) → n ≤ 1000 → IsUnderway tsc (generated n) script world s → IsBelow (2 ^ 58) s
+pub small_enough : (tsc n : ℕ) (script : List Event) (world : Links) (s : Summary) → n ≤ 1000 →
+    IsUnderway tsc (generated n) script world s → IsBelow (2 ^ 58) s
 small_enough tsc n script world s most h =
-    below-more (192015 * length h.events) 0 (2 ^ 58) s s (omega (arith, generated-size n, ap length h.whole, length-append h.events script)) h.small (stays s)
+    below-more (192015 * length h.events) 0 (2 ^ 58) s s (omega (arith, generated-size n, ap length h.whole, length-append h.events script))
+    h.small (stays s)
 
-pub sums_up : (tsc : ℕ) (all script : List Event) (world : Links) (s : Summary) → script ≡ [] → IsUnderway tsc all script world s → SumsUp tsc all s
+pub sums_up : (tsc : ℕ) (all script : List Event) (world : Links) (s : Summary) → script ≡ [] → IsUnderway tsc all script world s →
+    SumsUp tsc all s
 sums_up tsc all script world s none h =
     let done : h.events ≡ all = sym (append-nil h.events) ∙ ap (λ (es : List Event). h.events ++ es) (sym none) ∙ sym h.whole in
-    let run : AirRun (start_on tsc Sdcch) all h.answers h.state = subst (λ (es : List Event). AirRun (start_on tsc Sdcch) es h.answers h.state) done h.after.run in
+    let run : AirRun (start_on tsc Sdcch) all h.answers h.state =
+    subst (λ (es : List Event). AirRun (start_on tsc Sdcch) es h.answers h.state) done h.after.run in
     let summary : IsSummary all h.answers s = subst (λ (es : List Event). IsSummary es h.answers s) done h.summary in
     record {
       answers = h.answers;
       last = h.state;
       run = run;
       summary = summary;
-      only = λ others b other. subst (λ (answers : List Answer). IsSummary all answers s) (one_run (start_on tsc Sdcch) all h.state b h.answers others run other).1 summary;
+      only = λ others b other. subst (λ (answers : List Answer). IsSummary all answers s)
+          (one_run (start_on tsc Sdcch) all h.state b h.answers others run other).1 summary;
     }
 
 pub delivered : (tsc n : ℕ) (s : Summary) → SumsUp tsc (generated n) s → IsDelivered s
 delivered tsc n s h =
-    let harmless : IsHarmless (generated n) h.answers = kind_is_harmless tsc Sdcch (generated n) h.answers h.last h.run (kind-generated n) in
+    let harmless : IsHarmless (generated n) h.answers = kind_is_harmless tsc Sdcch (generated n) h.answers h.last h.run
+    (kind-generated n) in
     let agree : CountsAgree (lines (generated n) h.answers) = air_counts tsc Sdcch (generated n) h.answers h.last h.run harmless in
     record {
       mobile = omega (arith, agree Mobile Zero, h.summary.mobile.acknowledged, h.summary.network.messages);

@@ -18,12 +18,15 @@ small octet = octet < 256
 
 octets_small : (i from more : ℕ) → AreOctets (map (λ j. (i + j) % 256) (range_with_len from more))
 octets_small i from zero = All-nil small
-octets_small i from (suc more) = All-cons small ((i + from) % 256) (map (λ j. (i + j) % 256) (range_with_len (from + 1) more)) (let e : (i + from) % 256 < 256 = omega arith in e) (octets_small i (from + 1) more)
+octets_small i from (suc more) = All-cons small ((i + from) % 256) (map (λ j. (i + j) % 256) (range_with_len (from + 1) more))
+    (let e : (i + from) % 256 < 256 = omega arith in e) (octets_small i (from + 1) more)
 
 kind-turn : (r : Role) (c : ℕ) → IsKind (turn r c)
 kind-turn r c = by (is_lost c) (nat_eq (c % 8) 4)
   where
-    by : (lost turned : Bool) → IsKind (if lost then Lose r ∷ Ask r Zero Tick ∷ [] else Deliver r (if turned then 7 * c % 592 ∷ (7 * c + 1) % 592 ∷ (7 * c + 50) % 592 ∷ [] else []) ∷ Deliver (other r) [] ∷ [])
+    by : (lost turned : Bool) →
+        IsKind (if lost then Lose r ∷ Ask r Zero Tick ∷ [] else Deliver r
+        (if turned then 7 * c % 592 ∷ (7 * c + 1) % 592 ∷ (7 * c + 50) % 592 ∷ [] else []) ∷ Deliver (other r) [] ∷ [])
     by true turned = (tt, tt, (tt, tt, tt))
     by false true = (omega arith, tt, (omega arith, tt, tt))
     by false false = (omega arith, tt, (omega arith, tt, tt))
@@ -41,8 +44,16 @@ kind-turns r (suc pieces) c =
 
 kind-messages : (more i c : ℕ) → IsKind (messages more i c)
 kind-messages zero i c = tt
-kind-messages (suc more) i c =
-    (tt, octets_small i 0 (size_of i), kind-append (turns (sender i) (pieces_of i) c) _ (kind-turns (sender i) (pieces_of i) c) (kind-messages more (i + 1) (turn_after (pieces_of i) c)))
+kind-messages (suc more) i c = (
+  tt,
+  octets_small i 0 (size_of i),
+  kind-append (turns (sender i) (pieces_of i) c) _ (kind-turns (sender i) (pieces_of i) c)
+      (kind-messages more (i + 1) (turn_after (pieces_of i) c)),
+)
 
 pub kind-generated : (n : ℕ) → IsKind (generated n)
-kind-generated n = (tt, All-cons small 1 [] (let e : 1 < 256 = omega arith in e) (All-nil small), (omega arith, tt, (omega arith, tt, kind-messages n 1 0)))
+kind-generated n = (
+  tt,
+  All-cons small 1 [] (let e : 1 < 256 = omega arith in e) (All-nil small),
+  (omega arith, tt, (omega arith, tt, kind-messages n 1 0)),
+)

@@ -60,7 +60,8 @@ same_numbers g g' o o' t t' a a' p q r s = cc
 same_end : (r : Role) (ls : List Line) (e f : EndSummary) → IsEndSummary r ls e → IsEndSummary r ls f → e ≡ f
 unfolding end_with
 same_end r ls e f h k =
-    same_numbers e.got f.got e.octets f.octets e.sum f.sum e.acked f.acked (h.messages ∙ sym k.messages) (h.octets ∙ sym k.octets) (h.sum ∙ sym k.sum)
+    same_numbers e.got f.got e.octets f.octets e.sum f.sum e.acked f.acked (h.messages ∙ sym k.messages) (h.octets ∙ sym k.octets)
+    (h.sum ∙ sym k.sum)
     (h.acknowledged ∙ sym k.acknowledged)
 
 summary_with : ℕ → ℕ → ℕ → ℕ → ℕ → EndSummary → EndSummary → Summary
@@ -71,7 +72,8 @@ same_parts : (a a' b b' c c' d d' e e' : ℕ) (m m' n n' : EndSummary) → a ≡
     summary_with a b c d e m n ≡ summary_with a' b' c' d' e' m' n'
 same_parts a a' b b' c c' d d' e e' m m' n n' p q r s t u v = cc
 
-same_summary : (events : List Event) (answers : List Answer) (s t : Summary) → IsSummary events answers s → IsSummary events answers t → s ≡ t
+same_summary : (events : List Event) (answers : List Answer) (s t : Summary) → IsSummary events answers s →
+    IsSummary events answers t → s ≡ t
 unfolding summary_with
 same_summary events answers s t h k =
     let ls : List Line = lines events answers in
@@ -96,10 +98,12 @@ one_summary tsc events within octets =
         run = some.2;
         summary = is_summary events answers;
         only = λ others b other.
-            subst (λ (xs : List Answer). IsSummary events xs (summary_of events answers)) (one_run (start_on tsc Sdcch) events some.1 b answers others some.2 other).1
+            subst (λ (xs : List Answer). IsSummary events xs (summary_of events answers))
+            (one_run (start_on tsc Sdcch) events some.1 b answers others some.2 other).1
             (is_summary events answers);
       };
-      one = λ other sums. same_summary events answers other (summary_of events answers) (sums.only answers some.1 some.2) (is_summary events answers);
+      one = λ other sums. same_summary events answers other (summary_of events answers) (sums.only answers some.1 some.2)
+          (is_summary events answers);
     }
 
 -- and so have the generated ones

@@ -11,7 +11,8 @@ use Rattle.um_make.specs.Counting.{one_if}
 
 pub raised_by-more : (a b n m : ℕ) → m ≡ b + a → raised_by a (raised_by b n) ≡ raised_by m n
 raised_by-more zero b n m e = ap (λ k. raised_by k n) (let f : b ≡ m = omega arith in f)
-raised_by-more (suc a) b n m e = ap raised (raised_by-more a b n (b + a) refl) ∙ ap (λ k. raised_by k n) (let f : suc (b + a) ≡ m = omega arith in f)
+raised_by-more (suc a) b n m e = ap raised (raised_by-more a b n (b + a) refl)
+    ∙ ap (λ k. raised_by k n) (let f : suc (b + a) ≡ m = omega arith in f)
 
 pub frames_are : (r : Result Step No) → sends (answer_of r) ≡ frames_in r
 frames_are (Ok s) = refl

@@ -17,22 +17,26 @@ use Rattle.um_make.specs.Summaries.{sends, is_take, is_drop, is_loss, IsEndSumma
 use Rattle.um_make.specs.Counting.{Tells, told_of, told_in, one_if, Counts}
 
 -- the lines of one event more stand behind those before
-lines-push : (es : List Event) (answers : List Answer) (e : Event) (a : Answer) → length answers ≡ length es → lines (es ++ e ∷ []) (answers ++ a ∷ []) ≡ lines es answers ++ lines (e ∷ []) (a ∷ [])
+lines-push : (es : List Event) (answers : List Answer) (e : Event) (a : Answer) → length answers ≡ length es →
+    lines (es ++ e ∷ []) (answers ++ a ∷ []) ≡ lines es answers ++ lines (e ∷ []) (a ∷ [])
 lines-push [] [] e a same = refl
 lines-push [] (y ∷ answers) e a same = absurd (omega arith)
 lines-push (x ∷ es) [] e a same = absurd (omega arith)
 lines-push (x ∷ es) (y ∷ answers) e a same =
     let first : List Line = answer_lines x (told y) in
-    ap (λ (ls : List Line). first ++ ls) (lines-push es answers e a (omega arith)) ∙ sym (append_assoc first (lines es answers) (lines (e ∷ []) (a ∷ [])))
+    ap (λ (ls : List Line). first ++ ls) (lines-push es answers e a (omega arith))
+    ∙ sym (append_assoc first (lines es answers) (lines (e ∷ []) (a ∷ [])))
 
 -- an end's notices of one answer
-said_by : (r role : Role) (s : Sapi) (b : Bool) → (is_role r role && is_sapi Zero s) ≡ b → (ns : List Notice) → filter_map (notice_in r Zero) (map (Told role s) ns ++ []) ≡ (if b then ns else [])
+said_by : (r role : Role) (s : Sapi) (b : Bool) → (is_role r role && is_sapi Zero s) ≡ b → (ns : List Notice) →
+    filter_map (notice_in r Zero) (map (Told role s) ns ++ []) ≡ (if b then ns else [])
 said_by r role s true e [] = refl
 said_by r role s false e [] = refl
 said_by r role s true e (n ∷ ns) = rw e (ap (λ (ms : List Notice). n ∷ ms) (said_by r role s true e ns))
 said_by r role s false e (n ∷ ns) = rw e (said_by r role s false e ns)
 
-said_of : (r : Role) (who : Who) (s : Sapi) (ns : List Notice) → filter_map (notice_in r Zero) (notice_lines who s ns ++ []) ≡ told_of r who s ns
+said_of : (r : Role) (who : Who) (s : Sapi) (ns : List Notice) →
+    filter_map (notice_in r Zero) (notice_lines who s ns ++ []) ≡ told_of r who s ns
 said_of r (End role) s ns = said_by r role s (is_role r role && is_sapi Zero s) refl ns
 said_of r Other s ns = refl
 said_of r Nobody s ns = refl
@@ -47,28 +51,41 @@ said_in r (Lose sender) (Does step) = said_of r step.who step.sapi step.notices
 said_in r (Rival info) (Does step) = said_of r step.who step.sapi step.notices
 
 got-more : (r : Role) (ls ms : List Line) → got r Zero (ls ++ ms) ≡ got r Zero ls ++ filter_map got_in (notices r Zero ms)
-got-more r ls ms = ap (filter_map got_in) (filter_map-append (notice_in r Zero) ls ms) ∙ filter_map-append got_in (notices r Zero ls) (notices r Zero ms)
+got-more r ls ms = ap (filter_map got_in) (filter_map-append (notice_in r Zero) ls ms)
+    ∙ filter_map-append got_in (notices r Zero ls) (notices r Zero ms)
 
 acked-more : (r : Role) (ls ms : List Line) → acked r Zero (ls ++ ms) ≡ acked r Zero ls ++ filter_map acked_in (notices r Zero ms)
-acked-more r ls ms = ap (filter_map acked_in) (filter_map-append (notice_in r Zero) ls ms) ∙ filter_map-append acked_in (notices r Zero ls) (notices r Zero ms)
+acked-more r ls ms = ap (filter_map acked_in) (filter_map-append (notice_in r Zero) ls ms)
+    ∙ filter_map-append acked_in (notices r Zero ls) (notices r Zero ms)
 
-end-more : (r : Role) (ls ms : List Line) (old new : EndSummary) → IsEndSummary r ls old → Tells (notices r Zero ms) old new → IsEndSummary r (ls ++ ms) new
+end-more : (r : Role) (ls ms : List Line) (old new : EndSummary) → IsEndSummary r ls old → Tells (notices r Zero ms) old new →
+    IsEndSummary r (ls ++ ms) new
 end-more r ls ms old new h t =
     let gs : List (List ℕ) = filter_map got_in (notices r Zero ms) in
     let numbers : List ℕ = filter_map acked_in (notices r Zero ms) in
     record {
       messages = omega (arith, h.messages, t.got, ap length (got-more r ls ms), length-append (got r Zero ls) gs);
-      octets = omega (arith, h.octets, t.octets, ap (sum_by (λ m. length m)) (got-more r ls ms), sum_by-append (λ m. length m) (got r Zero ls) gs);
+      octets = omega (
+        arith,
+        h.octets,
+        t.octets,
+        ap (sum_by (λ m. length m)) (got-more r ls ms),
+        sum_by-append (λ m. length m) (got r Zero ls) gs,
+      );
       sum = omega (arith, h.sum, t.sum, ap (sum_by (λ m. sum m)) (got-more r ls ms), sum_by-append (λ m. sum m) (got r Zero ls) gs);
       acknowledged = omega (arith, h.acknowledged, t.acked, ap length (acked-more r ls ms), length-append (acked r Zero ls) numbers);
     }
 
-end-push : (r : Role) (es : List Event) (answers : List Answer) (e : Event) (a : Answer) (old new : EndSummary) → length answers ≡ length es → IsEndSummary r (lines es answers) old → Tells (told_in r a) old new → IsEndSummary r (lines (es ++ e ∷ []) (answers ++ a ∷ [])) new
+end-push : (r : Role) (es : List Event) (answers : List Answer) (e : Event) (a : Answer) (old new : EndSummary) →
+    length answers ≡ length es → IsEndSummary r (lines es answers) old → Tells (told_in r a) old new →
+    IsEndSummary r (lines (es ++ e ∷ []) (answers ++ a ∷ [])) new
 end-push r es answers e a old new same h t =
     subst (λ (ls : List Line). IsEndSummary r ls new) (sym (lines-push es answers e a same))
-    (end-more r (lines es answers) (lines (e ∷ []) (a ∷ [])) old new h (subst (λ (ns : List Notice). Tells ns old new) (sym (said_in r e a)) t))
+    (end-more r (lines es answers) (lines (e ∷ []) (a ∷ [])) old new h
+    (subst (λ (ns : List Notice). Tells ns old new) (sym (said_in r e a)) t))
 
-pub summary-push : (es : List Event) (answers : List Answer) (e : Event) (a : Answer) (old new : Summary) → length answers ≡ length es → IsSummary es answers old → Counts e a old new → IsSummary (es ++ e ∷ []) (answers ++ a ∷ []) new
+pub summary-push : (es : List Event) (answers : List Answer) (e : Event) (a : Answer) (old new : Summary) → length answers ≡ length es →
+    IsSummary es answers old → Counts e a old new → IsSummary (es ++ e ∷ []) (answers ++ a ∷ []) new
 summary-push es answers e a old new same h k = record {
   steps = omega (arith, h.steps, k.steps, length-append es (e ∷ []));
   sent = omega (arith, h.sent, k.sent, sum_by_push sends answers a);

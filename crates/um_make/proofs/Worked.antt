@@ -8,7 +8,9 @@ use Rattle.um_make.specs.Generated.{message, pieces_of, turns, turn_after, gener
 -- one message of 38 octets, in two pieces
 one : generated 1
     ≡ Open (1 ∷ []) ∷ Deliver Mobile [] ∷ Deliver Network []
-    ∷ Ask Mobile Zero (Send (1 ∷ 2 ∷ 3 ∷ 4 ∷ 5 ∷ 6 ∷ 7 ∷ 8 ∷ 9 ∷ 10 ∷ 11 ∷ 12 ∷ 13 ∷ 14 ∷ 15 ∷ 16 ∷ 17 ∷ 18 ∷ 19 ∷ 20 ∷ 21 ∷ 22 ∷ 23 ∷ 24 ∷ 25 ∷ 26 ∷ 27 ∷ 28 ∷ 29 ∷ 30 ∷ 31 ∷ 32 ∷ 33 ∷ 34 ∷ 35 ∷ 36 ∷ 37 ∷ 38 ∷ []))
+    ∷ Ask Mobile Zero
+    (Send (1 ∷ 2 ∷ 3 ∷ 4 ∷ 5 ∷ 6 ∷ 7 ∷ 8 ∷ 9 ∷ 10 ∷ 11 ∷ 12 ∷ 13 ∷ 14 ∷ 15 ∷ 16 ∷ 17 ∷ 18 ∷ 19 ∷ 20 ∷ 21 ∷ 22 ∷ 23 ∷ 24 ∷ 25 ∷ 26 ∷ 27
+    ∷ 28 ∷ 29 ∷ 30 ∷ 31 ∷ 32 ∷ 33 ∷ 34 ∷ 35 ∷ 36 ∷ 37 ∷ 38 ∷ []))
     ∷ Deliver Mobile [] ∷ Deliver Network [] ∷ Deliver Mobile [] ∷ Deliver Network [] ∷ []
 one = refl
 
@@ -21,7 +23,8 @@ second = refl
 -- the third has 112 octets in six pieces; the second of them is lost in turn 8
 third : turns Mobile (pieces_of 3) 6
     ≡ Deliver Mobile [] ∷ Deliver Network [] ∷ Lose Mobile ∷ Ask Mobile Zero Tick ∷ Deliver Mobile [] ∷ Deliver Network []
-    ∷ Deliver Mobile [] ∷ Deliver Network [] ∷ Deliver Mobile [] ∷ Deliver Network [] ∷ Deliver Mobile (84 ∷ 85 ∷ 134 ∷ []) ∷ Deliver Network []
+    ∷ Deliver Mobile [] ∷ Deliver Network [] ∷ Deliver Mobile [] ∷ Deliver Network [] ∷ Deliver Mobile (84 ∷ 85 ∷ 134 ∷ [])
+    ∷ Deliver Network []
     ∷ Deliver Mobile [] ∷ Deliver Network [] ∷ []
 third = refl
 

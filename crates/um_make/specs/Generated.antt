@@ -58,7 +58,8 @@ pieces_of i = count_of (n201 Sdcch) (message i)
 -- so many messages from message i on, after turn c: each is sent, and then its pieces have their turns
 abbrev pub messages : ℕ → ℕ → ℕ → List Event
 messages zero i c = []
-messages (suc more) i c = Ask (sender i) Zero (Send (message i)) ∷ turns (sender i) (pieces_of i) c ++ messages more (i + 1) (turn_after (pieces_of i) c)
+messages (suc more) i c = Ask (sender i) Zero (Send (message i)) ∷ turns (sender i) (pieces_of i) c ++ messages more (i + 1)
+    (turn_after (pieces_of i) c)
 
 -- what is left after turn c: the turns of so many pieces of a message, and so many messages after it
 abbrev pub left_of : ℕ → ℕ → ℕ → ℕ → List Event

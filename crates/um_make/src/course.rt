@@ -63,7 +63,8 @@ impl Course {
     /// The next event.
     pub(crate) fn next<'a>(&mut self, room: &'a mut Room) -> Option<Event<'a>>
         requires { IsSound self.old }
-        ensures event { MatchOption result ((to_come self.old ≡ []) × (to_come self.new ≡ [])) (λ e. to_come self.old ≡ event_of e ∷ to_come self.new) }
+        ensures event { MatchOption result ((to_come self.old ≡ []) × (to_come self.new ≡ []))
+            (λ e. to_come self.old ≡ event_of e ∷ to_come self.new) }
         ensures possible { IfSome result (λ e. IsPossible e) }
         ensures sound { IsSound self.new }
     {
@@ -96,7 +97,8 @@ impl Course {
     fn go_on<'a>(&mut self, room: &'a mut Room) -> Option<Event<'a>>
         requires sound { IsSound self.old }
         requires stage { self.old.stage ≡ S.Turn }
-        ensures event { MatchOption result ((to_come self.old ≡ []) × (to_come self.new ≡ [])) (λ e. to_come self.old ≡ event_of e ∷ to_come self.new) }
+        ensures event { MatchOption result ((to_come self.old ≡ []) × (to_come self.new ≡ []))
+            (λ e. to_come self.old ≡ event_of e ∷ to_come self.new) }
         ensures possible { IfSome result (λ e. IsPossible e) }
         ensures sound { IsSound self.new }
     {

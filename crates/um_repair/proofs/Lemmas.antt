@@ -1,2 +1,2 @@
 -- The lemmas of this crate for the crates above.
-pub use Rattle.um_repair.proofs.RepairAnswers.{repair_is_determined, repair_is_total, repair_has_one_output}
+pub use Rattle.um_repair.proofs.RepairAnswers.{repair_is_determined, repair_has_one_output}

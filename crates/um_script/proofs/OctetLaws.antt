@@ -17,7 +17,8 @@ fitting_octets (Fixed text ∷ fields) values f = fitting_octets fields values f
 fitting_octets (DigitTo most ∷ fields) values (n, rest, same, known, fits) =
     subst (λ vs. AreOctets (octets_in vs)) (sym same) (fitting_octets fields rest fits)
 fitting_octets (BitDigits count ∷ fields) values (bits, rest, same, known, fits) =
-    subst (λ vs. AreOctets (octets_in vs)) (sym same) (All-weaker (λ bit. bit ≤ 1) (λ octet. octet < 256) (λ bit small. omega arith) bits known.1)
+    subst (λ vs. AreOctets (octets_in vs)) (sym same)
+    (All-weaker (λ bit. bit ≤ 1) (λ octet. octet < 256) (λ bit small. omega arith) bits known.1)
 fitting_octets (HexOctets count ∷ fields) values (octets, rest, same, known, fits) =
     subst (λ vs. AreOctets (octets_in vs)) (sym same) known.1
 fitting_octets (SoftOctets count ∷ fields) values (octets, rest, same, known, fits) =
@@ -47,7 +48,8 @@ HasOctets (Some event) = IsOctetEvent event
 
 each_has : (table : Table L.LinkName) → Each anywhere (λ name values. HasOctets (event_said (Some (name, values)))) table
 each_has [] = tt
-each_has (entry ∷ table) = (λ count values here fits. named_octets entry.0 values (fitting_octets (fields_for entry.1 count) values fits), each_has table)
+each_has (entry ∷ table) =
+    (λ count values here fits. named_octets entry.0 values (fitting_octets (fields_for entry.1 count) values fits), each_has table)
 
 pub octet_event : (line : List ℕ) (event : Event) → ScriptMeans line (Some event) → IsOctetEvent event
 octet_event line event means = line_is link_forms anywhere event_said HasOctets tt (each_has link_forms) line (Some event) means

@@ -4,7 +4,8 @@ use Rattle.bit_blocks.specs.Octets.{bits_of, octets_of}
 
 -- an octet is the sum of its bits
 octet_of_bits : (x : ℕ) → x < 256
-    → x % 2 + 2 * (x / 2 % 2) + 4 * (x / 4 % 2) + 8 * (x / 8 % 2) + 16 * (x / 16 % 2) + 32 * (x / 32 % 2) + 64 * (x / 64 % 2) + 128 * (x / 128 % 2) ≡ x
+    → x % 2 + 2 * (x / 2 % 2) + 4 * (x / 4 % 2) + 8 * (x / 8 % 2) + 16 * (x / 16 % 2) + 32 * (x / 32 % 2) + 64 * (x / 64 % 2) + 128
+    * (x / 128 % 2) ≡ x
 octet_of_bits x small = omega arith
 
 pub octets_of-bits_of : (octets : List ℕ) → ((k : ℕ) → Fits w8 (get_or octets k 0)) → octets_of (bits_of octets) ≡ octets

@@ -131,7 +131,8 @@ again (w ∷ ws) marks before within m =
     let parts = or_parts (is_above w) (list_any is_above ws) within in
     let small : digits_value 10 w ≤ 591 = ltb-false 591 (digits_value 10 w) parts.0 in
     let first = m.each (digits_value 10 w) (omega arith) in
-    let rest = again ws (slice_set marks (digits_value 10 w) true) (digits_value 10 w ∷ before) parts.1 (mark marks before (digits_value 10 w) (omega arith) m) in
+    let rest = again ws (slice_set marks (digits_value 10 w) true) (digits_value 10 w ∷ before) parts.1
+    (mark marks before (digits_value 10 w) (omega arith) m) in
     rw (first, rest) refl
 
 unmarked : Marks (replicate 592 false) []
@@ -193,7 +194,8 @@ numbers_many (w ∷ ws) = ap suc (numbers_many ws)
 
 pub few_places : (ws : List (List ℕ)) → list_any is_above ws ≡ false → is_repeated (numbers_of ws) ≡ false → length ws ≤ 592
 few_places ws within once =
-    let few = pigeonhole (length (numbers_of ws)) 592 (λ i. get_or (numbers_of ws) i 0) (small_at ws within) (apart_at (numbers_of ws) once) in
+    let few = pigeonhole (length (numbers_of ws)) 592 (λ i. get_or (numbers_of ws) i 0) (small_at ws within)
+    (apart_at (numbers_of ws) once) in
     omega (arith, few, numbers_many ws)
 
 pub are_places : (ws : List (List ℕ)) → list_any is_above ws ≡ false → All (λ place. place < 592) (numbers_of ws)

@@ -33,7 +33,8 @@ by_word P known w here other =
 -- ---- octets
 
 octets_given : (a b w : List ℕ) (make : List ℕ → A.Event)
-    → unless (fields_fault (Fixed a ∷ Fixed b ∷ octets ∷ []) (a ∷ b ∷ w ∷ [])) (Some (make (hex_octets w))) ≡ with_event make (octets_read (w ∷ []))
+    → unless (fields_fault (Fixed a ∷ Fixed b ∷ octets ∷ []) (a ∷ b ∷ w ∷ [])) (Some (make (hex_octets w)))
+    ≡ with_event make (octets_read (w ∷ []))
 octets_given a b w make =
     elim (cases_Bool (are_octet_digits w)) [
       | inl digits ↦ elim (cases_Bool (are_octets 0 None w)) [
@@ -64,7 +65,8 @@ record NoVerb (verb : List ℕ) : Type 0 where
   pub tick : bytes_eq verb (codes "tick") ≡ false
   pub idle : bytes_eq verb (codes "idle") ≡ false
 
-by_verb : (P : List ℕ → Type 0) (verb : List ℕ) → P (codes "open") → P (codes "send") → P (codes "unit") → P (codes "close") → P (codes "tick")
+by_verb : (P : List ℕ → Type 0) (verb : List ℕ) → P (codes "open") → P (codes "send") → P (codes "unit") → P (codes "close") →
+    P (codes "tick")
     → P (codes "idle") → (NoVerb verb → P verb) → P verb
 by_verb P verb opens send unit close tick idle other =
     by_word P (codes "open") verb opens (λ a. by_word P (codes "send") verb send (λ b. by_word P (codes "unit") verb unit (λ c.
@@ -85,7 +87,8 @@ bare_call L.Net3 verb =
     by_verb (λ v. read_words (end_word L.Net3 ∷ v ∷ []) ≡ bare_call_read L.Net3 (request_said v)) verb refl refl refl refl refl refl
     (λ n. rw (n.opens, n.send, n.unit, n.close, n.tick, n.idle) refl)
 
-octets_call : (end : L.LinkEnd) (verb w : List ℕ) → read_words (end_word end ∷ verb ∷ w ∷ []) ≡ octets_call_read end (request_said verb) (w ∷ [])
+octets_call : (end : L.LinkEnd) (verb w : List ℕ) →
+    read_words (end_word end ∷ verb ∷ w ∷ []) ≡ octets_call_read end (request_said verb) (w ∷ [])
 octets_call L.Mob verb w =
     by_verb (λ v. read_words (end_word L.Mob ∷ v ∷ w ∷ []) ≡ octets_call_read L.Mob (request_said v) (w ∷ [])) verb
     (octets_given (end_word L.Mob) (codes "open") w E.Open)
@@ -189,7 +192,8 @@ places_given a b ws make =
       each_against has_wrong_place ws,
       places_of ws,
     )
-    (by_reasons (list_any (has_wrong_digits BlockPlace) ws) (list_any is_above ws) (is_repeated (map (digits_value 10) ws)) (map (digits_value 10) ws) make)
+    (by_reasons (list_any (has_wrong_digits BlockPlace) ws) (list_any is_above ws) (is_repeated (map (digits_value 10) ws))
+    (map (digits_value 10) ws) make)
 
 -- ---- the air
 
@@ -205,18 +209,23 @@ by_air P verb deliver lose flip other =
 
 bare_air : (way : L.Way) (verb : List ℕ) → read_words (way_word way ∷ verb ∷ []) ≡ bare_air_read way (act_said verb)
 bare_air L.Up verb =
-    by_air (λ v. read_words (way_word L.Up ∷ v ∷ []) ≡ bare_air_read L.Up (act_said v)) verb refl refl refl (λ n. rw (n.deliver, n.lose, n.flip) refl)
+    by_air (λ v. read_words (way_word L.Up ∷ v ∷ []) ≡ bare_air_read L.Up (act_said v)) verb refl refl refl
+    (λ n. rw (n.deliver, n.lose, n.flip) refl)
 bare_air L.Down verb =
-    by_air (λ v. read_words (way_word L.Down ∷ v ∷ []) ≡ bare_air_read L.Down (act_said v)) verb refl refl refl (λ n. rw (n.deliver, n.lose, n.flip) refl)
+    by_air (λ v. read_words (way_word L.Down ∷ v ∷ []) ≡ bare_air_read L.Down (act_said v)) verb refl refl refl
+    (λ n. rw (n.deliver, n.lose, n.flip) refl)
 
 flips : (way : L.Way) (w : List ℕ) (ws : List (List ℕ))
     → read_words (way_word way ∷ codes "flip" ∷ w ∷ ws) ≡ with_event (E.Deliver (sender_of way)) (places_read (w ∷ ws))
 flips L.Up w ws =
-    rw (no_less (length ws), all_stand ws, no_less (length ws)) (places_given (way_word L.Up) (codes "flip") (w ∷ ws) (E.Deliver (sender_of L.Up)))
+    rw (no_less (length ws), all_stand ws, no_less (length ws))
+    (places_given (way_word L.Up) (codes "flip") (w ∷ ws) (E.Deliver (sender_of L.Up)))
 flips L.Down w ws =
-    rw (no_less (length ws), all_stand ws, no_less (length ws)) (places_given (way_word L.Down) (codes "flip") (w ∷ ws) (E.Deliver (sender_of L.Down)))
+    rw (no_less (length ws), all_stand ws, no_less (length ws))
+    (places_given (way_word L.Down) (codes "flip") (w ∷ ws) (E.Deliver (sender_of L.Down)))
 
-long_air : (way : L.Way) (verb w : List ℕ) (ws : List (List ℕ)) → read_words (way_word way ∷ verb ∷ w ∷ ws) ≡ flip_read way (act_said verb) (w ∷ ws)
+long_air : (way : L.Way) (verb w : List ℕ) (ws : List (List ℕ)) →
+    read_words (way_word way ∷ verb ∷ w ∷ ws) ≡ flip_read way (act_said verb) (w ∷ ws)
 long_air L.Up verb w ws =
     by_air (λ v. read_words (way_word L.Up ∷ v ∷ w ∷ ws) ≡ flip_read L.Up (act_said v) (w ∷ ws)) verb refl refl (flips L.Up w ws)
     (λ n. rw (n.deliver, n.lose, n.flip) refl)
@@ -273,7 +282,8 @@ some_call : (end : L.LinkEnd) (verb : List ℕ) (ws : List (List ℕ)) → 0 < l
 some_call end verb [] some = absurd (omega arith)
 some_call end verb (w ∷ ws) some = refl
 
-pub more_call : (end : L.LinkEnd) (verb text : List ℕ) → octets_call_read end (request_said verb) (words text) ≡ call_read end (verb ∷ words text)
+pub more_call : (end : L.LinkEnd) (verb text : List ℕ) → octets_call_read end (request_said verb) (words text)
+    ≡ call_read end (verb ∷ words text)
 more_call end verb text = some_call end verb (words text) (omega (arith, length-slice_split (λ octet. eqb octet 32) text))
 
 some_air : (way : L.Way) (verb : List ℕ) (ws : List (List ℕ)) → 0 < length ws → flip_read way (act_said verb) ws ≡ air_read way (verb ∷ ws)

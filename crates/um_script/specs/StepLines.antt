@@ -57,7 +57,8 @@ heard_text r = codes "tsc " ++ decimal r.tsc ++ codes " train " ++ decimal r.wro
 
 -- the data and the check of a block whose parity does not hold
 abbrev pub dropped_text : List ℕ → List ℕ
-dropped_text u = codes " data " ++ encode_lower (octets_of (take 184 u)) ++ codes " check " ++ encode_lower (octets_of (take 40 (drop 184 u)))
+dropped_text u = codes " data " ++ encode_lower (octets_of (take 184 u)) ++ codes " check " ++ encode_lower
+    (octets_of (take 40 (drop 184 u)))
 
 -- `X takes HEX46 ..` of a block whose parity holds, else `X drops .. data HEX46 check HEX10`
 abbrev pub block_text : Option (List ℕ) → Received → List ℕ
@@ -79,7 +80,8 @@ notice_text (Closed reason) = codes " closed " ++ closing_word reason
 -- a line for each notice
 abbrev pub notices_text : E.Who → Sapi → List Notice → List ℕ
 notices_text who sapi [] = []
-notices_text who sapi (notice ∷ notices) = who_word who ++ link_word sapi ++ notice_text notice ++ codes "\n" ++ notices_text who sapi notices
+notices_text who sapi (notice ∷ notices) = who_word who ++ link_word sapi ++ notice_text notice ++ codes "\n"
+    ++ notices_text who sapi notices
 
 -- a line for each frame: `X sends HEX46`
 abbrev pub frames_text : E.Who → List (List ℕ) → List ℕ

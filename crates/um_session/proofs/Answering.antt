@@ -1,11 +1,11 @@
 -- The command `link` answers each good line in one way.
 use Rattle.std.proofs.Common.{◌≡◌, ℕ, ◌≤◌, List, [], Option, None, Some, All, refl, sym, ap, ◌∙◌, subst}
 use Rattle.lapdm_frame.specs.declared.Channel.{Channel}
-use Rattle.um_lines.specs.declared.fault.LineFault.{LineFault}
 use Rattle.um_lines.specs.Forms.{line_fault, anywhere, LineMeans}
 use Rattle.um_lines.specs.LinkForms.{link_forms}
 use Rattle.um_lines.specs.Meanings.{HasOneMeaningUnless}
 use Rattle.um_lines.proofs.FormLaws.{one_meaning, one_made}
+use Rattle.um_lines.proofs.OneMeaning.{good_meaning, same_meaning}
 use Rattle.um_script.specs.ScriptLines.{ScriptMeans, event_said}
 use Rattle.um_script.specs.StepLines.{answer_text}
 use Rattle.um_air.specs.Air.{Event, Answer, AirState, AirRun, start_on}
@@ -20,16 +20,11 @@ use Rattle.um_session.proofs.Octets.{octets_of_session}
 use Rattle.um_session.specs.Sessions.{Session, idle, with_step, Happened, AnswersMeaning, AnswersScript, link_rules}
 
 meanings : (line : List ℕ) → HasOneMeaningUnless (line_fault link_forms anywhere line) (ScriptMeans line)
-meanings line = one_made event_said (LineMeans link_forms anywhere line) (line_fault link_forms anywhere line) (one_meaning link_forms anywhere line refl)
+meanings line = one_made event_said (LineMeans link_forms anywhere line) (line_fault link_forms anywhere line)
+    (one_meaning link_forms anywhere line refl)
 
-same_meaning : (line : List ℕ) (m m' : Option Event) → ScriptMeans line m → ScriptMeans line m' → m ≡ m'
-same_meaning line m m' means means' = go (line_fault link_forms anywhere line) (meanings line)
-  where
-    go : (fault : Option LineFault) → HasOneMeaningUnless fault (ScriptMeans line) → m ≡ m'
-    go None only = only.2 m means ∙ sym (only.2 m' means')
-    go (Some fault) none = absurd (none m means)
-
-same_happening : (s : Session) (event : Event) (y y' : List ℕ) (b b' : Session) → Happened s event y b → Happened s event y' b' → (y ≡ y') × (b ≡ b')
+same_happening : (s : Session) (event : Event) (y y' : List ℕ) (b b' : Session) → Happened s event y b → Happened s event y' b' →
+    (y ≡ y') × (b ≡ b')
 same_happening s event y y' b b' h h' =
     let same = one_answer s.air event h.air h'.air h.answer h'.answer h.step h'.step in
     let air : h.air ≡ h'.air = same.0 in
@@ -38,13 +33,14 @@ same_happening s event y y' b b' h h' =
       h.after_is ∙ ap (λ x. with_step s event x h.air) answer ∙ ap (λ x. with_step s event h'.answer x) air ∙ sym h'.after_is,
     )
 
-same_answer : (s : Session) (m : Option Event) (y y' : List ℕ) (b b' : Session) → AnswersMeaning s m y b → AnswersMeaning s m y' b' → (y ≡ y') × (b ≡ b')
+same_answer : (s : Session) (m : Option Event) (y y' : List ℕ) (b b' : Session) → AnswersMeaning s m y b → AnswersMeaning s m y' b' →
+    (y ≡ y') × (b ≡ b')
 same_answer s None y y' b b' (e, h) (e', h') = (e ∙ sym e', h ∙ sym h')
 same_answer s (Some event) y y' b b' h h' = same_happening s event y y' b b' h h'
 
 pub link_is_determined : IsDetermined link_rules
 link_is_determined s line y y' b b' (m, means, answer) (m', means', answer') =
-    let same = same_meaning line m m' means means' in
+    let same = same_meaning (ScriptMeans line) (line_fault link_forms anywhere line) (meanings line) m m' means means' in
     same_answer s m' y y' b b' (subst (λ x. AnswersMeaning s x y b) same answer) answer'
 
 -- ---- some answer
@@ -54,7 +50,8 @@ abbrev pub IsSessionOn : ℕ → Channel → Session → Type 0
 IsSessionOn tsc channel s = AirRun (start_on tsc channel) s.events s.answers s.air
 
 module _ (tsc : ℕ) (channel : Channel) where
-  goes_on : (s : Session) (event : Event) (y : List ℕ) (b : Session) → IsSessionOn tsc channel s → Happened s event y b → IsSessionOn tsc channel b
+  goes_on : (s : Session) (event : Event) (y : List ℕ) (b : Session) → IsSessionOn tsc channel s → Happened s event y b →
+      IsSessionOn tsc channel b
   goes_on s event y b run h =
       let P : Session → Type 0 = IsSessionOn tsc channel in
       subst P (sym h.after_is) (longer_run (start_on tsc channel) s.events s.answers s.air event h.answer h.air run h.step)
@@ -63,24 +60,34 @@ module _ (tsc : ℕ) (channel : Channel) where
   step_keeps s b line y run (None, means, (_, same)) = let P : Session → Type 0 = IsSessionOn tsc channel in subst P (sym same) run
   step_keeps s b line y run (Some event, means, h) = goes_on s event y b run h
 
-  pub session_of : (lines answers : List (List ℕ)) (b : Session) → Runs link_rules (idle tsc channel) lines answers b → IsSessionOn tsc channel b
+  pub session_of : (lines answers : List (List ℕ)) (b : Session) → Runs link_rules (idle tsc channel) lines answers b →
+      IsSessionOn tsc channel b
   session_of lines answers b runs = Runs-keep link_rules (IsSessionOn tsc channel) step_keeps (idle tsc channel) b lines answers refl runs
 
   module _ (within : tsc ≤ 7) where
-    some_meaning : (s : Session) (line : List ℕ) (m : Option Event) → IsSessionOn tsc channel s → All IsOctetEvent s.events → ScriptMeans line m →
-        (y : List ℕ) × (b : Session) × AnswersMeaning s m y b
+    some_meaning : (s : Session) (line : List ℕ) (m : Option Event) → IsSessionOn tsc channel s → All IsOctetEvent s.events →
+        ScriptMeans line m → (y : List ℕ) × (b : Session) × AnswersMeaning s m y b
     some_meaning s line None run octets means = ([], s, (refl, refl))
     some_meaning s line (Some event) run octets means =
         let next = some_answer tsc channel s.events s.answers s.air within octets run event (octet_event line event means) in
         let air : AirState = next.0 in
-        let answer : Answer = next.1 in
-        (answer_text answer, with_step s event answer air, record { answer = answer; air = air; step = next.2; text_is = refl; after_is = refl })
+        let answer : Answer = next.1 in (
+          answer_text answer,
+          with_step s event answer air,
+          record {
+            answer = answer;
+            air = air;
+            step = next.2;
+            text_is = refl;
+            after_is = refl;
+          },
+        )
 
     pub link_is_total : IsTotal link_rules (idle tsc channel)
     link_is_total lines answers b runs line plain good =
-        let meant : HasOneMeaningUnless None (ScriptMeans line) =
-        subst (λ fault. HasOneMeaningUnless fault (ScriptMeans line)) good.no_fault (meanings line) in
-        let answered = some_meaning b line meant.0 (session_of lines answers b runs) (octets_of_session tsc channel lines answers b runs) meant.1 in
+        let meant = good_meaning (ScriptMeans line) (line_fault link_forms anywhere line) (meanings line) good.no_fault in
+        let answered = some_meaning b line meant.0 (session_of lines answers b runs)
+        (octets_of_session tsc channel lines answers b runs) meant.1 in
         (answered.0, answered.1, (meant.0, meant.1, answered.2))
 
     pub link_has_one_output : HasOneOutput link_rules (idle tsc channel)

@@ -18,9 +18,11 @@ octets_keep : (s b : Session) (line y : List ℕ) → HasOctets s → AnswersScr
 octets_keep s b line y octets (None, means, (_, same)) = subst HasOctets (sym same) octets
 octets_keep s b line y octets (Some event, means, h) =
     subst HasOctets (sym h.after_is)
-    (All-append IsOctetEvent s.events (event ∷ []) octets (All-cons IsOctetEvent event [] (octet_event line event means) (All-nil IsOctetEvent)))
+    (All-append IsOctetEvent s.events (event ∷ []) octets
+    (All-cons IsOctetEvent event [] (octet_event line event means) (All-nil IsOctetEvent)))
 
-pub octets_of_session : (tsc : ℕ) (channel : Channel) (lines answers : List (List ℕ)) (b : Session) → Runs link_rules (idle tsc channel) lines answers b → HasOctets b
+pub octets_of_session : (tsc : ℕ) (channel : Channel) (lines answers : List (List ℕ)) (b : Session) →
+    Runs link_rules (idle tsc channel) lines answers b → HasOctets b
 octets_of_session tsc channel lines answers b runs =
     Runs-keep link_rules HasOctets octets_keep (idle tsc channel) b lines answers (All-nil IsOctetEvent) runs
 

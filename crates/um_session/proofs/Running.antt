@@ -48,19 +48,23 @@ has_all_step xs s b line y h (None, means, (_, same)) = subst (HasAll xs) (sym s
 has_all_step xs s b line y h (Some event, means, happened) = record {
   more = h.more ++ happened.answer ∷ [];
   all =
-      ap (λ (x : Session). x.answers) happened.after_is ∙ ap (λ x. x ++ happened.answer ∷ []) h.all ∙ append_assoc xs h.more (happened.answer ∷ []);
+      ap (λ (x : Session). x.answers) happened.after_is ∙ ap (λ x. x ++ happened.answer ∷ []) h.all
+      ∙ append_assoc xs h.more (happened.answer ∷ []);
 }
 
 has_all : (c b : Course) (lines answers : List (List ℕ)) → Runs course_rules c lines answers b → HasAll c.session.answers b.session
 has_all c b lines answers runs =
-    Runs-keep course_rules (λ x. HasAll c.session.answers x.session) (λ x y line answer h step. has_all_step c.session.answers x.session y.session line answer h step.0)
+    Runs-keep course_rules (λ x. HasAll c.session.answers x.session)
+    (λ x y line answer h step. has_all_step c.session.answers x.session y.session line answer h step.0)
     c b lines answers (record { more = []; all = sym (append-nil c.session.answers) }) runs
 
 -- what the command and its radio stand for after the last line
 abbrev pub Tells : Tallies → Course → Type 0
-Tells after c = (after.sent ≡ raised_by (frames_sent c.session.answers) c.before.sent) × (after.heard ≡ raised_by (blocks_heard c.session.answers) c.before.heard)
+Tells after c = (after.sent ≡ raised_by (frames_sent c.session.answers) c.before.sent)
+    × (after.heard ≡ raised_by (blocks_heard c.session.answers) c.before.heard)
 
-by_radio : (before after : Tallies) (s : Session) (last : Course) → HasAll s.answers last.session → last.before ≡ before → Tells after last → IsByRadio s.answers before after
+by_radio : (before after : Tallies) (s : Session) (last : Course) → HasAll s.answers last.session → last.before ≡ before →
+    Tells after last → IsByRadio s.answers before after
 by_radio before after s last h same tells = record {
   sends = frames_sent last.session.answers;
   receives = blocks_heard last.session.answers;
@@ -70,20 +74,24 @@ by_radio before after s last h same tells = record {
   heard = tells.1 ∙ ap (λ (b : Tallies). raised_by (blocks_heard last.session.answers) b.heard) same;
 }
 
-pub link_run : (tsc : ℕ) (channel : Channel) (before after : Tallies) (Stands : Course → Type 0) → ((c : Course) → Stands c → Tells after c) →
-    (status : Status) (left left' taken taken' : Option (List ℕ)) →
+pub link_run : (tsc : ℕ) (channel : Channel) (before after : Tallies) (Stands : Course → Type 0) →
+    ((c : Course) → Stands c → Tells after c) → (status : Status) (left left' taken taken' : Option (List ℕ)) →
     IsRun course_rules (record { session = idle tsc channel; before = before }) Stands status left left' taken taken' →
     IsLinkRun tsc channel status left left' taken taken' before after
 link_run tsc channel before after Stands tells status left left' taken taken' h =
     let start : Course = record { session = idle tsc channel; before = before } in
-    let same : (weaker_run_by session_in course_rules link_rules without_radio start Stands (λ last. Unit {0}) (λ b stands. tt) status left left' taken taken' h).state ≡ h.state.session =
-    weaker_run_state session_in course_rules link_rules without_radio start Stands (λ last. Unit {0}) (λ b stands. tt) status left left' taken taken' h in
+    let same : (weaker_run_by session_in course_rules link_rules without_radio start Stands (λ last. Unit {0})
+    (λ b stands. tt) status left left' taken taken' h).state ≡ h.state.session =
+    weaker_run_state session_in course_rules link_rules without_radio start Stands (λ last. Unit {0})
+    (λ b stands. tt) status left left' taken taken' h in
     record {
-      run = weaker_run_by session_in course_rules link_rules without_radio start Stands (λ last. Unit {0}) (λ b stands. tt) status left left' taken taken' h;
+      run = weaker_run_by session_in course_rules link_rules without_radio start Stands (λ last. Unit {0})
+          (λ b stands. tt) status left left' taken taken' h;
       by_radio =
           subst (λ (s : Session). IsByRadio s.answers before after) (sym same)
           (by_radio before after h.state.session h.last (has_all h.state h.last h.further h.unwritten h.ahead)
-          (same_before h.state h.last h.further h.unwritten h.ahead ∙ same_before start h.state h.lines h.answers h.runs) (tells h.last h.stands));
+          (same_before h.state h.last h.further h.unwritten h.ahead ∙ same_before start h.state h.lines h.answers h.runs)
+          (tells h.last h.stands));
       delivered =
           subst IsDelivered (sym same)
           (let runs : Runs link_rules (idle tsc channel) h.lines h.answers h.state.session =
@@ -95,7 +103,8 @@ link_run tsc channel before after Stands tells status left left' taken taken' h 
 -- ---- a run of the command ends as a run of `link` is to
 
 -- an output of `link` is one of the command with its radio
-bad_too : (s : Session) (before : Tallies) (line : List ℕ) (fault : LineFault) → IsBad link_rules s line fault → IsBad course_rules (record { session = s; before = before }) line fault
+bad_too : (s : Session) (before : Tallies) (line : List ℕ) (fault : LineFault) → IsBad link_rules s line fault →
+    IsBad course_rules (record { session = s; before = before }) line fault
 bad_too s before line fault (inl long) = inl long
 bad_too s before line fault (inr (short, e)) = inr (short, e)
 
@@ -141,16 +150,18 @@ link_due s before status left taken taken' due = go left (due course_is_determin
     go (Some x) h = λ end z out. h end z (output_too s before x end z out)
 
 -- without memory nothing happens
-pub unmade_run : (tsc : ℕ) (channel : Channel) (before : Tallies) (left taken : Option (List ℕ)) → IsLinkRun tsc channel NoMemory left left taken taken before before
+pub unmade_run : (tsc : ℕ) (channel : Channel) (before : Tallies) (left taken : Option (List ℕ)) →
+    IsLinkRun tsc channel NoMemory left left taken taken before before
 unmade_run tsc channel before left taken =
     let start : Course = record { session = idle tsc channel; before = before } in
     link_run tsc channel before before (Tells before) (λ c stands. stands) NoMemory left left taken taken
     (without_memory course_rules start (Tells before) left taken (refl, refl))
 
 -- the same run, said of equal things
-pub same_run : (tsc tsc' : ℕ) (channel channel' : Channel) (before before' after after' : Tallies) (status : Status) (left left' taken taken' : Option (List ℕ)) →
-    tsc ≡ tsc' → channel ≡ channel' → before ≡ before' → after ≡ after' →
-    IsLinkRun tsc channel status left left' taken taken' before after → IsLinkRun tsc' channel' status left left' taken taken' before' after'
+pub same_run : (tsc tsc' : ℕ) (channel channel' : Channel) (before before' after after' : Tallies) (status : Status)
+    (left left' taken taken' : Option (List ℕ)) → tsc ≡ tsc' → channel ≡ channel' → before ≡ before' → after ≡ after' →
+    IsLinkRun tsc channel status left left' taken taken' before after →
+    IsLinkRun tsc' channel' status left left' taken taken' before' after'
 same_run tsc tsc' channel channel' before before' after after' status left left' taken taken' t c b a h =
     subst (λ x. IsLinkRun x channel' status left left' taken taken' before' after') t
     (subst (λ x. IsLinkRun tsc x status left left' taken taken' before' after') c

@@ -36,7 +36,8 @@ same_arrivals (Err why) = refl
 -- the world stands for the session, and the radio's tallies are those of its answers
 abbrev pub StandsFor : Links → (sent heard : ℕ) → Course → Type 0
 StandsFor w sent heard c =
-    Stands w c.session.air × (sent ≡ raised_by (frames_sent c.session.answers) c.before.sent) × (heard ≡ raised_by (blocks_heard c.session.answers) c.before.heard)
+    Stands w c.session.air × (sent ≡ raised_by (frames_sent c.session.answers) c.before.sent)
+    × (heard ≡ raised_by (blocks_heard c.session.answers) c.before.heard)
 
 -- a line is answered so, and what stands for the session does so after it
 abbrev pub IsAnswered : (line text : List ℕ) → Course → Links → (sent heard : ℕ) → Type 0
@@ -44,7 +45,8 @@ IsAnswered line text c w sent heard =
     (x : Course) × (line_fault link_forms anywhere line ≡ None) × (AnswersScript c.session line text x.session × (x.before ≡ c.before)) ×
     StandsFor w sent heard x
 
-module _ (line text : List ℕ) (c : Course) (read : ScriptLine) (event : Event) (result : Result Step No) (w w' : Links) (sent heard sent' heard' : ℕ)
+module _ (line text : List ℕ) (c : Course) (read : ScriptLine) (event : Event) (result : Result Step No) (w w' : Links)
+    (sent heard sent' heard' : ℕ)
     (no_fault : line_fault link_forms anywhere line ≡ None) (means : ScriptMeans line (meaning_of read)) (is : read ≡ V.Step event)
     (text_is : text ≡ answer_text (answer_of result)) (follows : Follows (event_of event) w result w')
     (sends : sent' ≡ raised_by (L.frames_in result) sent) (receives : heard' ≡ raised_by (L.arrivals_in result) heard) where
@@ -59,7 +61,9 @@ module _ (line text : List ℕ) (c : Course) (read : ScriptLine) (event : Event)
         ((Some (event_of event), same, record { answer = answer; air = next.0; step = next.2; text_is = text_is; after_is = refl }), refl),
         (
           next.1,
-          sends ∙ ap (λ n. raised_by n sent) (same_frames result) ∙ ap (raised_by (frames_in answer)) sent_is ∙ sym (sent_more c.session.answers answer c.before.sent),
-          receives ∙ ap (λ n. raised_by n heard) (same_arrivals result) ∙ ap (raised_by (arrivals_in answer)) heard_is ∙ sym (heard_more c.session.answers answer c.before.heard),
+          sends ∙ ap (λ n. raised_by n sent) (same_frames result) ∙ ap (raised_by (frames_in answer)) sent_is
+              ∙ sym (sent_more c.session.answers answer c.before.sent),
+          receives ∙ ap (λ n. raised_by n heard) (same_arrivals result) ∙ ap (raised_by (arrivals_in answer)) heard_is
+              ∙ sym (heard_more c.session.answers answer c.before.heard),
         ),
       )

@@ -19,12 +19,14 @@ blocks_heard-append [] ys = omega arith
 blocks_heard-append (x ∷ xs) ys = let e = blocks_heard-append xs ys in omega arith
 
 -- one answer more
-pub sent_more : (xs : List Answer) (x : Answer) (t : ℕ) → raised_by (frames_sent (xs ++ x ∷ [])) t ≡ raised_by (frames_in x) (raised_by (frames_sent xs) t)
+pub sent_more : (xs : List Answer) (x : Answer) (t : ℕ) →
+    raised_by (frames_sent (xs ++ x ∷ [])) t ≡ raised_by (frames_in x) (raised_by (frames_sent xs) t)
 sent_more xs x t =
     let e : frames_sent (xs ++ x ∷ []) ≡ frames_in x + frames_sent xs = let e = frames_sent-append xs (x ∷ []) in omega arith in
     ap (λ n. raised_by n t) e ∙ raised_by-plus (frames_in x) (frames_sent xs) t
 
-pub heard_more : (xs : List Answer) (x : Answer) (t : ℕ) → raised_by (blocks_heard (xs ++ x ∷ [])) t ≡ raised_by (arrivals_in x) (raised_by (blocks_heard xs) t)
+pub heard_more : (xs : List Answer) (x : Answer) (t : ℕ) →
+    raised_by (blocks_heard (xs ++ x ∷ [])) t ≡ raised_by (arrivals_in x) (raised_by (blocks_heard xs) t)
 heard_more xs x t =
     let e : blocks_heard (xs ++ x ∷ []) ≡ arrivals_in x + blocks_heard xs = let e = blocks_heard-append xs (x ∷ []) in omega arith in
     ap (λ n. raised_by n t) e ∙ raised_by-plus (arrivals_in x) (blocks_heard xs) t

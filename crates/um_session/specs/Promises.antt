@@ -33,7 +33,8 @@ pub record IsByRadio (answers : List Answer) (before after : Tallies) : Type 0 w
 
 -- A run of the command: what was read and written, and, of the lines whose answers have an octet in what was written,
 -- that the radio coded and received their blocks, and what is claimed of their events and answers.
-pub record IsLinkRun (tsc : ℕ) (channel : Channel) (status : Status) (left left' taken taken' : Option (List ℕ)) (before after : Tallies) : Type 0 where
+pub record IsLinkRun (tsc : ℕ) (channel : Channel) (status : Status) (left left' taken taken' : Option (List ℕ))
+    (before after : Tallies) : Type 0 where
   pub run : IsRun link_rules (idle tsc channel) (λ last. Unit {0}) status left left' taken taken'
   pub by_radio : IsByRadio run.state.answers before after
   pub delivered : IsDelivered run.state

@@ -255,7 +255,8 @@ impl FrameWords<'_> {
     pub(crate) fn octets(&self) -> [u8; 23]
         requires digits { some_word has_wrong_digits (line_fields self.now) (line_words self.now) ≡ false }
         requires length { some_word has_wrong_length (line_fields self.now) (line_words self.now) ≡ false }
-        ensures { (f : Frame) × (said_frame (name_of (kind_of self.now.fields)) (values_of (line_fields self.now) (line_words self.now)) ≡ Some f)
+        ensures { (f : Frame)
+            × (said_frame (name_of (kind_of self.now.fields)) (values_of (line_fields self.now) (line_words self.now)) ≡ Some f)
             × (result ≡ octets_of Channel.Sdcch f) }
     {
         let (room, count) = some_octets_of(self.fields.info_word());
@@ -320,7 +321,8 @@ impl<'a> Fields<'a> {
         requires least { least_info self.now ≤ length info.now }
         requires most { length info.now ≤ 20 }
         ensures said { (sapi cr : ℕ)
-            → said_frame (name_of (kind_of self.now)) (Number sapi ∷ Number cr ∷ values_of (kind_form (kind_of self.now)) (field_words self.now))
+            → said_frame (name_of (kind_of self.now))
+            (Number sapi ∷ Number cr ∷ values_of (kind_form (kind_of self.now)) (field_words self.now))
             ≡ framed sapi cr (content_of result) }
         ensures numbers { NumbersFit (content_of result) }
         ensures octets { information (content_of result) ≡ info.now }

@@ -83,7 +83,8 @@ fn push_bits<const N: usize>(out: &mut Text, word: &Bits<N>, place: usize, end: 
     requires room { length out.old + end + 14 ≤ 4096 }
     requires order { place ≤ end }
     requires within { end ≤ N }
-    ensures text { out.new ≡ out.old ++ data_text (bit_digits (take place word.now)) (bit_digits (take (end - place) (drop place word.now))) }
+    ensures text { out.new ≡ out.old ++ data_text (bit_digits (take place word.now))
+        (bit_digits (take (end - place) (drop place word.now))) }
     ensures length { length out.new ≡ length out.old + end + 14 }
 {
     let bits = word.as_slice();

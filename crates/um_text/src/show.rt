@@ -99,7 +99,8 @@ pub fn law_written_frames()
     ensures canonical { (f : Frame) (octets text line : List ℕ) → IsCanonical Channel.Sdcch f octets
         → All (λ octet. octet < 256) (information f.content) → IsFrameText octets text
         → text ≡ line ++ codes "\n" → IsWholeLine line × ShowMeans line (ShowLine.Frame octets) }
-    ensures again { (written octets : List ℕ) → ShowMeans written (ShowLine.Frame octets) → (name : ShowName) × (values : List Value) × (f : Frame)
+    ensures again { (written octets : List ℕ) → ShowMeans written (ShowLine.Frame octets)
+        → (name : ShowName) × (values : List Value) × (f : Frame)
         × LineMeans show_forms anywhere written (Some (name, values)) × (said_frame name values ≡ Some f)
         × ((text : List ℕ) → IsFrameText octets text → text ≡ frame_text f) }
 {}

@@ -2,8 +2,7 @@
 ghost use Rattle.std.specs.Prelude.{◌≡◌, ◌-◌, ◌*◌, ◌==◌, length, map, true, false, IsTrue, MatchResult};
 ghost use Rattle.std.specs.List.{list_all, list_any};
 ghost use Rattle.hex.specs.Hex.{is_hex_digit};
-ghost use Rattle.um_lines.specs.Fields.{is_bit_digit};
-ghost use Rattle.um_lines.specs.Fields.{hex_octets};
+ghost use Rattle.um_lines.specs.Fields.{hex_octets, is_bit_digit};
 ghost use Rattle.um_block.specs.Received.{soft_value, softened};
 ghost use Rattle.um_text.specs.SoftOctets.{signed_octets};
 

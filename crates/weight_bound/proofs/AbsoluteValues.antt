@@ -15,7 +15,8 @@ between_more : (s : List ℤ) (k lo hi strength : ℕ) → k < length s → stre
     All (Between lo hi) (take k s) → All (Between (min lo strength) (max hi strength)) (take (k + 1) s)
 between_more s k lo hi strength within e so_far =
     All-more (Between (min lo strength) (max hi strength)) s k (pos 0) within
-    (All-weaker (Between lo hi) (Between (min lo strength) (max hi strength)) (λ value h. let low = h.0 in let high = h.1 in (omega arith, omega arith)) (take k s) so_far)
+    (All-weaker (Between lo hi) (Between (min lo strength) (max hi strength))
+    (λ value h. let low = h.0 in let high = h.1 in (omega arith, omega arith)) (take k s) so_far)
     (omega arith, omega arith)
 
 pub Contains-strength : (s : List ℤ) (k strength : ℕ) → k < length s → strength ≡ unsigned_abs (get_or s k (pos 0)) →

@@ -24,7 +24,10 @@ are_within = refl
 
 strengths-zero_five : IsStrengths (negsuc 4 ∷ pos 4 ∷ pos 0 ∷ []) 0 5
 strengths-zero_five = record {
-  between = (λ k d lt. (omega arith, leb-true _ _ (AllPass-from_list_all (λ value. nat_le (unsigned_abs value) 5) (negsuc 4 ∷ pos 4 ∷ pos 0 ∷ []) are_within k d lt)));
+  between = (λ k d lt. (
+    omega arith,
+    leb-true _ _ (AllPass-from_list_all (λ value. nat_le (unsigned_abs value) 5) (negsuc 4 ∷ pos 4 ∷ pos 0 ∷ []) are_within k d lt),
+  ));
   least = (2, omega arith, refl);
   greatest = (0, omega arith, refl);
 }

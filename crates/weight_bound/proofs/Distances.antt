@@ -79,7 +79,8 @@ front-tail_bits : (u : List ℕ) → IsInformation u → front u ++ tail_bits �
 front-tail_bits u information =
     let count = information.count in
     let four : length (drop (length u - 4) u) ≡ 4 = rw length-drop (omega arith) in
-    ap (λ tail. front u ++ tail) (sym (tail_bits-from_zeros (drop (length u - 4) u) four information.tail)) ∙ take-append-drop (length u - 4) u
+    ap (λ tail. front u ++ tail) (sym (tail_bits-from_zeros (drop (length u - 4) u) four information.tail))
+    ∙ take-append-drop (length u - 4) u
 
 -- as many places differ as the coded list of the sum has ones
 distance-coded : (u v : List ℕ) → length u ≡ length v → AllBits u → AllBits v →
@@ -95,11 +96,14 @@ at_least_seven u v information_u information_v same ne =
     let bits_v = information_v.bits in
     let fronts : length (front u) ≡ length (front v) = simp length-take (omega arith) in
     let split : add_bits u v ≡ add_bits (front u) (front v) ++ tail_bits =
-    ap₂ add_bits (sym (front-tail_bits u information_u)) (sym (front-tail_bits v information_v)) ∙ add_bits-append (front u) (front v) tail_bits tail_bits fronts in
+    ap₂ add_bits (sym (front-tail_bits u information_u)) (sym (front-tail_bits v information_v))
+    ∙ add_bits-append (front u) (front v) tail_bits tail_bits fronts in
     let whole : distance (coded u) (coded v) ≡ ones (coded_from 0 (add_bits (front u) (front v) ++ tail_bits)) =
     distance-coded u v same bits_u bits_v ∙ ap (λ w. ones (coded_from 0 w)) split in
-    let ne' : front u ≢ front v = λ e. ne (sym (front-tail_bits u information_u) ∙ ap (λ w. w ++ tail_bits) e ∙ front-tail_bits v information_v) in
-    let bound = seven_ones (front u) (front v) (All-take IsBit (length u - 4) u bits_u) (All-take IsBit (length v - 4) v bits_v) fronts ne' in
+    let ne' : front u ≢ front v =
+    λ e. ne (sym (front-tail_bits u information_u) ∙ ap (λ w. w ++ tail_bits) e ∙ front-tail_bits v information_v) in
+    let bound = seven_ones (front u) (front v) (All-take IsBit (length u - 4) u bits_u)
+    (All-take IsBit (length v - 4) v bits_v) fronts ne' in
     omega (arith, whole, bound)
 
 add_bits-zeros : (n : ℕ) → add_bits (replicate n 0) (replicate n 0) ≡ replicate n 0
@@ -131,13 +135,15 @@ IsInformation-one_first n four =
       tail = rw after (All-drop (λ bit. bit ≡ 0) (n - 4) (replicate n 0) (All-replicate (λ bit. bit ≡ 0) n 0 (refl {a = 0})));
     }
 
-distance-one_first : (m : ℕ) → distance (coded (one_first (suc (suc (suc (suc m)))))) (coded (replicate (suc (suc (suc (suc (suc m))))) 0)) ≡ 7
+distance-one_first : (m : ℕ) →
+    distance (coded (one_first (suc (suc (suc (suc m)))))) (coded (replicate (suc (suc (suc (suc (suc m))))) 0)) ≡ 7
 distance-one_first m =
     let u = one_first (suc (suc (suc (suc m)))) in
     let v = replicate {A = ℕ} (suc (suc (suc (suc (suc m))))) 0 in
     let same : length u ≡ length v = ap suc refl in
     let later = ones-zeros m in
-    distance-coded u v same (IsInformation-one_first (suc (suc (suc (suc m)))) (omega arith)).bits (IsInformation-zeros (suc (suc (suc (suc (suc m))))) (omega arith)).bits
+    distance-coded u v same (IsInformation-one_first (suc (suc (suc (suc m)))) (omega arith)).bits
+    (IsInformation-zeros (suc (suc (suc (suc (suc m))))) (omega arith)).bits
     ∙ ap (λ w. ones (coded_from 0 (1 ∷ 0 ∷ 0 ∷ 0 ∷ 0 ∷ w))) (add_bits-zeros m)
     ∙ omega (arith, later)
 

@@ -10,7 +10,8 @@ module _ (u v : List ℕ) (same : length u ≡ length v) where
   delayed-add_bits k d within =
       let before : k - d < length u = omega arith in
       elim (nat_lt k d) as
-      (λ early. (if early then 0 else get_or (add_bits u v) (k - d) 0) ≡ ((if early then 0 else get_or u (k - d) 0) + (if early then 0 else get_or v (k - d) 0)) % 2) [
+      (λ early. (if early then 0 else get_or (add_bits u v) (k - d) 0)
+      ≡ ((if early then 0 else get_or u (k - d) 0) + (if early then 0 else get_or v (k - d) 0)) % 2) [
         | true ↦ refl
         | false ↦ get_or-add_bits u v (k - d) same before
       ]
@@ -21,7 +22,8 @@ module _ (u v : List ℕ) (same : length u ≡ length v) where
 
   second_sum-add_bits : (k : ℕ) → k < length u → second_sum (add_bits u v) k ≡ (second_sum u k + second_sum v k) % 2
   second_sum-add_bits k within =
-      rw (get_or-add_bits u v k same within, delayed-add_bits k 1 within, delayed-add_bits k 3 within, delayed-add_bits k 4 within) (omega arith)
+      rw (get_or-add_bits u v k same within, delayed-add_bits k 1 within, delayed-add_bits k 3 within, delayed-add_bits k 4 within)
+      (omega arith)
 
   coded_places-add_bits : (a n : ℕ) → a + n ≤ length u →
       flat_map (coded_pair (add_bits u v)) (range_with_len a n) ≡

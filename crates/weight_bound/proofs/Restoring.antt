@@ -84,7 +84,8 @@ all_places (p ∷ s) (x ∷ c) (y ∷ d) lo hi ec ed bits_c bits_d between =
     let hx = All-head IsBit x c bits_c in
     let hy = All-head IsBit y d bits_d in
     let here = one_place p x y lo hi (All-head (Between lo hi) p s between) hx hy in
-    let later = all_places s c d lo hi ec' ed' (All-tail IsBit x c bits_c) (All-tail IsBit y d bits_d) (All-tail (Between lo hi) p s between) in
+    let later = all_places s c d lo hi ec' ed' (All-tail IsBit x c bits_c) (All-tail IsBit y d bits_d)
+    (All-tail (Between lo hi) p s between) in
     rw (distance-cons x y c d) (joined (agreement p x) (agreement p y) (likelihood s c) (likelihood s d) lo hi _ _ _ _ here later)
   where
     joined : (a b la lb : ℤ) (lo hi d w ds ws : ℕ) → IsOutweighed a b lo hi d w → IsOutweighed la lb lo hi ds ws →
@@ -101,7 +102,8 @@ less_likely s u v information_u information_v pairs same ne damage =
     let count_v : length s ≡ length (coded v) = pairs ∙ ap (λ n. 2 * n) (sym same) ∙ sym (length-coded v) in
     let sums = all_places s (coded u) (coded v) lo hi count_u count_v (AllBits-coded u) (AllBits-coded v) damage.strengths.between in
     let seven = at_least_seven u v information_u information_v (sym same) (λ e. ne (sym e)) in
-    weighed (likelihood s (coded u)) (likelihood s (coded v)) lo hi (distance (coded u) (coded v)) (wrong_places s (coded u)) sums seven damage.few damage.nearly_one_strength
+    weighed (likelihood s (coded u)) (likelihood s (coded v)) lo hi (distance (coded u) (coded v))
+    (wrong_places s (coded u)) sums seven damage.few damage.nearly_one_strength
   where
     weighed : (a b : ℤ) (lo hi d w : ℕ) → IsOutweighed a b lo hi d w → 7 ≤ d → w ≤ 3 → 3 * hi < 4 * lo → b <ℤ a
     weighed a b lo hi d w sums seven few even =
@@ -135,7 +137,8 @@ IsLightlyDamaged-equal soft c strength any more equal few =
       lo = strength;
       hi = strength;
       strengths = record {
-        between = All-weaker (λ value. unsigned_abs value ≡ strength) (Between strength strength) (λ value e. (omega arith, omega arith)) soft equal;
+        between = All-weaker (λ value. unsigned_abs value ≡ strength) (Between strength strength)
+            (λ value e. (omega arith, omega arith)) soft equal;
         least = first;
         greatest = first;
       };

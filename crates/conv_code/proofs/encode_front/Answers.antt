@@ -14,5 +14,7 @@ loop-k-preserved c =
     let three = delayed-at_most_1 u k 3 bits in
     let four = delayed-at_most_1 u k 4 bits in (
       length-set _ _ _ ∙ length-set _ _ _ ∙ c.loop-k.invariant.0,
-      rw (c.delayed.ensures, c.delayed-in-loop-k.ensures, c.delayed-in-loop-k-2.ensures) (coded_more u c.loop-k.out k _ _ within c.loop-k.invariant.1 (first_by_xor _ _ _ x three four) (second_by_xor _ _ _ _ x one three four)),
+      rw (c.delayed.ensures, c.delayed-in-loop-k.ensures, c.delayed-in-loop-k-2.ensures)
+          (coded_more u c.loop-k.out k _ _ within c.loop-k.invariant.1 (first_by_xor _ _ _ x three four)
+          (second_by_xor _ _ _ _ x one three four)),
     )

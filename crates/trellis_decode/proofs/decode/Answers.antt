@@ -19,7 +19,8 @@ octets soft h k d lt = let is = h k d lt in (omega (arith, ints, is.0), is.1)
 
 -- the list that is written is the best from state 0
 best : (c : After-of_state_0) →
-    IsBest 0 (c.write_few.new.u ++ c.follow_maps.new.u) c.args.soft.now (lane (worths c.walk_few-walk.result.values.even c.walk_few-walk.result.values.odd) 0)
+    IsBest 0 (c.write_few.new.u ++ c.follow_maps.new.u) c.args.soft.now
+    (lane (worths c.walk_few-walk.result.values.even c.walk_few-walk.result.values.odd) 0)
 best c =
     let soft = c.args.soft.now in
     let n = length c.args.u.now in
@@ -59,19 +60,23 @@ long c = omega (
 
 pub fill_maps-values-requires-clause-octets : goal.fill_maps-values-requires-clause-octets
 fill_maps-values-requires-clause-octets c =
-    All-take IsOctet _ (drop (2 * (length c.args.u.now % 4)) c.args.soft.now) (All-drop IsOctet (2 * (length c.args.u.now % 4)) c.args.soft.now (octets c.args.soft.now c.requires.soft))
+    All-take IsOctet _ (drop (2 * (length c.args.u.now % 4)) c.args.soft.now)
+    (All-drop IsOctet (2 * (length c.args.u.now % 4)) c.args.soft.now (octets c.args.soft.now c.requires.soft))
 
 pub walk_few-walk-requires-clause-octets : goal.walk_few-walk-requires-clause-octets
-walk_few-walk-requires-clause-octets c = All-take IsOctet (2 * (length c.args.u.now % 4)) c.args.soft.now (octets c.args.soft.now c.requires.soft)
+walk_few-walk-requires-clause-octets c = All-take IsOctet (2 * (length c.args.u.now % 4)) c.args.soft.now
+    (octets c.args.soft.now c.requires.soft)
 
 pub returns-clause-best : goal.returns-clause-best
 returns-clause-best c =
-    IsMostLikely-best c.args.soft.now (c.write_few.new.u ++ c.follow_maps.new.u) _ (omega (arith, long c, c.requires.at_least)) (omega (arith, long c, c.requires.count)) (best c)
+    IsMostLikely-best c.args.soft.now (c.write_few.new.u ++ c.follow_maps.new.u) _ (omega (arith, long c, c.requires.at_least))
+    (omega (arith, long c, c.requires.count)) (best c)
 
 pub returns-clause-value : goal.returns-clause-value
 returns-clause-value c =
     let fits : FitsSigned w32 c.of_state_0.result = search rules in
-    to_z-of_z w32 c.of_state_0.result fits ∙ c.of_state_0.ensures ∙ likelihood-best c.args.soft.now (c.write_few.new.u ++ c.follow_maps.new.u) _ (best c)
+    to_z-of_z w32 c.of_state_0.result fits ∙ c.of_state_0.ensures
+    ∙ likelihood-best c.args.soft.now (c.write_few.new.u ++ c.follow_maps.new.u) _ (best c)
 
 pub returns-clause-only : goal.returns-clause-only
 returns-clause-only c v h = IsMostLikely-only c.args.soft.now (c.write_few.new.u ++ c.follow_maps.new.u) v (returns-clause-best c) h

@@ -8,7 +8,10 @@ use Rattle.burst_map.proofs.sync_burst.sync.Goals as goal
 pub returns : goal.returns
 returns c =
     let start : IsFilled (replicate 148 0) tail_bits 3 145 = record { list = refl; long = refl; bits = AllBits-table tail_bits refl } in
-    let step_1 = filled_more c.place.new.burst c.args.first.now 42 106 start c.requires.first_bits (omega arith) (omega arith) c.place.ensures in
-    let step_2 = filled_more c.place-2.new.burst sync_sequence 106 42 step_1 (AllBits-table sync_sequence refl) refl refl c.place-2.ensures in
-    let step_3 = filled_more c.place-3.new.burst c.args.second.now 145 3 step_2 c.requires.second_bits (omega arith) (omega arith) c.place-3.ensures in
+    let step_1 = filled_more c.place.new.burst c.args.first.now 42 106 start c.requires.first_bits (omega arith)
+    (omega arith) c.place.ensures in
+    let step_2 = filled_more c.place-2.new.burst sync_sequence 106 42 step_1
+    (AllBits-table sync_sequence refl) refl refl c.place-2.ensures in
+    let step_3 = filled_more c.place-3.new.burst c.args.second.now 145 3 step_2 c.requires.second_bits (omega arith)
+    (omega arith) c.place-3.ensures in
     record { value = step_3.list; bits = AllBits-filled step_3 }

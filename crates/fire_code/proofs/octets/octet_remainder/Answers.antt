@@ -7,5 +7,6 @@ returns-clause-multiple c = remainder_of_octet c.args.octet c.entry.result c.bit
 
 pub returns-clause-only : goal.returns-clause-only
 returns-clause-only c r count bits multiple =
-    same_remainder_of_g40 (octet_bits c.args.octet) r c.bits_of.result count bits c.bits_of.ensures.count c.bits_of.ensures.bits multiple.quotient
+    same_remainder_of_g40 (octet_bits c.args.octet) r c.bits_of.result count bits c.bits_of.ensures.count c.bits_of.ensures.bits
+    multiple.quotient
     (returns-clause-multiple c).quotient

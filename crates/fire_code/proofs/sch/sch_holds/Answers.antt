@@ -10,7 +10,8 @@ returns c =
     let d = c.split_at.result.0.now in
     let check = c.split_at.result.1.now in
     let parity = c.as_slice-2.ensures.value in
-    let split = cut 25 c.args.w.now c.as_slice.result.now d check c.as_slice.ensures.value c.split_at.ensures.front c.split_at.ensures.back in
+    let split = cut 25 c.args.w.now c.as_slice.result.now d check c.as_slice.ensures.value c.split_at.ensures.front
+    c.split_at.ensures.back in
     let bits = bits_of_front 25 c.as_slice.result.now d c.as_slice.ensures.bits c.split_at.ensures.front in
     Decides-like c.eq.result
     (λ (same : c.as_slice-2.result.now ≡ check). sch_word_of c.args.w.now d check c.parity.result split c.split_at.ensures.front_len bits

@@ -22,4 +22,5 @@ returns-clause-only c p word =
     let p' = bits_of c.octets_of.result in
     let turned = turned_register 40 c.remainder_of_octets.result p' (omega arith) c.remainder_of_octets.type_inv c.octets_of.ensures in
     same_xcch_parity (bits_of c.args.octets.now) p p' c.remainder_of_octets.result (omega (arith, length-bits_of c.args.octets.now))
-    (AllBits-bits_of c.octets_of.result) (omega (arith, length-bits_of c.octets_of.result)) turned c.remainder_of_octets.ensures.multiple word
+    (AllBits-bits_of c.octets_of.result) (omega (arith, length-bits_of c.octets_of.result)) turned
+    c.remainder_of_octets.ensures.multiple word

@@ -7,7 +7,8 @@ use Rattle.interleave.proofs.joining.eight_columns.Goals.{After-join_fours-2}
 -- the octets of column s, bit 0 first
 octets : After-join_fours-2 → ℕ → List ℕ
 octets c s =
-    get_or c.pairs.result s 0 % 256 ∷ get_or c.pairs-2.result s 0 % 256 ∷ get_or c.pairs-3.result s 0 % 256 ∷ get_or c.pairs-4.result s 0 % 256 ∷
+    get_or c.pairs.result s 0 % 256 ∷ get_or c.pairs-2.result s 0 % 256 ∷ get_or c.pairs-3.result s 0 % 256
+    ∷ get_or c.pairs-4.result s 0 % 256 ∷
     get_or c.pairs-5.result s 0 / 256 % 256 ∷ get_or c.pairs-6.result s 0 / 256 % 256 ∷ get_or c.pairs-7.result s 0 / 256 % 256 ∷
     get_or c.pairs-8.result s 0 / 256 % 256 ∷ []
 
@@ -45,7 +46,8 @@ last c s h =
 columns : After-join_fours-2 → List ℕ
 columns c =
     get_or c.join_fours.result 0 0 ∷ get_or c.join_fours.result 1 0 ∷ get_or c.join_fours.result 2 0 ∷ get_or c.join_fours.result 3 0 ∷
-    get_or c.join_fours-2.result 0 0 ∷ get_or c.join_fours-2.result 1 0 ∷ get_or c.join_fours-2.result 2 0 ∷ get_or c.join_fours-2.result 3 0 ∷ []
+    get_or c.join_fours-2.result 0 0 ∷ get_or c.join_fours-2.result 1 0 ∷ get_or c.join_fours-2.result 2 0
+    ∷ get_or c.join_fours-2.result 3 0 ∷ []
 
 column : (c : After-join_fours-2) (s : ℕ) → s < 8 → get_or (columns c) s 0 ≡ joined c s
 unfolding columns

@@ -15,4 +15,5 @@ pub returns-else-comes_after : goal.returns-else-comes_after
 returns-else-comes_after c u losses free k old is_free is at =
     let fits : FitsSigned w32 c.args.new.loss = search rules in
     best_kept u losses free k c.in-Some.leave c.args.new (subst (IsBestFree u losses free k) c.in-Some.is old) is at
-    (subst (λ lost. c.in-Some.leave.limit ≤ℤ lost) (to_z-of_z w32 c.args.new.loss fits) (c.comes_after.ensures.not_after c.if-comes_after.false))
+    (subst (λ lost. c.in-Some.leave.limit ≤ℤ lost) (to_z-of_z w32 c.args.new.loss fits)
+    (c.comes_after.ensures.not_after c.if-comes_after.false))

@@ -25,7 +25,8 @@ loop-i-preserved c =
     ]) in
     record {
       first = first;
-      stray = first_stray pass us (take (i + 1) branches) c.match-branch.first (All-take (IsBranchOf pass us) (i + 1) branches c.requires.branches) first;
+      stray = first_stray pass us (take (i + 1) branches) c.match-branch.first
+          (All-take (IsBranchOf pass us) (i + 1) branches c.requires.branches) first;
     }
 
 pub returns : goal.returns

@@ -32,7 +32,12 @@ returns-clause-value c =
     let abed : length (add_values (add_values a b) e) ≡ length d =
     omega (arith, length-add_values a b ab, length-add_values (add_values a b) e abe) in
     ext_get_or (pos 0) _ _
-    (omega (arith, length-add_values a b ab, length-add_values (add_values a b) e abe, length-add_values (add_values (add_values a b) e) d abed))
+    (omega (
+      arith,
+      length-add_values a b ab,
+      length-add_values (add_values a b) e abe,
+      length-add_values (add_values (add_values a b) e) d abed,
+    ))
     (λ k h.
     let written : k < c.loop-i.i = omega arith in
     let ab_at = get_or-add_values a b k ab in

@@ -72,7 +72,8 @@ closing_step-third-requires-clause-even c =
     let v = c.closing_step-fourth.result in
     let few-1 = AreFew-more soft [] 6 0 c.requires.octets AreFew-none in
     HaveRoom-even v.even v.odd 1024 (lit≤ tt)
-    (AreWithin-few (worth v) (last_one soft) (λ s. replicate 1 0) 2 (lit≤ tt) few-1 (best-1 c.before)) c.closing_step-fourth.ensures.even.count
+    (AreWithin-few (worth v) (last_one soft) (λ s. replicate 1 0) 2 (lit≤ tt) few-1 (best-1 c.before))
+    c.closing_step-fourth.ensures.even.count
 
 pub closing_step-third-requires-clause-edges : goal.closing_step-third-requires-clause-edges
 closing_step-third-requires-clause-edges c = AreEdges-passed c.new-edges.result.third c.new-edges.ensures.third_edges
@@ -84,7 +85,8 @@ closing_step-second-requires-clause-even c =
     let few-1 = AreFew-more soft [] 6 0 c.requires.octets AreFew-none in
     let few-2 = AreFew-more soft (last_one soft) 4 2 c.requires.octets few-1 in
     HaveRoom-even v.even v.odd 1024 (lit≤ tt)
-    (AreWithin-few (worth v) (last_two soft) (λ s. replicate 2 0) 4 (lit≤ tt) few-2 (best-2 c.before)) c.closing_step-third.ensures.even.count
+    (AreWithin-few (worth v) (last_two soft) (λ s. replicate 2 0) 4 (lit≤ tt) few-2 (best-2 c.before))
+    c.closing_step-third.ensures.even.count
 
 pub closing_step-second-requires-clause-edges : goal.closing_step-second-requires-clause-edges
 closing_step-second-requires-clause-edges c = AreEdges-passed c.new-edges.result.second c.new-edges.ensures.second_edges
@@ -97,11 +99,13 @@ closing_step-requires-clause-even c =
     let few-2 = AreFew-more soft (last_one soft) 4 2 c.requires.octets few-1 in
     let few-3 = AreFew-more soft (last_two soft) 2 4 c.requires.octets few-2 in
     HaveRoom-even v.even v.odd 1024 (lit≤ tt)
-    (AreWithin-few (worth v) (last_three soft) (λ s. replicate 3 0) 6 (lit≤ tt) few-3 (best-3 c.before)) c.closing_step-second.ensures.even.count
+    (AreWithin-few (worth v) (last_three soft) (λ s. replicate 3 0) 6 (lit≤ tt) few-3 (best-3 c.before))
+    c.closing_step-second.ensures.even.count
 
 pub closing_step-requires-clause-edges : goal.closing_step-requires-clause-edges
 closing_step-requires-clause-edges c = AreEdges-passed c.new-edges.result.first c.new-edges.ensures.first_edges
 
 pub returns-clause-best : goal.returns-clause-best
 returns-clause-best c s lt =
-    subst (λ soft. IsBest s (replicate 4 0) soft (lane (worth c.closing_step.result) s)) (four_pairs c.args.soft.now c.requires.count) (best-4 c s lt)
+    subst (λ soft. IsBest s (replicate 4 0) soft (lane (worth c.closing_step.result) s)) (four_pairs c.args.soft.now c.requires.count)
+    (best-4 c s lt)

@@ -8,7 +8,8 @@ use Rattle.trellis_decode.proofs.backward.fill_maps.Given as goal
 -- the maps from a group of places on give the best lists from there
 abbrev pub invariant-loop-group : goal.invariant-loop-group
 invariant-loop-group l = record {
-  best : (s : ℕ) → s < 16 → IsBest s (read_maps (drop l.group l.maps) (place s)) (drop (8 * l.group) l.soft) (lane (worths l.values.even l.values.odd) s);
+  best : (s : ℕ) → s < 16 →
+      IsBest s (read_maps (drop l.group l.maps) (place s)) (drop (8 * l.group) l.soft) (lane (worths l.values.even l.values.odd) s);
   low : (s : ℕ) → s < 16 → negsuc 1023 ≤ℤ lane (worths l.values.even l.values.odd) s;
   even : AreNarrow l.values.even;
   odd : AreNarrow l.values.odd;

@@ -16,8 +16,10 @@ loop-k-init c =
     let none : drop (2 * c.args.places) soft ≡ [] = ap (λ n. drop n soft) (sym c.requires.count) ∙ drop-length soft in
     let same = ap₂ worths c.new-walk.ensures.even c.new-walk.ensures.odd in
     record {
-      walk = subst (λ values. IsWalk (worths c.args.after.even c.args.after.odd) values c.new-walk.result.map (drop (2 * c.args.places) soft)) (sym same)
-          (subst (IsWalk (worths c.args.after.even c.args.after.odd) (worths c.args.after.even c.args.after.odd) c.new-walk.result.map) (sym none) c.new-walk.ensures.walk);
+      walk = subst (λ values. IsWalk (worths c.args.after.even c.args.after.odd) values c.new-walk.result.map
+          (drop (2 * c.args.places) soft)) (sym same)
+          (subst (IsWalk (worths c.args.after.even c.args.after.odd) (worths c.args.after.even c.args.after.odd) c.new-walk.result.map)
+          (sym none) c.new-walk.ensures.walk);
       within = subst (λ most. AreWithin most (worths c.new-walk.result.values.even c.new-walk.result.values.odd)) (omega arith)
           (subst (AreWithin 58368) (sym same) c.requires.within);
       even = subst AreNarrow (sym c.new-walk.ensures.even) c.requires.even;
@@ -26,13 +28,16 @@ loop-k-init c =
     }
 
 pub pair_edges-requires-clause-octets : goal.pair_edges-requires-clause-octets
-pair_edges-requires-clause-octets c = All-take IsOctet _ (drop (2 * (c.loop-k.k - 1)) c.args.soft.now) (All-drop IsOctet (2 * (c.loop-k.k - 1)) c.args.soft.now c.requires.octets)
+pair_edges-requires-clause-octets c = All-take IsOctet _ (drop (2 * (c.loop-k.k - 1)) c.args.soft.now)
+    (All-drop IsOctet (2 * (c.loop-k.k - 1)) c.args.soft.now c.requires.octets)
 
 pub step-walk-requires-clause-even : goal.step-walk-requires-clause-even
-step-walk-requires-clause-even c = HaveRoom-even c.loop-k.walk.values.even c.loop-k.walk.values.odd (58368 + 256 * (c.args.places - c.loop-k.k)) (omega arith) c.loop-k.invariant.within c.loop-k.invariant.even.count
+step-walk-requires-clause-even c = HaveRoom-even c.loop-k.walk.values.even c.loop-k.walk.values.odd
+    (58368 + 256 * (c.args.places - c.loop-k.k)) (omega arith) c.loop-k.invariant.within c.loop-k.invariant.even.count
 
 pub step-walk-requires-clause-odd : goal.step-walk-requires-clause-odd
-step-walk-requires-clause-odd c = HaveRoom-odd c.loop-k.walk.values.even c.loop-k.walk.values.odd (58368 + 256 * (c.args.places - c.loop-k.k)) (omega arith) c.loop-k.invariant.within c.loop-k.invariant.odd.count
+step-walk-requires-clause-odd c = HaveRoom-odd c.loop-k.walk.values.even c.loop-k.walk.values.odd
+    (58368 + 256 * (c.args.places - c.loop-k.k)) (omega arith) c.loop-k.invariant.within c.loop-k.invariant.odd.count
 
 pub step-walk-requires-clause-count : goal.step-walk-requires-clause-count
 step-walk-requires-clause-count c = c.loop-k.invariant.count
@@ -54,7 +59,8 @@ loop-k-preserved c =
     let has = HasEdges-passed c.pair_edges.result pair c.pair_edges.ensures.edges c.pair_edges.ensures.has in
     let octets = All-take IsOctet n (drop (2 * (k - 1)) soft) (All-drop IsOctet (2 * (k - 1)) soft c.requires.octets) in
     record {
-      walk = subst (IsWalk (worths c.args.after.even c.args.after.odd) (worths c.step-walk.result.values.even c.step-walk.result.values.odd) c.step-walk.result.map) whole
+      walk = subst (IsWalk (worths c.args.after.even c.args.after.odd)
+          (worths c.step-walk.result.values.even c.step-walk.result.values.odd) c.step-walk.result.map) whole
           (c.step-walk.ensures.walk pair has (worths c.args.after.even c.args.after.odd) (drop (2 * k) soft) c.loop-k.invariant.walk);
       within = subst (λ most. AreWithin most (worths c.step-walk.result.values.even c.step-walk.result.values.odd)) (omega arith)
           (c.step-walk.ensures.within pair has octets (58368 + 256 * (c.args.places - k)) c.loop-k.invariant.within);
@@ -66,7 +72,8 @@ loop-k-preserved c =
 pub returns-clause-walk : goal.returns-clause-walk
 returns-clause-walk c =
     let none : c.loop-k.k ≡ 0 = omega arith in
-    subst (λ k. IsWalk (worths c.args.after.even c.args.after.odd) (worths c.loop-k.walk.values.even c.loop-k.walk.values.odd) c.loop-k.walk.map (drop (2 * k) c.args.soft.now)) none
+    subst (λ k. IsWalk (worths c.args.after.even c.args.after.odd)
+    (worths c.loop-k.walk.values.even c.loop-k.walk.values.odd) c.loop-k.walk.map (drop (2 * k) c.args.soft.now)) none
     c.loop-k.invariant.walk
 
 pub returns-clause-even : goal.returns-clause-even

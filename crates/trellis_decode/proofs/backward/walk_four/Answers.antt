@@ -104,7 +104,8 @@ pub returns-clause-walk : goal.returns-clause-walk
 returns-clause-walk c =
     let soft = c.args.soft.now in
     let after = worth c.args.after in
-    let walk-0 = subst (λ values. IsWalk after values c.new.result.map []) (sym (ap₂ worths c.new.ensures.even c.new.ensures.odd)) c.new.ensures.walk in
+    let walk-0 = subst (λ values. IsWalk after values c.new.result.map [])
+    (sym (ap₂ worths c.new.ensures.even c.new.ensures.odd)) c.new.ensures.walk in
     let walk-1 = c.step.ensures.walk (pair_at soft 6)
     (HasEdges-passed c.new-edges.result.fourth (pair_at soft 6) c.new-edges.ensures.fourth_edges c.new-edges.ensures.fourth)
     after [] walk-0 in

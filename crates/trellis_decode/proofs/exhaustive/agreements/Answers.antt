@@ -12,7 +12,8 @@ loop-k-preserved c =
     let inside : k < length soft = omega arith in
     let fits : FitsSigned w8 (get_or soft k (pos 0)) = search rules in
     let one_more : k + 1 ≡ suc k = omega arith in
-    let more : likelihood (take (k + 1) soft) (take (k + 1) coded) ≡ likelihood (take k soft) (take k coded) +ℤ agreement (get_or soft k (pos 0)) (get_or coded k 0) =
+    let more : likelihood (take (k + 1) soft) (take (k + 1) coded) ≡ likelihood (take k soft) (take k coded) +ℤ agreement
+    (get_or soft k (pos 0)) (get_or coded k 0) =
     ap (λ n. likelihood (take n soft) (take n coded)) one_more ∙ likelihood-more soft coded k inside c.loop-k-test.true in
     let exact = c.agreement_of-sum.ensures.exact ∙ ap (λ p. agreement p (get_or coded k 0)) (to_z-of_z w8 (get_or soft k (pos 0)) fits) in
     record {

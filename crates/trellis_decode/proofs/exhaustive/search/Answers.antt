@@ -21,11 +21,13 @@ loop-number-preserved c =
     let value : c.worth-value.result ≡ likelihood soft (coded (word n (16 * number))) =
     c.worth-value.ensures ∙ ap (λ u. likelihood soft (coded u)) c.write_list-in-loop-number.ensures.list in
     let Best : ℕ → ℕ → Type 0 = λ n m. to_z w32 c.if-value-best.best-bits ≡ likelihood soft (coded (word n (16 * m))) in
-    let Leads : ℕ → ℕ → Type 0 = λ n leader. (m : ℕ) → m < number + 1 → m ≢ leader → FallsBehind soft (word n (16 * m)) (word n (16 * leader)) in
+    let Leads : ℕ → ℕ → Type 0 = λ n leader. (m : ℕ) → m < number + 1 → m ≢ leader →
+    FallsBehind soft (word n (16 * m)) (word n (16 * leader)) in
     elim c.if-value-best.branch [
       | then-value-best w ↦
           let is = w.chosen-is in
-          let best_is : to_z w32 c.if-value-best.best-bits ≡ likelihood soft (coded (word n (16 * number))) = w.best-is ∙ to_z-of_z w32 c.worth-value.result fits ∙ value in
+          let best_is : to_z w32 c.if-value-best.best-bits ≡ likelihood soft (coded (word n (16 * number))) = w.best-is
+          ∙ to_z-of_z w32 c.worth-value.result fits ∙ value in
           let more : likelihood soft (coded (word n (16 * chosen))) <ℤ likelihood soft (coded (word n (16 * number))) =
           less_by_test _ _ _ _ kept.value (to_z-of_z w32 c.worth-value.result fits ∙ value) w.if-value-best.true in
           record {

@@ -20,7 +20,8 @@ loop-group-preserved c =
     record {
       at = omega arith;
       list =
-          ap (λ front. front ++ read_maps (drop (group + 1) maps) to) (take-put_mid (4 * group) _ u c.copy_from_slice.new.self (4 * (group + 1)) long room)
+          ap (λ front. front ++ read_maps (drop (group + 1) maps) to)
+          (take-put_mid (4 * group) _ u c.copy_from_slice.new.self (4 * (group + 1)) long room)
           ∙ append_assoc (take (4 * group) u) c.copy_from_slice.new.self (read_maps (drop (group + 1) maps) to)
           ∙ ap (λ rest. take (4 * group) u ++ rest) (
           ap₂ (λ new rest. new ++ read_maps rest to) written (ap (λ k. drop k maps) more)

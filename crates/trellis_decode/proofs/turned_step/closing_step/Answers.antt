@@ -1,10 +1,9 @@
-use Rattle.std.proofs.Common.{◌≡◌, ◌+◌, pos, ◌-ℤ◌, ap, ap₂, sym, ◌∙◌, arith, lit≤, ℕ, ◌<◌, List, ℤ}
+use Rattle.std.proofs.Common.{◌≡◌, ◌+◌, pos, ◌-ℤ◌, ap, ap₂, sym, ◌∙◌, arith, ℕ, ◌<◌, List, ℤ}
 use Rattle.trellis_decode.specs.Lanes.{lane}
 use Rattle.trellis_decode.specs.Turned.{HasEdges, turned, worths}
 use Rattle.trellis_decode.specs.Trellis.{way}
-use Rattle.trellis_decode.proofs.EdgeLanes.{each}
 use Rattle.trellis_decode.proofs.TurnedVectors.{passed, passed-lanes, AreNarrow-passed, HaveRoom-passed, AreEdges-passed, sum_passed, difference_passed}
-use Rattle.trellis_decode.proofs.TurnedSteps.{way_lane, stepped, even_worth, low_worth, high_worth, even_worth_high, minus_turned, edge-high}
+use Rattle.trellis_decode.proofs.TurnedSteps.{each_state, way_lane, stepped, even_worth, low_worth, high_worth, even_worth_high, minus_turned, edge-high}
 use Rattle.trellis_decode.proofs.turned_step.closing_step.Goals as goal
 use Rattle.trellis_decode.proofs.turned_step.closing_step.Goals.{After-last_in_turns}
 
@@ -34,13 +33,15 @@ last_in_turns-requires-clause-b_lanes c = AreNarrow-passed c.differences-high.re
 
 -- what the sixteen states are worth after the step
 stepped_is : (c : After-last_in_turns) →
-    worths (passed c.first_in_turns.result) (passed c.last_in_turns.result) ≡ stepped (passed c.sums-low.result) (passed c.differences-high.result)
+    worths (passed c.first_in_turns.result) (passed c.last_in_turns.result)
+    ≡ stepped (passed c.sums-low.result) (passed c.differences-high.result)
 stepped_is c = ap₂ worths
     (passed-lanes c.first_in_turns.result c.first_in_turns.ensures.lanes ∙ c.first_in_turns.ensures.each)
     (passed-lanes c.last_in_turns.result c.last_in_turns.ensures.lanes ∙ c.last_in_turns.ensures.each)
 
 low_way : (c : After-last_in_turns) (pair : List ℤ) → HasEdges c.args.edges pair → (k : ℕ) → k < 8 →
-    lane (worths (passed c.first_in_turns.result) (passed c.last_in_turns.result)) (turned k) ≡ way (worths c.args.after.even c.args.after.odd) pair (turned k) 0
+    lane (worths (passed c.first_in_turns.result) (passed c.last_in_turns.result)) (turned k)
+    ≡ way (worths c.args.after.even c.args.after.odd) pair (turned k) 0
 low_way c pair has k lt =
     let even = c.args.after.even in
     let edges = c.args.edges in
@@ -50,20 +51,22 @@ low_way c pair has k lt =
     (sum_passed even edges c.sums-low.result c.requires.even c.requires.edges c.sums-low.ensures.lanes k (c.sums-low.ensures.each k lt))
 
 high_way : (c : After-last_in_turns) (pair : List ℤ) → HasEdges c.args.edges pair → (k : ℕ) → k < 8 →
-    lane (worths (passed c.first_in_turns.result) (passed c.last_in_turns.result)) (8 + turned k) ≡ way (worths c.args.after.even c.args.after.odd) pair (8 + turned k) 0
+    lane (worths (passed c.first_in_turns.result) (passed c.last_in_turns.result)) (8 + turned k)
+    ≡ way (worths c.args.after.even c.args.after.odd) pair (8 + turned k) 0
 high_way c pair has k lt =
     let even = c.args.after.even in
     let edges = c.args.edges in
-    let fewer = difference_passed even edges c.differences-high.result c.requires.even c.requires.edges c.differences-high.ensures.lanes k (c.differences-high.ensures.each k lt) in
+    let fewer = difference_passed even edges c.differences-high.result c.requires.even c.requires.edges c.differences-high.ensures.lanes k
+    (c.differences-high.ensures.each k lt) in
     ap (λ l. lane l (8 + turned k)) (stepped_is c) ∙ high_worth (passed c.sums-low.result) (passed c.differences-high.result) k lt
-    ∙ way_lane (worths even c.args.after.odd) pair (8 + turned k) (lane even k) (pos 0 -ℤ lane edges k) (lane (passed c.differences-high.result) k)
+    ∙ way_lane (worths even c.args.after.odd) pair (8 + turned k) (lane even k) (pos 0 -ℤ lane edges k)
+    (lane (passed c.differences-high.result) k)
     (even_worth_high even c.args.after.odd k lt)
     (edge-high pair has.count (turned k) (omega arith) ∙ ap (λ e. pos 0 -ℤ e) (sym (has.each k lt)))
     (minus_turned (lane even k) (lane edges k) (lane (passed c.differences-high.result) k) fewer)
 
 pub returns-clause-each : goal.returns-clause-each
-returns-clause-each c pair has =
-    let low = low_way c pair has in
-    let high = high_way c pair has in
-    each (λ s. lane (worths (passed c.first_in_turns.result) (passed c.last_in_turns.result)) s ≡ way (worths c.args.after.even c.args.after.odd) pair s 0) 16
-    ((((((((((((((((tt, low 0 (lit≤ tt)), low 4 (lit≤ tt)), low 2 (lit≤ tt)), low 6 (lit≤ tt)), low 1 (lit≤ tt)), low 5 (lit≤ tt)), low 3 (lit≤ tt)), low 7 (lit≤ tt)), high 0 (lit≤ tt)), high 4 (lit≤ tt)), high 2 (lit≤ tt)), high 6 (lit≤ tt)), high 1 (lit≤ tt)), high 5 (lit≤ tt)), high 3 (lit≤ tt)), high 7 (lit≤ tt))
+returns-clause-each c pair has = each_state
+    (λ s. lane (worths (passed c.first_in_turns.result) (passed c.last_in_turns.result)) s
+    ≡ way (worths c.args.after.even c.args.after.odd) pair s 0)
+    (low_way c pair has) (high_way c pair has)

@@ -11,7 +11,8 @@ use Rattle.um_block.proofs.Softness.{AllSoft-range}
 use Rattle.um_block.proofs.Restoring.{restored_access}
 use Rattle.um_block.proofs.receiving.receive_access.Goals as goal
 
-restored : (burst : List ℤ) (bsic : List ℕ) (r : ReceivedAccess) → IsReceivedAccess burst bsic r → (info sent : List ℕ) → IsSentAccess info bsic sent → burst ≡ softened sent → IsCleanAccess info bsic r
+restored : (burst : List ℤ) (bsic : List ℕ) (r : ReceivedAccess) → IsReceivedAccess burst bsic r → (info sent : List ℕ) →
+    IsSentAccess info bsic sent → burst ≡ softened sent → IsCleanAccess info bsic r
 restored burst bsic r received info sent s same = clean_access info bsic sent r s (subst (λ x. IsReceivedAccess x bsic r) same received)
 
 pub decode-metric-requires-clause-soft : goal.decode-metric-requires-clause-soft
@@ -30,4 +31,5 @@ returns-clause-clean c = restored c.args.burst.now c.args.bsic.now _ (returns-cl
 pub returns-clause-restores : goal.returns-clause-restores
 returns-clause-restores c info d code damage =
     let is_body = c.body.ensures.value ∙ ap body c.new-parts.ensures.value in
-    restored_access c.args.burst.now info c.args.bsic.now d _ (ap length (sym is_body) ∙ c.body.ensures.count) code damage (returns-clause-received c)
+    restored_access c.args.burst.now info c.args.bsic.now d _ (ap length (sym is_body) ∙ c.body.ensures.count) code damage
+    (returns-clause-received c)

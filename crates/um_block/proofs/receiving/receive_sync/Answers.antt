@@ -12,7 +12,8 @@ use Rattle.um_block.proofs.Softness.{AllSoft-range}
 use Rattle.um_block.proofs.Restoring.{restored_sync}
 use Rattle.um_block.proofs.receiving.receive_sync.Goals as goal
 
-restored : (burst : List ℤ) (r : ReceivedSync) → IsReceivedSync burst r → (info sent : List ℕ) → IsSentSync info sent → burst ≡ softened sent → IsCleanSync info r
+restored : (burst : List ℤ) (r : ReceivedSync) → IsReceivedSync burst r → (info sent : List ℕ) → IsSentSync info sent →
+    burst ≡ softened sent → IsCleanSync info r
 restored burst r received info sent s same = clean_sync info sent r s (subst (λ x. IsReceivedSync x r) same received)
 
 pub decode-metric-requires-clause-soft : goal.decode-metric-requires-clause-soft

@@ -13,5 +13,6 @@ returns c =
     (λ k h.
     let written : k < c.loop-i.i = omega arith in
     let within : k < length bits = omega arith in
-    let bit : get_or bits k 0 ≡ get_or c.args.burst.now (at + k) 0 = get_or-take 16 (drop at c.args.burst.now) k 0 (omega arith) ∙ get_or-drop at c.args.burst.now k 0 in
+    let bit : get_or bits k 0 ≡ get_or c.args.burst.now (at + k) 0 = get_or-take 16 (drop at c.args.burst.now) k 0 (omega arith)
+    ∙ get_or-drop at c.args.burst.now k 0 in
     c.loop-i.invariant.1 k written ∙ ap soft_value (sym bit) ∙ sym (get_or-map soft_value bits k 0 (pos 0) within))

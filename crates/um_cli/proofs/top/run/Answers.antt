@@ -21,7 +21,8 @@ returns-in-Some-Code-clause-due g c =
     let f = c.in-Some-Code.field-0-is in
     let run = c.drive in
     for_shape
-    (λ shape. IsDueEnd shape run.result (g.S.Source.left c.args.input.now) (g.K.Sink.taken c.args.output.now) (g.K.Sink.taken run.new.output))
+    (λ shape. IsDueEnd shape run.result (g.S.Source.left c.args.input.now) (g.K.Sink.taken c.args.output.now)
+    (g.K.Sink.taken run.new.output))
     (shape_of c.args.words.now) Code (cc (e, f)) (run.ensures.due code_is_determined)
 
 pub returns-in-Some-Replay-clause-table : goal.returns-in-Some-Replay-clause-table
@@ -33,7 +34,8 @@ returns-in-Some-Replay-clause-table g c =
     (λ shape. IsTable shape run.result (g.S.Source.left c.args.input.now) (g.S.Source.left run.new.input) (g.K.Sink.taken c.args.output.now)
     (g.K.Sink.taken run.new.output))
     (shape_of c.args.words.now) Replay (cc (e, f))
-    (any_run replay_rules [] _ run.result _ _ _ _ (run_from replay_rules c.new.result [] _ run.result _ _ _ _ c.new.ensures run.ensures.table))
+    (any_run replay_rules [] _ run.result _ _ _ _
+    (run_from replay_rules c.new.result [] _ run.result _ _ _ _ c.new.ensures run.ensures.table))
 
 pub returns-in-Some-Replay-clause-due : goal.returns-in-Some-Replay-clause-due
 returns-in-Some-Replay-clause-due g c =
@@ -41,7 +43,8 @@ returns-in-Some-Replay-clause-due g c =
     let f = c.in-Some-Replay.field-0-is in
     let run = c.drive-in-Some-Replay in
     for_shape
-    (λ shape. IsDueEnd shape run.result (g.S.Source.left c.args.input.now) (g.K.Sink.taken c.args.output.now) (g.K.Sink.taken run.new.output))
+    (λ shape. IsDueEnd shape run.result (g.S.Source.left c.args.input.now) (g.K.Sink.taken c.args.output.now)
+    (g.K.Sink.taken run.new.output))
     (shape_of c.args.words.now) Replay (cc (e, f))
     (due_from replay_rules replay_is_determined c.new.result [] run.result _ _ _ c.new.ensures run.ensures.due)
 
@@ -61,7 +64,8 @@ returns-in-Some-Show-clause-due g c =
     let f = c.in-Some-Show.field-0-is in
     let run = c.drive-in-Some-Show in
     for_shape
-    (λ shape. IsDueEnd shape run.result (g.S.Source.left c.args.input.now) (g.K.Sink.taken c.args.output.now) (g.K.Sink.taken run.new.output))
+    (λ shape. IsDueEnd shape run.result (g.S.Source.left c.args.input.now) (g.K.Sink.taken c.args.output.now)
+    (g.K.Sink.taken run.new.output))
     (shape_of c.args.words.now) Show (cc (e, f)) (run.ensures.due show_is_determined)
 
 pub returns-in-Some-Repair-clause-due : goal.returns-in-Some-Repair-clause-due
@@ -70,7 +74,8 @@ returns-in-Some-Repair-clause-due g c =
     let f = c.in-Some-Repair.field-0-is in
     let run = c.drive-in-Some-Repair in
     for_shape
-    (λ shape. IsDueEnd shape run.result (g.S.Source.left c.args.input.now) (g.K.Sink.taken c.args.output.now) (g.K.Sink.taken run.new.output))
+    (λ shape. IsDueEnd shape run.result (g.S.Source.left c.args.input.now) (g.K.Sink.taken c.args.output.now)
+    (g.K.Sink.taken run.new.output))
     (shape_of c.args.words.now) Repair (cc (e, f)) (run.ensures.due repair_is_determined)
 
 pub returns-in-Some-Margin-clause-table : goal.returns-in-Some-Margin-clause-table
@@ -82,7 +87,8 @@ returns-in-Some-Margin-clause-table g c =
     (λ shape. IsTable shape run.result (g.S.Source.left c.args.input.now) (g.S.Source.left run.new.input) (g.K.Sink.taken c.args.output.now)
     (g.K.Sink.taken run.new.output))
     (shape_of c.args.words.now) Margin (cc (e, f))
-    (any_run margin_rules [] _ run.result _ _ _ _ (run_from margin_rules c.new-in-Some-Margin.result [] _ run.result _ _ _ _ c.new-in-Some-Margin.ensures run.ensures.table))
+    (any_run margin_rules [] _ run.result _ _ _ _
+    (run_from margin_rules c.new-in-Some-Margin.result [] _ run.result _ _ _ _ c.new-in-Some-Margin.ensures run.ensures.table))
 
 pub returns-in-Some-Margin-clause-due : goal.returns-in-Some-Margin-clause-due
 returns-in-Some-Margin-clause-due g c =
@@ -90,9 +96,11 @@ returns-in-Some-Margin-clause-due g c =
     let f = c.in-Some-Margin.field-0-is in
     let run = c.drive-in-Some-Margin in
     for_shape
-    (λ shape. IsDueEnd shape run.result (g.S.Source.left c.args.input.now) (g.K.Sink.taken c.args.output.now) (g.K.Sink.taken run.new.output))
+    (λ shape. IsDueEnd shape run.result (g.S.Source.left c.args.input.now) (g.K.Sink.taken c.args.output.now)
+    (g.K.Sink.taken run.new.output))
     (shape_of c.args.words.now) Margin (cc (e, f))
-    (due_from margin_rules margin_is_determined c.new-in-Some-Margin.result [] run.result _ _ _ c.new-in-Some-Margin.ensures run.ensures.due)
+    (due_from margin_rules margin_is_determined c.new-in-Some-Margin.result [] run.result _ _ _ c.new-in-Some-Margin.ensures
+    run.ensures.due)
 
 pub returns-in-Some-End-clause-table : goal.returns-in-Some-End-clause-table
 returns-in-Some-End-clause-table g c =
@@ -106,7 +114,8 @@ returns-in-Some-End-clause-table g c =
     (λ shape. IsTable shape run.result (g.S.Source.left c.args.input.now) (g.S.Source.left run.new.input) (g.K.Sink.taken c.args.output.now)
     (g.K.Sink.taken run.new.output))
     (shape_of c.args.words.now) (End side tsc) (cc (e, f))
-    (any_run end_rules begun _ run.result _ _ _ _ (run_from end_rules _ begun _ run.result _ _ _ _ c.new-in-Some-End.ensures.start run.ensures.table))
+    (any_run end_rules begun _ run.result _ _ _ _
+    (run_from end_rules _ begun _ run.result _ _ _ _ c.new-in-Some-End.ensures.start run.ensures.table))
 
 pub returns-in-Some-End-clause-due : goal.returns-in-Some-End-clause-due
 returns-in-Some-End-clause-due g c =
@@ -116,6 +125,7 @@ returns-in-Some-End-clause-due g c =
     let side = c.in-Some-End.side in
     let tsc = c.in-Some-End.tsc in
     for_shape
-    (λ shape. IsDueEnd shape run.result (g.S.Source.left c.args.input.now) (g.K.Sink.taken c.args.output.now) (g.K.Sink.taken run.new.output))
+    (λ shape. IsDueEnd shape run.result (g.S.Source.left c.args.input.now) (g.K.Sink.taken c.args.output.now)
+    (g.K.Sink.taken run.new.output))
     (shape_of c.args.words.now) (End side tsc) (cc (e, f))
     (due_from end_rules end_is_determined _ (idle (role_of side) tsc) run.result _ _ _ c.new-in-Some-End.ensures.start run.ensures.due)

@@ -10,7 +10,8 @@ use Rattle.um_make.proofs.run.make.Goals as goal
 
 pub count-requires : goal.count-requires
 count-requires g c =
-    small_enough c.args.tsc c.args.n c.loop-event.script c.loop-event.world c.loop-event.summary c.requires.most c.loop-event.invariant.underway
+    small_enough c.args.tsc c.args.n c.loop-event.script c.loop-event.world c.loop-event.summary c.requires.most
+    c.loop-event.invariant.underway
 
 pub loop-event-preserved : goal.loop-event-preserved
 loop-event-preserved g c =
@@ -19,7 +20,8 @@ loop-event-preserved g c =
     let new = c.count.new.self in
     let counts = c.count.ensures.counts in
     let sent : new.sends ≡ old.sends + frames_in answer = counts.sent ∙ ap (λ (k : ℕ). old.sends + k) (frames_are answer) in
-    let heard : new.takes + new.drops ≡ (old.takes + old.drops) + arrivals_in answer = omega (arith, counts.takes, counts.drops, arrivals_are answer) in
+    let heard : new.takes + new.drops ≡ (old.takes + old.drops) + arrivals_in answer =
+    omega (arith, counts.takes, counts.drops, arrivals_are answer) in
     record {
       underway = goes_on c.args.tsc (generated c.args.n) c.loop-event.script c.next.new.self c.loop-event.world
           c.step_into-done.new.self old new _ answer c.loop-event.invariant.underway c.in-Some.ensures.event
@@ -32,9 +34,11 @@ loop-event-preserved g c =
 
 pub returns-clause-run : goal.returns-clause-run
 returns-clause-run g c =
-    sums_up c.args.tsc (generated c.args.n) c.loop-event.script c.loop-event.world c.loop-event.summary c.in_default.ensures.event.0 c.loop-event.invariant.underway
+    sums_up c.args.tsc (generated c.args.n) c.loop-event.script c.loop-event.world c.loop-event.summary c.in_default.ensures.event.0
+    c.loop-event.invariant.underway
 
 pub returns-clause-delivered : goal.returns-clause-delivered
 returns-clause-delivered g c =
     delivered c.args.tsc c.args.n c.loop-event.summary
-    (sums_up c.args.tsc (generated c.args.n) c.loop-event.script c.loop-event.world c.loop-event.summary c.in_default.ensures.event.0 c.loop-event.invariant.underway)
+    (sums_up c.args.tsc (generated c.args.n) c.loop-event.script c.loop-event.world c.loop-event.summary c.in_default.ensures.event.0
+    c.loop-event.invariant.underway)

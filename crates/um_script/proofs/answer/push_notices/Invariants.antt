@@ -8,7 +8,9 @@ use Rattle.um_script.proofs.answer.push_notices.Given as goal
 abbrev pub invariant-loop-notice : goal.invariant-loop-notice
 invariant-loop-notice l =
     record {
-      text : l.out ++ notices_text (who_of l.who) l.sapi (drop l.notice-index l.notices) ≡ l.fn.out ++ notices_text (who_of l.who) l.sapi l.notices;
+      text : l.out ++ notices_text (who_of l.who) l.sapi (drop l.notice-index l.notices)
+          ≡ l.fn.out ++ notices_text (who_of l.who) l.sapi l.notices;
       short : length l.out ≤ length l.fn.out + 520 * l.notice-index;
-      fit : FitLines (map (Tells (who_of l.who) l.sapi) (drop l.notice-index l.notices)) → FitLines (map (Tells (who_of l.who) l.sapi) l.notices);
+      fit : FitLines (map (Tells (who_of l.who) l.sapi) (drop l.notice-index l.notices)) →
+          FitLines (map (Tells (who_of l.who) l.sapi) l.notices);
     }

@@ -7,4 +7,5 @@ use Rattle.um_script.proofs.script.law_script.Goals as goal
 
 pub returns : goal.returns
 returns c = λ line.
-    one_made event_said (LineMeans link_forms anywhere line) (line_fault link_forms anywhere line) (one_meaning link_forms anywhere line refl)
+    one_made event_said (LineMeans link_forms anywhere line) (line_fault link_forms anywhere line)
+    (one_meaning link_forms anywhere line refl)

@@ -10,7 +10,8 @@ pub overflow_sub-best : goal.overflow_sub-best
 overflow_sub-best c =
     let span = c.args.span in
     let leave = c.in-Some.leave in
-    let found = subst (IsBestFree c.args.u.now (losses_of c.args.pass.now) (between span.from span.to) span.to) c.in-Some.is c.find_best.ensures in
+    let found = subst (IsBestFree c.args.u.now (losses_of c.args.pass.now) (between span.from span.to) span.to) c.in-Some.is
+    c.find_best.ensures in
     let a : FitsSigned w32 span.likelihood = search rules in
     let b : FitsSigned w32 leave.loss = search rules in
     subst (FitsSigned w32) (sym (ap₂ (λ x y. x -ℤ y) (to_z-of_z w32 span.likelihood a) (to_z-of_z w32 leave.loss b)))
@@ -20,7 +21,8 @@ pub returns-in-Some-clause-branch : goal.returns-in-Some-clause-branch
 returns-in-Some-clause-branch c =
     let span = c.args.span in
     let leave = c.in-Some.leave in
-    let found = subst (IsBestFree c.args.u.now (losses_of c.args.pass.now) (between span.from span.to) span.to) c.in-Some.is c.find_best.ensures in
+    let found = subst (IsBestFree c.args.u.now (losses_of c.args.pass.now) (between span.from span.to) span.to) c.in-Some.is
+    c.find_best.ensures in
     let a : FitsSigned w32 span.likelihood = search rules in
     let b : FitsSigned w32 leave.loss = search rules in
     let both = ap₂ (λ x y. x -ℤ y) (to_z-of_z w32 span.likelihood a) (to_z-of_z w32 leave.loss b) in

@@ -13,9 +13,11 @@ write_detour-requires-clause-chosen c =
     let place = c.args.self.now.leave.place in
     let stray = c.requires.stray in
     let inside : place + 1 ≤ length u = let i = stray.within in omega arith in
-    let long : length u ≡ length rows = let n = c.requires.list.count in let m = c.requires.pass.pairs in let p = c.requires.pass.places in omega arith in
+    let long : length u ≡ length rows = let n = c.requires.list.count in let m = c.requires.pass.pairs in let p = c.requires.pass.places in
+    omega arith in
     chosen_after (place + 1) u rows 0 (follows_later place (place + 1) u rows 0 stray.follows (omega arith) (omega arith))
-    ∙ ap (read_out (drop (place + 1) rows)) (reached_more u place 0 (omega arith) ∙ ap (λ state. next state (get_or u place 0)) (sym stray.state))
+    ∙ ap (read_out (drop (place + 1) rows)) (reached_more u place 0 (omega arith)
+    ∙ ap (λ state. next state (get_or u place 0)) (sym stray.state))
 
 pub returns : goal.returns
 returns c =
@@ -23,7 +25,9 @@ returns c =
     let rows = rows_of c.args.pass.now in
     let place = c.args.self.now.leave.place in
     let stray = c.requires.stray in
-    let long : length u ≡ length rows = let n = c.requires.list.count in let m = c.requires.pass.pairs in let p = c.requires.pass.places in omega arith in
+    let long : length u ≡ length rows = let n = c.requires.list.count in let m = c.requires.pass.pairs in let p = c.requires.pass.places in
+    omega arith in
     c.write_detour.ensures
-    ∙ ap (λ state. take place u ++ (1 - get_or u place 0) ∷ read_out (drop (place + 1) rows) (next state (1 - get_or u place 0))) stray.state
+    ∙ ap (λ state. take place u ++ (1 - get_or u place 0) ∷ read_out (drop (place + 1) rows) (next state (1 - get_or u place 0)))
+    stray.state
     ∙ stray_written u rows 0 place (let i = stray.within in omega arith) (sym long)

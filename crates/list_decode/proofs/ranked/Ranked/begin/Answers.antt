@@ -18,7 +18,8 @@ invariant_of-self c =
     let span = c.new.ensures.span in
     let five = c.self.invariant.pass.at_least in
     let bits = bits_is c.self.inside c.args.self.now c.self.view_is c.self.invariant.pass (length c.args.u.now) c.requires.count in
-    let reads = reads_as c.self.inside.pass.bits c.padded.result c.decode-likelihood.new.u c.padded.ensures (c.decode-likelihood.auto.u ∙ bits) in
+    let reads = reads_as c.self.inside.pass.bits c.padded.result c.decode-likelihood.new.u c.padded.ensures
+    (c.decode-likelihood.auto.u ∙ bits) in
     sound_first c.self.inside c.self.invariant many room c.decode-likelihood.new.u c.padded.result reads c.new.result
     c.decode-likelihood.ensures.best c.new.ensures.branch (ap (λ (s : Span). s.list) span) (ap (λ (s : Span). s.from) span)
     (ap (λ (s : Span). s.to + 4) span ∙ omega arith)
@@ -31,5 +32,6 @@ returns-clause-given c =
     let many : length c.self.inside.lists ≡ 64 = search rules in
     let room : length c.self.inside.branches ≡ 127 = search rules in
     let bits = bits_is c.self.inside c.args.self.now c.self.view_is c.self.invariant.pass (length c.args.u.now) c.requires.count in
-    let reads = reads_as c.self.inside.pass.bits c.padded.result c.decode-likelihood.new.u c.padded.ensures (c.decode-likelihood.auto.u ∙ bits) in
+    let reads = reads_as c.self.inside.pass.bits c.padded.result c.decode-likelihood.new.u c.padded.ensures
+    (c.decode-likelihood.auto.u ∙ bits) in
     first_given c.self.inside c.self.invariant many room c.decode-likelihood.new.u c.padded.result reads c.new.result

@@ -15,7 +15,8 @@ invariant_of-self c =
     let few = c.requires.room in
     let bits = bits_is c.self.inside c.args.self.now c.self.view_is c.self.invariant.pass (length c.args.u.now) c.requires.count in
     let reads = reads_as c.self.inside.pass.bits c.padded.result c.find_next.new.u c.padded.ensures (c.find_next.auto.u ∙ bits) in
-    sound_next c.self.inside c.self.invariant (omega arith) (omega arith) many room c.find_next.new.u c.padded.result reads c.in_ok-next.next c.in_ok-next.ensures.next
+    sound_next c.self.inside c.self.invariant (omega arith) (omega arith) many room c.find_next.new.u c.padded.result reads
+    c.in_ok-next.next c.in_ok-next.ensures.next
 
 pub returns-in_err-next-clause-given : goal.returns-in_err-next-clause-given
 returns-in_err-next-clause-given c =
@@ -43,5 +44,6 @@ returns-clause-given c =
     let reads = reads_as c.self.inside.pass.bits c.padded.result c.find_next.new.u c.padded.ensures (c.find_next.auto.u ∙ bits) in (
       next_given c.self.inside c.self.invariant (omega arith) (omega arith) many room u c.padded.result reads c.in_ok-next.next next
           ∙ ap (λ us. us ++ u ∷ []) (given_is c.self.inside c.args.self.now c.self.view_is),
-      to_z-of_z w32 c.in_ok-next.next.likelihood fits ∙ next.value ∙ ap (λ s. likelihood s (coded u)) (soft_is c.self.inside c.args.self.now c.self.view_is),
+      to_z-of_z w32 c.in_ok-next.next.likelihood fits ∙ next.value
+          ∙ ap (λ s. likelihood s (coded u)) (soft_is c.self.inside c.args.self.now c.self.view_is),
     )

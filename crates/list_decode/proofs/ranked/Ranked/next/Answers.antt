@@ -1,29 +1,32 @@
 use Rattle.std.proofs.Common.{arith, rules, ◌≡◌, ◌<◌, length}
 use Rattle.list_decode.proofs.Given.{count_is, done_exactly, information, none_some, not_done_at_first}
 use Rattle.list_decode.proofs.ranked.Ranked.next.Goals as goal
+use Rattle.list_decode.proofs.ranked.Ranked.next.Goals.{After-go_on}
 
 pub returns-then-self-eq0-clause-done : goal.returns-then-self-eq0-clause-done
 returns-then-self-eq0-clause-done c =
     let count = count_is c.self.inside c.args.self.now c.self.view_is (let zero = c.if-self-eq0.true in omega arith) in
     let none : length c.args.self.now.given ≡ 0 = let zero = c.if-self-eq0.true in omega arith in (
       (λ e. absurd (none_some e)),
-      (λ done. absurd (not_done_at_first c.args.self.now c.begin.new.self c.begin.new.u none c.begin.ensures.soft c.begin.ensures.given c.begin.ensures.ranked done)),
+      (λ done. absurd
+          (not_done_at_first c.args.self.now c.begin.new.self c.begin.new.u none c.begin.ensures.soft c.begin.ensures.given
+          c.begin.ensures.ranked done)),
     )
+
+not_all_given : (c : After-go_on) → length c.args.self.now.given < 64
+not_all_given c =
+    let many : length c.self.inside.lists ≡ 64 = search rules in
+    let most = c.self.invariant.most in
+    let count = count_is c.self.inside c.args.self.now c.self.view_is (omega arith) in
+    let not_all = c.if-self-eq64.false in
+    omega arith
 
 pub returns-clause-information : goal.returns-clause-information
 returns-clause-information c =
-    let many : length c.self.inside.lists ≡ 64 = search rules in
-    let most = c.self.invariant.most in
-    let count = count_is c.self.inside c.args.self.now c.self.view_is (omega arith) in
-    let not_all = c.if-self-eq64.false in
-    let few : length c.args.self.now.given < 64 = omega arith in
-    information c.args.self.now c.go_on.new.self c.go_on.new.u _ _ few c.go_on.ensures.soft c.go_on.ensures.ranked c.go_on.result c.go_on.ensures.given
+    information c.args.self.now c.go_on.new.self c.go_on.new.u _ _ (not_all_given (goal.at.returns-clause-information c).After-go_on)
+    c.go_on.ensures.soft c.go_on.ensures.ranked c.go_on.result c.go_on.ensures.given
 
 pub returns-clause-done : goal.returns-clause-done
 returns-clause-done c =
-    let many : length c.self.inside.lists ≡ 64 = search rules in
-    let most = c.self.invariant.most in
-    let count = count_is c.self.inside c.args.self.now c.self.view_is (omega arith) in
-    let not_all = c.if-self-eq64.false in
-    let few : length c.args.self.now.given < 64 = omega arith in
-    done_exactly c.args.self.now c.go_on.new.self c.go_on.new.u _ _ few c.go_on.ensures.soft c.go_on.ensures.ranked c.go_on.result c.go_on.ensures.given
+    done_exactly c.args.self.now c.go_on.new.self c.go_on.new.u _ _ (not_all_given (goal.at.returns-clause-done c).After-go_on)
+    c.go_on.ensures.soft c.go_on.ensures.ranked c.go_on.result c.go_on.ensures.given

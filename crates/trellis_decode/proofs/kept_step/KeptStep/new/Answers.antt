@@ -1,11 +1,10 @@
-use Rattle.std.proofs.Common.{◌≡◌, ◌<◌, ℕ, ℤ, ◌-ℤ◌, List, get_or, ap, sym, ◌∙◌, subst}
+use Rattle.std.proofs.Common.{ℤ, List, get_or, ap, sym, ◌∙◌, subst}
 use Rattle.trellis_decode.specs.Lanes.{lane}
-use Rattle.trellis_decode.specs.Trellis.{way}
 use Rattle.trellis_decode.specs.Turned.{AreGaps, choices, HasEdges, worths}
-use Rattle.trellis_decode.proofs.Leads.{choice_is, each_lead, high_near, leads_passed, loss_is, low_near}
+use Rattle.trellis_decode.proofs.Leads.{AreLeads, choice_is, high_near, leads_are, loss_is, low_near}
 use Rattle.trellis_decode.proofs.TurnedVectors.{passed, passed-lanes, passed-gaps, AreEdges-passed, AreNarrow-edges, AreNarrow-passed}
 use Rattle.trellis_decode.proofs.kept_step.KeptStep.new.Goals as goal
-use Rattle.trellis_decode.proofs.kept_step.KeptStep.new.Goals.{After-sizes}
+use Rattle.trellis_decode.proofs.kept_step.KeptStep.new.Goals.{After-by_state-leads, After-sizes}
 
 pub new-step-requires-clause-edges : goal.new-step-requires-clause-edges
 new-step-requires-clause-edges c = AreEdges-passed c.args.edges c.requires.edges
@@ -38,38 +37,32 @@ by_state-leads-requires-clause-low_lanes c = AreNarrow-passed c.gaps-low.result 
 pub by_state-leads-requires-clause-high_lanes : goal.by_state-leads-requires-clause-high_lanes
 by_state-leads-requires-clause-high_lanes c = AreNarrow-passed c.gaps-high.result c.gaps-high.ensures.lanes
 
-pub signs-requires : goal.signs-requires
-signs-requires c = leads_passed c.args.after.even c.args.after.odd c.args.edges c.new-step.result.ways c.new-step.ensures.ways
+leads : (c : After-by_state-leads) → AreLeads c.args.after.even c.args.after.odd c.args.edges (passed c.by_state-leads.result)
+leads c = leads_are c.args.after.even c.args.after.odd c.args.edges c.new-step.result.ways c.new-step.ensures.ways
     c.requires.close c.requires.edges
     c.gaps-low.result c.gaps-high.result c.by_state-leads.result c.gaps-low.ensures.lanes c.gaps-high.ensures.lanes
     c.gaps-low.ensures.each c.gaps-high.ensures.each c.by_state-leads.ensures
+
+pub signs-requires : goal.signs-requires
+signs-requires c = (leads (goal.at.signs-requires c).After-by_state-leads).gaps
 
 pub sizes-requires : goal.sizes-requires
-sizes-requires c = leads_passed c.args.after.even c.args.after.odd c.args.edges c.new-step.result.ways c.new-step.ensures.ways
-    c.requires.close c.requires.edges
-    c.gaps-low.result c.gaps-high.result c.by_state-leads.result c.gaps-low.ensures.lanes c.gaps-high.ensures.lanes
-    c.gaps-low.ensures.each c.gaps-high.ensures.each c.by_state-leads.ensures
+sizes-requires c = (leads (goal.at.sizes-requires c).After-by_state-leads).gaps
 
 has_passed : (c : After-sizes) (pair : List ℤ) → HasEdges c.args.edges pair → HasEdges (passed c.args.edges) pair
-has_passed c pair has = subst (λ edges. HasEdges edges pair) (sym (passed-lanes c.args.edges (AreNarrow-edges c.args.edges c.requires.edges))) has
-
-lead : (c : After-sizes) (pair : List ℤ) → HasEdges c.args.edges pair → (s : ℕ) → s < 16 → lane (passed c.by_state-leads.result) s ≡
-    way (worths c.args.after.even c.args.after.odd) pair s 0 -ℤ way (worths c.args.after.even c.args.after.odd) pair s 1
-lead c pair has s lt =
-    each_lead c.args.after.even c.args.after.odd c.args.edges c.new-step.result.ways c.new-step.ensures.ways
-    c.requires.close c.requires.edges
-    c.gaps-low.result c.gaps-high.result c.by_state-leads.result c.gaps-low.ensures.lanes c.gaps-high.ensures.lanes
-    c.gaps-low.ensures.each c.gaps-high.ensures.each c.by_state-leads.ensures pair has s lt
+has_passed c pair has =
+    subst (λ edges. HasEdges edges pair) (sym (passed-lanes c.args.edges (AreNarrow-edges c.args.edges c.requires.edges))) has
 
 pub returns-clause-each : goal.returns-clause-each
 returns-clause-each c pair has s lt =
     choice_is (worths c.args.after.even c.args.after.odd) pair s (get_or (choices c.new-step.result.low c.new-step.result.high) s 0) _ _
-    (lane (passed c.by_state-leads.result) s) (c.new-step.ensures.each pair (has_passed c pair has) s lt) (lead c pair has s lt) (c.signs.ensures s lt)
+    (lane (passed c.by_state-leads.result) s) (c.new-step.ensures.each pair (has_passed c pair has) s lt)
+    ((leads (goal.at.returns-clause-each c).After-by_state-leads).each pair has s lt) (c.signs.ensures s lt)
 
 pub returns-clause-losses : goal.returns-clause-losses
 returns-clause-losses c pair has s lt =
     loss_is (worths c.args.after.even c.args.after.odd) pair s _ _ (lane (passed c.by_state-leads.result) s) _
-    (returns-clause-each c pair has s lt) (lead c pair has s lt)
+    (returns-clause-each c pair has s lt) ((leads (goal.at.returns-clause-losses c).After-by_state-leads).each pair has s lt)
     (ap (λ l. lane l s) (passed-gaps c.sizes.result c.sizes.ensures.lanes) ∙ c.sizes.ensures.each s lt)
 
 pub returns-clause-lanes : goal.returns-clause-lanes

@@ -11,32 +11,40 @@ pub new-step-requires-clause-edges : goal.new-step-requires-clause-edges
 new-step-requires-clause-edges c = AreEdges-passed c.args.edges c.requires.edges
 
 pub followed-requires-clause-low : goal.followed-requires-clause-low
-followed-requires-clause-low c = subst AreTaken (sym (passed_octets-taken c.new-step.result.low c.new-step.ensures.low)) c.new-step.ensures.low
+followed-requires-clause-low c =
+    subst AreTaken (sym (passed_octets-taken c.new-step.result.low c.new-step.ensures.low)) c.new-step.ensures.low
 
 pub followed-requires-clause-high : goal.followed-requires-clause-high
-followed-requires-clause-high c = subst AreTaken (sym (passed_octets-taken c.new-step.result.high c.new-step.ensures.high)) c.new-step.ensures.high
+followed-requires-clause-high c =
+    subst AreTaken (sym (passed_octets-taken c.new-step.result.high c.new-step.ensures.high)) c.new-step.ensures.high
 
 -- the bit that each state takes
 bit : After-followed → ℕ → ℕ
 bit c s = get_or (choices c.new-step.result.low c.new-step.result.high) s 0
 
 chosen : (c : After-followed) (pair : List ℤ) → HasEdges c.args.edges pair → (s : ℕ) → s < 16 →
-    Chooses (worths c.args.self.values.even c.args.self.values.odd) pair s (lane (worths c.new-step.result.values.even c.new-step.result.values.odd) s) (bit c s)
+    Chooses (worths c.args.self.values.even c.args.self.values.odd) pair s
+    (lane (worths c.new-step.result.values.even c.new-step.result.values.odd) s) (bit c s)
 unfolding bit
-chosen c pair has = c.new-step.ensures.each pair (subst (λ edges. HasEdges edges pair) (sym (passed-lanes c.args.edges (AreNarrow-edges c.args.edges c.requires.edges))) has)
+chosen c pair has =
+    c.new-step.ensures.each pair
+    (subst (λ edges. HasEdges edges pair) (sym (passed-lanes c.args.edges (AreNarrow-edges c.args.edges c.requires.edges))) has)
 
 shown : (c : After-followed) (s : ℕ) → s < 16 → get_or c.followed.result (place s) 0 ≡ get_or c.args.self.map (place (next s (bit c s))) 0
 unfolding bit
 shown c s lt = c.followed.ensures.each s lt
     ∙ ap (λ bits. get_or c.args.self.map (place (next s (get_or bits s 0))) 0)
-    (ap₂ choices (passed_octets-taken c.new-step.result.low c.new-step.ensures.low) (passed_octets-taken c.new-step.result.high c.new-step.ensures.high))
+    (ap₂ choices (passed_octets-taken c.new-step.result.low c.new-step.ensures.low)
+    (passed_octets-taken c.new-step.result.high c.new-step.ensures.high))
 
 pub returns-clause-walk : goal.returns-clause-walk
 returns-clause-walk c pair has after soft =
-    IsWalk-more after (worths c.args.self.values.even c.args.self.values.odd) (worths c.new-step.result.values.even c.new-step.result.values.odd)
+    IsWalk-more after (worths c.args.self.values.even c.args.self.values.odd)
+    (worths c.new-step.result.values.even c.new-step.result.values.odd)
     pair soft c.args.self.map c.followed.result (bit c) has.count (chosen c pair has) (shown c)
 
 pub returns-clause-within : goal.returns-clause-within
 returns-clause-within c pair has octets most =
-    AreWithin-more (worths c.args.self.values.even c.args.self.values.odd) (worths c.new-step.result.values.even c.new-step.result.values.odd)
+    AreWithin-more (worths c.args.self.values.even c.args.self.values.odd)
+    (worths c.new-step.result.values.even c.new-step.result.values.odd)
     pair most (bit c) has.count octets (chosen c pair has)

@@ -1,10 +1,9 @@
-use Rattle.std.proofs.Common.{◌≡◌, ◌+◌, pos, ◌-ℤ◌, ap, ap₂, sym, ◌∙◌, subst, arith, int_lt, lit≤, ℕ, ◌<◌, List, ℤ, get_or}
+use Rattle.std.proofs.Common.{◌≡◌, ◌+◌, pos, ◌-ℤ◌, ap, ap₂, sym, ◌∙◌, subst, arith, int_lt, ℕ, ◌<◌, List, ℤ, get_or}
 use Rattle.trellis_decode.specs.Trellis.{Chooses}
 use Rattle.trellis_decode.specs.Lanes.{lane}
 use Rattle.trellis_decode.specs.Turned.{choices, HasEdges, taken_bit, turned, worths}
-use Rattle.trellis_decode.proofs.EdgeLanes.{each}
 use Rattle.trellis_decode.proofs.TurnedVectors.{passed, passed-lanes, passed_octets, AreNarrow-passed, HaveRoom-passed, AreEdges-passed, sum_passed, difference_passed, taken_passed, AreTaken-passed}
-use Rattle.trellis_decode.proofs.TurnedSteps.{chosen_lane, stepped, even_worth, odd_worth, low_worth, high_worth, even_worth_high, odd_worth_high, minus_turned, plus_turned, edge-one, edge-high}
+use Rattle.trellis_decode.proofs.TurnedSteps.{each_state, low_choice, high_choice, chosen_lane, stepped, even_worth, odd_worth, low_worth, high_worth, even_worth_high, odd_worth_high, minus_turned, plus_turned, edge-one, edge-high}
 use Rattle.trellis_decode.proofs.turned_step.Step.new.Goals as goal
 use Rattle.trellis_decode.proofs.turned_step.Step.new.Goals.{After-greater-2}
 
@@ -70,13 +69,16 @@ greater-requires-2-clause-b_lanes c = AreNarrow-passed c.sums-high_one.result c.
 
 -- what the sixteen states are worth after the step
 stepped_is : (c : After-greater-2) →
-    worths (passed c.first_in_turns.result) (passed c.last_in_turns.result) ≡ stepped (passed c.larger-low.result) (passed c.larger-high.result)
+    worths (passed c.first_in_turns.result) (passed c.last_in_turns.result)
+    ≡ stepped (passed c.larger-low.result) (passed c.larger-high.result)
 stepped_is c = ap₂ worths
     (passed-lanes c.first_in_turns.result c.first_in_turns.ensures.lanes ∙ c.first_in_turns.ensures.each)
     (passed-lanes c.last_in_turns.result c.last_in_turns.ensures.lanes ∙ c.last_in_turns.ensures.each)
 
 low_chosen : (c : After-greater-2) (pair : List ℤ) → HasEdges c.args.edges pair → (k : ℕ) → k < 8 →
-    Chooses (worths c.args.after.even c.args.after.odd) pair (turned k) (lane (worths (passed c.first_in_turns.result) (passed c.last_in_turns.result)) (turned k)) (taken_bit (lane (passed_octets c.greater.result) k))
+    Chooses (worths c.args.after.even c.args.after.odd) pair (turned k)
+    (lane (worths (passed c.first_in_turns.result) (passed c.last_in_turns.result)) (turned k))
+    (taken_bit (lane (passed_octets c.greater.result) k))
 low_chosen c pair has k lt =
     let even = c.args.after.even in
     let odd = c.args.after.odd in
@@ -87,16 +89,21 @@ low_chosen c pair has k lt =
     let counted = sym (has.each k lt) in
     subst (λ value. Chooses (worths even odd) pair (turned k) value (taken_bit taken))
     (sym (ap (λ l. lane l (turned k)) (stepped_is c) ∙ low_worth (passed c.larger-low.result) (passed c.larger-high.result) k lt))
-    (chosen_lane (worths even odd) pair (turned k) (lane even k) (lane odd k) (lane edges k) zero one (lane (passed c.larger-low.result) k) taken
+    (chosen_lane (worths even odd) pair (turned k) (lane even k) (lane odd k) (lane edges k) zero one
+    (lane (passed c.larger-low.result) k) taken
     (even_worth even odd k lt) (odd_worth even odd k lt)
     counted (edge-one pair has.count (turned k) (omega arith) ∙ ap (λ e. pos 0 -ℤ e) counted)
-    (sum_passed even edges c.sums-low_zero.result c.requires.even c.requires.edges c.sums-low_zero.ensures.lanes k (c.sums-low_zero.ensures.each k lt))
-    (difference_passed odd edges c.differences-low_one.result c.requires.odd c.requires.edges c.differences-low_one.ensures.lanes k (c.differences-low_one.ensures.each k lt))
+    (sum_passed even edges c.sums-low_zero.result c.requires.even c.requires.edges c.sums-low_zero.ensures.lanes k
+    (c.sums-low_zero.ensures.each k lt))
+    (difference_passed odd edges c.differences-low_one.result c.requires.odd c.requires.edges c.differences-low_one.ensures.lanes k
+    (c.differences-low_one.ensures.each k lt))
     (ap (λ l. lane l k) (passed-lanes c.larger-low.result c.larger-low.ensures.lanes) ∙ c.larger-low.ensures.each k lt)
     (taken_passed c.greater.result (int_lt zero one) k c.greater.ensures.count lt (c.greater.ensures.each k lt)))
 
 high_chosen : (c : After-greater-2) (pair : List ℤ) → HasEdges c.args.edges pair → (k : ℕ) → k < 8 →
-    Chooses (worths c.args.after.even c.args.after.odd) pair (8 + turned k) (lane (worths (passed c.first_in_turns.result) (passed c.last_in_turns.result)) (8 + turned k)) (taken_bit (lane (passed_octets c.greater-2.result) k))
+    Chooses (worths c.args.after.even c.args.after.odd) pair (8 + turned k)
+    (lane (worths (passed c.first_in_turns.result) (passed c.last_in_turns.result)) (8 + turned k))
+    (taken_bit (lane (passed_octets c.greater-2.result) k))
 high_chosen c pair has k lt =
     let even = c.args.after.even in
     let odd = c.args.after.odd in
@@ -105,11 +112,14 @@ high_chosen c pair has k lt =
     let one = lane (passed c.sums-high_one.result) k in
     let taken = lane (passed_octets c.greater-2.result) k in
     let counted = edge-high pair has.count (turned k) (omega arith) ∙ ap (λ e. pos 0 -ℤ e) (sym (has.each k lt)) in
-    let fewer = difference_passed even edges c.differences-high_zero.result c.requires.even c.requires.edges c.differences-high_zero.ensures.lanes k (c.differences-high_zero.ensures.each k lt) in
-    let more = sum_passed odd edges c.sums-high_one.result c.requires.odd c.requires.edges c.sums-high_one.ensures.lanes k (c.sums-high_one.ensures.each k lt) in
+    let fewer = difference_passed even edges c.differences-high_zero.result c.requires.even c.requires.edges
+    c.differences-high_zero.ensures.lanes k (c.differences-high_zero.ensures.each k lt) in
+    let more = sum_passed odd edges c.sums-high_one.result c.requires.odd c.requires.edges c.sums-high_one.ensures.lanes k
+    (c.sums-high_one.ensures.each k lt) in
     subst (λ value. Chooses (worths even odd) pair (8 + turned k) value (taken_bit taken))
     (sym (ap (λ l. lane l (8 + turned k)) (stepped_is c) ∙ high_worth (passed c.larger-low.result) (passed c.larger-high.result) k lt))
-    (chosen_lane (worths even odd) pair (8 + turned k) (lane even k) (lane odd k) (pos 0 -ℤ lane edges k) zero one (lane (passed c.larger-high.result) k) taken
+    (chosen_lane (worths even odd) pair (8 + turned k) (lane even k) (lane odd k) (pos 0 -ℤ lane edges k) zero one
+    (lane (passed c.larger-high.result) k) taken
     (even_worth_high even odd k lt) (odd_worth_high even odd k lt)
     counted (edge-one pair has.count (8 + turned k) (omega arith) ∙ ap (λ e. pos 0 -ℤ e) counted)
     (minus_turned (lane even k) (lane edges k) zero fewer) (plus_turned (lane odd k) (lane edges k) one more)
@@ -117,13 +127,12 @@ high_chosen c pair has k lt =
     (taken_passed c.greater-2.result (int_lt zero one) k c.greater-2.ensures.count lt (c.greater-2.ensures.each k lt)))
 
 pub returns-clause-each : goal.returns-clause-each
-returns-clause-each c pair has =
-    let low = low_chosen c pair has in
-    let high = high_chosen c pair has in
-    each (λ s. Chooses (worths c.args.after.even c.args.after.odd) pair s
+returns-clause-each c pair has = each_state
+    (λ s. Chooses (worths c.args.after.even c.args.after.odd) pair s
     (lane (worths (passed c.first_in_turns.result) (passed c.last_in_turns.result)) s)
-    (get_or (choices (passed_octets c.greater.result) (passed_octets c.greater-2.result)) s 0)) 16
-    ((((((((((((((((tt, low 0 (lit≤ tt)), low 4 (lit≤ tt)), low 2 (lit≤ tt)), low 6 (lit≤ tt)), low 1 (lit≤ tt)), low 5 (lit≤ tt)), low 3 (lit≤ tt)), low 7 (lit≤ tt)), high 0 (lit≤ tt)), high 4 (lit≤ tt)), high 2 (lit≤ tt)), high 6 (lit≤ tt)), high 1 (lit≤ tt)), high 5 (lit≤ tt)), high 3 (lit≤ tt)), high 7 (lit≤ tt))
+    (get_or (choices (passed_octets c.greater.result) (passed_octets c.greater-2.result)) s 0))
+    (λ k lt. rw (low_choice (passed_octets c.greater.result) (passed_octets c.greater-2.result) k lt) (low_chosen c pair has k lt))
+    (λ k lt. rw (high_choice (passed_octets c.greater.result) (passed_octets c.greater-2.result) k lt) (high_chosen c pair has k lt))
 
 pub returns-clause-ways : goal.returns-clause-ways
 returns-clause-ways c =

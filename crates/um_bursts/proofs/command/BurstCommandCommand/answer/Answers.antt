@@ -6,7 +6,8 @@ use Rattle.um_bursts.proofs.command.BurstCommandCommand.answer.Goals as goal
 pub hold-requires-clause-soft : goal.hold-requires-clause-soft
 hold-requires-clause-soft g c =
     let means = c.in_ok-parse_burst.ensures.means in
-    (normal_burst c.count.result c.args.line.now c.in-Normal.burst (subst (BurstMeans c.count.result c.args.line.now) c.in-Normal.is means)).1
+    (normal_burst c.count.result c.args.line.now c.in-Normal.burst
+    (subst (BurstMeans c.count.result c.args.line.now) c.in-Normal.is means)).1
 
 pub access-requires-clause-soft : goal.access-requires-clause-soft
 access-requires-clause-soft g c =

@@ -1,0 +1,18 @@
+-- What follows where a line has one meaning and no other, or a reason and none.
+use Rattle.std.proofs.Common.{◌≡◌, Option, None, Some, refl, sym, ◌∙◌, subst}
+use Rattle.um_lines.specs.declared.fault.LineFault.{LineFault}
+use Rattle.um_lines.specs.Meanings.{HasOneMeaningUnless}
+
+module _ {Meaning : Type 0} (Means : Meaning → Type 0) where
+  pub same_meaning : (fault : Option LineFault) → HasOneMeaningUnless fault Means → (m m' : Meaning) → Means m → Means m' → m ≡ m'
+  same_meaning None one m m' means means' = one.2 m means ∙ sym (one.2 m' means')
+  same_meaning (Some fault) none m m' means means' = absurd (none m means)
+
+  pub no_fault : (fault : Option LineFault) → HasOneMeaningUnless fault Means → (m : Meaning) → Means m → fault ≡ None
+  no_fault None one m means = refl
+  no_fault (Some fault) none m means = absurd (none m means)
+
+  pub good_meaning : (fault : Option LineFault) → HasOneMeaningUnless fault Means → fault ≡ None → (m : Meaning) × Means m
+  good_meaning fault one good =
+      let meant : HasOneMeaningUnless None Means = subst (λ fault. HasOneMeaningUnless fault Means) good one in
+      (meant.0, meant.1)
