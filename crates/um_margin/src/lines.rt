@@ -1,13 +1,10 @@
 //! The lines that a comparison is written as.
-ghost use Rattle.std.specs.Prelude.{◌≡◌, ◌+◌, ◌-◌, ◌*◌, ◌<◌, ◌≤◌, ℤ, [], ◌++◌, length, take, drop};
-ghost use Rattle.bit_blocks.specs.Bits.{AllBits};
-ghost use Rattle.bit_blocks.specs.Octets.{octets_of};
-ghost use Rattle.hex.specs.Hex.{encode_lower};
+ghost use Rattle.std.specs.Prelude.{◌≡◌, ◌+◌, ◌-◌, ◌<◌, ◌≤◌, [], ◌++◌, length};
 ghost use Rattle.um_margin.specs.Texts.{numbers_text, hex_word, digit_word, block_text, access_text, sync_text};
 
 use crate::comparison::Comparison;
-use bit_blocks::{Bits, to_octets};
-use um_lines::Text;
+use bit_blocks::Bits;
+use um_lines::{Text, packed};
 
 /// Writes `block margin G metric M data HEX46 check HEX10 next HEX46 HEX10`.
 pub(crate) fn block_line(out: &mut Text, c: &Comparison<228>)
@@ -73,22 +70,9 @@ fn push_hex_word(out: &mut Text, word: &Bits<228>, between: &[u8])
     ensures text { out.new ≡ out.old ++ hex_word word.now between.now }
     ensures length { length out.new ≡ length out.old + 56 + length between.now }
 {
-    push_packed::<23, _>(out, word, 0);
+    out.push_hex(&packed::<23, _>(word, 0));
     out.push(between);
-    push_packed::<5, _>(out, word, 184);
-}
-
-// The octets of the bits from this place on.
-fn push_packed<const N: usize, const M: usize>(out: &mut Text, word: &Bits<M>, place: usize)
-    requires room { length out.old + 2 * N ≤ 4096 }
-    requires within { place + 8 * N ≤ M }
-    ensures text { out.new ≡ out.old ++ encode_lower (octets_of (take (8 * N) (drop place word.now))) }
-    ensures length { length out.new ≡ length out.old + 2 * N }
-{
-    let bits = &word.as_slice()[place..place + 8 * N];
-    let mut octets = [0; N];
-    to_octets(bits, &mut octets);
-    out.push_hex(&octets);
+    out.push_hex(&packed::<5, _>(word, 184));
 }
 
 // The data are the first bits of the word, up to this place, and the check those from there to the end.

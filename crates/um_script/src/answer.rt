@@ -1,6 +1,5 @@
 //! The lines that answer a line of a script.
 ghost use Rattle.std.specs.Prelude.{◌≡◌, ◌+◌, ◌*◌, ◌-◌, ◌<◌, ◌≤◌, [], ◌++◌, length, map, take, drop, codes, IfOk, OnOk};
-ghost use Rattle.std.specs.Fmt.{decimal};
 ghost use Rattle.hex.specs.Hex.{encode_lower};
 ghost use Rattle.bit_blocks.specs.Octets.{bits_of, octets_of};
 ghost use Rattle.um_air.specs.Air as A;
@@ -11,10 +10,9 @@ ghost use Rattle.um_link.specs.Naming.{answer_of, step_of, who_of, why_of, writt
 ghost use Rattle.um_link.specs.Standing.{FitsWho};
 ghost use Rattle.um_script.specs.StepLines.{who_word, link_word, refusal_word, closing_word, octets_word, heard_text, dropped_text, block_text, arrival_text, notice_text, notices_text, frames_text, answer_text};
 
-use bit_blocks::{Bits, to_octets};
 use lapdm_window::{Notice, Reason, Sapi};
 use um_block::Received;
-use um_lines::Text;
+use um_lines::{Text, packed};
 use um_link::{No, Step, Who};
 
 /// Writes the lines that answer a line of a script: what arrived, what is reported and what is sent, or why nothing happened.
@@ -166,7 +164,7 @@ fn push_dropped(out: &mut Text, r: &Received)
     ensures data { AreOctets (octets_of (take 184 r.now.u)) }
     ensures check { AreOctets (octets_of (take 40 (drop 184 r.now.u))) }
 {
-    push_parts(out, &packed::<23>(&r.u, 0), &packed::<5>(&r.u, 184));
+    push_parts(out, &packed::<23, _>(&r.u, 0), &packed::<5, _>(&r.u, 184));
 }
 
 fn push_parts(out: &mut Text, octets: &[u8], check: &[u8])
@@ -184,17 +182,6 @@ fn push_parts(out: &mut Text, octets: &[u8], check: &[u8])
     out.push_hex(octets);
     out.push(b" check ");
     out.push_hex(check);
-}
-
-// The octets of the bits from this place on.
-fn packed<const N: usize>(word: &Bits<228>, place: usize) -> [u8; N]
-    requires { place + 8 * N ≤ 228 }
-    ensures { bits_of result ≡ take (8 * N) (drop place word.now) }
-{
-    let bits = &word.as_slice()[place..place + 8 * N];
-    let mut octets = [0; N];
-    to_octets(bits, &mut octets);
-    octets
 }
 
 fn push_notices(out: &mut Text, who: Who, sapi: Sapi, notices: &[Notice])

@@ -1,6 +1,5 @@
 //! The lines that report what is received.
-ghost use Rattle.std.specs.Prelude.{◌≡◌, ◌+◌, ◌-◌, ◌*◌, ◌<◌, ◌≤◌, [], ◌++◌, length, take, drop};
-ghost use Rattle.std.specs.Fmt.{decimal};
+ghost use Rattle.std.specs.Prelude.{◌≡◌, ◌+◌, ◌-◌, ◌<◌, ◌≤◌, [], ◌++◌, length, take, drop};
 ghost use Rattle.bit_blocks.specs.Bits.{AllBits};
 ghost use Rattle.bit_blocks.specs.Octets.{bits_of, octets_of};
 ghost use Rattle.hex.specs.Hex.{encode_lower};
@@ -8,9 +7,9 @@ ghost use Rattle.um_lines.specs.Fields.{bit_digits};
 ghost use Rattle.um_text.specs.Reports.{parity_word, quality_text, data_text, block_line_text, IsBlockReport, access_report_text, sync_report_text};
 
 use crate::frames::push_frame;
-use bit_blocks::{Bits, to_octets};
+use bit_blocks::Bits;
 use um_block::{Received, ReceivedAccess, ReceivedSync};
-use um_lines::Text;
+use um_lines::{Text, packed};
 
 /// Writes what four bursts of a block were received as and, exactly where the parity holds, the line of the octets' frame.
 pub fn block_report(out: &mut Text, r: &Received)
@@ -110,15 +109,4 @@ fn push_octets(out: &mut Text, octets: &[u8], check: &[u8])
     out.push(b" check ");
     out.push_hex(check);
     out.push(b"\n");
-}
-
-// The octets of the bits from this place on.
-fn packed<const N: usize, const M: usize>(word: &Bits<M>, place: usize) -> [u8; N]
-    requires { place + 8 * N ≤ M }
-    ensures { bits_of result ≡ take (8 * N) (drop place word.now) }
-{
-    let bits = &word.as_slice()[place..place + 8 * N];
-    let mut octets = [0; N];
-    to_octets(bits, &mut octets);
-    octets
 }

@@ -1,0 +1,17 @@
+//! Octets of the bits of a word, as they are written in hexadecimal digits.
+ghost use Rattle.std.specs.Prelude.{◌≡◌, ◌+◌, ◌*◌, ◌≤◌, take, drop};
+ghost use Rattle.bit_blocks.specs.Octets.{bits_of, octets_of};
+
+use bit_blocks::{Bits, to_octets};
+
+/// The octets of 8 N bits of a word, from this place on.
+pub fn packed<const N: usize, const M: usize>(word: &Bits<M>, place: usize) -> [u8; N]
+    requires { place + 8 * N ≤ M }
+    ensures value { result ≡ octets_of (take (8 * N) (drop place word.now)) }
+    ensures undone { bits_of result ≡ take (8 * N) (drop place word.now) }
+{
+    let bits = &word.as_slice()[place..place + 8 * N];
+    let mut octets = [0; N];
+    to_octets(bits, &mut octets);
+    octets
+}
