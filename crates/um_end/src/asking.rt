@@ -3,13 +3,12 @@ ghost use Rattle.std.specs.Prelude.{◌≡◌, OnOk, OnErr};
 ghost use Rattle.lapdm_window.specs.Calls.{after_call};
 ghost use Rattle.lapdm_end.specs.Following.{Follows, IsRefusedAs};
 ghost use Rattle.lapdm_end.specs.Standing.{channel_of, sapi_of};
-ghost use Rattle.lapdm_link.specs.Events as E;
-ghost use Rattle.um_link.specs.Naming.{call_of, event_of, why_of};
+ghost use Rattle.um_link.specs.Naming.{call_of, event_of};
 ghost use Rattle.um_end.specs.Asking.{IsCall, sapi_in, call_in};
 
 use lapdm_end::End;
 use lapdm_window::{Effects, Refused, Sapi};
-use um_link::{Call, Event, No};
+use um_link::{Call, Event};
 
 /// The link that a call is of.
 pub(crate) fn link_asked(event: &Event<'_>) -> Sapi
@@ -64,18 +63,5 @@ fn ask_call(link: &mut End, call: &Call<'_>, effects: &mut Effects) -> Result<()
             link.idle_into(effects);
             Ok(())
         }
-    }
-}
-
-pub(crate) fn reason(refused: Refused) -> No
-    ensures { why_of result ≡ E.Because refused }
-{
-    match refused {
-        Refused::NotIdle => No::NotIdle,
-        Refused::NotOpen => No::NotOpen,
-        Refused::NotRunning => No::NotRunning,
-        Refused::Empty => No::Empty,
-        Refused::TooLong => No::TooLong,
-        Refused::Full => No::Full,
     }
 }

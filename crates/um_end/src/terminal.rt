@@ -16,7 +16,7 @@ ghost use Rattle.um_block.specs.declared.received.Received.{Received};
 ghost use Rattle.um_script.specs.AnswerLines.{heard, FitsHeard};
 ghost use Rattle.um_end.specs.Asking.{IsCall, sapi_in, call_in};
 
-use crate::asking::{ask_event, link_asked, reason};
+use crate::asking::{ask_event, link_asked};
 use lapdm_end::{End as LinkEnd, Role};
 use lapdm_frame::{Channel, FrameView, read};
 use lapdm_window::{Effects, Refused, Sapi};
@@ -97,7 +97,7 @@ impl Terminal {
                 self.sign(sapi, step);
                 Ok(())
             }
-            Err(refused) => Err(reason(refused)),
+            Err(refused) => Err(No::from(refused)),
         }
     }
 

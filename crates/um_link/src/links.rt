@@ -169,7 +169,7 @@ impl Links {
                 self.goes_out(radio, end, step);
                 Ok(())
             }
-            Err(refused) => Err(No::of(refused)),
+            Err(refused) => Err(No::from(refused)),
         }
     }
 
@@ -195,7 +195,7 @@ impl Links {
                 self.goes_out(radio, End::Mobile, step);
                 Ok(())
             }
-            Err(refused) => Err(No::of(refused)),
+            Err(refused) => Err(No::from(refused)),
         }
     }
 
@@ -221,7 +221,7 @@ impl Links {
                 self.goes_out(radio, end, step);
                 Ok(())
             }
-            Err(refused) => Err(No::of(refused)),
+            Err(refused) => Err(No::from(refused)),
         }
     }
 
@@ -416,10 +416,10 @@ impl Way {
     }
 }
 
-impl No {
+impl From<Refused> for No {
     ghost use Rattle.um_link.specs.Naming.{why_of};
 
-    fn of(refused: Refused) -> No
+    fn from(refused: Refused) -> No
         ensures { why_of result ≡ E.Because refused }
     {
         match refused {

@@ -39,15 +39,15 @@ returns-in-Err-clause-follows c a st =
     let event = event_of c.args.event.now in
     let sapi = c.link_asked-sapi.result in
     let role = side_of c.args.self.now in
-    let answer = Refuses (why_of c.reason.result) in (
+    let answer = Refuses (why_of c.from.result) in (
       a,
       subst (λ (t : Terminal). Stands t a) (sym c.in-Err.ensures.refused) st,
       asks_event role a event a answer (is_call role event c.requires.own)
           (subst (λ (s : Sapi). IsAsked role a s (call_in event) a answer) c.link_asked-sapi.ensures
-          (ap because (sym (c.in-Err.ensures.refusal _ (stands_at sapi c.args.self.now a st))) ∙ ap Some (sym c.reason.ensures), refl)),
+          (ap because (sym (c.in-Err.ensures.refusal _ (stands_at sapi c.args.self.now a st))) ∙ ap Some (sym c.from.ensures), refl)),
     )
 
 pub returns-in-Err-clause-only : goal.returns-in-Err-clause-only
 returns-in-Err-clause-only c a st b answer h =
     let f = returns-in-Err-clause-follows c a st in
-    (one_asking (side_of c.args.self.now) a (event_of c.args.event.now) b f.0 answer (Refuses (why_of c.reason.result)) h f.2).1
+    (one_asking (side_of c.args.self.now) a (event_of c.args.event.now) b f.0 answer (Refuses (why_of c.from.result)) h f.2).1

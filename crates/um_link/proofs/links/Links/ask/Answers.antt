@@ -20,6 +20,6 @@ returns-in-Err-clause-follows g c =
     let w = c.args.self.now in
     let role = role_of c.args.end in
     let call = call_of c.args.call.now in
-    stays-ends (E.Ask role c.args.sapi (request_of c.args.call.now)) (why_of c.of.result) w c.ask.new.self c.in-Err.ensures.refused
+    stays-ends (E.Ask role c.args.sapi (request_of c.args.call.now)) (why_of c.from.result) w c.ask.new.self c.in-Err.ensures.refused
     (λ a st. asked-because role c.args.sapi call w c.in-Err.refused (sym c.is_full.ensures ∙ c.if-is_full.false)
-    c.in-Err.ensures.refusal a st ∙ ap Some (sym c.of.ensures))
+    c.in-Err.ensures.refusal a st ∙ ap Some (sym c.from.ensures))

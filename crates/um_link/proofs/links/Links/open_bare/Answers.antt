@@ -20,6 +20,6 @@ returns-in-Ok-clause-follows g c =
 pub returns-in-Err-clause-follows : goal.returns-in-Err-clause-follows
 returns-in-Err-clause-follows g c =
     let w = c.args.self.now in
-    stays-ends (E.OpenBare (role_of c.args.end)) (why_of c.of.result) w c.open_bare.new.self c.in-Err.ensures.refused
+    stays-ends (E.OpenBare (role_of c.args.end)) (why_of c.from.result) w c.open_bare.new.self c.in-Err.ensures.refused
     (λ a st. asked-because (role_of c.args.end) S.Three OpensBare w c.in-Err.refused
-    (sym c.is_full.ensures ∙ c.if-is_full.false) c.in-Err.ensures.refusal a st ∙ ap Some (sym c.of.ensures))
+    (sym c.is_full.ensures ∙ c.if-is_full.false) c.in-Err.ensures.refusal a st ∙ ap Some (sym c.from.ensures))
