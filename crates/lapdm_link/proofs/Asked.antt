@@ -1,20 +1,20 @@
 -- What an end does at a call that is not refused: what it tells and sends, and that both directions are kept.
-use Rattle.lapdm_link.proofs.Words.{◌≡◌, refl, sym, ap, subst, arith, ℕ, ◌+◌, ◌≤◌, max, Bool, true, false, not, if◌then◌else◌, nat_eq, nat_lt, List, [], ◌∷◌, ◌++◌, length, Some, None, inl, inr, ◌⊎◌, filter_map, append-nil, false≢true, nat_tests, n201, Content, I, Rr, Rej, Sabm, Ui, Disc, Frame, Message, Piece, IsMessage, State, Notice, EndState, Outcome, KeepsWindow, sends_frame, waits, awaits, awaits_in, all_pieces, n200, is_open, sends_next, IsSameLink, becomes_closed, Call, Opens, OpensBare, Sends, SendsUnit, Closes, Ticks, Idles, is_idle, refusal_of, put_refusals, frame_refusals, with_taken, repeated, after_call, wholly_acked-taken, all_pieces-taken, KeepsWindow-taken, is_message, not_false, passes, is_idle-is, is_open-is, three_bits, waits_within, sent_in, unit_sent_in, unit_got_in, opened_in}
+use Rattle.lapdm_link.proofs.Words.{◌≡◌, refl, sym, ap, subst, arith, ℕ, ◌+◌, ◌≤◌, max, Bool, true, false, not, if◌then◌else◌, nat_eq, nat_lt, List, [], ◌∷◌, ◌++◌, length, Some, None, inl, inr, ◌⊎◌, filter_map, append-nil, false≢true, nat_tests, n201, Content, I, Rr, Rej, Sabm, Ui, Disc, Frame, Message, Piece, IsMessage, State, Notice, EndState, Outcome, KeepsWindow, sends_frame, waits, awaits, awaits_in, all_pieces, n200, is_open, sends_next, IsSameLink, becomes_closed, Call, Opens, OpensBare, Sends, SendsUnit, Closes, Ticks, Idles, is_idle, refusal_of, put_refusals, frame_refusals, with_taken, repeated, after_call, wholly_acked-taken, all_pieces-taken, KeepsWindow-taken, is_message, not_false, passes, is_idle-is, is_open-is, waits_within, sent_in, unit_sent_in, unit_got_in, opened_in}
 use Rattle.lapdm_window.specs.declared.State.TheVariants as S
 use Rattle.lapdm_window.specs.declared.Reason.TheVariants as R
 use Rattle.lapdm_window.specs.declared.Refused.TheVariants as No
 use Rattle.lapdm_link.proofs.Queues.{contents, IsPlain, AllFrames, frames-as, frames-say, AllOf}
-use Rattle.lapdm_link.proofs.Directions.{waits_for_one, more_pieces}
-use Rattle.lapdm_link.proofs.Keeping.{IsBoth, After, sends_plain, quiet, moved, piece_sent, is_waiting, keeps-sends_next}
+use Rattle.lapdm_link.proofs.Directions.{more_pieces}
+use Rattle.lapdm_link.proofs.Keeping.{IsBoth, Both, After, sends, sends_plain, moved, waiting}
 use Rattle.lapdm_link.proofs.Told.{stage_of, known, asked, Tells}
-use Rattle.lapdm_link.proofs.Telling.{SaysWell, InOpen, in-sends_next}
+use Rattle.lapdm_link.proofs.Telling.{SaysWell, InOpen, in-sends_next, one_waits}
 use Rattle.lapdm_link.proofs.Taking.{unit_in}
 
 -- what an end sends at a call, which leaves it in this state
 abbrev pub Asks : Call → EndState → Content → Type 0
 Asks call z (I ns nr p more info) = SaysWell (all_pieces z) (I ns nr p more info)
-Asks call z (Rr nr pf) = nr ≤ 7
-Asks call z (Rej nr pf) = nr ≤ 7
+Asks call z (Rr nr pf) = Unit {0}
+Asks call z (Rej nr pf) = Unit {0}
 Asks call z (Sabm p info) = (z.state ≡ S.Opening) × (z.kept ≡ info)
 Asks call z (Ui p info) = (call ≡ SendsUnit info) ⊎ (info ≡ [])
 Asks call z (Disc p) = Unit {0}
@@ -103,8 +103,8 @@ module _ (x : EndState) (w : KeepsWindow x) where
   again S.Closing e due = one_frame Ticks x.state x.kept (x.retries + 1) (repeated S.Closing x) refl refl (inr (refl, inl refl))
       (inl refl, tt, tt) (tt, tt) refl
   again S.Open e due = moves Ticks x.state x.kept (x.retries + 1) _ [] refl refl refl refl (inr (refl, inl refl))
-      (inl refl, (three_bits x.acked, three_bits (length x.accepted), (x.acked, waits_within x w due, refl)), tt) refl
-      (λ y out comes h. piece_sent true (waits_for_one (is_waiting x due) h.there) h)
+      (inl refl, (x.acked, waits_within x w due, refl), tt) refl
+      (λ y out comes h. sends (contents (repeated S.Open x ∷ [])) ((waiting x w (one_waits x w due), refl), tt) h)
 
   live : (s : State) → awaits_in s (waits x) ≡ true → stage_of s ≤ 2
   live S.Closed due = absurd (false≢true due)
@@ -112,7 +112,7 @@ module _ (x : EndState) (w : KeepsWindow x) where
 
   given_up : stage_of x.state ≤ 2 → IsCalled x Ticks (becomes_closed R.Failed x)
   given_up may = moves Ticks S.Closed x.kept x.retries [] _ refl (may, refl) refl refl (inr (refl, inr (inl refl))) tt refl
-      (λ y out comes h. quiet h)
+      (λ y out comes h. sends_plain [] tt h)
 
   ticks : (b : Bool) → awaits_in x.state (waits x) ≡ true →
       IsCalled x Ticks (if b then sends_frame (repeated x.state x) (record x { retries = x.retries + 1 }) else becomes_closed R.Failed x)
@@ -122,7 +122,7 @@ module _ (x : EndState) (w : KeepsWindow x) where
   takes : (m : Message) → IsMessage m → x.state ≡ S.Open → IsCalled x (Sends m) (sends_next (with_taken m x))
   takes m good is_now =
       let mid : EndState = with_taken m x in
-      let i : InOpen mid (sends_next mid) = in-sends_next mid is_now (KeepsWindow-taken x m w good) in
+      let i : InOpen Both Both mid (sends_next mid) = in-sends_next mid is_now (KeepsWindow-taken x m w good) in
       record {
         link = record { role = ap (λ z. z.role) i.same; sapi = ap (λ z. z.sapi) i.same; channel = ap (λ z. z.channel) i.same };
         end = i.end;
@@ -137,7 +137,7 @@ module _ (x : EndState) (w : KeepsWindow x) where
             (frames-say (SaysWell (all_pieces mid)) (λ c. unit_in c ≡ None) (well-no_unit (all_pieces mid)) x.sapi _ i.frames);
         reports = i.of_open.0;
         opened = i.of_open.1;
-        keeps = λ y out comes h. keeps-sends_next (taken-both m h);
+        keeps = λ y out comes h. i.keeps y out comes (taken-both m h);
       }
 
   pub is_called : (call : Call) → refusal_of call x ≡ None → IsCalled x call (after_call call x)

@@ -68,7 +68,7 @@ carried x info more i h l e =
 
 -- answers
 answer-octets : (x z : EndState) → EndOctets x → AreOctets z.kept → (c : Content) → Answers x z c → AreOctets (information c)
-answer-octets x z h k (I ns nr p more info) a = carried x info more a.2.0 h a.2.1 a.2.2
+answer-octets x z h k (I ns nr p more info) a = carried x info more a.0 h a.1 a.2
 answer-octets x z h k (Ua f info) (inl e) = subst AreOctets e.1 k
 answer-octets x z h k (Ua f info) (inr e) = subst AreOctets (sym e.0) none
 answer-octets x z h k (Sabm p info) a = absurd a
@@ -108,7 +108,7 @@ frame-octets f x octets e h =
 
 -- calls
 asked-octets : (call : Call) (z : EndState) → CallOctets call → EndOctets z → (c : Content) → Asks call z c → AreOctets (information c)
-asked-octets call z said h (I ns nr p more info) a = carried z info more a.2.0 h a.2.1 a.2.2
+asked-octets call z said h (I ns nr p more info) a = carried z info more a.0 h a.1 a.2
 asked-octets call z said h (Sabm p info) a = subst AreOctets a.1 h.kept
 asked-octets call z said h (Ui p info) (inl e) = subst CallOctets e said
 asked-octets call z said h (Ui p info) (inr e) = subst AreOctets (sym e) none

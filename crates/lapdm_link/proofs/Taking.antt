@@ -1,12 +1,12 @@
 -- What an end does at any frame: what it tells and sends, what opens it, and that both directions are kept.
-use Rattle.lapdm_link.proofs.Words.{◌≡◌, refl, sym, ap, arith, ◌≤◌, Bool, true, false, ◌&&◌, if◌then◌else◌, List, [], ◌∷◌, Option, Some, None, inl, inr, ◌⊎◌, bytes_eq, filter_map, cons_option, bytes_eq-Decides, Content, I, Rr, Rej, Sabm, Dm, Ui, Disc, Ua, Frame, Message, Sapi, Zero, Three, State, Idle, Opening, Closing, Closed, Reason, Notice, Role, Mobile, Network, EndState, Outcome, KeepsWindow, all_pieces, stays, ◌then◌, IsSameLink, is_command, is_poll, says_ua, becomes_open, sabm_in_idle, dm_to_poll, in_idle, other_ua, sabm_in_opening, in_opening, answers_sabm, in_open, in_closing, in_closed, in_state, after_content, after_frame, opened_in, unit_got_in}
+use Rattle.lapdm_link.proofs.Words.{◌≡◌, refl, sym, ap, arith, ◌≤◌, Bool, true, false, ◌&&◌, if◌then◌else◌, List, [], ◌∷◌, Option, Some, None, inl, inr, ◌⊎◌, bytes_eq, filter_map, cons_option, bytes_eq-Decides, Content, I, Rr, Rej, Sabm, Dm, Ui, Disc, Ua, Frame, Message, Sapi, Zero, Three, State, Idle, Opening, Closing, Closed, Reason, Notice, Role, Mobile, Network, EndState, Outcome, KeepsWindow, all_pieces, stays, ◌then◌, vr, IsSameLink, is_command, is_poll, says_ua, becomes_open, sabm_in_idle, dm_to_poll, in_idle, other_ua, sabm_in_opening, in_opening, answers_sabm, in_open, in_closing, in_closed, in_state, after_content, after_frame, opened_in, unit_got_in}
 use Rattle.lapdm_window.specs.declared.State.TheVariants.{Open}
 use Rattle.lapdm_window.specs.declared.Reason.TheVariants as R
 use Rattle.lapdm_window.specs.declared.Notice.TheVariants as N
 use Rattle.lapdm_link.proofs.Queues.{content_of, IsPlain, AllFrames, frames-as, frames-say}
 use Rattle.lapdm_link.proofs.Told.{stage_of, known, Tells}
 use Rattle.lapdm_link.proofs.Telling.{SaysWell, InOpen, in-takes_i, in-takes_rr, in-takes_rej}
-use Rattle.lapdm_link.proofs.Keeping.{IsBoth, After, sends_plain, moved, gone, after-takes_i, after-takes_rr, after-takes_rej}
+use Rattle.lapdm_link.proofs.Keeping.{IsBoth, Both, Arriving, After, sends_plain, moved, gone}
 
 -- the end asked for the link or has it
 abbrev pub HasBegun : State → Type 0
@@ -24,8 +24,8 @@ Replies x z other = ⊥
 -- and what it may answer at all
 abbrev pub Answers : EndState → EndState → Content → Type 0
 Answers x z (I ns nr p more info) = SaysWell (all_pieces x) (I ns nr p more info)
-Answers x z (Rr nr pf) = nr ≤ 7
-Answers x z (Rej nr pf) = nr ≤ 7
+Answers x z (Rr nr pf) = Unit {0}
+Answers x z (Rej nr pf) = Unit {0}
 Answers x z other = Replies x z other
 
 -- an end that a SABM may open
@@ -83,8 +83,8 @@ well-answers x z (Rr nr pf) h = h
 well-answers x z (Rej nr pf) h = h
 well-answers x z other h = absurd h
 
-openly : (c : Content) (x : EndState) (o : Outcome) → InOpen x o → Arrives c x o → IsTaken c x o
-openly c x o h arrives = record {
+openly : (c : Content) (x : EndState) (o : Outcome) → content_of c ≡ Some c → InOpen (Arriving c (vr x)) Both x o → IsTaken c x o
+openly c x o is h = record {
   link = record { role = ap (λ z. z.role) h.same; sapi = ap (λ z. z.sapi) h.same; channel = ap (λ z. z.channel) h.same };
   taken = ap (λ z. z.taken) h.same;
   end = h.end;
@@ -92,7 +92,7 @@ openly c x o h arrives = record {
   frames = frames-as (SaysWell (all_pieces x)) (Answers x o.after) (well-answers x o.after) x.sapi o.frames h.frames;
   goes = inl (record { state = inl (ap (λ z. z.state) h.same); kept = ap (λ z. z.kept) h.same; none = h.of_open.1 });
   unit = inl h.of_open.0;
-  arrives = arrives;
+  arrives = λ y out comes k. h.keeps y out comes (refl, rw is at k);
 }
 
 -- elsewhere no numbers are sent
@@ -186,12 +186,10 @@ module _ (x : EndState) (w : KeepsWindow x) where
   taken-ua_if p answers same info e h = quietly _ _ tt
 
   taken-in_open : (cmd : Bool) (c : Content) → x.state ≡ Open → IsTaken c x (in_open cmd c x)
-  taken-in_open cmd (I ns nr p more info) e = openly _ x _ (in-takes_i nr ns p (info, more) x e w)
-      (λ y out comes h. after-takes_i (I ns nr p more info) nr (λ k e. e) h ns p (info, more) (λ k e. e))
-  taken-in_open cmd (Rr nr pf) e = openly _ x _ (in-takes_rr nr (cmd && pf) x e w)
-      (λ y out comes h. after-takes_rr (Rr nr pf) nr (λ k e. e) h (cmd && pf))
-  taken-in_open cmd (Rej nr pf) e = openly _ x _ (in-takes_rej nr (cmd && pf) x e w)
-      (λ y out comes h. after-takes_rej (Rej nr pf) nr (λ k e. e) h (cmd && pf))
+  taken-in_open cmd (I ns nr p more info) e =
+      openly _ x _ refl (in-takes_i (I ns nr p more info) nr ns p (info, more) (λ k e. e) (λ y k e. e) x e w)
+  taken-in_open cmd (Rr nr pf) e = openly _ x _ refl (in-takes_rr (Rr nr pf) nr (vr x) (λ k e. e) (cmd && pf) x e w)
+  taken-in_open cmd (Rej nr pf) e = openly _ x _ refl (in-takes_rej (Rej nr pf) nr (vr x) (λ k e. e) (cmd && pf) x e w)
   taken-in_open cmd (Sabm p info) e = taken-ua_if p (answers_sabm x.sapi x.role) (bytes_eq info x.kept) info e refl
   taken-in_open cmd (Disc p) e = over _ R.Released _ (rw e (omega arith)) (inl refl, inr (refl, rw e tt), tt)
   taken-in_open cmd (Dm f) e = over _ R.Failed [] (rw e (omega arith)) tt
