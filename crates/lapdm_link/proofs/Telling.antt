@@ -1,6 +1,6 @@
 -- What an end tells, the frames that it sends, and that it keeps both directions, in Open: each rule with whatever frames
 -- arrive.
-use Rattle.lapdm_link.proofs.Words.{◌≡◌, refl, sym, ◌∙◌, ap, subst, arith, ℕ, ◌+◌, ◌%◌, ◌<◌, Bool, true, false, if◌then◌else◌, nat_eq, nat_lt, List, [], ◌∷◌, ◌++◌, length, get_or, Option, Some, None, inl, filter_map, append-nil, append_assoc, filter_map-append, nat_tests, Content, I, Rr, Rej, Frame, Message, Piece, longest, within, endings, open_part, endings-more, endings-last, Notice, Acked, EndState, Outcome, KeepsWindow, stays, ◌then◌, response, all_pieces, next_piece, waits, wholly_acked, vr, capped, waiting_frame, has_next, with_next, sends_piece, sends_next, acknowledges, with_acked, acked_number, reports_acked, counts, notices_of, accepts, says_rr, answers_piece, reject_is_due, rejects, takes_i, answers_poll, takes_rr, sends_again, takes_rej, wholly_acked-more, wholly_acked-last, wholly_acked-most, KeepsWindow-acked, unit_got_in, opened_in}
+use Rattle.lapdm_link.proofs.Words.{◌≡◌, refl, sym, ◌∙◌, ap, subst, arith, ℕ, ◌+◌, ◌%◌, ◌<◌, Bool, true, false, if◌then◌else◌, nat_eq, nat_lt, List, [], ◌∷◌, ◌++◌, length, get_or, Option, Some, None, inl, filter_map, append-nil, append_assoc, filter_map-append, nat_tests, Content, I, Rr, Rej, Frame, Message, Piece, longest, within, endings, open_part, endings-more, endings-last, Notice, Acked, EndState, Outcome, KeepsWindow, stays, sends_frame, ◌then◌, response, all_pieces, next_piece, waits, wholly_acked, vr, capped, waiting_frame, has_next, with_next, sends_piece, sends_next, acknowledges, with_acked, acked_number, reports_acked, counts, notices_of, accepts, says_rr, answers_piece, reject_is_due, rejects, takes_i, answers_poll, takes_rr, sends_again, takes_rej, wholly_acked-more, wholly_acked-last, wholly_acked-most, KeepsWindow-acked, unit_got_in, opened_in}
 use Rattle.segmenting.specs.declared.joiner.Joined.TheVariants as J
 use Rattle.lapdm_window.specs.declared.State.TheVariants.{Open}
 use Rattle.lapdm_link.proofs.Queues.{IsPlain, AllFrames, AllOf, contents, frames-append, frames-as, frames-say}
@@ -118,13 +118,20 @@ in-sends_piece x e has =
 pub in-sends_next : Stays Both Both sends_next
 in-sends_next x is_now e = in-if (has_next x) (in-sends_piece x e) (in-stays x is_now e)
 
-pub one_waits : (x : EndState) → KeepsWindow x → waits x ≡ true → x.sent ≡ x.acked + 1
+one_waits : (x : EndState) → KeepsWindow x → waits x ≡ true → x.sent ≡ x.acked + 1
 one_waits x e w = grind (arith, nat_tests, e.behind, e.window)
 
+-- the piece that waits goes out again
+repeats : (p : Bool) (r : ℕ) (x : EndState) → KeepsWindow x → waits x ≡ true →
+    InOpen Both Both x (sends_frame (waiting_frame p x) (record x { retries = r }))
+repeats p r x e w = plainly x x.rejecting r (waiting_frame p x ∷ []) e (inl refl, ((waiting x e (one_waits x e w), refl), λ p. p), tt)
+
+pub in-repeats : (x : EndState) → KeepsWindow x → waits x ≡ true →
+    InOpen Both Both x (sends_frame (waiting_frame true x) (record x { retries = x.retries + 1 }))
+in-repeats x = repeats true (x.retries + 1) x
+
 in-sends_again : Stays Both Both sends_again
-in-sends_again x is_now e = in-if (waits x)
-    (λ w. plainly x x.rejecting x.retries (waiting_frame false x ∷ []) e
-    (inl refl, ((waiting x e (one_waits x e w), refl), λ p. p), tt)) (in-sends_next x is_now e)
+in-sends_again x is_now e = in-if (waits x) (repeats false x.retries x e) (in-sends_next x is_now e)
 
 in-answers_poll : (poll : Bool) → Stays Both Both (answers_poll poll)
 in-answers_poll poll x is_now e = in-if poll (λ p. in-says_rr true x is_now e) (in-stays x is_now e)
