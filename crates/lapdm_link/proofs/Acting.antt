@@ -6,14 +6,11 @@ use Rattle.lapdm_window.specs.declared.Notice.TheVariants as N
 use Rattle.lapdm_link.proofs.Queues.{content_of, contents, IsPlain, AllFrames, AllOf, frames-as, frames-say}
 use Rattle.lapdm_link.proofs.Told.{Known, known, asked, Tells}
 use Rattle.lapdm_link.proofs.Telling.{SaysWell, InOpen}
-use Rattle.lapdm_link.proofs.Keeping.{Way, IsBoth, Both, After, sends_plain, moved, gone}
+use Rattle.lapdm_link.proofs.Keeping.{Way, IsBoth, Both, sends_plain, moved, gone}
 
 -- the end asked for the link or has it
-abbrev pub HasBegun : State → Type 0
-HasBegun Opening = Unit {0}
-HasBegun Open = Unit {0}
-HasBegun Closing = Unit {0}
-HasBegun other = ⊥
+abbrev HasBegun : EndState → Type 0
+HasBegun x = (x.state ≡ Opening) ⊎ ((x.state ≡ Open) ⊎ (x.state ≡ Closing))
 
 -- what an end sends at a call, or at none, which leaves it in this state: a UA has the information of the open link, or
 -- none, once it began
@@ -21,7 +18,7 @@ abbrev pub Says : Option Call → EndState → EndState → Content → Type 0
 Says call x z (I ns nr p more info) = SaysWell (all_pieces z) (I ns nr p more info)
 Says call x z (Sabm p info) = (z.state ≡ Opening) × (z.kept ≡ info)
 Says call x z (Ui p info) = (call ≡ Some (SendsUnit info)) ⊎ ((call ≡ Some Idles) × (info ≡ []))
-Says call x z (Ua f info) = ((z.state ≡ Open) × (z.kept ≡ info)) ⊎ ((info ≡ []) × HasBegun x.state)
+Says call x z (Ua f info) = ((z.state ≡ Open) × (z.kept ≡ info)) ⊎ ((info ≡ []) × HasBegun x)
 Says call x z other = Unit {0}
 
 abbrev pub SaysPlain : Option Call → EndState → EndState → Content → Type 0
@@ -44,27 +41,15 @@ OpensBy (Sabm p i) x info = (i ≡ info) × (x.state ≡ Idle) × MayOpen x.sapi
 OpensBy (Ua f i) x info = (i ≡ info) × (x.state ≡ Opening) × (info ≡ x.kept)
 OpensBy other x info = ⊥
 
--- it stays in its state, or the link is over, or the end closes it
-pub record Remains (x : EndState) (o : Outcome) : Type 0 where
-  pub state : (o.after.state ≡ x.state) ⊎ ((o.after.state ≡ Closed) ⊎ ((x.state ≡ Open) × (o.after.state ≡ Closing)))
-  pub kept : o.after.kept ≡ x.kept
-  pub none : filter_map opened_in o.notices ≡ []
-
--- it is asked to open the link
-pub record Begins (call : Option Call) (o : Outcome) : Type 0 where
-  pub state : o.after.state ≡ Opening
-  pub asked : IsOpening call o.after.kept
-  pub none : filter_map opened_in o.notices ≡ []
-
-pub record IsOpenedBy (c : Content) (x : EndState) (o : Outcome) : Type 0 where
-  pub info : Message
-  pub notices : o.notices ≡ N.Opened info ∷ []
-  pub state : o.after.state ≡ Open
-  pub kept : o.after.kept ≡ info
-  pub cause : OpensBy c x info
-
-abbrev pub Goes : Option Call → Content → EndState → Outcome → Type 0
-Goes call c x o = Remains x o ⊎ (Begins call o ⊎ IsOpenedBy c x o)
+-- what becomes of the link of an end: it stays in its state, or it is over, or the end closes it, or is asked to open it, or is
+-- opened
+pub data Goes (call : Option Call) (c : Content) (x : EndState) (o : Outcome) : Type 0 where
+  remains : o.after.state ≡ x.state → o.after.kept ≡ x.kept → filter_map opened_in o.notices ≡ [] → Goes call c x o
+  ends : o.after.state ≡ Closed → o.after.kept ≡ x.kept → filter_map opened_in o.notices ≡ [] → Goes call c x o
+  closes : x.state ≡ Open → o.after.state ≡ Closing → o.after.kept ≡ x.kept → filter_map opened_in o.notices ≡ [] → Goes call c x o
+  begins : o.after.state ≡ Opening → IsOpening call o.after.kept → filter_map opened_in o.notices ≡ [] → Goes call c x o
+  opens : {info : Message} → o.notices ≡ N.Opened info ∷ [] → o.after.state ≡ Open → o.after.kept ≡ info → OpensBy c x info →
+      Goes call c x o
 
 -- the message of a unit
 abbrev pub unit_in : Content → Option Message
@@ -74,11 +59,6 @@ unit_in other = None
 -- no unit is reported, or the one that comes first
 abbrev pub ReportsUnit : Content → List Notice → Type 0
 ReportsUnit c ns = (filter_map unit_got_in ns ≡ []) ⊎ (filter_map unit_got_in ns ≡ filter_map unit_in (cons_option (content_of c) []))
-
--- what comes first is taken, and both directions go on
-abbrev pub Arrives : Content → EndState → Outcome → Type 0
-Arrives c x o = (y : EndState) (out comes : List Content) → IsBoth x y out (cons_option (content_of c) comes)
-    (cons_option (content_of c) comes) → After o y out comes comes
 
 -- at a call a fill frame comes, which says nothing
 pub record IsDone (call : Option Call) (c : Content) (x : EndState) (o : Outcome) : Type 0 where
@@ -90,7 +70,8 @@ pub record IsDone (call : Option Call) (c : Content) (x : EndState) (o : Outcome
   pub units : filter_map unit_in (contents o.frames) ≡ filter_map unit_sent_in (cons_option call [])
   pub reports : ReportsUnit c o.notices
   pub goes : Goes call c x o
-  pub arrives : Arrives c x o
+  pub arrives : (y : EndState) (out comes : List Content) → IsBoth x y out (cons_option (content_of c) comes)
+      (cons_option (content_of c) comes) → Both o.after y (out ++ contents o.frames) comes
 
 abbrev pub IsTaken : Content → EndState → Outcome → Type 0
 IsTaken = IsDone None
@@ -128,7 +109,7 @@ openly call c x ts o h from takes told none =
       frames = frames-as (SaysWell ps) (Says call x o.after) (well-said call x o.after ps (ap all_pieces h.same)) x.sapi o.frames h.frames;
       units = no-units _ (frames-say (SaysWell ps) (λ c. unit_in c ≡ None) (well-no_unit ps) x.sapi o.frames h.frames) ∙ sym none;
       reports = inl h.of_open.0;
-      goes = inl (record { state = inl (ap (λ z. z.state) h.same); kept = ap (λ z. z.kept) h.same; none = h.of_open.1 });
+      goes = remains (ap (λ z. z.state) h.same) (ap (λ z. z.kept) h.same) h.of_open.1;
       arrives = λ y out comes k. h.keeps y out comes (from y out comes k);
     }
 

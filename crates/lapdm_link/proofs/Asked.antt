@@ -1,44 +1,32 @@
 -- What an end does at a call that is not refused.
-use Rattle.lapdm_link.proofs.Words.{◌≡◌, refl, sym, ap, arith, ℕ, ◌+◌, ◌≤◌, max, Bool, true, false, not, if◌then◌else◌, nat_eq, nat_lt, List, [], ◌∷◌, length, Some, None, inl, inr, filter_map, append-nil, false≢true, nat_tests, n201, Content, Ui, Frame, Message, IsMessage, State, EndState, KeepsWindow, sends_frame, waits, awaits, awaits_in, n200, is_open, sends_next, becomes_closed, Call, Opens, OpensBare, Sends, SendsUnit, Closes, Ticks, Idles, is_idle, refusal_of, put_refusals, frame_refusals, with_taken, repeated, after_call, wholly_acked-taken, all_pieces-taken, KeepsWindow-taken, is_message, not_false, passes, is_idle-is, is_open-is, sent_in, unit_sent_in}
+use Rattle.lapdm_link.proofs.Words.{◌≡◌, refl, sym, ap, arith, ◌+◌, ◌≤◌, max, Bool, true, false, not, if◌then◌else◌, nat_eq, nat_lt, List, [], ◌∷◌, length, Some, None, inl, inr, append-nil, false≢true, nat_tests, n201, Content, Ui, Message, IsMessage, State, EndState, KeepsWindow, sends_frame, waits, awaits, awaits_in, n200, is_open, sends_next, becomes_closed, Call, Opens, OpensBare, Sends, SendsUnit, Closes, Ticks, Idles, is_idle, refusal_of, put_refusals, frame_refusals, with_taken, repeated, after_call, wholly_acked-taken, all_pieces-taken, KeepsWindow-taken, is_message, not_false, passes, is_idle-is, is_open-is}
 use Rattle.lapdm_window.specs.declared.State.TheVariants as S
 use Rattle.lapdm_window.specs.declared.Reason.TheVariants as R
 use Rattle.lapdm_window.specs.declared.Refused.TheVariants as No
-use Rattle.lapdm_link.proofs.Queues.{contents, AllFrames}
 use Rattle.lapdm_link.proofs.Directions.{more_pieces}
 use Rattle.lapdm_link.proofs.Keeping.{IsBoth}
-use Rattle.lapdm_link.proofs.Told.{stage_of, known, asked}
+use Rattle.lapdm_link.proofs.Told.{stage_of, known}
 use Rattle.lapdm_link.proofs.Telling.{in-sends_next, in-repeats}
-use Rattle.lapdm_link.proofs.Acting.{SaysPlain, unit_in, Goes, IsCalled, openly, moves}
+use Rattle.lapdm_link.proofs.Acting.{remains, ends, closes, begins, IsCalled, openly, moves}
 
 taken-both : (m : Message) {x y : EndState} {out comes hears : List Content} → IsBoth x y out comes hears →
     IsBoth (with_taken m x) y out comes hears
 taken-both m {x} h = record { there = rw (all_pieces-taken x m) (more_pieces _ h.there); back = h.back }
 
 module _ (x : EndState) (w : KeepsWindow x) where
-  -- one frame without numbers
-  one_frame : (call : Call) (s : State) (k : Message) (r : ℕ) (f : Frame) →
-      (let z : EndState = record x { state = s; kept = k; retries = r } in AllFrames (SaysPlain (Some call) x z) x.sapi (f ∷ []) →
-      known z ≡ asked (Some call) (known x) → Goes (Some call) (Ui false []) x (sends_frame f z) → filter_map sent_in (call ∷ []) ≡ [] →
-      filter_map unit_in (contents (f ∷ [])) ≡ filter_map unit_sent_in (call ∷ []) → IsCalled x call (sends_frame f z))
-  one_frame call s k r f says told goes none units = moves (Some call) _ x w s k r (f ∷ []) [] says told goes (inl refl) none units
-
-  as_before : {call : Call} {fs : List Frame} {r : ℕ} → Goes (Some call) (Ui false []) x
-      (record { after = record x { retries = r }; frames = fs; notices = [] })
-  as_before = inl (record { state = inl refl; kept = refl; none = refl })
-
-  begins : x.state ≡ S.Idle → record (known x) { stage = 0 } ≡ known x
-  begins is_now = ap (λ s. record (known x) { stage = stage_of s }) (sym is_now)
+  unopened : x.state ≡ S.Idle → record (known x) { stage = 0 } ≡ known x
+  unopened is_now = ap (λ s. record (known x) { stage = stage_of s }) (sym is_now)
 
   -- the timer has run out
   again : (s : State) → x.state ≡ s → awaits_in s (waits x) ≡ true →
       IsCalled x Ticks (sends_frame (repeated s x) (record x { retries = x.retries + 1 }))
   again S.Idle e due = absurd (false≢true due)
   again S.Closed e due = absurd (false≢true due)
-  again S.Opening e due = one_frame Ticks x.state x.kept (x.retries + 1) (repeated S.Opening x) (inl refl, (tt, (e, refl)), tt)
-      refl as_before refl refl
-  again S.Closing e due = one_frame Ticks x.state x.kept (x.retries + 1) (repeated S.Closing x) (inl refl, (tt, tt), tt)
-      refl as_before refl refl
-  again S.Open e due = openly (Some Ticks) (Ui false []) x x.taken _ (in-repeats x w due) (λ y out comes h. h)
+  again S.Opening e due = moves (Some Ticks) _ x w x.state x.kept _ _ [] (inl refl, (tt, (e, refl)), tt) refl (remains refl refl refl)
+      (inl refl) refl refl
+  again S.Closing e due = moves (Some Ticks) _ x w x.state x.kept _ _ [] (inl refl, (tt, tt), tt) refl (remains refl refl refl)
+      (inl refl) refl refl
+  again S.Open e due = openly (Some Ticks) (Ui false []) x x.taken _ (in-repeats true (x.retries + 1) x w due) (λ y out comes h. h)
       (sym (append-nil x.taken)) refl refl
 
   live : (s : State) → awaits_in s (waits x) ≡ true → stage_of s ≤ 2
@@ -46,8 +34,8 @@ module _ (x : EndState) (w : KeepsWindow x) where
   live s due = omega arith
 
   given_up : stage_of x.state ≤ 2 → IsCalled x Ticks (becomes_closed R.Failed x)
-  given_up may = moves (Some Ticks) _ x w S.Closed x.kept x.retries [] _ tt (may, refl)
-      (inl (record { state = inr (inl refl); kept = refl; none = refl })) (inl refl) refl refl
+  given_up may = moves (Some Ticks) _ x w S.Closed x.kept x.retries [] _ tt (may, refl) (ends refl refl refl)
+      (inl refl) refl refl
 
   ticks : (b : Bool) → awaits_in x.state (waits x) ≡ true →
       IsCalled x Ticks (if b then sends_frame (repeated x.state x) (record x { retries = x.retries + 1 }) else becomes_closed R.Failed x)
@@ -64,25 +52,25 @@ module _ (x : EndState) (w : KeepsWindow x) where
       let idle = passes (not (is_idle x.state)) No.NotIdle (frame_refusals info x) ok in
       let full : nat_eq (length info) 0 ≡ false = (passes _ _ _ idle.rest).no in
       let is_now : x.state ≡ S.Idle = is_idle-is x.state (not_false (is_idle x.state) idle.no) in
-      one_frame (Opens info) S.Opening info 0 _ (inl refl, (tt, (refl, refl)), tt) (begins is_now)
-      (inr (inl (record { state = refl; asked = (refl, grind (arith, nat_tests)); none = refl }))) refl refl
+      moves (Some (Opens info)) _ x w S.Opening info 0 _ [] (inl refl, (tt, (refl, refl)), tt) (unopened is_now)
+      (begins refl (refl, grind (arith, nat_tests)) refl) (inl refl) refl refl
   is_called OpensBare ok =
       let is_now : x.state ≡ S.Idle = is_idle-is x.state (not_false (is_idle x.state) (passes (not
       (is_idle x.state)) No.NotIdle [] ok).no) in
-      one_frame OpensBare S.Opening [] 0 _ (inl refl, (tt, (refl, refl)), tt) (begins is_now)
-      (inr (inl (record { state = refl; asked = refl; none = refl }))) refl refl
+      moves (Some OpensBare) _ x w S.Opening [] 0 _ [] (inl refl, (tt, (refl, refl)), tt) (unopened is_now)
+      (begins refl refl refl) (inl refl) refl refl
   is_called (Sends m) ok =
       let now = passes (not (is_open x.state)) No.NotOpen (put_refusals m x) ok in
       takes m (is_message m x now.rest) (is_open-is x.state (not_false (is_open x.state) now.no))
   is_called (SendsUnit []) ok = absurd (false≢true (sym (passes true No.Empty ((nat_lt (n201 x.channel) 0, No.TooLong) ∷ []) ok).no))
-  is_called (SendsUnit (i ∷ is)) ok = 
-      one_frame (SendsUnit (i ∷ is)) x.state x.kept x.retries _ (inl refl, (tt, inl refl), tt) refl as_before refl refl
+  is_called (SendsUnit (i ∷ is)) ok = moves (Some (SendsUnit (i ∷ is))) _ x w x.state x.kept x.retries _ []
+      (inl refl, (tt, inl refl), tt) refl (remains refl refl refl) (inl refl) refl refl
   is_called Closes ok =
       let is_now : x.state ≡ S.Open = is_open-is x.state (not_false (is_open x.state) (passes (not
       (is_open x.state)) No.NotOpen [] ok).no) in
-      one_frame Closes S.Closing x.kept 0 _ (inl refl, (tt, tt), tt)
-      (ap (λ s. record (known x) { stage = max 2 (stage_of s) }) (sym is_now))
-      (inl (record { state = inr (inr (is_now, refl)); kept = refl; none = refl })) refl refl
+      moves (Some Closes) _ x w S.Closing x.kept 0 _ [] (inl refl, (tt, tt), tt)
+      (ap (λ s. record (known x) { stage = max 2 (stage_of s) }) (sym is_now)) (closes is_now refl refl refl) (inl refl) refl refl
   is_called Ticks ok = ticks (nat_lt x.retries (n200 x.channel x.state)) (not_false (awaits x) (passes (not
       (awaits x)) No.NotRunning [] ok).no)
-  is_called Idles ok = one_frame Idles x.state x.kept x.retries _ (inr refl, (tt, inr (refl, refl)), tt) refl as_before refl refl
+  is_called Idles ok = moves (Some Idles) _ x w x.state x.kept x.retries _ [] (inr refl, (tt, inr (refl, refl)), tt) refl
+      (remains refl refl refl) (inl refl) refl refl

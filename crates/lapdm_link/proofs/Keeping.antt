@@ -1,6 +1,6 @@
 -- Both directions between an end and the other one, as frames go out and come in.
-use Rattle.lapdm_link.proofs.Words.{◌≡◌, refl, arith, ℕ, ◌+◌, ◌%◌, Bool, List, ◌∷◌, ◌++◌, length, Option, Some, None, cons_option, Content, I, Rr, Rej, State, Message, EndState, Outcome, KeepsWindow, all_pieces, next_piece, vr}
-use Rattle.lapdm_link.proofs.Queues.{IsPlain, contents, AllOf, of-as}
+use Rattle.lapdm_link.proofs.Words.{◌≡◌, refl, arith, ℕ, ◌+◌, ◌%◌, Bool, List, ◌∷◌, ◌++◌, length, Option, Some, None, cons_option, Content, I, Rr, Rej, State, Message, EndState, KeepsWindow, all_pieces, next_piece, vr}
+use Rattle.lapdm_link.proofs.Queues.{IsPlain, AllOf, of-as}
 use Rattle.lapdm_link.proofs.Directions.{IsDirection, IsPiece, CountsIn, CarriesIn, pieces_out, piece_gone, numbers_out, number_gone}
 
 -- both directions between an end and the other one: what is on its way out, what comes in with pieces, and what comes
@@ -8,10 +8,6 @@ use Rattle.lapdm_link.proofs.Directions.{IsDirection, IsPiece, CountsIn, Carries
 pub record IsBoth (x y : EndState) (out comes hears : List Content) : Type 0 where
   pub there : IsDirection (all_pieces x) x.acked x.sent y.accepted out hears
   pub back : IsDirection (all_pieces y) y.acked y.sent x.accepted comes out
-
--- after what an end did: its frames are on their way, behind the others
-abbrev pub After : Outcome → EndState → List Content → List Content → List Content → Type 0
-After o y out comes hears = IsBoth o.after y (out ++ contents o.frames) comes hears
 
 -- what holds of an end, the other one, what is on its way out and what comes in
 abbrev pub Way : Type 1

@@ -2,7 +2,7 @@
 use Rattle.lapdm_link.proofs.Words.{◌≡◌, sym, ap, subst, ℕ, zero, suc, ◌<◌, Bool, false, List, [], ◌∷◌, length, drop, get_or, Option, Some, None, cons_option, All, inl, inr, filter_map, flat_map, All-nil, All-cons, All-head, All-tail, All-append, All-take, All-drop, Channel, n201, Content, I, Sabm, Ui, Ua, Frame, information, Message, Piece, cut, pieces, Sapi, EndState, Outcome, KeepsWindow, all_pieces, after_frame, Call, Opens, OpensBare, Sends, SendsUnit, refusal_of, after_call, Event, World, start_on, refusal, answer, after, Line, Asked, Rivals, Told, answer_lines, sent_in}
 use Rattle.lapdm_link.proofs.Queues.{AllFrames}
 use Rattle.lapdm_link.proofs.Views.{end_of}
-use Rattle.lapdm_link.proofs.Acting.{Says, IsOpening, OpensBy, Goes, IsDone}
+use Rattle.lapdm_link.proofs.Acting.{Says, IsOpening, OpensBy, Goes, IsDone, remains, ends, closes, begins, opens}
 use Rattle.lapdm_link.proofs.Taking.{taken-frame}
 use Rattle.lapdm_link.proofs.Asked.{is_called}
 use Rattle.lapdm_link.proofs.ByKind.{KnowsBy}
@@ -100,9 +100,11 @@ opening-octets call k said o = absurd o
 
 kept-octets : (call : Option Call) (c : Content) (x : EndState) (o : Outcome) → OctetsBy call → AreOctets (information c) →
     AreOctets x.kept → Goes call c x o → AreOctets o.after.kept
-kept-octets call c x o said h k (inl m) = subst AreOctets (sym m.kept) k
-kept-octets call c x o said h k (inr (inl m)) = opening-octets call o.after.kept said m.asked
-kept-octets call c x o said h k (inr (inr m)) = subst AreOctets (sym m.kept) (opens-octets c x m.info h m.cause)
+kept-octets call c x o said h k (remains s e n) = subst AreOctets (sym e) k
+kept-octets call c x o said h k (ends s e n) = subst AreOctets (sym e) k
+kept-octets call c x o said h k (closes l s e n) = subst AreOctets (sym e) k
+kept-octets call c x o said h k (begins s a n) = opening-octets call o.after.kept said a
+kept-octets call c x o said h k (opens n s e cause) = subst AreOctets (sym e) (opens-octets c x _ h cause)
 
 sent-octets : (call : Option Call) → OctetsBy call → AllMessages (filter_map sent_in (cons_option call []))
 sent-octets (Some (Sends m)) said = All-cons AreOctets m [] said none_sent

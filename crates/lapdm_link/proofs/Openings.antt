@@ -6,7 +6,7 @@ use Rattle.lapdm_window.specs.declared.Notice.TheVariants as N
 use Rattle.lapdm_link.proofs.Queues.{content_of, contents, AllOf, of-append, of-as, frames-say}
 use Rattle.lapdm_link.proofs.ByKind.{IsPlaced}
 use Rattle.lapdm_link.proofs.Order.{AllStand}
-use Rattle.lapdm_link.proofs.Acting.{HasBegun, Says, MayOpen, OpensBy, IsOpening, Goes, IsDone}
+use Rattle.lapdm_link.proofs.Acting.{Says, MayOpen, OpensBy, IsOpening, Goes, IsDone, remains, ends, closes, begins, opens}
 use Rattle.lapdm_link.proofs.Links.{Side, Act, lines, IsActed, called, took, rival, after, other_after}
 
 -- by what call an end may be asked to open its link with this information: on SAPI 0 the mobile with some, on SAPI 3
@@ -115,21 +115,18 @@ module _ (r : Role) (s : Sapi) where
   was-asked ls call k o h = absurd o
 
   -- what it sends
-  begun-caused : (ls : List Line) (t : State) (k : Message) → HasBegun t → IsReached r s ls t k → WasAsked r s ls k ⊎ WasOpened r s ls k
-  begun-caused ls S.Opening k b h = inl h
-  begun-caused ls S.Open k b h = inr h
-  begun-caused ls S.Closing k b h = inr h
-  begun-caused ls t k b h = absurd b
-
   said-caused : (ls : List Line) (call : Option Call) (x z : EndState) → HasReached r s ls x → HasReached r s ls z → (c : Content) →
       Says call x z c → IsCaused r s ls c
   said-caused ls call x z h g (Sabm p info) a = inl (rw a.1 at (rw a.0 at g))
   said-caused ls call x z h g (Ua f info) (inl e) = inl (rw e.1 at (rw e.0 at g))
-  said-caused ls call x z h g (Ua f info) (inr e) = inr (e.0, (x.kept, begun-caused ls x.state x.kept e.1 h))
+  said-caused ls call x z h g (Ua f info) (inr (e, inl b)) = inr (e, (x.kept, inl (rw b at h)))
+  said-caused ls call x z h g (Ua f info) (inr (e, inr (inl b))) = inr (e, (x.kept, inr (rw b at h)))
+  said-caused ls call x z h g (Ua f info) (inr (e, inr (inr b))) = inr (e, (x.kept, inr (rw b at h)))
   said-caused ls call x z h g c a = tt
 
   -- it acts
-  module _ (ls : List Line) (x : Side) (role : x.end.role ≡ r) (same : x.end.sapi ≡ s) (h : HasOpenings r s x ls) (left : List Content) where
+  module _ (ls : List Line) (x : Side) (role : x.end.role ≡ r) (same : x.end.sapi ≡ s) (h : HasOpenings r s x ls) (left : List Content)
+    where
     opening-cause : (c : Content) (info : Message) → OpensBy c x.end info →
         AllOf (IsCaused (other r) s ls) (cons_option (content_of c) left) → HasCause r s info ls × IsBare s info
     opening-cause (Sabm p i) info o sent = sabm-cause r s ls info (rw (same, role) at o.2)
@@ -144,25 +141,22 @@ module _ (r : Role) (s : Sapi) where
       told = map (Told r s) o.notices
 
       goes-on : Goes call c x.end o → HasReached r s (ls ++ told) o.after × AllStand IsOpenedAfter ls told
-      goes-on (inl m) = (as_in m.state, none-opened o.notices ls m.none)
-        where
-          as_in : (o.after.state ≡ x.end.state) ⊎ ((o.after.state ≡ S.Closed) ⊎ ((x.end.state ≡ S.Open) × (o.after.state ≡ S.Closing))) →
-              HasReached r s (ls ++ told) o.after
-          as_in (inl e) = rw (e, m.kept) (reached-more r s ls told x.end.state x.end.kept h.1)
-          as_in (inr (inl e)) = rw e tt
-          as_in (inr (inr e)) = rw (e.1, m.kept) (opened-more r s ls told x.end.kept (rw e.0 at h.1))
-      goes-on (inr (inl m)) = (rw m.state (asked-more r s ls told o.after.kept (was-asked ls call o.after.kept m.asked asked)),
-          none-opened o.notices ls m.none)
-      goes-on (inr (inr m)) =
-          let cause = opening-cause c m.info m.cause sent in rw (m.state, m.kept, m.notices) ((Contains-push ls _, cause.1), (cause.0, tt))
+      goes-on (remains same e n) = (rw (same, e) (reached-more r s ls told x.end.state x.end.kept h.1), none-opened o.notices ls n)
+      goes-on (ends over e n) = (rw over tt, none-opened o.notices ls n)
+      goes-on (closes now closing e n) =
+          (rw (closing, e) (opened-more r s ls told x.end.kept (rw now at h.1)), none-opened o.notices ls n)
+      goes-on (begins opening a n) =
+          (rw opening (asked-more r s ls told o.after.kept (was-asked ls call o.after.kept a asked)), none-opened o.notices ls n)
+      goes-on (opens {info} n now e by) =
+          let cause = opening-cause c info by sent in rw (now, e, n) ((Contains-push ls _, cause.1), (cause.0, tt))
 
       done : IsDone call c x.end o → (AllOf (IsCaused r s (ls ++ told)) (x.out ++ contents o.frames) ×
           HasReached r s (ls ++ told) o.after) × AllStand IsOpenedAfter ls told
       done d =
           let h' : HasOpenings r s x (ls ++ told) = openings-more r s ls told x h in
           let to = goes-on d.goes in
-          let sent = frames-say (Says call x.end o.after) (IsCaused r s (ls ++ told)) (said-caused (ls ++ told) call x.end o.after h'.1 to.0)
-          x.end.sapi o.frames d.frames in ((of-append _ x.out _ h'.0 sent, to.0), to.1)
+          let says = said-caused (ls ++ told) call x.end o.after h'.1 to.0 in
+          ((of-append _ x.out _ h'.0 (frames-say _ (IsCaused r s (ls ++ told)) says x.end.sapi o.frames d.frames), to.0), to.1)
 
 -- an end acts
 pub openings-here : {x y : Side} {a : Act} (ls : List Line) → IsActed x y a → x.end.role ≡ a.role → x.end.sapi ≡ a.sapi →

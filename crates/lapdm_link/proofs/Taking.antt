@@ -7,7 +7,7 @@ use Rattle.lapdm_link.proofs.Queues.{content_of, AllFrames, frames-say}
 use Rattle.lapdm_link.proofs.Told.{stage_of, known, Tells}
 use Rattle.lapdm_link.proofs.Telling.{InOpen, in-takes_i, in-takes_rr, in-takes_rej}
 use Rattle.lapdm_link.proofs.Keeping.{Both, Arriving}
-use Rattle.lapdm_link.proofs.Acting.{SaysPlain, OpensBy, Goes, unit_in, ReportsUnit, IsTaken, no-units, openly, moves}
+use Rattle.lapdm_link.proofs.Acting.{SaysPlain, OpensBy, Goes, unit_in, ReportsUnit, IsTaken, no-units, openly, moves, remains, ends, opens}
 
 -- at a frame no unit is sent
 no_unit : (x z : EndState) (c : Content) → SaysPlain None x z c → unit_in c ≡ None
@@ -29,27 +29,25 @@ module _ (x : EndState) (w : KeepsWindow x) where
 
   quietly : (c : Content) (fs : List Frame) → AllFrames (SaysPlain None x x) x.sapi fs →
       IsTaken c x (record { after = x; frames = fs; notices = [] })
-  quietly c fs h = becomes c x.state x.kept fs [] h refl (inl (record { state = inl refl; kept = refl; none = refl })) (inl refl)
+  quietly c fs h = becomes c x.state x.kept fs [] h refl (remains refl refl refl) (inl refl)
 
   over : (c : Content) (reason : Reason) (fs : List Frame) → stage_of x.state ≤ 2 →
       AllFrames (SaysPlain None x (record x { state = Closed })) x.sapi fs →
       IsTaken c x (record { after = record x { state = Closed }; frames = fs; notices = N.Closed reason ∷ [] })
-  over c reason fs live h = becomes c Closed x.kept fs _ h (live, refl)
-      (inl (record { state = inr (inl refl); kept = refl; none = refl })) (inl refl)
+  over c reason fs live h = becomes c Closed x.kept fs _ h (live, refl) (ends refl refl refl) (inl refl)
 
   opened : (c : Content) (k info : Message) (fs : List Frame) → stage_of x.state ≡ 0 → k ≡ info →
       AllFrames (SaysPlain None x (record x { state = Open; kept = k })) x.sapi fs → OpensBy c x info →
       IsTaken c x (record { after = record x { state = Open; kept = k }; frames = fs; notices = N.Opened info ∷ [] })
-  opened c k info fs unopened e h cause = becomes c Open k fs _ h (unopened, refl)
-      (inr (inr (record { info = info; notices = refl; state = refl; kept = e; cause = cause }))) (inl refl)
+  opened c k info fs unopened e h cause = becomes c Open k fs _ h (unopened, refl) (opens refl refl e cause) (inl refl)
 
   -- the tables
   taken-sabm_in_idle : (p : Bool) (s : Sapi) (r : Role) (info : Message) → x.state ≡ Idle → x.sapi ≡ s → x.role ≡ r →
       IsTaken (Sabm p info) x (sabm_in_idle s r info x)
   taken-sabm_in_idle p Zero Mobile info e a b = quietly _ _ (inl refl, (tt, tt), tt)
   taken-sabm_in_idle p Zero Network [] e a b = quietly _ _ tt
-  taken-sabm_in_idle p Zero Network (i ∷ is) e a b = opened _ (i ∷ is) (i ∷ is) _ (ap stage_of e) refl (inl refl, (tt, inl (refl, refl)), tt)
-      (refl, e, rw (a, b) tt)
+  taken-sabm_in_idle p Zero Network (i ∷ is) e a b =
+      opened _ (i ∷ is) (i ∷ is) _ (ap stage_of e) refl (inl refl, (tt, inl (refl, refl)), tt) (refl, e, rw (a, b) tt)
   taken-sabm_in_idle p Three r [] e a b = opened _ [] [] _ (ap stage_of e) refl (inl refl, (tt, inl (refl, refl)), tt) (refl, e, rw a tt)
   taken-sabm_in_idle p Three r (i ∷ is) e a b = quietly _ _ tt
 
@@ -63,7 +61,7 @@ module _ (x : EndState) (w : KeepsWindow x) where
   taken-in_idle poll other e = taken-dm_to_poll poll other
 
   taken-sabm_in_opening : (p : Bool) (s : Sapi) (info : Message) → x.state ≡ Opening → IsTaken (Sabm p info) x (sabm_in_opening s info x)
-  taken-sabm_in_opening p Three [] e = quietly _ _ (inl refl, (tt, inr (refl, rw e tt)), tt)
+  taken-sabm_in_opening p Three [] e = quietly _ _ (inl refl, (tt, inr (refl, inl e)), tt)
   taken-sabm_in_opening p s info e = quietly _ _ tt
 
   taken-ua_in_opening : (s : Sapi) (same : Bool) (info : Message) → x.state ≡ Opening → bytes_eq info x.kept ≡ same →
@@ -92,14 +90,14 @@ module _ (x : EndState) (w : KeepsWindow x) where
   taken-in_open cmd (Rr nr pf) e = rule (Rr nr pf) refl (in-takes_rr (Rr nr pf) nr (vr x) (λ k e. e) (cmd && pf) x e w)
   taken-in_open cmd (Rej nr pf) e = rule (Rej nr pf) refl (in-takes_rej (Rej nr pf) nr (vr x) (λ k e. e) (cmd && pf) x e w)
   taken-in_open cmd (Sabm p info) e = taken-ua_if p (answers_sabm x.sapi x.role) (bytes_eq info x.kept) info e refl
-  taken-in_open cmd (Disc p) e = over _ R.Released _ (rw e (omega arith)) (inl refl, (tt, inr (refl, rw e tt)), tt)
+  taken-in_open cmd (Disc p) e = over _ R.Released _ (rw e (omega arith)) (inl refl, (tt, inr (refl, inr (inl e))), tt)
   taken-in_open cmd (Dm f) e = over _ R.Failed [] (rw e (omega arith)) tt
   taken-in_open cmd other e = quietly other _ tt
 
   taken-in_closing : (c : Content) → x.state ≡ Closing → IsTaken c x (in_closing c x)
   taken-in_closing (Ua true []) e = over _ R.Released [] (rw e (omega arith)) tt
   taken-in_closing (Dm true) e = over _ R.Released [] (rw e (omega arith)) tt
-  taken-in_closing (Disc p) e = quietly _ _ (inl refl, (tt, inr (refl, rw e tt)), tt)
+  taken-in_closing (Disc p) e = quietly _ _ (inl refl, (tt, inr (refl, inr (inr e))), tt)
   taken-in_closing other e = quietly other _ tt
 
   taken-in_closed : (poll : Bool) (c : Content) → IsTaken c x (in_closed poll c x)
@@ -117,8 +115,7 @@ module _ (x : EndState) (w : KeepsWindow x) where
   taken-content : (cmd : Bool) (c : Content) → IsTaken c x (after_content cmd c x)
   taken-content cmd (Ui p []) = quietly _ _ tt
   taken-content cmd (Ui p (i ∷ is)) =
-      becomes _ x.state x.kept [] _ tt (tt, refl)
-      (inl (record { state = inl refl; kept = refl; none = refl })) (inr refl)
+      becomes _ x.state x.kept [] _ tt (tt, refl) (remains refl refl refl) (inr refl)
   taken-content cmd other = taken-in_state x.state cmd other refl
 
   taken-if : (b cmd : Bool) (c : Content) → IsTaken c x (if b then after_content cmd c x else stays x)

@@ -122,16 +122,12 @@ one_waits : (x : EndState) → KeepsWindow x → waits x ≡ true → x.sent ≡
 one_waits x e w = grind (arith, nat_tests, e.behind, e.window)
 
 -- the piece that waits goes out again
-repeats : (p : Bool) (r : ℕ) (x : EndState) → KeepsWindow x → waits x ≡ true →
+pub in-repeats : (p : Bool) (r : ℕ) (x : EndState) → KeepsWindow x → waits x ≡ true →
     InOpen Both Both x (sends_frame (waiting_frame p x) (record x { retries = r }))
-repeats p r x e w = plainly x x.rejecting r (waiting_frame p x ∷ []) e (inl refl, ((waiting x e (one_waits x e w), refl), λ p. p), tt)
-
-pub in-repeats : (x : EndState) → KeepsWindow x → waits x ≡ true →
-    InOpen Both Both x (sends_frame (waiting_frame true x) (record x { retries = x.retries + 1 }))
-in-repeats x = repeats true (x.retries + 1) x
+in-repeats p r x e w = plainly x x.rejecting r (waiting_frame p x ∷ []) e (inl refl, ((waiting x e (one_waits x e w), refl), λ p. p), tt)
 
 in-sends_again : Stays Both Both sends_again
-in-sends_again x is_now e = in-if (waits x) (repeats false x.retries x e) (in-sends_next x is_now e)
+in-sends_again x is_now e = in-if (waits x) (in-repeats false x.retries x e) (in-sends_next x is_now e)
 
 in-answers_poll : (poll : Bool) → Stays Both Both (answers_poll poll)
 in-answers_poll poll x is_now e = in-if poll (λ p. in-says_rr true x is_now e) (in-stays x is_now e)
