@@ -44,22 +44,12 @@ pub units-claim : (x y : Side) → HasUnits x y → IsSubsequence (filter_map un
 units-claim x y h = subsequence (trans (front (filter_map unit_got_in y.told) (filter_map unit_in x.out)) h.some)
 
 -- what comes first is lost, or reported
-fewer : (o : Option Message) (ms : List Message) → IsSome ms (cons_option o ms)
-fewer None ms = all ms
-fewer (Some m) ms = gone (all ms)
+in_front : (o : Option Content) (cs : List Content) → cons_option o [] ++ cs ≡ cons_option o cs
+in_front None cs = refl
+in_front (Some c) cs = refl
 
 lost : (o : Option Content) (cs : List Content) → IsSome (filter_map unit_in cs) (filter_map unit_in (cons_option o cs))
-lost None cs = all _
-lost (Some c) cs = fewer (unit_in c) _
-
-first : (o : Option Message) (ms : List Message) → IsSome (cons_option o [] ++ ms) (cons_option o ms)
-first None ms = all ms
-first (Some m) ms = all _
-
-reported : (o : Option Content) (cs : List Content) →
-    IsSome (filter_map unit_in (cons_option o []) ++ filter_map unit_in cs) (filter_map unit_in (cons_option o cs))
-reported None cs = all _
-reported (Some c) cs = first (unit_in c) _
+lost o cs = rw (← in_front o cs, filter_map-append) (append (front [] (filter_map unit_in (cons_option o []))) (all _))
 
 sent : {x y : Side} {a : Act} → IsActed x y a → filter_map unit_in (contents a.does.frames) ≡ filter_map unit_sent_in a.asks
 sent (called p c) = c.units
@@ -69,7 +59,7 @@ sent rival = refl
 no_more : (c : Content) (ns : List Notice) (cs : List Content) → ReportsUnit c ns →
     IsSome (filter_map unit_got_in ns ++ filter_map unit_in cs) (filter_map unit_in (cons_option (content_of c) cs))
 no_more c ns cs (inl h) = rw h (lost (content_of c) cs)
-no_more c ns cs (inr h) = rw h (reported (content_of c) cs)
+no_more c ns cs (inr h) = rw (h, ← filter_map-append, in_front (content_of c) cs) (all _)
 
 taken : {x y : Side} {a : Act} → IsActed x y a →
     IsSome (filter_map unit_got_in a.does.notices ++ filter_map unit_in a.left) (filter_map unit_in y.out)
