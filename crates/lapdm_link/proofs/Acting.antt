@@ -3,9 +3,9 @@
 use Rattle.lapdm_link.proofs.Words.{◌≡◌, refl, sym, ◌∙◌, ap, subst, ℕ, ◌≤◌, List, [], ◌∷◌, ◌++◌, length, Option, Some, None, inl, ◌⊎◌, filter_map, cons_option, append-nil, Content, I, Rr, Rej, Sabm, Ui, Ua, Frame, Message, Piece, false, Sapi, Zero, Three, State, Idle, Opening, Closing, Closed, Notice, Role, Network, EndState, Outcome, KeepsWindow, all_pieces, IsSameLink, Call, Opens, OpensBare, SendsUnit, Idles, sent_in, unit_sent_in, unit_got_in, opened_in}
 use Rattle.lapdm_window.specs.declared.State.TheVariants.{Open}
 use Rattle.lapdm_window.specs.declared.Notice.TheVariants as N
-use Rattle.lapdm_link.proofs.Queues.{content_of, contents, IsPlain, AllFrames, AllOf, frames-as, frames-say}
+use Rattle.lapdm_link.proofs.Queues.{content_of, contents, IsPlain, AllFrames, AllOf, of-as, frames-as, frames-say}
 use Rattle.lapdm_link.proofs.Told.{Known, known, asked, Tells}
-use Rattle.lapdm_link.proofs.Telling.{SaysWell, InOpen}
+use Rattle.lapdm_link.proofs.Telling.{SaysWell, IsOfOpen, InOpen}
 use Rattle.lapdm_link.proofs.Keeping.{Way, IsBoth, Both, sends_plain, moved, gone}
 
 -- the end asked for the link or has it
@@ -89,9 +89,9 @@ well-no_unit : (ps : List Piece) (c : Content) → SaysWell ps c → unit_in c �
 well-no_unit ps (Ui p m) h = absurd h
 well-no_unit ps other h = refl
 
-pub no-units : (cs : List Content) → AllOf (λ c. unit_in c ≡ None) cs → filter_map unit_in cs ≡ []
-no-units [] h = refl
-no-units (c ∷ cs) h = rw (h.0, no-units cs h.1) refl
+pub none-of : {A B : Type 0} (f : A → Option B) (xs : List A) → AllOf (λ x. f x ≡ None) xs → filter_map f xs ≡ []
+none-of f [] h = refl
+none-of f (x ∷ xs) h = rw (h.0, none-of f xs h.1) refl
 
 -- a rule in Open, with these messages taken
 pub openly : {From : Way} (call : Option Call) (c : Content) (x : EndState) (ts : List Message) (o : Outcome) →
@@ -107,9 +107,10 @@ openly call c x ts o h from takes told none =
       taken = ap (λ z. z.taken) h.same ∙ takes;
       tells = subst (λ (k : Known). Tells k o.notices (known o.after)) told h.tells;
       frames = frames-as (SaysWell ps) (Says call x o.after) (well-said call x o.after ps (ap all_pieces h.same)) x.sapi o.frames h.frames;
-      units = no-units _ (frames-say (SaysWell ps) (λ c. unit_in c ≡ None) (well-no_unit ps) x.sapi o.frames h.frames) ∙ sym none;
-      reports = inl h.of_open.0;
-      goes = remains (ap (λ z. z.state) h.same) (ap (λ z. z.kept) h.same) h.of_open.1;
+      units = none-of unit_in _ (frames-say (SaysWell ps) (λ c. unit_in c ≡ None) (well-no_unit ps) x.sapi o.frames h.frames) ∙ sym none;
+      reports = inl (none-of unit_got_in _ (of-as IsOfOpen _ (λ n m. m.0) o.notices h.of_open));
+      goes = remains (ap (λ z. z.state) h.same) (ap (λ z. z.kept) h.same)
+          (none-of opened_in _ (of-as IsOfOpen _ (λ n m. m.1) o.notices h.of_open));
       arrives = λ y out comes k. h.keeps y out comes (from y out comes k);
     }
 

@@ -1,13 +1,12 @@
 -- What an end does at any frame.
 use Rattle.lapdm_link.proofs.Words.{◌≡◌, refl, sym, ap, arith, ◌≤◌, Bool, true, false, ◌&&◌, if◌then◌else◌, List, [], ◌∷◌, Some, None, inl, inr, bytes_eq, append-nil, bytes_eq-Decides, Content, I, Rr, Rej, Sabm, Dm, Ui, Disc, Ua, Frame, Message, Sapi, Zero, Three, State, Idle, Opening, Closing, Closed, Reason, Notice, Role, Mobile, Network, EndState, Outcome, KeepsWindow, stays, ◌then◌, vr, is_command, is_poll, says_ua, becomes_open, sabm_in_idle, dm_to_poll, in_idle, other_ua, sabm_in_opening, in_opening, answers_sabm, in_open, in_closing, in_closed, in_state, after_content, after_frame}
 use Rattle.lapdm_window.specs.declared.State.TheVariants.{Open}
-use Rattle.lapdm_window.specs.declared.Reason.TheVariants as R
 use Rattle.lapdm_window.specs.declared.Notice.TheVariants as N
 use Rattle.lapdm_link.proofs.Queues.{content_of, AllFrames, frames-say}
 use Rattle.lapdm_link.proofs.Told.{stage_of, known, Tells}
 use Rattle.lapdm_link.proofs.Telling.{InOpen, in-takes_i, in-takes_rr, in-takes_rej}
 use Rattle.lapdm_link.proofs.Keeping.{Both, Arriving}
-use Rattle.lapdm_link.proofs.Acting.{SaysPlain, OpensBy, Goes, unit_in, ReportsUnit, IsTaken, no-units, openly, moves, remains, ends, opens}
+use Rattle.lapdm_link.proofs.Acting.{SaysPlain, OpensBy, Goes, unit_in, ReportsUnit, IsTaken, none-of, openly, moves, remains, ends, opens}
 
 -- at a frame no unit is sent
 no_unit : (x z : EndState) (c : Content) → SaysPlain None x z c → unit_in c ≡ None
@@ -23,7 +22,7 @@ module _ (x : EndState) (w : KeepsWindow x) where
       (let z : EndState = record x { state = s; kept = k } in let o : Outcome = record { after = z; frames = fs; notices = ns } in
       AllFrames (SaysPlain None x z) x.sapi fs → Tells (known x) ns (known z) → Goes None c x o → ReportsUnit c ns → IsTaken c x o)
   becomes {c} s k fs ns says tells goes reports = moves None c x w s k x.retries fs ns says tells goes reports refl
-      (no-units _ (frames-say _ (λ c. unit_in c ≡ None) (no_unit x (record x { state = s; kept = k })) x.sapi fs says))
+      (none-of unit_in _ (frames-say _ (λ c. unit_in c ≡ None) (no_unit x (record x { state = s; kept = k })) x.sapi fs says))
 
   quietly : {c : Content} (fs : List Frame) → AllFrames (SaysPlain None x x) x.sapi fs →
       IsTaken c x (record { after = x; frames = fs; notices = [] })

@@ -1,9 +1,9 @@
 -- What an end tells, the frames that it sends, and that it keeps both directions, in Open: each rule with whatever frames
 -- arrive.
-use Rattle.lapdm_link.proofs.Words.{◌≡◌, refl, sym, ◌∙◌, ap, subst, arith, ℕ, ◌+◌, ◌%◌, ◌<◌, Bool, true, false, if◌then◌else◌, nat_eq, nat_lt, List, [], ◌∷◌, ◌++◌, length, get_or, Option, Some, None, inl, filter_map, append-nil, append_assoc, filter_map-append, nat_tests, Content, I, Rr, Rej, Frame, Message, Piece, longest, within, endings, open_part, endings-more, endings-last, Notice, Acked, EndState, Outcome, KeepsWindow, stays, sends_frame, ◌then◌, response, all_pieces, next_piece, waits, wholly_acked, vr, capped, waiting_frame, has_next, with_next, sends_piece, sends_next, acknowledges, with_acked, acked_number, reports_acked, counts, notices_of, accepts, says_rr, answers_piece, reject_is_due, rejects, takes_i, answers_poll, takes_rr, sends_again, takes_rej, wholly_acked-more, wholly_acked-last, wholly_acked-most, KeepsWindow-acked, unit_got_in, opened_in}
+use Rattle.lapdm_link.proofs.Words.{◌≡◌, refl, sym, ◌∙◌, ap, subst, arith, ℕ, ◌+◌, ◌%◌, ◌<◌, Bool, true, false, if◌then◌else◌, nat_eq, nat_lt, List, [], ◌∷◌, ◌++◌, length, get_or, Option, Some, None, inl, append-nil, append_assoc, filter_map-append, nat_tests, Content, I, Rr, Rej, Frame, Message, Piece, longest, within, endings, open_part, endings-more, endings-last, Notice, Acked, EndState, Outcome, KeepsWindow, stays, sends_frame, ◌then◌, response, all_pieces, next_piece, waits, wholly_acked, vr, capped, waiting_frame, has_next, with_next, sends_piece, sends_next, acknowledges, with_acked, acked_number, reports_acked, counts, notices_of, accepts, says_rr, answers_piece, reject_is_due, rejects, takes_i, answers_poll, takes_rr, sends_again, takes_rej, wholly_acked-more, wholly_acked-last, wholly_acked-most, KeepsWindow-acked, unit_got_in, opened_in}
 use Rattle.segmenting.specs.declared.joiner.Joined.TheVariants as J
 use Rattle.lapdm_window.specs.declared.State.TheVariants.{Open}
-use Rattle.lapdm_link.proofs.Queues.{IsPlain, AllFrames, AllOf, contents, frames-append, frames-as, frames-say}
+use Rattle.lapdm_link.proofs.Queues.{IsPlain, AllFrames, AllOf, contents, of-append, frames-append, frames-as, frames-say}
 use Rattle.lapdm_link.proofs.Told.{stage_of, Known, known, goes-append, Tells}
 use Rattle.lapdm_link.proofs.Directions.{IsPiece, CountsIn, CarriesIn, next_waits, piece_in, piece_gone, number_in, number_gone}
 use Rattle.lapdm_link.proofs.Keeping.{Way, Both, Arriving, Counted, MaySend, waiting, sends, moved}
@@ -16,8 +16,8 @@ SaysWell ps (Rej nr pf) = Unit {0}
 SaysWell ps other = ⊥
 
 -- no unit, and no opening
-abbrev TellsOfOpen : List Notice → Type 0
-TellsOfOpen ns = (filter_map unit_got_in ns ≡ []) × (filter_map opened_in ns ≡ [])
+abbrev pub IsOfOpen : Notice → Type 0
+IsOfOpen n = (unit_got_in n ≡ None) × (opened_in n ≡ None)
 
 -- an end but for its window
 abbrev pub apart : EndState → EndState
@@ -28,7 +28,7 @@ pub record InOpen (From To : Way) (x : EndState) (o : Outcome) : Type 0 where
   pub same : apart o.after ≡ apart x
   pub frames : AllFrames (SaysWell (all_pieces x)) x.sapi o.frames
   pub tells : Tells (known x) o.notices (known o.after)
-  pub of_open : TellsOfOpen o.notices
+  pub of_open : AllOf IsOfOpen o.notices
   pub end : KeepsWindow o.after
   pub keeps : (y : EndState) (out comes : List Content) → From x y out comes → To o.after y (out ++ contents o.frames) comes
 
@@ -47,10 +47,7 @@ in-then {From} {Mid} {To} {first} {rule} stays_first stays x is_now e =
       frames = frames-append (SaysWell (all_pieces x)) x.sapi o.frames p.frames h.frames
           (subst (λ (z : EndState). AllFrames (SaysWell (all_pieces z)) z.sapi p.frames) h.same g.frames);
       tells = goes-append (λ n. None) (λ n. Some n) o.notices p.notices (known x) (known o.after) (known p.after) h.tells g.tells;
-      of_open = (
-        filter_map-append unit_got_in o.notices p.notices ∙ rw (h.of_open.0, g.of_open.0) refl,
-        filter_map-append opened_in o.notices p.notices ∙ rw (h.of_open.1, g.of_open.1) refl,
-      );
+      of_open = of-append IsOfOpen o.notices p.notices h.of_open g.of_open;
       end = g.end;
       keeps = λ y out comes k. rw (filter_map-append, ← append_assoc)
           (g.keeps y (out ++ contents o.frames) comes (h.keeps y out comes k));
@@ -74,7 +71,7 @@ well x other m = absurd (m.1 tt)
 -- the counts and what is accepted change, and the reject condition
 openly : {From To : Way} (x : EndState) (a s : ℕ) (ps : List Piece) (b : Bool) (r : ℕ) (fs : List Frame) (ns : List Notice) →
     (let z : EndState = record x { acked = a; sent = s; accepted = ps; rejecting = b; retries = r } in KeepsWindow z →
-    AllFrames (Numbered z) x.sapi fs → Tells (known x) ns (known z) × TellsOfOpen ns →
+    AllFrames (Numbered z) x.sapi fs → Tells (known x) ns (known z) × AllOf IsOfOpen ns →
     ((y : EndState) (out comes : List Content) → AllOf (MaySend z) (contents fs) → From x y out comes →
     To z y (out ++ contents fs) comes) → InOpen From To x (record { after = z; frames = fs; notices = ns }))
 openly x a s ps b r fs ns end frames told keeps =
@@ -92,7 +89,7 @@ openly x a s ps b r fs ns end frames told keeps =
 plainly : (x : EndState) (b : Bool) (r : ℕ) (fs : List Frame) → KeepsWindow x → AllFrames (Numbered x) x.sapi fs →
     InOpen Both Both x (record { after = record x { rejecting = b; retries = r }; frames = fs; notices = [] })
 plainly x b r fs e h = openly x x.acked x.sent x.accepted b r fs []
-    (record { messages = e.messages; sent = e.sent; behind = e.behind; window = e.window }) h (refl, (refl, refl))
+    (record { messages = e.messages; sent = e.sent; behind = e.behind; window = e.window }) h (refl, tt)
     (λ y out comes may k. sends (contents fs) may (moved x.state x.kept b r k))
 
 in-stays : Stays Both Both stays
@@ -112,7 +109,7 @@ in-sends_piece x e has =
     let window : KeepsWindow (with_next x) =
     record { messages = e.messages; sent = omega arith; behind = omega arith; window = omega arith } in
     openly x x.acked (x.sent + 1) x.accepted x.rejecting 0 (sends_piece x).frames [] window
-    (inl refl, ((waiting (with_next x) window (omega arith), refl), λ p. p), tt) (refl, (refl, refl))
+    (inl refl, ((waiting (with_next x) window (omega arith), refl), λ p. p), tt) (refl, tt)
     (λ y out comes may h. sends _ may (record { there = next_waits none left h.there; back = h.back }))
 
 pub in-sends_next : Stays Both Both sends_next
@@ -145,11 +142,11 @@ one_more ps (octets, false) = endings-last [] ps octets
 tells-got : (k : Known) (over more : Bool) (m : Message) (es : List (Option Message)) → k.stage ≡ 1 →
     es ≡ k.ended ++ (if more then [] else (if over then None else Some m) ∷ []) →
     (let ns : List Notice = notices_of (if over then J.Oversize else (if more then J.More else J.Whole)) more m in
-    Tells k ns (record k { ended = es }) × TellsOfOpen ns)
-tells-got k true true m es now e = (ap (λ xs. record k { ended = xs }) (e ∙ append-nil k.ended), (refl, refl))
-tells-got k false true m es now e = (ap (λ xs. record k { ended = xs }) (e ∙ append-nil k.ended), (refl, refl))
-tells-got k true false m es now e = ((now, ap (λ xs. record k { ended = xs }) e), (refl, refl))
-tells-got k false false m es now e = ((now, ap (λ xs. record k { ended = xs }) e), (refl, refl))
+    Tells k ns (record k { ended = es }) × AllOf IsOfOpen ns)
+tells-got k true true m es now e = (ap (λ xs. record k { ended = xs }) (e ∙ append-nil k.ended), tt)
+tells-got k false true m es now e = (ap (λ xs. record k { ended = xs }) (e ∙ append-nil k.ended), tt)
+tells-got k true false m es now e = ((now, ap (λ xs. record k { ended = xs }) e), ((refl, refl), tt))
+tells-got k false false m es now e = ((now, ap (λ xs. record k { ended = xs }) e), ((refl, refl), tt))
 
 -- this frame is the first that comes in, at this V(R)
 module _ (c : Content) (nr n : ℕ) (counts_in : (k : ℕ) → CountsIn k c → nr ≡ k % 8) where
@@ -162,18 +159,18 @@ module _ (c : Content) (nr n : ℕ) (counts_in : (k : ℕ) → CountsIn k c → 
 
       reports-acked : (more : Bool) → (next_piece x).1 ≡ more → InOpen (Arriving c n) To x (reports_acked more x)
       reports-acked true is = openly x x.sent x.sent x.accepted x.rejecting 0 [] [] (KeepsWindow-acked x e) tt
-          (ap (λ a. record (known x) { acked = a }) (wholly_acked-more x one (omega (arith, e.sent)) is), (refl, refl))
+          (ap (λ a. record (known x) { acked = a }) (wholly_acked-more x one (omega (arith, e.sent)) is), tt)
           (λ y out comes may. acknowledged y out comes)
       reports-acked false is =
           let last : wholly_acked (with_acked x) ≡ wholly_acked x + 1 = wholly_acked-last x one (omega (arith, e.sent)) is in
           openly x x.sent x.sent x.accepted x.rejecting 0 [] (Acked (acked_number x) ∷ []) (KeepsWindow-acked x e) tt
           (((ap stage_of is_now, ap capped last, omega (arith, last, wholly_acked-most (with_acked x))),
-          ap (λ a. record (known x) { acked = a }) last), (refl, refl)) (λ y out comes may. acknowledged y out comes)
+          ap (λ a. record (known x) { acked = a }) last), ((refl, refl), tt)) (λ y out comes may. acknowledged y out comes)
 
     in-counts : Stays (Arriving c n) To (counts nr)
     in-counts x is_now e = in-if (acknowledges nr x)
         (λ acks. reports-acked x is_now e (one_waits x e (grind (arith, nat_tests))) (grind (arith, nat_tests)) (next_piece x).1 refl)
-        (openly x x.acked x.sent x.accepted x.rejecting x.retries [] [] e tt (refl, (refl, refl)) (λ y out comes may h.
+        (openly x x.acked x.sent x.accepted x.rejecting x.retries [] [] e tt (refl, tt) (λ y out comes may h.
         pass x y (out ++ []) comes (h.0, sends [] tt (record { there = number_gone h.1.there; back = h.1.back }))))
 
   heeded : Stays (Arriving c n) Both (counts nr)
