@@ -1,5 +1,5 @@
 -- What an end does at a call that is not refused.
-use Rattle.lapdm_link.proofs.Words.{◌≡◌, refl, sym, ap, arith, ◌+◌, ◌≤◌, max, Bool, true, false, not, if◌then◌else◌, nat_eq, nat_lt, List, [], ◌∷◌, length, Some, None, inl, inr, append-nil, false≢true, nat_tests, n201, Content, Ui, Message, IsMessage, State, EndState, KeepsWindow, sends_frame, waits, awaits, awaits_in, n200, is_open, sends_next, becomes_closed, Call, Opens, OpensBare, Sends, SendsUnit, Closes, Ticks, Idles, is_idle, refusal_of, put_refusals, frame_refusals, with_taken, repeated, after_call, wholly_acked-taken, all_pieces-taken, KeepsWindow-taken, is_message, not_false, passes, is_idle-is, is_open-is}
+use Rattle.lapdm_link.proofs.Words.{◌≡◌, refl, sym, ap, arith, ◌+◌, ◌≤◌, max, Bool, true, false, not, if◌then◌else◌, nat_eq, nat_lt, List, [], ◌∷◌, length, Some, None, inl, inr, append-nil, false≢true, nat_tests, n201, Content, Ui, Message, State, EndState, KeepsWindow, sends_frame, waits, awaits, awaits_in, n200, is_open, becomes_closed, Call, Opens, OpensBare, Sends, SendsUnit, Closes, Ticks, Idles, is_idle, refusal_of, put_refusals, frame_refusals, with_taken, repeated, after_call, wholly_acked-taken, all_pieces-taken, KeepsWindow-taken, is_message, not_false, passes, is_idle-is, is_open-is}
 use Rattle.lapdm_window.specs.declared.State.TheVariants as S
 use Rattle.lapdm_window.specs.declared.Reason.TheVariants as R
 use Rattle.lapdm_window.specs.declared.Refused.TheVariants as No
@@ -33,19 +33,11 @@ module _ (x : EndState) (w : KeepsWindow x) where
   live S.Closed due = absurd (false≢true due)
   live s due = omega arith
 
-  given_up : stage_of x.state ≤ 2 → IsCalled x Ticks (becomes_closed R.Failed x)
-  given_up may = moves (Some Ticks) _ x w S.Closed x.kept x.retries [] _ tt (may, refl) (ends refl refl refl)
-      (inl refl) refl refl
-
   ticks : (b : Bool) → awaits_in x.state (waits x) ≡ true →
       IsCalled x Ticks (if b then sends_frame (repeated x.state x) (record x { retries = x.retries + 1 }) else becomes_closed R.Failed x)
   ticks true due = again x.state refl due
-  ticks false due = given_up (live x.state due)
-
-  takes : (m : Message) → IsMessage m → x.state ≡ S.Open → IsCalled x (Sends m) (sends_next (with_taken m x))
-  takes m good is_now = openly (Some (Sends m)) (Ui false []) x (with_taken m x).taken _
-      (in-sends_next (with_taken m x) is_now (KeepsWindow-taken x m w good)) (λ y out comes h. taken-both m h) refl
-      (ap (λ a. record (known (with_taken m x)) { acked = a }) (wholly_acked-taken x m w)) refl
+  ticks false due = moves (Some Ticks) _ x w S.Closed x.kept x.retries [] _ tt (live x.state due, refl) (ends refl refl refl)
+      (inl refl) refl refl
 
   pub is_called : (call : Call) → refusal_of call x ≡ None → IsCalled x call (after_call call x)
   is_called (Opens info) ok =
@@ -61,7 +53,10 @@ module _ (x : EndState) (w : KeepsWindow x) where
       (begins refl refl refl) (inl refl) refl refl
   is_called (Sends m) ok =
       let now = passes (not (is_open x.state)) No.NotOpen (put_refusals m x) ok in
-      takes m (is_message m x now.rest) (is_open-is x.state (not_false (is_open x.state) now.no))
+      let is_now : x.state ≡ S.Open = is_open-is x.state (not_false (is_open x.state) now.no) in
+      openly (Some (Sends m)) (Ui false []) x (with_taken m x).taken _
+      (in-sends_next (with_taken m x) is_now (KeepsWindow-taken x m w (is_message m x now.rest))) (λ y out comes h. taken-both m h) refl
+      (ap (λ a. record (known (with_taken m x)) { acked = a }) (wholly_acked-taken x m w)) refl
   is_called (SendsUnit []) ok = absurd (false≢true (sym (passes true No.Empty ((nat_lt (n201 x.channel) 0, No.TooLong) ∷ []) ok).no))
   is_called (SendsUnit (i ∷ is)) ok = moves (Some (SendsUnit (i ∷ is))) _ x w x.state x.kept x.retries _ []
       (inl refl, (tt, inl refl), tt) refl (remains refl refl refl) (inl refl) refl refl

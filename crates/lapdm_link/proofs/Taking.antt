@@ -111,8 +111,7 @@ module _ (x : EndState) (w : KeepsWindow x) where
 
   taken-content : (cmd : Bool) (c : Content) → IsTaken c x (after_content cmd c x)
   taken-content cmd (Ui p []) = quietly _ tt
-  taken-content cmd (Ui p (i ∷ is)) =
-      becomes x.state x.kept [] _ tt (tt, refl) (remains refl refl refl) (inr refl)
+  taken-content cmd (Ui p (i ∷ is)) = becomes x.state x.kept [] _ tt (tt, refl) (remains refl refl refl) (inr refl)
   taken-content cmd other = taken-in_state x.state cmd other refl
 
   taken-if : (b cmd : Bool) (c : Content) → IsTaken c x (if b then after_content cmd c x else stays x)
