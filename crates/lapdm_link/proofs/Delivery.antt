@@ -14,7 +14,7 @@ abbrev pub IsCarried : Side → Side → Type 0
 IsCarried x y = IsBoth x.end y.end x.out y.out y.out
 
 pub carried-acts : {x y : Side} {a : Act} → IsActed x y a → IsCarried x y → IsCarried (after a x) (other_after a y)
-carried-acts (called p c) h = c.keeps _ _ _ h
+carried-acts (called p c) h = c.arrives _ _ _ h
 carried-acts (took e t) h = t.arrives _ _ _ (rw e at h)
 carried-acts rival h = sends_plain _ (tt, tt) h
 

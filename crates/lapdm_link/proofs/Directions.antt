@@ -98,11 +98,6 @@ direction : {ps : List Piece} {a s : ℕ} {qs : List Piece} {there back : List C
 direction a c w l o = record { acknowledged = a; carried = c; window = w; within = l; in_order = o }
 
 module _ {ps : List Piece} {a s : ℕ} {qs : List Piece} {there back : List Content} where
-  -- what is sent and not acknowledged is one piece
-  pub waits_for_one : s ≢ a → IsDirection ps a s qs there back → s ≡ a + 1
-  waits_for_one apart h =
-      let low : a ≤ length qs = climbs-le h.acknowledged in let high : length qs ≤ s = climbs-le h.carried in grind arith
-
   -- a new piece is to go out
   pub next_waits : s ≡ a → s < length ps → IsDirection ps a s qs there back → IsDirection ps a (s + 1) qs there back
   next_waits none left h =

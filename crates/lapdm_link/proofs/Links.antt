@@ -4,8 +4,7 @@ use Rattle.lapdm_link.proofs.Words.{◌≡◌, refl, inl, List, [], ◌∷◌, �
 use Rattle.lapdm_link.proofs.Queues.{contents, contents_on, content_of, AllOf, IsOf, frames-own}
 use Rattle.lapdm_link.proofs.Views.{end_of, way, acted, spoken}
 use Rattle.lapdm_link.proofs.ByKind.{IsPlaced}
-use Rattle.lapdm_link.proofs.Taking.{IsTaken}
-use Rattle.lapdm_link.proofs.Asked.{IsCalled}
+use Rattle.lapdm_link.proofs.Acting.{IsTaken, IsCalled}
 
 pub record Side : Type 0 where
   pub end : EndState

@@ -1,9 +1,10 @@
 -- Where messages are octets, so is what every frame on its way carries.
-use Rattle.lapdm_link.proofs.Words.{◌≡◌, sym, ap, subst, ℕ, zero, suc, ◌<◌, Bool, false, List, [], ◌∷◌, length, drop, get_or, None, All, inl, inr, ◌⊎◌, filter_map, flat_map, All-nil, All-cons, All-head, All-tail, All-append, All-take, All-drop, Channel, n201, Content, I, Sabm, Ui, Ua, Frame, information, Message, Piece, cut, pieces, Sapi, EndState, Outcome, KeepsWindow, all_pieces, after_frame, Call, Opens, OpensBare, Sends, SendsUnit, refusal_of, after_call, Event, World, start_on, refusal, answer, after, Line, Asked, Rivals, Told, answer_lines, sent_in}
+use Rattle.lapdm_link.proofs.Words.{◌≡◌, sym, ap, subst, ℕ, zero, suc, ◌<◌, Bool, false, List, [], ◌∷◌, length, drop, get_or, Option, Some, None, cons_option, All, inl, inr, filter_map, flat_map, All-nil, All-cons, All-head, All-tail, All-append, All-take, All-drop, Channel, n201, Content, I, Sabm, Ui, Ua, Frame, information, Message, Piece, cut, pieces, Sapi, EndState, Outcome, KeepsWindow, all_pieces, after_frame, Call, Opens, OpensBare, Sends, SendsUnit, refusal_of, after_call, Event, World, start_on, refusal, answer, after, Line, Asked, Rivals, Told, answer_lines, sent_in}
 use Rattle.lapdm_link.proofs.Queues.{AllFrames}
 use Rattle.lapdm_link.proofs.Views.{end_of}
-use Rattle.lapdm_link.proofs.Taking.{Answers, OpensBy, Remains, IsOpenedBy, IsTaken, taken-frame}
-use Rattle.lapdm_link.proofs.Asked.{Asks, LeftBy, IsCalled, is_called}
+use Rattle.lapdm_link.proofs.Acting.{Says, IsOpening, OpensBy, Goes, IsDone, remains, ends, closes, begins, opens}
+use Rattle.lapdm_link.proofs.Taking.{taken-frame}
+use Rattle.lapdm_link.proofs.Asked.{is_called}
 use Rattle.lapdm_link.proofs.ByKind.{KnowsBy}
 use Rattle.lapdm_link.proofs.Order.{AllReported}
 use Rattle.lapdm_link.proofs.Fitting.{Holds, holds-step, holds-start}
@@ -66,75 +67,68 @@ carried : (x : EndState) (info : List ℕ) (more : Bool) (i : ℕ) → EndOctets
 carried x info more i h l e =
     subst AreOctets (ap (λ (p : Piece). p.0) e) (all-octets (n201 x.channel) x.taken h.taken i ([], false) l)
 
--- answers
-answer-octets : (x z : EndState) → EndOctets x → AreOctets z.kept → (c : Content) → Answers x z c → AreOctets (information c)
-answer-octets x z h k (I ns nr p more info) a = carried x info more a.2.0 h a.2.1 a.2.2
-answer-octets x z h k (Ua f info) (inl e) = subst AreOctets e.1 k
-answer-octets x z h k (Ua f info) (inr e) = subst AreOctets (sym e.0) none
-answer-octets x z h k (Sabm p info) a = absurd a
-answer-octets x z h k (Ui p info) a = absurd a
-answer-octets x z h k other a = none
+-- what is sent
+abbrev OctetsBy : Option Call → Type 0
+OctetsBy None = Unit {0}
+OctetsBy (Some call) = CallOctets call
+
+said-octets : (call : Option Call) (x z : EndState) → OctetsBy call → EndOctets z → (c : Content) → Says call x z c →
+    AreOctets (information c)
+said-octets call x z said h (I ns nr p more info) a = carried z info more a.0 h a.1 a.2
+said-octets call x z said h (Sabm p info) a = subst AreOctets a.1 h.kept
+said-octets call x z said h (Ui p info) (inl e) = subst OctetsBy e said
+said-octets call x z said h (Ui p info) (inr e) = subst AreOctets (sym e.1) none
+said-octets call x z said h (Ua f info) (inl e) = subst AreOctets e.1 h.kept
+said-octets call x z said h (Ua f info) (inr e) = subst AreOctets (sym e.0) none
+said-octets call x z said h other a = none
 
 frames-octets : (Says : Content → Type 0) → ((c : Content) → Says c → AreOctets (information c)) → (s : Sapi) (fs : List Frame) →
     AllFrames Says s fs → AllSay fs
 frames-octets Says octets s [] h = All-nil SaysOctets
 frames-octets Says octets s (f ∷ fs) h = All-cons SaysOctets f fs (octets f.content h.1) (frames-octets Says octets s fs h.2)
 
-opens-octets : (c : Content) (x : EndState) (info : Message) → AreOctets (information c) → AreOctets x.kept → OpensBy c x info →
-    AreOctets info
-opens-octets (Sabm p i) x info h k o = subst AreOctets o.0 h
-opens-octets (Ua f i) x info h k o = subst AreOctets o.0 h
-opens-octets other x info h k o = absurd o
+-- the kept information and the messages taken
+opens-octets : (c : Content) (x : EndState) (info : Message) → AreOctets (information c) → OpensBy c x info → AreOctets info
+opens-octets (Sabm p i) x info h o = subst AreOctets o.0 h
+opens-octets (Ua f i) x info h o = subst AreOctets o.0 h
+opens-octets other x info h o = absurd o
 
-kept-octets : (c : Content) (x : EndState) (o : Outcome) → AreOctets (information c) → AreOctets x.kept →
-    Remains x o ⊎ IsOpenedBy c x o → AreOctets o.after.kept
-kept-octets c x o h k (inl m) = subst AreOctets (sym m.kept) k
-kept-octets c x o h k (inr m) = subst AreOctets (sym m.kept) (opens-octets c x m.info h k m.cause)
+opening-octets : (call : Option Call) (k : Message) → OctetsBy call → IsOpening call k → AreOctets k
+opening-octets (Some (Opens info)) k said o = subst AreOctets (sym o.0) said
+opening-octets (Some OpensBare) k said o = subst AreOctets (sym o) none
+opening-octets call k said o = absurd o
+
+kept-octets : (call : Option Call) (c : Content) (x : EndState) (o : Outcome) → OctetsBy call → AreOctets (information c) →
+    AreOctets x.kept → Goes call c x o → AreOctets o.after.kept
+kept-octets call c x o said h k (remains s e n) = subst AreOctets (sym e) k
+kept-octets call c x o said h k (ends s e n) = subst AreOctets (sym e) k
+kept-octets call c x o said h k (closes l s e n) = subst AreOctets (sym e) k
+kept-octets call c x o said h k (begins s a n) = opening-octets call o.after.kept said a
+kept-octets call c x o said h k (opens n s e cause) = subst AreOctets (sym e) (opens-octets c x _ h cause)
+
+sent-octets : (call : Option Call) → OctetsBy call → AllMessages (filter_map sent_in (cons_option call []))
+sent-octets (Some (Sends m)) said = All-cons AreOctets m [] said none_sent
+sent-octets call said = none_sent
 
 pub record OutcomeOctets (o : Outcome) : Type 0 where
   pub end : EndOctets o.after
   pub frames : AllSay o.frames
 
+done-octets : (call : Option Call) (c : Content) (x : EndState) (o : Outcome) → IsDone call c x o → OctetsBy call →
+    AreOctets (information c) → EndOctets x → OutcomeOctets o
+done-octets call c x o d said octets h =
+    let taken : AllMessages o.after.taken = subst AllMessages (sym d.taken) (All-append AreOctets x.taken _ h.taken
+    (sent-octets call said)) in
+    let end : EndOctets o.after = record { kept = kept-octets call c x o said octets h.kept d.goes; taken = taken } in
+    record { end = end; frames = frames-octets (Says call x o.after) (said-octets call x o.after said end) x.sapi o.frames d.frames }
+
 pub frame-octets : (f : Frame) (x : EndState) → AreOctets (information f.content) → KeepsWindow x → EndOctets x →
     OutcomeOctets (after_frame f x)
-frame-octets f x octets e h =
-    let o : Outcome = after_frame f x in
-    let t : IsTaken f.content x o = taken-frame x e f in
-    let k : AreOctets o.after.kept = kept-octets f.content x o octets h.kept t.goes in
-    record {
-      end = record { kept = k; taken = subst AllMessages (sym t.taken) h.taken };
-      frames = frames-octets (Answers x o.after) (answer-octets x o.after h k) x.sapi o.frames t.frames;
-    }
-
--- calls
-asked-octets : (call : Call) (z : EndState) → CallOctets call → EndOctets z → (c : Content) → Asks call z c → AreOctets (information c)
-asked-octets call z said h (I ns nr p more info) a = carried z info more a.2.0 h a.2.1 a.2.2
-asked-octets call z said h (Sabm p info) a = subst AreOctets a.1 h.kept
-asked-octets call z said h (Ui p info) (inl e) = subst CallOctets e said
-asked-octets call z said h (Ui p info) (inr e) = subst AreOctets (sym e) none
-asked-octets call z said h (Ua f info) a = absurd a
-asked-octets call z said h other a = none
-
--- the kept information and the messages taken
-left-octets : (call : Call) (x z : EndState) → CallOctets call → AreOctets x.kept → LeftBy call x z → AreOctets z.kept
-left-octets (Opens info) x z said h (inl e) = subst AreOctets (sym e.1.0) said
-left-octets OpensBare x z said h (inl e) = subst AreOctets (sym e.1) none
-left-octets call x z said h (inl e) = absurd e.1
-left-octets call x z said h (inr e) = subst AreOctets (sym e.0) h
-
-sent-octets : (call : Call) → CallOctets call → AllMessages (filter_map sent_in (call ∷ []))
-sent-octets (Sends m) said = All-cons AreOctets m [] said none_sent
-sent-octets call said = none_sent
+frame-octets f x octets e h = done-octets None f.content x _ (taken-frame x e f) tt octets h
 
 pub call-octets : (call : Call) (x : EndState) → CallOctets call → refusal_of call x ≡ None → KeepsWindow x → EndOctets x →
     OutcomeOctets (after_call call x)
-call-octets call x said ok e h =
-    let o : Outcome = after_call call x in
-    let c : IsCalled x call o = is_called x e call ok in
-    let taken : AllMessages o.after.taken = subst AllMessages (sym c.taken) (All-append AreOctets x.taken _ h.taken
-    (sent-octets call said)) in
-    let end : EndOctets o.after = record { kept = left-octets call x o.after said h.kept c.left; taken = taken } in
-    record { end = end; frames = frames-octets (Asks call o.after) (asked-octets call o.after said end) x.sapi o.frames c.frames }
+call-octets call x said ok e h = done-octets (Some call) (Ui false []) x _ (is_called x e call ok) said none h
 
 pub octets-step : (w : World) (ls : List Line) (event : Event) → AllReported w ls →
     KnowsBy (refusal event w) (λ sender f. AreOctets (information f.content)) event → WorldOctets w →

@@ -1,13 +1,12 @@
 -- Each opening has its cause before it: what was asked or told before a SABM or UA went out, and before an end came into
 -- its state.
-use Rattle.lapdm_link.proofs.Words.{◌≡◌, refl, ap, arith, ◌≤◌, List, [], ◌∷◌, ◌++◌, map, length, inl, inr, Option, Some, None, ◌⊎◌, Contains, cons_option, filter_map, Contains-append_left, Contains-append_right, Contains-push, Content, Sabm, Ua, Message, Sapi, Zero, Three, State, Notice, Role, Mobile, Network, EndState, Outcome, Call, Opens, OpensBare, other, Line, Asked, Rivals, Told, HasCause, opened_in}
+use Rattle.lapdm_link.proofs.Words.{◌≡◌, refl, ap, arith, ◌≤◌, List, [], ◌∷◌, ◌++◌, map, length, inl, inr, Option, Some, None, ◌⊎◌, Contains, cons_option, filter_map, Contains-append_left, Contains-push, append_assoc, false, Content, Sabm, Ua, Ui, Message, Sapi, Zero, Three, State, Notice, Role, Mobile, Network, EndState, Outcome, Call, Opens, OpensBare, other, Line, Asked, Rivals, Told, HasCause, opened_in}
 use Rattle.lapdm_window.specs.declared.State.TheVariants as S
 use Rattle.lapdm_window.specs.declared.Notice.TheVariants as N
-use Rattle.lapdm_link.proofs.Queues.{content_of, AllOf, of-append, of-as, frames-say}
+use Rattle.lapdm_link.proofs.Queues.{content_of, contents, AllOf, of-append, of-as, frames-say}
 use Rattle.lapdm_link.proofs.ByKind.{IsPlaced}
 use Rattle.lapdm_link.proofs.Order.{AllStand}
-use Rattle.lapdm_link.proofs.Taking.{HasBegun, Answers, MayOpen, OpensBy, Remains, IsOpenedBy}
-use Rattle.lapdm_link.proofs.Asked.{Asks, IsOpening, LeftBy}
+use Rattle.lapdm_link.proofs.Acting.{Says, MayOpen, OpensBy, IsOpening, Goes, IsDone, remains, ends, closes, begins, opens}
 use Rattle.lapdm_link.proofs.Links.{Side, Act, lines, IsActed, called, took, rival, after, other_after}
 
 -- by what call an end may be asked to open its link with this information: on SAPI 0 the mobile with some, on SAPI 3
@@ -106,77 +105,69 @@ module _ (r : Role) (s : Sapi) where
   none-opened (n ∷ ns) ls h = (tt, none-opened ns (ls ++ Told r s n ∷ []) h)
 
   -- the end was asked
-  was-asked : (ls : List Line) (call : Call) (k : Message) → IsPlaced r s call → IsOpening call k → Contains ls (Asked r s call) →
-      WasAsked r s ls k
-  was-asked ls (Opens info) k p o c = rw (p.0, p.1, o.0) (rw (p.0, p.1) at c, (refl, rw o.0 at o.1))
-  was-asked ls OpensBare k p o c = rw p (rw p at c, o)
-  was-asked ls call k p o c = absurd o
+  abbrev HasAsked : List Line → Option Call → Type 0
+  HasAsked ls None = Unit {0}
+  HasAsked ls (Some call) = IsPlaced r s call × Contains ls (Asked r s call)
 
-  reached-by : (ls : List Line) (call : Call) (x z : EndState) → IsPlaced r s call → Contains ls (Asked r s call) → LeftBy call x z →
-      HasReached r s ls x → HasReached r s ls z
-  reached-by ls call x z p asked (inl a) h = rw a.0 (was-asked ls call z.kept p a.1 asked)
-  reached-by ls call x z p asked (inr (e, inl same)) h = rw (same, e) h
-  reached-by ls call x z p asked (inr (e, inr (inl over))) h = rw over tt
-  reached-by ls call x z p asked (inr (e, inr (inr a))) h = rw (a.1, e) (rw a.0 at h)
+  was-asked : (ls : List Line) (call : Option Call) (k : Message) → IsOpening call k → HasAsked ls call → WasAsked r s ls k
+  was-asked ls (Some (Opens info)) k o (p, c) = rw (p.0, p.1, o.0) (rw (p.0, p.1) at c, (refl, rw o.0 at o.1))
+  was-asked ls (Some OpensBare) k o (p, c) = rw p (rw p at c, o)
+  was-asked ls call k o h = absurd o
 
   -- what it sends
-  module _ (ls : List Line) where
-    asked-caused : (call : Call) (z : EndState) → HasReached r s ls z → (c : Content) → Asks call z c → IsCaused r s ls c
-    asked-caused call z h (Sabm p info) a = inl (rw a.1 at (rw a.0 at h))
-    asked-caused call z h (Ua f info) a = absurd a
-    asked-caused call z h c a = tt
+  said-caused : (ls : List Line) (call : Option Call) (x z : EndState) → HasReached r s ls x → HasReached r s ls z → (c : Content) →
+      Says call x z c → IsCaused r s ls c
+  said-caused ls call x z h g (Sabm p info) a = inl (rw a.1 at (rw a.0 at g))
+  said-caused ls call x z h g (Ua f info) (inl e) = inl (rw e.1 at (rw e.0 at g))
+  said-caused ls call x z h g (Ua f info) (inr (e, inl b)) = inr (e, (x.kept, inl (rw b at h)))
+  said-caused ls call x z h g (Ua f info) (inr (e, inr (inl b))) = inr (e, (x.kept, inr (rw b at h)))
+  said-caused ls call x z h g (Ua f info) (inr (e, inr (inr b))) = inr (e, (x.kept, inr (rw b at h)))
+  said-caused ls call x z h g c a = tt
 
-    begun-caused : (t : State) (k : Message) → HasBegun t → IsReached r s ls t k → WasAsked r s ls k ⊎ WasOpened r s ls k
-    begun-caused S.Opening k b h = inl h
-    begun-caused S.Open k b h = inr h
-    begun-caused S.Closing k b h = inr h
-    begun-caused t k b h = absurd b
+  -- it acts
+  module _ (ls : List Line) (x : Side) (role : x.end.role ≡ r) (same : x.end.sapi ≡ s) (h : HasOpenings r s x ls) (left : List Content)
+    where
+    opening-cause : (c : Content) (info : Message) → OpensBy c x.end info →
+        AllOf (IsCaused (other r) s ls) (cons_option (content_of c) left) → HasCause r s info ls × IsBare s info
+    opening-cause (Sabm p i) info o sent = sabm-cause r s ls info (rw (same, role) at o.2)
+        (let g : IsCaused (other r) s ls (Sabm p i) = sent.0 in rw o.0 at g)
+    opening-cause (Ua f i) info o sent = ua-cause r s ls info (rw o.2 (rw o.1 at h.1))
+        (let g : IsCaused (other r) s ls (Ua f i) = sent.0 in rw o.0 at g)
+    opening-cause c info o sent = absurd o
 
-    answer-caused : (x z : EndState) → HasReached r s ls x → HasReached r s ls z → (c : Content) → Answers x z c → IsCaused r s ls c
-    answer-caused x z h g (Ua f info) (inl e) = inl (rw e.1 at (rw e.0 at g))
-    answer-caused x z h g (Ua f info) (inr e) = inr (e.0, (x.kept, begun-caused x.state x.kept e.1 h))
-    answer-caused x z h g (Sabm p info) a = absurd a
-    answer-caused x z h g c a = tt
+    module _ (call : Option Call) (c : Content) (o : Outcome) (asked : HasAsked ls call)
+        (sent : AllOf (IsCaused (other r) s ls) (cons_option (content_of c) left)) where
+      abbrev told : List Line
+      told = map (Told r s) o.notices
 
-    -- what opens it, and what it comes to when a frame arrives
-    module _ (x : EndState) (role : x.role ≡ r) (same : x.sapi ≡ s) (h : HasReached r s ls x) (left : List Content) where
-      opening-cause : (c : Content) (info : Message) → OpensBy c x info →
-          AllOf (IsCaused (other r) s ls) (cons_option (content_of c) left) → HasCause r s info ls × IsBare s info
-      opening-cause (Sabm p i) info o sent = sabm-cause r s ls info (rw (same, role) at o.2)
-          (let g : IsCaused (other r) s ls (Sabm p i) = sent.0 in rw o.0 at g)
-      opening-cause (Ua f i) info o sent = ua-cause r s ls info (rw o.2 (rw o.1 at h))
-          (let g : IsCaused (other r) s ls (Ua f i) = sent.0 in rw o.0 at g)
-      opening-cause c info o sent = absurd o
+      goes-on : Goes call c x.end o → HasReached r s (ls ++ told) o.after × AllStand IsOpenedAfter ls told
+      goes-on (remains same e n) = (rw (same, e) (reached-more r s ls told x.end.state x.end.kept h.1), none-opened o.notices ls n)
+      goes-on (ends over e n) = (rw over tt, none-opened o.notices ls n)
+      goes-on (closes now closing e n) =
+          (rw (closing, e) (opened-more r s ls told x.end.kept (rw now at h.1)), none-opened o.notices ls n)
+      goes-on (begins opening a n) =
+          (rw opening (asked-more r s ls told o.after.kept (was-asked ls call o.after.kept a asked)), none-opened o.notices ls n)
+      goes-on (opens {info} n now e by) =
+          let cause = opening-cause c info by sent in rw (now, e, n) ((Contains-push ls _, cause.1), (cause.0, tt))
 
-      goes-on : (c : Content) (o : Outcome) → AllOf (IsCaused (other r) s ls) (cons_option (content_of c) left) →
-          Remains x o ⊎ IsOpenedBy c x o →
-          HasReached r s (ls ++ map (Told r s) o.notices) o.after × AllStand IsOpenedAfter ls (map (Told r s) o.notices)
-      goes-on c o sent (inl m) = (as_in m.state, none-opened o.notices ls m.none)
-        where
-          as_in : (o.after.state ≡ x.state) ⊎ (o.after.state ≡ S.Closed) → HasReached r s (ls ++ map (Told r s) o.notices) o.after
-          as_in (inl e) = rw (e, m.kept) (reached-more r s ls (map (Told r s) o.notices) x.state x.kept h)
-          as_in (inr e) = rw e tt
-      goes-on c o sent (inr m) =
-          let cause = opening-cause c m.info m.cause sent in rw (m.state, m.kept, m.notices) ((Contains-push ls _, cause.1), (cause.0, tt))
+      done : IsDone call c x.end o → (AllOf (IsCaused r s (ls ++ told)) (x.out ++ contents o.frames) ×
+          HasReached r s (ls ++ told) o.after) × AllStand IsOpenedAfter ls told
+      done d =
+          let h' : HasOpenings r s x (ls ++ told) = openings-more r s ls told x h in
+          let to = goes-on d.goes in
+          let says = said-caused (ls ++ told) call x.end o.after h'.1 to.0 in
+          ((of-append _ x.out _ h'.0 (frames-say _ (IsCaused r s (ls ++ told)) says x.end.sapi o.frames d.frames), to.0), to.1)
 
 -- an end acts
 pub openings-here : {x y : Side} {a : Act} (ls : List Line) → IsActed x y a → x.end.role ≡ a.role → x.end.sapi ≡ a.sapi →
     HasOpenings a.role a.sapi x ls → HasOpenings (other a.role) a.sapi y ls →
     HasOpenings a.role a.sapi (after a x) (ls ++ lines a) × AllStand IsOpenedAfter ls (lines a)
 openings-here {x} {y} {a} ls (called {r} {s} {call} p c) role same h g =
-    let z : EndState = a.does.after in
-    let new : List Line = ls ++ lines a in
-    let asked : Contains new (Asked r s call) = Contains-append_right ls (lines a) _ (0, omega arith, refl) in
-    let h' : HasOpenings r s x new = openings-more r s ls (lines a) x h in
-    let to : HasReached r s new z = reached-by r s new call x.end z p asked c.left h'.1 in
-    let sent = frames-say (Asks call z) (IsCaused r s new) (asked-caused r s new call z to) x.end.sapi a.does.frames c.frames in
-    ((of-append _ x.out _ h'.0 sent, to), (tt, none-opened r s a.does.notices (ls ++ Asked r s call ∷ []) c.opened))
+    let asked : List Line = Asked r s call ∷ [] in
+    let to = done r s (ls ++ asked) x role same (openings-more r s ls asked x h) y.out (Some call) (Ui false []) a.does
+    (p, Contains-push ls _) (openings-more (other r) s ls asked y g).0 c in (rw append_assoc at to.0, (tt, to.1))
 openings-here {x} {y} {a} ls (took {r} {s} {c} {o} {left} e t) role same h g =
-    let new : List Line = ls ++ lines a in
-    let h' : HasOpenings r s x new = openings-more r s ls (lines a) x h in
-    let to = goes-on r s ls x.end role same h.1 left c o (rw e at g.0) t.goes in
-    let sent = frames-say (Answers x.end o.after) (IsCaused r s new) (answer-caused r s new x.end o.after h'.1 to.0) x.end.sapi o.frames
-    t.frames in ((of-append _ x.out _ h'.0 sent, to.0), to.1)
+    done r s ls x role same h left None c o tt (rw e at g.0) t
 openings-here {x} {y} {a} ls (rival {info}) role same h g =
     let h' : HasOpenings Mobile Zero x (ls ++ lines a) = openings-more Mobile Zero ls (lines a) x h in
     ((of-append _ x.out _ h'.0 (inr (refl, Contains-push ls (Rivals info)), tt), h'.1), (tt, tt))

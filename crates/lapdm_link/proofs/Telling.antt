@@ -1,125 +1,137 @@
--- What an end tells, and the frames that it sends, in Open: with whatever frames arrive.
-use Rattle.lapdm_link.proofs.Words.{◌≡◌, refl, sym, ◌∙◌, ap, subst, arith, ℕ, ◌+◌, ◌<◌, ◌≤◌, Bool, true, false, if◌then◌else◌, nat_eq, nat_lt, List, [], ◌∷◌, ◌++◌, length, get_or, Option, Some, None, inl, filter_map, append-nil, filter_map-append, nat_tests, Content, I, Rr, Rej, Frame, Message, Piece, longest, within, endings, open_part, endings-more, endings-last, Notice, Acked, EndState, Outcome, KeepsWindow, stays, ◌then◌, response, all_pieces, next_piece, waits, wholly_acked, vr, capped, waiting_frame, has_next, sends_piece, sends_next, acknowledges, with_acked, acked_number, reports_acked, counts, notices_of, accepts, says_rr, answers_piece, reject_is_due, rejects, takes_i, answers_poll, takes_rr, sends_again, takes_rej, wholly_acked-more, wholly_acked-last, wholly_acked-most, KeepsWindow-acked, three_bits, waits_within, unit_got_in, opened_in}
+-- What an end tells, the frames that it sends, and that it keeps both directions, in Open: each rule with whatever frames
+-- arrive.
+use Rattle.lapdm_link.proofs.Words.{◌≡◌, refl, sym, ◌∙◌, ap, subst, arith, ℕ, ◌+◌, ◌%◌, ◌<◌, Bool, true, false, if◌then◌else◌, nat_eq, nat_lt, List, [], ◌∷◌, ◌++◌, length, get_or, Option, Some, None, inl, append-nil, append_assoc, filter_map-append, nat_tests, Content, I, Rr, Rej, Frame, Message, Piece, longest, within, endings, open_part, endings-more, endings-last, Notice, Acked, EndState, Outcome, KeepsWindow, stays, sends_frame, ◌then◌, response, all_pieces, next_piece, waits, wholly_acked, vr, capped, waiting_frame, has_next, with_next, sends_piece, sends_next, acknowledges, with_acked, acked_number, reports_acked, counts, notices_of, accepts, says_rr, answers_piece, reject_is_due, rejects, takes_i, answers_poll, takes_rr, sends_again, takes_rej, wholly_acked-more, wholly_acked-last, wholly_acked-most, KeepsWindow-acked, unit_got_in, opened_in}
 use Rattle.segmenting.specs.declared.joiner.Joined.TheVariants as J
 use Rattle.lapdm_window.specs.declared.State.TheVariants.{Open}
-use Rattle.lapdm_link.proofs.Queues.{AllFrames, frames-append}
+use Rattle.lapdm_link.proofs.Queues.{IsPlain, AllFrames, AllOf, contents, of-append, frames-append, frames-as, frames-say}
 use Rattle.lapdm_link.proofs.Told.{stage_of, Known, known, goes-append, Tells}
+use Rattle.lapdm_link.proofs.Directions.{IsPiece, CountsIn, CarriesIn, next_waits, piece_in, piece_gone, number_in, number_gone}
+use Rattle.lapdm_link.proofs.Keeping.{Way, Both, Arriving, Counted, MaySend, waiting, sends, moved}
 
--- numbers have three bits, and an I frame carries one of these pieces
+-- an I frame carries one of these pieces
 abbrev pub SaysWell : List Piece → Content → Type 0
-SaysWell ps (I ns nr p more info) = (ns ≤ 7) × (nr ≤ 7) × ((i : ℕ) × (i < length ps) × (get_or ps i ([], false) ≡ (info, more)))
-SaysWell ps (Rr nr pf) = nr ≤ 7
-SaysWell ps (Rej nr pf) = nr ≤ 7
+SaysWell ps (I ns nr p more info) = (i : ℕ) × (i < length ps) × (get_or ps i ([], false) ≡ (info, more))
+SaysWell ps (Rr nr pf) = Unit {0}
+SaysWell ps (Rej nr pf) = Unit {0}
 SaysWell ps other = ⊥
 
 -- no unit, and no opening
-abbrev TellsOfOpen : List Notice → Type 0
-TellsOfOpen ns = (filter_map unit_got_in ns ≡ []) × (filter_map opened_in ns ≡ [])
+abbrev pub IsOfOpen : Notice → Type 0
+IsOfOpen n = (unit_got_in n ≡ None) × (opened_in n ≡ None)
 
 -- an end but for its window
 abbrev pub apart : EndState → EndState
 apart x = record x { acked = 0; sent = 0; accepted = []; rejecting = false; retries = 0 }
 
 -- what the rules of Open do but for DISC, DM and SABM
-pub record InOpen (x : EndState) (o : Outcome) : Type 0 where
+pub record InOpen (From To : Way) (x : EndState) (o : Outcome) : Type 0 where
   pub same : apart o.after ≡ apart x
   pub frames : AllFrames (SaysWell (all_pieces x)) x.sapi o.frames
   pub tells : Tells (known x) o.notices (known o.after)
-  pub of_open : TellsOfOpen o.notices
+  pub of_open : AllOf IsOfOpen o.notices
   pub end : KeepsWindow o.after
+  pub keeps : (y : EndState) (out comes : List Content) → From x y out comes → To o.after y (out ++ contents o.frames) comes
 
-abbrev Stays : (EndState → Outcome) → Type 0
-Stays rule = (x : EndState) → x.state ≡ Open → KeepsWindow x → InOpen x (rule x)
+abbrev Stays : Way → Way → (EndState → Outcome) → Type 0
+Stays From To rule = (x : EndState) → x.state ≡ Open → KeepsWindow x → InOpen From To x (rule x)
 
-in-then : {first rule : EndState → Outcome} → Stays first → Stays rule → Stays (λ x. first x then rule)
-in-then {first} {rule} stays_first stays x is_now e =
+in-then : {From Mid To : Way} {first rule : EndState → Outcome} → Stays From Mid first → Stays Mid To rule →
+    Stays From To (λ x. first x then rule)
+in-then {From} {Mid} {To} {first} {rule} stays_first stays x is_now e =
     let o : Outcome = first x in
-    let h : InOpen x o = stays_first x is_now e in
+    let h : InOpen From Mid x o = stays_first x is_now e in
     let p : Outcome = rule o.after in
-    let g : InOpen o.after p = stays o.after (ap (λ z. z.state) h.same ∙ is_now) h.end in
+    let g : InOpen Mid To o.after p = stays o.after (ap (λ z. z.state) h.same ∙ is_now) h.end in
     record {
       same = g.same ∙ h.same;
       frames = frames-append (SaysWell (all_pieces x)) x.sapi o.frames p.frames h.frames
           (subst (λ (z : EndState). AllFrames (SaysWell (all_pieces z)) z.sapi p.frames) h.same g.frames);
       tells = goes-append (λ n. None) (λ n. Some n) o.notices p.notices (known x) (known o.after) (known p.after) h.tells g.tells;
-      of_open = (
-        filter_map-append unit_got_in o.notices p.notices ∙ rw (h.of_open.0, g.of_open.0) refl,
-        filter_map-append opened_in o.notices p.notices ∙ rw (h.of_open.1, g.of_open.1) refl,
-      );
+      of_open = of-append IsOfOpen o.notices p.notices h.of_open g.of_open;
       end = g.end;
+      keeps = λ y out comes k. rw (filter_map-append, ← append_assoc)
+          (g.keeps y (out ++ contents o.frames) comes (h.keeps y out comes k));
     }
 
-in-if : {x : EndState} {o p : Outcome} (b : Bool) → (b ≡ true → InOpen x o) → InOpen x p → InOpen x (if b then o else p)
+in-if : {From To : Way} {x : EndState} {o p : Outcome} (b : Bool) → (b ≡ true → InOpen From To x o) → InOpen From To x p →
+    InOpen From To x (if b then o else p)
 in-if true h k = h refl
 in-if false h k = k
 
+-- a frame with numbers that an end may send as it is
+abbrev Numbered : EndState → Content → Type 0
+Numbered x c = MaySend x c × (¬ IsPlain c)
+
+well : (x : EndState) (c : Content) → Numbered x c → SaysWell (all_pieces x) c
+well x (I ns nr p more info) m = (m.0.0.at, m.0.0.within, m.0.0.piece)
+well x (Rr nr pf) m = tt
+well x (Rej nr pf) m = tt
+well x other m = absurd (m.1 tt)
+
 -- the counts and what is accepted change, and the reject condition
-openly : (x : EndState) (a s : ℕ) (ps : List Piece) (b : Bool) (r : ℕ) (fs : List Frame) (ns : List Notice) →
+openly : {From To : Way} (x : EndState) (a s : ℕ) (ps : List Piece) (b : Bool) (r : ℕ) (fs : List Frame) (ns : List Notice) →
     (let z : EndState = record x { acked = a; sent = s; accepted = ps; rejecting = b; retries = r } in KeepsWindow z →
-    AllFrames (SaysWell (all_pieces x)) x.sapi fs → Tells (known x) ns (known z) × TellsOfOpen ns →
-    InOpen x (record { after = z; frames = fs; notices = ns }))
-openly x a s ps b r fs ns end frames told = record { same = refl; frames = frames; tells = told.0; of_open = told.1; end = end }
+    AllFrames (Numbered z) x.sapi fs → Tells (known x) ns (known z) × AllOf IsOfOpen ns →
+    ((y : EndState) (out comes : List Content) → AllOf (MaySend z) (contents fs) → From x y out comes →
+    To z y (out ++ contents fs) comes) → InOpen From To x (record { after = z; frames = fs; notices = ns }))
+openly x a s ps b r fs ns end frames told keeps =
+    let z : EndState = record x { acked = a; sent = s; accepted = ps; rejecting = b; retries = r } in
+    record {
+      same = refl;
+      frames = frames-as (Numbered z) (SaysWell (all_pieces x)) (well z) x.sapi fs frames;
+      tells = told.0;
+      of_open = told.1;
+      end = end;
+      keeps = λ y out comes h. keeps y out comes (frames-say (Numbered z) (MaySend z) (λ c m. m.0) x.sapi fs frames) h;
+    }
 
 -- only the reject condition and the retry count change
-plainly : (x : EndState) (b : Bool) (r : ℕ) (fs : List Frame) → KeepsWindow x → AllFrames (SaysWell (all_pieces x)) x.sapi fs →
-    InOpen x (record { after = record x { rejecting = b; retries = r }; frames = fs; notices = [] })
+plainly : (x : EndState) (b : Bool) (r : ℕ) (fs : List Frame) → KeepsWindow x → AllFrames (Numbered x) x.sapi fs →
+    InOpen Both Both x (record { after = record x { rejecting = b; retries = r }; frames = fs; notices = [] })
 plainly x b r fs e h = openly x x.acked x.sent x.accepted b r fs []
-    (record { messages = e.messages; sent = e.sent; behind = e.behind; window = e.window }) h (refl, (refl, refl))
+    (record { messages = e.messages; sent = e.sent; behind = e.behind; window = e.window }) h (refl, tt)
+    (λ y out comes may k. sends (contents fs) may (moved x.state x.kept b r k))
 
-in-stays : Stays stays
+in-stays : Stays Both Both stays
 in-stays x is_now e = plainly x x.rejecting x.retries [] e tt
 
-in-says_rr : (f : Bool) → Stays (says_rr f)
-in-says_rr f x is_now e = plainly x x.rejecting x.retries (says_rr f x).frames e (inl refl, three_bits (length x.accepted), tt)
+in-says_rr : (f : Bool) → Stays Both Both (says_rr f)
+in-says_rr f x is_now e = plainly x x.rejecting x.retries (says_rr f x).frames e (inl refl, ((tt, refl), λ p. p), tt)
 
-in-rejects : (p : Bool) → Stays (rejects p)
+in-rejects : (p : Bool) → Stays Both Both (rejects p)
 in-rejects p x is_now e = in-if (reject_is_due p x)
-    (λ due. plainly x true x.retries (response x (Rej (vr x) p) ∷ []) e (inl refl, three_bits (length x.accepted), tt))
-    (in-stays x is_now e)
+    (λ due. plainly x true x.retries (response x (Rej (vr x) p) ∷ []) e (inl refl, ((tt, refl), λ p. p), tt)) (in-stays x is_now e)
 
-pub has_left : (x : EndState) → has_next x ≡ true → (x.sent ≡ x.acked) × (x.sent < length (all_pieces x))
-has_left x h = (grind (arith, nat_tests), grind (arith, nat_tests))
-
-in-sends_piece : (x : EndState) → KeepsWindow x → has_next x ≡ true → InOpen x (sends_piece x)
+in-sends_piece : (x : EndState) → KeepsWindow x → has_next x ≡ true → InOpen Both Both x (sends_piece x)
 in-sends_piece x e has =
-    let left : (x.sent ≡ x.acked) × (x.sent < length (all_pieces x)) = has_left x has in
-    openly x x.acked (x.sent + 1) x.accepted x.rejecting 0 (sends_piece x).frames []
-    (record { messages = e.messages; sent = omega arith; behind = omega arith; window = omega arith })
-    (inl refl, (three_bits x.acked, three_bits (length x.accepted), (x.acked, omega arith, refl)), tt) (refl, (refl, refl))
+    let none : x.sent ≡ x.acked = grind (arith, nat_tests) in
+    let left : x.sent < length (all_pieces x) = grind (arith, nat_tests) in
+    let window : KeepsWindow (with_next x) =
+    record { messages = e.messages; sent = omega arith; behind = omega arith; window = omega arith } in
+    openly x x.acked (x.sent + 1) x.accepted x.rejecting 0 (sends_piece x).frames [] window
+    (inl refl, ((waiting (with_next x) window (omega arith), refl), λ p. p), tt) (refl, tt)
+    (λ y out comes may h. sends _ may (record { there = next_waits none left h.there; back = h.back }))
 
-pub in-sends_next : Stays sends_next
+pub in-sends_next : Stays Both Both sends_next
 in-sends_next x is_now e = in-if (has_next x) (in-sends_piece x e) (in-stays x is_now e)
 
-in-sends_again : Stays sends_again
-in-sends_again x is_now e = in-if (waits x)
-    (λ w. plainly x x.rejecting x.retries (waiting_frame false x ∷ []) e
-    (inl refl, (three_bits x.acked, three_bits (length x.accepted), (x.acked, waits_within x e w, refl)), tt)) (in-sends_next x is_now e)
+one_waits : (x : EndState) → KeepsWindow x → waits x ≡ true → x.sent ≡ x.acked + 1
+one_waits x e w = grind (arith, nat_tests, e.behind, e.window)
 
-in-answers_poll : (poll : Bool) → Stays (answers_poll poll)
+-- the piece that waits goes out again
+pub in-repeats : (p : Bool) (r : ℕ) (x : EndState) → KeepsWindow x → waits x ≡ true →
+    InOpen Both Both x (sends_frame (waiting_frame p x) (record x { retries = r }))
+in-repeats p r x e w = plainly x x.rejecting r (waiting_frame p x ∷ []) e (inl refl, ((waiting x e (one_waits x e w), refl), λ p. p), tt)
+
+in-sends_again : Stays Both Both sends_again
+in-sends_again x is_now e = in-if (waits x) (in-repeats false x.retries x e) (in-sends_next x is_now e)
+
+in-answers_poll : (poll : Bool) → Stays Both Both (answers_poll poll)
 in-answers_poll poll x is_now e = in-if poll (λ p. in-says_rr true x is_now e) (in-stays x is_now e)
 
-in-answers_piece : (p : Bool) → Stays (answers_piece p)
+in-answers_piece : (p : Bool) → Stays Both Both (answers_piece p)
 in-answers_piece true = in-then (in-says_rr true) in-sends_next
 in-answers_piece false = λ x is_now e. in-if (has_next x) (in-sends_piece x e) (in-says_rr false x is_now e)
-
--- an N(R) is counted
-reports-acked : (more : Bool) (x : EndState) → x.state ≡ Open → KeepsWindow x → (next_piece x).1 ≡ more → x.sent ≡ x.acked + 1 →
-    InOpen x (reports_acked more x)
-reports-acked true x is_now e is one = openly x x.sent x.sent x.accepted x.rejecting 0 [] [] (KeepsWindow-acked x e) tt
-    (ap (λ a. record (known x) { acked = a }) (wholly_acked-more x one (omega (arith, e.sent)) is), (refl, refl))
-reports-acked false x is_now e is one =
-    let last : wholly_acked (with_acked x) ≡ wholly_acked x + 1 = wholly_acked-last x one (omega (arith, e.sent)) is in
-    openly x x.sent x.sent x.accepted x.rejecting 0 [] (Acked (acked_number x) ∷ []) (KeepsWindow-acked x e) tt (
-      (
-        (ap stage_of is_now, ap capped last, omega (arith, last, wholly_acked-most (with_acked x))),
-        ap (λ a. record (known x) { acked = a }) last,
-      ),
-      (refl, refl),
-    )
-
-in-counts : (nr : ℕ) → Stays (counts nr)
-in-counts nr x is_now e = in-if (acknowledges nr x)
-    (λ acks. reports-acked (next_piece x).1 x is_now e refl (grind (arith, nat_tests, acks, e.behind, e.window))) (in-stays x is_now e)
 
 -- a piece is accepted
 one_more : (ps : List Piece) (p : Piece) →
@@ -130,27 +142,60 @@ one_more ps (octets, false) = endings-last [] ps octets
 tells-got : (k : Known) (over more : Bool) (m : Message) (es : List (Option Message)) → k.stage ≡ 1 →
     es ≡ k.ended ++ (if more then [] else (if over then None else Some m) ∷ []) →
     (let ns : List Notice = notices_of (if over then J.Oversize else (if more then J.More else J.Whole)) more m in
-    Tells k ns (record k { ended = es }) × TellsOfOpen ns)
-tells-got k true true m es now e = (ap (λ xs. record k { ended = xs }) (e ∙ append-nil k.ended), (refl, refl))
-tells-got k false true m es now e = (ap (λ xs. record k { ended = xs }) (e ∙ append-nil k.ended), (refl, refl))
-tells-got k true false m es now e = ((now, ap (λ xs. record k { ended = xs }) e), (refl, refl))
-tells-got k false false m es now e = ((now, ap (λ xs. record k { ended = xs }) e), (refl, refl))
+    Tells k ns (record k { ended = es }) × AllOf IsOfOpen ns)
+tells-got k true true m es now e = (ap (λ xs. record k { ended = xs }) (e ∙ append-nil k.ended), tt)
+tells-got k false true m es now e = (ap (λ xs. record k { ended = xs }) (e ∙ append-nil k.ended), tt)
+tells-got k true false m es now e = ((now, ap (λ xs. record k { ended = xs }) e), ((refl, refl), tt))
+tells-got k false false m es now e = ((now, ap (λ xs. record k { ended = xs }) e), ((refl, refl), tt))
 
-in-accepts : (p : Piece) → Stays (accepts p)
-in-accepts p x is_now e =
-    let m : Message = open_part x.accepted ++ p.0 in
-    openly x x.acked x.sent (x.accepted ++ p ∷ []) false x.retries [] (accepts p x).notices
-    (record { messages = e.messages; sent = e.sent; behind = e.behind; window = e.window }) tt
-    (tells-got (known x) (nat_lt longest (length m)) p.1 m _ (ap stage_of is_now) (one_more x.accepted p))
+-- this frame is the first that comes in, at this V(R)
+module _ (c : Content) (nr n : ℕ) (counts_in : (k : ℕ) → CountsIn k c → nr ≡ k % 8) where
+  -- its N(R) is counted, and its piece stays or is ignored
+  module _ {To : Way} (pass : (x y : EndState) (out comes : List Content) → Counted c n x y out comes → To x y out comes) where
+    module _ (x : EndState) (is_now : x.state ≡ Open) (e : KeepsWindow x) (one : x.sent ≡ x.acked + 1) (same : nr ≡ x.sent % 8) where
+      acknowledged : (y : EndState) (out comes : List Content) → Arriving c n x y out comes → To (with_acked x) y (out ++ []) comes
+      acknowledged y out comes h = pass (with_acked x) y (out ++ []) comes
+          (h.0, sends [] tt (record { there = number_in c nr counts_in (omega arith) same h.1.there; back = h.1.back }))
 
--- the rules as a whole
-pub in-takes_i : (nr ns : ℕ) (p : Bool) (piece : Piece) → Stays (takes_i ns nr p piece)
-in-takes_i nr ns p piece x is_now e = in-if (nat_eq ns (vr x))
-    (λ next. in-then (in-then (in-counts nr) (in-accepts piece)) (in-answers_piece p) x is_now e)
-    (in-then (in-then (in-counts nr) (in-rejects p)) in-sends_next x is_now e)
+      reports-acked : (more : Bool) → (next_piece x).1 ≡ more → InOpen (Arriving c n) To x (reports_acked more x)
+      reports-acked true is = openly x x.sent x.sent x.accepted x.rejecting 0 [] [] (KeepsWindow-acked x e) tt
+          (ap (λ a. record (known x) { acked = a }) (wholly_acked-more x one (omega (arith, e.sent)) is), tt)
+          (λ y out comes may. acknowledged y out comes)
+      reports-acked false is =
+          let last : wholly_acked (with_acked x) ≡ wholly_acked x + 1 = wholly_acked-last x one (omega (arith, e.sent)) is in
+          openly x x.sent x.sent x.accepted x.rejecting 0 [] (Acked (acked_number x) ∷ []) (KeepsWindow-acked x e) tt
+          (((ap stage_of is_now, ap capped last, omega (arith, last, wholly_acked-most (with_acked x))),
+          ap (λ a. record (known x) { acked = a }) last), ((refl, refl), tt)) (λ y out comes may. acknowledged y out comes)
 
-pub in-takes_rr : (nr : ℕ) (poll : Bool) → Stays (takes_rr nr poll)
-in-takes_rr nr poll = in-then (in-then (in-counts nr) (in-answers_poll poll)) in-sends_next
+    in-counts : Stays (Arriving c n) To (counts nr)
+    in-counts x is_now e = in-if (acknowledges nr x)
+        (λ acks. reports-acked x is_now e (one_waits x e (grind (arith, nat_tests))) (grind (arith, nat_tests)) (next_piece x).1 refl)
+        (openly x x.acked x.sent x.accepted x.rejecting x.retries [] [] e tt (refl, tt) (λ y out comes may h.
+        pass x y (out ++ []) comes (h.0, sends [] tt (record { there = number_gone h.1.there; back = h.1.back }))))
 
-pub in-takes_rej : (nr : ℕ) (poll : Bool) → Stays (takes_rej nr poll)
-in-takes_rej nr poll = in-then (in-then (in-counts nr) (in-answers_poll poll)) in-sends_again
+  heeded : Stays (Arriving c n) Both (counts nr)
+  heeded = in-counts (λ x y out comes h. record { there = h.1.there; back = piece_gone h.1.back })
+
+  in-accepts : (p : Piece) → ((y : EndState) (k : ℕ) → CarriesIn (all_pieces y) k c → IsPiece (all_pieces y) k n p) →
+      Stays (Counted c n) Both (accepts p)
+  in-accepts p carries x is_now e =
+      let m : Message = open_part x.accepted ++ p.0 in
+      openly x x.acked x.sent (x.accepted ++ p ∷ []) false x.retries [] (accepts p x).notices
+      (record { messages = e.messages; sent = e.sent; behind = e.behind; window = e.window }) tt
+      (tells-got (known x) (nat_lt longest (length m)) p.1 m _ (ap stage_of is_now) (one_more x.accepted p))
+      (λ y out comes may h. sends [] tt (record { there = h.1.there; back = piece_in c n p (carries y) (sym h.0) h.1.back }))
+
+  pub in-takes_rr : (poll : Bool) → Stays (Arriving c n) Both (takes_rr nr poll)
+  in-takes_rr poll = in-then (in-then heeded (in-answers_poll poll)) in-sends_next
+
+  pub in-takes_rej : (poll : Bool) → Stays (Arriving c n) Both (takes_rej nr poll)
+  in-takes_rej poll = in-then (in-then heeded (in-answers_poll poll)) in-sends_again
+
+pub in-takes_i : (c : Content) (nr ns : ℕ) (p : Bool) (piece : Piece) → ((k : ℕ) → CountsIn k c → nr ≡ k % 8) →
+    ((y : EndState) (k : ℕ) → CarriesIn (all_pieces y) k c → IsPiece (all_pieces y) k ns piece) →
+    (x : EndState) → x.state ≡ Open → KeepsWindow x → InOpen (Arriving c (vr x)) Both x (takes_i ns nr p piece x)
+in-takes_i c nr ns p piece counts_in carries x is_now e = in-if (nat_eq ns (vr x))
+    (λ next. (let same : ns ≡ vr x = grind (arith, nat_tests) in
+    in-then (in-then (in-counts c nr (vr x) counts_in (λ x y out comes h. h)) (in-accepts c nr (vr x) counts_in piece (rw same at carries)))
+    (in-answers_piece p) x is_now e))
+    (in-then (in-then (heeded c nr (vr x) counts_in) (in-rejects p)) in-sends_next x is_now e)

@@ -1,8 +1,7 @@
 -- Units come in the order in which they were sent, where some are lost.
-use Rattle.lapdm_link.proofs.Words.{◌≡◌, refl, List, [], ◌∷◌, ◌++◌, inl, inr, append_assoc, Option, Some, None, filter_map, cons_option, filter_map-append, Content, Ui, Message, EndState, IsSubsequence, unit_sent_in, unit_got_in}
-use Rattle.lapdm_link.proofs.Queues.{contents, content_of, frames-say}
-use Rattle.lapdm_link.proofs.Taking.{Answers, unit_in}
-use Rattle.lapdm_link.proofs.Asked.{no-units}
+use Rattle.lapdm_link.proofs.Words.{◌≡◌, refl, List, [], ◌∷◌, ◌++◌, inl, inr, append_assoc, Option, Some, None, filter_map, cons_option, filter_map-append, Content, Ui, false, Message, Notice, IsSubsequence, unit_sent_in, unit_got_in}
+use Rattle.lapdm_link.proofs.Queues.{contents, content_of}
+use Rattle.lapdm_link.proofs.Acting.{unit_in, ReportsUnit}
 use Rattle.lapdm_link.proofs.Links.{Side, Act, IsActed, called, took, rival, after, other_after}
 
 -- messages with some left out
@@ -45,36 +44,27 @@ pub units-claim : (x y : Side) → HasUnits x y → IsSubsequence (filter_map un
 units-claim x y h = subsequence (trans (front (filter_map unit_got_in y.told) (filter_map unit_in x.out)) h.some)
 
 -- what comes first is lost, or reported
-fewer : (o : Option Message) (ms : List Message) → IsSome ms (cons_option o ms)
-fewer None ms = all ms
-fewer (Some m) ms = gone (all ms)
+in_front : (o : Option Content) (cs : List Content) → cons_option o [] ++ cs ≡ cons_option o cs
+in_front None cs = refl
+in_front (Some c) cs = refl
 
 lost : (o : Option Content) (cs : List Content) → IsSome (filter_map unit_in cs) (filter_map unit_in (cons_option o cs))
-lost None cs = all _
-lost (Some c) cs = fewer (unit_in c) _
-
-first : (o : Option Message) (ms : List Message) → IsSome (cons_option o [] ++ ms) (cons_option o ms)
-first None ms = all ms
-first (Some m) ms = all _
-
-reported : (o : Option Content) (cs : List Content) →
-    IsSome (filter_map unit_in (cons_option o []) ++ filter_map unit_in cs) (filter_map unit_in (cons_option o cs))
-reported None cs = all _
-reported (Some c) cs = first (unit_in c) _
-
-no_unit : (x z : EndState) (c : Content) → Answers x z c → unit_in c ≡ None
-no_unit x z (Ui p i) h = absurd h
-no_unit x z other h = refl
+lost o cs = rw (← in_front o cs, filter_map-append) (append (front [] (filter_map unit_in (cons_option o []))) (all _))
 
 sent : {x y : Side} {a : Act} → IsActed x y a → filter_map unit_in (contents a.does.frames) ≡ filter_map unit_sent_in a.asks
 sent (called p c) = c.units
-sent {x} {a = a} (took e t) = no-units _ (frames-say _ _ (no_unit x.end a.does.after) x.end.sapi a.does.frames t.frames)
+sent (took e t) = t.units
 sent rival = refl
+
+no_more : (c : Content) (ns : List Notice) (cs : List Content) → ReportsUnit c ns →
+    IsSome (filter_map unit_got_in ns ++ filter_map unit_in cs) (filter_map unit_in (cons_option (content_of c) cs))
+no_more c ns cs (inl h) = rw h (lost (content_of c) cs)
+no_more c ns cs (inr h) = rw (h, ← filter_map-append, in_front (content_of c) cs) (all _)
 
 taken : {x y : Side} {a : Act} → IsActed x y a →
     IsSome (filter_map unit_got_in a.does.notices ++ filter_map unit_in a.left) (filter_map unit_in y.out)
-taken (called p c) = rw c.reports (all _)
-taken (took {c = c} e t) = rw e (elim t.unit [ inl h ↦ rw h (lost (content_of c) _) | inr h ↦ rw h (reported (content_of c) _) ])
+taken {a = a} (called p c) = no_more (Ui false []) a.does.notices a.left c.reports
+taken {a = a} (took {c = c} e t) = rw e (no_more c a.does.notices a.left t.reports)
 taken rival = all _
 
 pub units-here : {x y : Side} {a : Act} → IsActed x y a → HasUnits x y → HasUnits (after a x) (other_after a y)

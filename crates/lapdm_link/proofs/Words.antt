@@ -11,9 +11,9 @@ pub use Rattle.std.proofs.lemmas.List.{length-append, take-append-le, take_more,
 pub use Rattle.std.proofs.Math.ListN.{get_or-append}
 pub use Rattle.segmenting.specs.Pieces.{Piece, Message, IsMessage, pieces, longest, cut}
 pub use Rattle.std.proofs.lemmas.Bool.Decides.{nat_tests}
-pub use Rattle.std.proofs.lemmas.List.Elements.{filter_map-append, Contains-append_left, Contains-append_right, Contains-push, All-nil, All-cons, All-head, All-tail, All-append, All-drop, All-take, All-push}
+pub use Rattle.std.proofs.lemmas.List.Elements.{filter_map-append, Contains-append_left, Contains-push, All-nil, All-cons, All-head, All-tail, All-append, All-drop, All-take, All-push}
 pub use Rattle.lapdm_window.specs.declared.State.{State}
-pub use Rattle.lapdm_window.specs.Rules.{waiting_frame, has_next, with_next, sends_piece, sends_next, acknowledges, with_acked, reports_acked, counts, with_accepted, accepts, says_rr, answers_piece, with_reject, reject_is_due, rejects, takes_i, answers_poll, takes_rr, sends_again, takes_rej, is_open, acked_number, notices_of}
+pub use Rattle.lapdm_window.specs.Rules.{waiting_frame, has_next, with_next, sends_piece, sends_next, acknowledges, with_acked, reports_acked, counts, accepts, says_rr, answers_piece, reject_is_due, rejects, takes_i, answers_poll, takes_rr, sends_again, takes_rej, is_open, acked_number, notices_of}
 pub use Rattle.std.proofs.lemmas.Bool.{false≢true}
 pub use Rattle.lapdm_frame.specs.declared.Channel.{Channel}
 pub use Rattle.lapdm_window.specs.declared.Notice.{Notice}
@@ -27,7 +27,7 @@ pub use Rattle.segmenting.specs.Joining.{endings, messages, ended, open_after, w
 pub use Rattle.segmenting.proofs.Lemmas.{endings-all, endings-append, ended-take, ended-endings, messages_of, endings-more, endings-last}
 pub use Rattle.lapdm_link.specs.Ways.{IsAsSent, Ways, with_more, way}
 pub use Rattle.lapdm_window.specs.Steps.{IsSameLink}
-pub use Rattle.lapdm_window.proofs.Lemmas.{wholly_acked-taken, all_pieces-taken, KeepsWindow-taken, is_message, not_false, passes, is_idle-is, is_open-is, three_bits, waits_within, wholly_acked-more, wholly_acked-last, wholly_acked-most, KeepsWindow-acked, plain_fits, Keeps, keeps-frame, keeps-call, IsEnd-start, AtMost, few-frame, few-call}
+pub use Rattle.lapdm_window.proofs.Lemmas.{wholly_acked-taken, all_pieces-taken, KeepsWindow-taken, is_message, not_false, passes, is_idle-is, is_open-is, wholly_acked-more, wholly_acked-last, wholly_acked-most, KeepsWindow-acked, plain_fits, Keeps, keeps-frame, keeps-call, IsEnd-start, AtMost, few-frame, few-call}
 pub use Rattle.std.specs.Str.{bytes_eq}
 pub use Rattle.std.proofs.lemmas.Slice.Eq.{bytes_eq-Decides}
 pub use Rattle.lapdm_window.specs.declared.State.TheVariants.{Idle, Opening, Closing, Closed}
