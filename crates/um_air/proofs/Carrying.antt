@@ -1,32 +1,9 @@
 -- A session over the air is a session of frames, with the same lines: an event of blocks is an event of the frames that are
 -- read.
-use Rattle.std.proofs.Common.{◌≡◌, refl, sym, ◌∙◌, ap, subst, ℕ, suc, ◌+◌, ◌-◌, ◌<◌, ◌≤◌, List, [], ◌∷◌, ◌++◌, map, length, drop, Option, Some, None, ap₂}
-use Rattle.std.specs.Prelude.{IfSome}
-use Rattle.std.specs.List.{AllZip}
-use Rattle.std.proofs.lemmas.List.Elements.{All-head, All-take, All-drop}
-use Rattle.lapdm_frame.specs.declared.Channel.{Channel}
-use Rattle.lapdm_frame.specs.Layout.{header}
-use Rattle.lapdm_frame.specs.Content.{Frame, information}
-use Rattle.lapdm_frame.specs.Frames.{Fits, IsFrame, octets_of}
-use Rattle.lapdm_frame.proofs.Canonical.{octets_canonical}
-use Rattle.lapdm_frame.proofs.Uniqueness.{same_frame}
-use Rattle.lapdm_window.specs.Ends.{Role, Mobile, Network}
-use Rattle.um_block.specs.declared.received.Received.{Received}
-use Rattle.um_block.specs.Sent.{IsSentBlock}
-use Rattle.um_block.specs.Received.{softened, IsReceivedBlock}
-use Rattle.um_block.proofs.Lemmas.{accepted_octets}
-use Rattle.lapdm_link.specs.Ways.{Ways, no_ways, way, without_first, with_more, count, IsAsSent}
-use Rattle.lapdm_link.specs.Events.{Deliver, Lose, Ends, Deed, deed, taken, sender_of, Why, refusal_by}
-use Rattle.lapdm_link.specs.Worlds.{World, answer_by, after_by}
-use Rattle.lapdm_link.specs.Claims.{Line, event_lines, notice_lines, answer_lines, Claims, OrderClaims, CountsAgree}
-use Rattle.lapdm_link.proofs.Lemmas.{Knows, KnowsBy, SaysOctets, AllFit, IsFitting, fits-step, AllReported, in_order-step, start-reported, order_claims, start-fits, claims, counts}
-use Rattle.um_air.specs.Air.{Octets, Block, Event, as_read, AirState, Reads, Arrives, AreSent, Answer, Refuses, Does, refusal, AirStep, turned, start_on, AirRun}
-use Rattle.um_air.specs.Sessions.{told, after, IsHarmlessStep, AreOctets, IsKindEvent, lines, IsHarmlessAfter, IsHarmless, IsKind}
+use Rattle.um_air.proofs.Words.{◌≡◌, refl, sym, ◌∙◌, ap, subst, ℕ, suc, ◌+◌, ◌-◌, ◌<◌, ◌≤◌, List, [], ◌∷◌, ◌++◌, map, length, drop, Option, Some, None, ap₂, IfSome, AllZip, All-head, All-take, All-drop, Channel, header, Frame, information, Fits, IsFrame, octets_of, octets_canonical, same_frame, Role, Mobile, Network, Received, IsSentBlock, softened, IsReceivedBlock, accepted_octets, Ways, no_ways, way, without_first, with_more, count, IsAsSent, Deliver, Lose, Ends, Deed, deed, taken, sender_of, Why, refusal_by, World, answer_by, after_by, Line, event_lines, notice_lines, answer_lines, Claims, OrderClaims, CountsAgree, Knows, KnowsBy, SaysOctets, AllFit, IsFitting, fits-step, AllReported, in_order-step, start-reported, order_claims, start-fits, claims, counts, Octets, Block, Event, as_read, AirState, Reads, Arrives, AreSent, Answer, Refuses, Does, refusal, AirStep, turned, start_on, AirRun, told, after, IsHarmlessStep, AreOctets, IsKindEvent, lines, IsHarmlessAfter, IsHarmless, IsKind}
+use Rattle.lapdm_link.specs as L
 use Rattle.um_air.proofs.Determined.{left, done}
 use Rattle.um_air.proofs.FewTurned.{accepted_as_sent}
-use Rattle.lapdm_link.specs.Events as E
-use Rattle.lapdm_link.specs.Worlds as W
-use Rattle.lapdm_link.specs.Claims as C
 
 -- ---- lists that correspond item by item, and ways of such lists
 
@@ -98,7 +75,7 @@ unread read (Deliver sender places) channel n es = (refl, refl)
 unread read event channel n es = (refl, refl)
 
 pub refusal-same : (a : AirState) (fs : Ways Frame) (read : Option Frame) (event : Event) → Coded a.channel a.tsc fs a.ways →
-    W.refusal (as_read read event) (world_of a fs) ≡ refusal event a
+    L.Worlds.refusal (as_read read event) (world_of a fs) ≡ refusal event a
 refusal-same a fs read event h =
     (unread read event a.channel (count fs) a.ends).0
     ∙ (λ i. refusal_by a.channel (λ r. zip-length (λ f block. IsSentBlock (octets_of a.channel f) a.tsc block) (way r fs) (way r a.ways)
@@ -164,14 +141,14 @@ pub record IsSeenBy (a : AirState) (octets : Ways Octets) (fs : Ways Frame) (eve
   pub tsc : b.tsc ≡ a.tsc
   pub same : answer_lines event (told answer) ≡ answer_lines (as_read read event) (answer_by o (deed (as_read read event) a.ends))
   pub known : KnowsBy o (λ r f. SaysOctets f) (as_read read event)
-  pub harmless : IsHarmlessStep event answer octets → W.IsHarmlessBy o (as_read read event) (world_of a fs)
+  pub harmless : IsHarmlessStep event answer octets → L.Worlds.IsHarmlessBy o (as_read read event) (world_of a fs)
   pub kind : IsKindEvent event → IsHarmlessStep event answer octets
 
 module _ (a : AirState) (octets : Ways Octets) (h : IsSeenAt a octets) where
   -- where a block arrives: what is read of it, if it was accepted as it was sent, and that it was, if few bits were turned
   arrived : (event : Event) (report : Option Received) (read : Option Frame) → Arrives a event report read →
       (let now = IsHarmlessStep event (Does (done a (as_read read event) report)) octets in
-      (now → W.IsHarmlessBy None (as_read read event) (world_of a h.frames)) × (IsKindEvent event → now))
+      (now → L.Worlds.IsHarmlessBy None (as_read read event) (world_of a h.frames)) × (IsKindEvent event → now))
   arrived (Deliver sender places) (Some report) read t = (
     read_back a.channel report.accepted read (way sender h.frames) (way sender octets) (h.written sender) (h.fit.ways sender) t.reads,
     λ few. kind_block a.channel a.tsc (way sender h.frames) (way sender octets) (way sender a.ways) t.others places report t.block
@@ -186,11 +163,11 @@ module _ (a : AirState) (octets : Ways Octets) (h : IsSeenAt a octets) where
         record { next = h; later = refl; tsc = refl; same = refl; known = tt; harmless = λ q. tt; kind = λ q. k })
 
     seen-done : (read : Option Frame) (report : Option Received) (blocks : List Block) → Arrives a event report read →
-        (let e : E.Event = as_read read event in W.refusal e (world_of a h.frames) ≡ None →
+        (let e : L.Events.Event = as_read read event in L.Worlds.refusal e (world_of a h.frames) ≡ None →
         AreSent a.channel a.tsc (deed e a.ends).frames blocks →
         IsSeenBy a octets h.frames event (Does (done a e report)) (left a event e blocks) read None)
     seen-done read report blocks t none sent =
-        let e : E.Event = as_read read event in
+        let e : L.Events.Event = as_read read event in
         let w : World = world_of a h.frames in
         let d : Deed = deed e a.ends in
         let r : Role = sender_of d.who in
@@ -216,7 +193,7 @@ module _ (a : AirState) (octets : Ways Octets) (h : IsSeenAt a octets) where
         }
 
     pub seen-step : (answer : Answer) (b : AirState) → AirStep a event b answer →
-        (read : Option Frame) × IsSeenBy a octets h.frames event answer b read (W.refusal (as_read read event) (world_of a h.frames))
+        (read : Option Frame) × IsSeenBy a octets h.frames event answer b read (L.Worlds.refusal (as_read read event) (world_of a h.frames))
     seen-step (Refuses why) b t = (
       None,
       subst (IsSeenBy a octets h.frames event (Refuses why) b None) (sym (refusal-same a h.frames None event h.blocks ∙ t.0))
@@ -238,9 +215,9 @@ start-seen tsc channel = (let fit = start-fits channel in let reported = start-r
 
 -- a session, as one of frames
 pub record IsSeen (a : AirState) (octets : Ways Octets) (h : IsSeenAt a octets) (events : List Event) (answers : List Answer) : Type 0 where
-  pub seen : List E.Event
-  pub same : lines events answers ≡ C.lines seen (W.answers seen (world_of a h.frames))
-  pub harmless : IsHarmlessAfter octets events answers → W.IsHarmless seen (world_of a h.frames)
+  pub seen : List L.Events.Event
+  pub same : lines events answers ≡ L.Claims.lines seen (L.Worlds.answers seen (world_of a h.frames))
+  pub harmless : IsHarmlessAfter octets events answers → L.Worlds.IsHarmless seen (world_of a h.frames)
   pub kind : IsKind events → IsHarmlessAfter octets events answers
 
 seen-run : (events : List Event) (answers : List Answer) (a b : AirState) (octets : Ways Octets) (h : IsSeenAt a octets) →
@@ -251,8 +228,8 @@ seen-run (event ∷ events) (answer ∷ answers) a b octets h run =
     let r = seen-run events answers run.0 b (after event answer octets) s.1.next run.2 in
     record {
       seen = as_read s.0 event ∷ r.seen;
-      same = ap₂ (λ xs ys. xs ++ ys) s.1.same (r.same ∙ ap (λ z. C.lines r.seen (W.answers r.seen z)) (sym s.1.later));
-      harmless = λ q. (s.1.harmless q.0, subst (W.IsHarmless r.seen) (sym s.1.later) (r.harmless q.1));
+      same = ap₂ (λ xs ys. xs ++ ys) s.1.same (r.same ∙ ap (λ z. L.Claims.lines r.seen (L.Worlds.answers r.seen z)) (sym s.1.later));
+      harmless = λ q. (s.1.harmless q.0, subst (L.Worlds.IsHarmless r.seen) (sym s.1.later) (r.harmless q.1));
       kind = λ k. (s.1.kind k.0, r.kind k.2);
     }
 seen-run events answers a b octets h run = absurd assumption

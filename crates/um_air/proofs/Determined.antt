@@ -1,20 +1,6 @@
 -- Events determine their answers and the air that they lead to.
-use Rattle.std.proofs.Common.{◌≡◌, refl, sym, ◌∙◌, ap, ap₂, subst, ℕ, List, [], ◌∷◌, map, Option, Some, None, inl, inr}
-use Rattle.lapdm_frame.specs.declared.Channel.{Channel}
-use Rattle.lapdm_frame.specs.declared.Refusal.{Refusal}
-use Rattle.lapdm_frame.specs.Content.{Frame}
-use Rattle.lapdm_frame.specs.Frames.{IsFrame, octets_of}
-use Rattle.lapdm_frame.specs.Refusals.{IsRefused}
-use Rattle.lapdm_frame.proofs.Uniqueness.{same_frame}
-use Rattle.lapdm_frame.proofs.Existence.{one_reading}
-use Rattle.lapdm_window.specs.Ends.{Role}
-use Rattle.um_block.specs.declared.received.Received.{Received}
-use Rattle.um_block.specs.Received.{softened}
-use Rattle.um_block.proofs.Lemmas.{one_received_block, one_sent_block}
-use Rattle.lapdm_link.specs.Ways.{with_more}
+use Rattle.um_air.proofs.Words.{◌≡◌, refl, sym, ◌∙◌, ap, ap₂, subst, ℕ, List, [], ◌∷◌, map, Option, Some, None, inl, inr, Channel, Refusal, Frame, IsFrame, octets_of, IsRefused, same_frame, one_reading, Role, Received, softened, one_received_block, one_sent_block, with_more, Deliver, sender_of, Deed, deed, taken, Octets, Block, Event, as_read, AirState, Reads, Hears, Arrives, AreSent, Step, Answer, Refuses, Does, Happens, AirStep, AirRun, turned}
 use Rattle.lapdm_link.specs.Events as E
-use Rattle.lapdm_link.specs.Events.{Deliver, sender_of, Deed, deed, taken}
-use Rattle.um_air.specs.Air.{Octets, Block, Event, as_read, AirState, Reads, Hears, Arrives, AreSent, Step, Answer, Refuses, Does, Happens, AirStep, AirRun, turned}
 
 -- octets are not both a frame and refused
 never_both : (channel : Channel) (octets : List ℕ) (f : Frame) (why : Refusal) → IsFrame channel f octets → IsRefused channel octets why → ⊥
