@@ -25,7 +25,7 @@ pub use Rattle.lapdm_window.specs.Tables.{after_frame, becomes_closed, is_comman
 pub use Rattle.lapdm_frame.specs.Layout.{n201, header}
 pub use Rattle.segmenting.specs.Joining.{endings, messages, ended, open_after, within, open_part}
 pub use Rattle.segmenting.proofs.Lemmas.{endings-all, endings-append, ended-take, ended-endings, messages_of, endings-more, endings-last}
-pub use Rattle.lapdm_link.specs.Ways.{IsAsSent, Ways, with_more, way, no_ways, without_first, count}
+pub use Rattle.lapdm_link.specs.Ways.{IsAsSent, Ways, with_more, way, no_ways, without_first, count, with_way}
 pub use Rattle.lapdm_window.specs.Steps.{IsSameLink}
 pub use Rattle.lapdm_window.proofs.Lemmas.{wholly_acked-taken, all_pieces-taken, KeepsWindow-taken, is_message, not_false, passes, is_idle-is, is_open-is, three_bits, waits_within, wholly_acked-more, wholly_acked-last, wholly_acked-most, KeepsWindow-acked, plain_fits, Keeps, keeps-frame, keeps-call, IsEnd-start, AtMost, few-frame, few-call}
 pub use Rattle.std.specs.Str.{bytes_eq}

@@ -1,6 +1,6 @@
 -- A session over the air is a session of frames, with the same lines: an event of blocks is an event of the frames that are
 -- read.
-use Rattle.um_air.proofs.Words.{◌≡◌, refl, sym, ◌∙◌, ap, subst, ℕ, suc, ◌+◌, ◌-◌, ◌<◌, ◌≤◌, List, [], ◌∷◌, ◌++◌, map, length, drop, Option, Some, None, ap₂, IfSome, AllZip, All-head, All-take, All-drop, Channel, header, Frame, information, Fits, IsFrame, octets_of, octets_canonical, same_frame, Role, Mobile, Network, Received, IsSentBlock, softened, IsReceivedBlock, accepted_octets, Ways, no_ways, way, without_first, with_more, count, IsAsSent, Deliver, Lose, Ends, Deed, deed, taken, sender_of, Why, refusal_by, World, answer_by, after_by, Line, event_lines, notice_lines, answer_lines, Claims, OrderClaims, CountsAgree, Knows, KnowsBy, SaysOctets, AllFit, IsFitting, fits-step, AllReported, in_order-step, start-reported, order_claims, start-fits, claims, counts, Octets, Block, Event, as_read, AirState, Reads, Arrives, AreSent, Answer, Refuses, Does, refusal, AirStep, turned, start_on, AirRun, told, after, IsHarmlessStep, AreOctets, IsKindEvent, lines, IsHarmlessAfter, IsHarmless, IsKind}
+use Rattle.um_air.proofs.Words.{◌≡◌, refl, sym, ◌∙◌, ap, subst, ℕ, suc, ◌+◌, ◌-◌, ◌<◌, ◌≤◌, List, [], ◌∷◌, ◌++◌, map, length, drop, Option, Some, None, ap₂, IfSome, AllZip, All-head, All-take, All-drop, Channel, header, Frame, information, Fits, IsFrame, octets_of, octets_canonical, same_frame, Role, Mobile, Network, Received, IsSentBlock, softened, IsReceivedBlock, accepted_octets, Ways, no_ways, way, without_first, with_more, count, IsAsSent, Deliver, Lose, Ends, Deed, deed, taken, sender_of, Why, refusal_by, World, answer_by, after_by, Line, event_lines, notice_lines, answer_lines, Claims, OrderClaims, CountsAgree, Knows, KnowsBy, SaysOctets, AllFit, IsFitting, fits-step, AllReported, in_order-step, start-reported, order_claims, start-fits, claims, counts, Octets, Block, Event, as_read, AirState, Reads, Arrives, AreSent, Answer, Refuses, Does, refusal, AirStep, turned, start_on, AirRun, told, after, IsHarmlessStep, AreOctets, IsKindEvent, lines, IsHarmlessAfter, IsHarmless, IsKind, with_way, AllZip-long}
 use Rattle.lapdm_link.specs as L
 use Rattle.um_air.proofs.Determined.{left, done}
 use Rattle.um_air.proofs.FewTurned.{accepted_as_sent}
@@ -18,11 +18,6 @@ module _ {X Y : Type 0} (R : X → Y → Type 0) where
   zip-append (x ∷ xs) xs' (y ∷ ys) ys' h g = (h.0, zip-append xs xs' ys ys' h.1 g)
   zip-append xs xs' ys ys' h g = absurd assumption
 
-  zip-length : (xs : List X) (ys : List Y) → AllZip R xs ys → length xs ≡ length ys
-  zip-length [] [] h = refl
-  zip-length (x ∷ xs) (y ∷ ys) h = ap suc (zip-length xs ys h.1)
-  zip-length xs ys h = absurd assumption
-
   abbrev pub AreAlike : Ways X → Ways Y → Type 0
   AreAlike xs ys = (r : Role) → AllZip R (way r xs) (way r ys)
 
@@ -30,22 +25,20 @@ module _ {X Y : Type 0} (R : X → Y → Type 0) where
   alike-none Mobile = tt
   alike-none Network = tt
 
+  alike-with : (sender : Role) (x : List X) (y : List Y) (xs : Ways X) (ys : Ways Y) → AreAlike xs ys → AllZip R x y →
+      AreAlike (with_way sender x xs) (with_way sender y ys)
+  alike-with Mobile x y xs ys h g Mobile = g
+  alike-with Network x y xs ys h g Network = g
+  alike-with sender x y xs ys h g r = h r
+
   alike-more : (sender : Role) (x : List X) (y : List Y) (xs : Ways X) (ys : Ways Y) → AreAlike xs ys → AllZip R x y →
       AreAlike (with_more sender x xs) (with_more sender y ys)
-  alike-more Mobile x y xs ys h g Mobile = zip-append xs.up x ys.up y (h Mobile) g
-  alike-more Network x y xs ys h g Network = zip-append xs.down x ys.down y (h Network) g
-  alike-more sender x y xs ys h g r = h r
-
-  alike-rest : (sender : Role) (xs : Ways X) (ys : Ways Y) → AreAlike xs ys →
-      AreAlike (without_first sender xs) (without_first sender ys)
-  alike-rest Mobile xs ys h Mobile = zip-rest xs.up ys.up (h Mobile)
-  alike-rest Network xs ys h Network = zip-rest xs.down ys.down (h Network)
-  alike-rest sender xs ys h r = h r
+  alike-more sender x y xs ys h g = alike-with sender _ _ xs ys h (zip-append (way sender xs) x (way sender ys) y (h sender) g)
 
   alike-taken : (read : Option Frame) (event : Event) (xs : Ways X) (ys : Ways Y) → AreAlike xs ys →
       AreAlike (taken (as_read read event) xs) (taken event ys)
-  alike-taken read (Deliver sender places) xs ys h = alike-rest sender xs ys h
-  alike-taken read (Lose sender) xs ys h = alike-rest sender xs ys h
+  alike-taken read (Deliver sender places) xs ys h = alike-with sender _ _ xs ys h (zip-rest (way sender xs) (way sender ys) (h sender))
+  alike-taken read (Lose sender) xs ys h = alike-with sender _ _ xs ys h (zip-rest (way sender xs) (way sender ys) (h sender))
   alike-taken read event xs ys h = h
 
 -- ---- an air, as the session of the frames on its ways
@@ -78,8 +71,7 @@ pub refusal-same : (a : AirState) (fs : Ways Frame) (read : Option Frame) (event
     L.Worlds.refusal (as_read read event) (world_of a fs) ≡ refusal event a
 refusal-same a fs read event h =
     (unread read event a.channel (count fs) a.ends).0
-    ∙ (λ i. refusal_by a.channel (λ r. zip-length (λ f block. IsSentBlock (octets_of a.channel f) a.tsc block) (way r fs) (way r a.ways)
-    (h r) i) event a.ends)
+    ∙ (λ i. refusal_by a.channel (λ r. sym (AllZip-long _ (way r fs) (way r a.ways) (h r)) i) event a.ends)
 
 -- ---- what is read
 
@@ -93,12 +85,14 @@ reads-well channel (Some octets) f all h =
     (h.fits, subst AreOctets h.at_information (All-take small (from + size - from) (drop from octets) (All-drop small from octets all)))
 reads-well channel None f all h = absurd h
 
-pub known-read : (a : AirState) (event : Event) (report : Option Received) (read : Option Frame) → Arrives a event report read →
-    Knows (λ r f. Fits a.channel f) (as_read read event) × Knows (λ r f. SaysOctets f) (as_read read event)
-known-read a (Deliver sender places) (Some report) (Some f) h =
+pub known-read : (o : Option Why) (a : AirState) (event : Event) (report : Option Received) (read : Option Frame) →
+    Arrives a event report read → (let e : L.Events.Event = as_read read event in
+    KnowsBy o (λ r f. Fits a.channel f) e × KnowsBy o (λ r f. SaysOctets f) e)
+known-read (Some why) a event report read h = (tt, tt)
+known-read None a (Deliver sender places) (Some report) (Some f) h =
     reads-well a.channel report.accepted f (accepted_octets (map softened (turned places h.block)) report h.received) h.reads
-known-read a (Deliver sender places) None read h = absurd h
-known-read a event report read h = (tt, tt)
+known-read None a (Deliver sender places) None read h = absurd h
+known-read None a event report read h = (tt, tt)
 
 -- a frame that was sent is read as itself
 read_back : (channel : Channel) (accepted : Option Octets) (read : Option Frame) (fs : List Frame) (os : List Octets) →
@@ -171,7 +165,6 @@ module _ (a : AirState) (octets : Ways Octets) (h : IsSeenAt a octets) where
         let w : World = world_of a h.frames in
         let d : Deed = deed e a.ends in
         let r : Role = sender_of d.who in
-        let known = known-read a event report read t in
         let now = arrived event report read t in
         record {
           next = record {
@@ -180,14 +173,14 @@ module _ (a : AirState) (octets : Ways Octets) (h : IsSeenAt a octets) where
             blocks = alike-more _ r d.frames blocks _ _ (alike-taken _ read event h.frames a.ways h.blocks) sent;
             written = alike-more _ r d.frames _ _ _ (alike-taken _ read event h.frames octets h.written) (all-written a.channel d.frames);
             fit = subst (λ (o : Option Why). IsFitting a.channel (after_by o e w)) none
-                (fits-step a.channel w e (subst (λ (o : Option Why). KnowsBy o (λ r f. Fits a.channel f) e) (sym none) known.0) h.fit);
+                (fits-step a.channel w e (known-read (L.Worlds.refusal e w) a event report read t).0 h.fit);
             reported = subst (λ (o : Option Why). AllReported (after_by o e w) (h.ls ++ answer_lines e (answer_by o d))) none
                 (in_order-step w h.ls e h.reported);
           };
           later = refl;
           tsc = refl;
           same = ap (λ ls. ls ++ notice_lines d.who d.sapi d.notices) (unread read event a.channel (count h.frames) a.ends).1;
-          known = known.1;
+          known = (known-read None a event report read t).1;
           harmless = now.0;
           kind = now.1;
         }

@@ -1,7 +1,7 @@
 -- There is an answer to every event, where messages are octets: a session can always go on.
 use Rattle.um_air.proofs.Words.{◌≡◌, refl, sym, subst, arith, ℕ, ◌-◌, ◌<◌, ◌≤◌, List, [], ◌∷◌, length, Option, None, ◌∙◌, ◌/◌, ◌%◌, map, get_or, set, nat_eq, Some, All, inl, inr, IfSome, cases_lt, length-set, length-map, set_past, All-nil, All-cons, All-head, All-tail, All-append, All-replicate, All-set, All-map, Channel, Sdcch, Sacch, header, n201, Content, I, Frame, information, goes_on, address, control, length_octet, NumbersFit, Fits, octets_of, octets_canonical, bit_bound, one_reading, information_bound, Sapi, Notice, Role, Received, softened, IsReceivedBlock, some_sent_block, sent_block_bits, some_received_block, accepted_count, Ways, way, no_ways, Ask, Deliver, Lose, Send, Who, End, Why, deed, Nothing, unless, World, notice_lines, answer_lines, KnowsBy, LineOctets, AllSay, EndOctets, SaysOctets, WorldOctets, octets-step, start-octets, AllFit, deed-fits, deed-holds, Octets, Event, as_read, AirState, start_on, Answer, AirStep, AirRun, Block, Reads, Hears, Arrives, AreSent, Happens, Refuses, Does, refusal, turned_at, turned, AreOctets, IsOctetEvent, after}
 use Rattle.lapdm_link.specs as L
-use Rattle.um_air.proofs.Determined.{left, done}
+use Rattle.um_air.proofs.Determined.{left, done, one_run}
 use Rattle.um_air.proofs.Carrying.{Coded, world_of, refusal-same, known-read, IsSeenAt, seen-step, start-seen}
 
 -- ---- the octets of a frame
@@ -111,8 +111,7 @@ record IsSpoken (a : AirState) : Type 0 where
   known : a.tsc ≤ 7
 
 start-spoken : (tsc : ℕ) (channel : Channel) → tsc ≤ 7 → IsSpoken (start_on tsc channel)
-start-spoken tsc channel known =
-    record { octets = no_ways; at = start-seen tsc channel; small = start-octets channel; known = known }
+start-spoken tsc channel known = record { octets = no_ways; at = start-seen tsc channel; small = start-octets channel; known = known }
 
 module _ (a : AirState) (h : IsSpoken a) (event : Event) (says : IsOctetEvent event) where
   octets-next : (read : Option Frame) → (let e : L.Events.Event = as_read read event in
@@ -136,40 +135,33 @@ module _ (a : AirState) (h : IsSpoken a) (event : Event) (says : IsOctetEvent ev
       let e : L.Events.Event = as_read t.1 event in
       let w : World = world_of a fs in
       let none : L.Worlds.refusal e w ≡ None = refusal-same a fs t.1 event h.at.blocks ∙ is in
-      let known = known-read a event t.0 t.1 t.2 in
-      let next = octets-next t.1 (subst (λ (q : Option Why). KnowsBy q (λ r f. SaysOctets f) e) (sym none) known.1) in
-      let bs = some_blocks a.channel a.tsc (deed e a.ends).frames h.known
-      (deed-fits a.channel w e (subst (λ (q : Option Why). KnowsBy q (λ r f. Fits a.channel f) e) (sym none) known.0) h.at.fit none)
+      let known = known-read (L.Worlds.refusal e w) a event t.0 t.1 t.2 in
+      let next = octets-next t.1 known.1 in
+      let bs = some_blocks a.channel a.tsc (deed e a.ends).frames h.known (deed-fits a.channel w e known.0 h.at.fit none)
       (deed-holds (λ s x. EndOctets x) SaysOctets next.0 w e (L.Worlds.refusal e w) none next.1) in
       let happens : Happens a event (left a event e bs.0) (done a e t.0) =
       record { read = t.1; blocks = bs.0; arrives = t.2; sent = bs.1; after = refl; step_is = refl } in
       (left a event e bs.0, Does (done a e t.0), (is, happens))
 
-spoken-run : (events : List Event) (answers : List Answer) (a b : AirState) → IsSpoken a → All IsOctetEvent events →
-    AirRun a events answers b → IsSpoken b
-spoken-run [] [] a b h says run = rw run h
-spoken-run (event ∷ events) (answer ∷ answers) a b h says run =
-    let next = spoken-next a h event (All-head IsOctetEvent event events says) answer run.0 run.1 in
-    spoken-run events answers run.0 b next (All-tail IsOctetEvent event events says) run.2
-spoken-run events answers a b h says run = absurd assumption
-
-pub some_answer : (tsc : ℕ) (channel : Channel) (events : List Event) (answers : List Answer) (a : AirState) → tsc ≤ 7 →
-    All IsOctetEvent events → AirRun (start_on tsc channel) events answers a →
-    (event : Event) → IsOctetEvent event → (b : AirState) × (answer : Answer) × AirStep a event b answer
-some_answer tsc channel events answers a known said run event says =
-    some_answer_at a (spoken-run events answers (start_on tsc channel) a (start-spoken tsc channel known) said run)
-    event says (refusal event a) refl
-
 going_on : (events : List Event) (a : AirState) → IsSpoken a → All IsOctetEvent events →
-    (answers : List Answer) × (b : AirState) × AirRun a events answers b
-going_on [] a h says = ([], a, refl)
+    (answers : List Answer) × (b : AirState) × AirRun a events answers b × IsSpoken b
+going_on [] a h says = ([], a, refl, h)
 going_on (event ∷ events) a h says =
     let now : IsOctetEvent event = All-head IsOctetEvent event events says in
     let s = some_answer_at a h event now (refusal event a) refl in
     let r = going_on events s.0 (spoken-next a h event now s.1 s.0 s.2) (All-tail IsOctetEvent event events says) in
-    (s.1 ∷ r.0, r.1, (s.0, s.2, r.2))
+    (s.1 ∷ r.0, r.1, (s.0, s.2, r.2), r.3)
 
 pub some_run : (tsc : ℕ) (channel : Channel) (events : List Event) → tsc ≤ 7 → All IsOctetEvent events →
     (answers : List Answer) × (b : AirState) × AirRun (start_on tsc channel) events answers b
 some_run tsc channel events known said =
-    going_on events (start_on tsc channel) (start-spoken tsc channel known) said
+    let r = going_on events (start_on tsc channel) (start-spoken tsc channel known) said in (r.0, r.1, r.2)
+
+-- every session of these events ends as that one does
+pub some_answer : (tsc : ℕ) (channel : Channel) (events : List Event) (answers : List Answer) (a : AirState) → tsc ≤ 7 →
+    All IsOctetEvent events → AirRun (start_on tsc channel) events answers a →
+    (event : Event) → IsOctetEvent event → (b : AirState) × (answer : Answer) × AirStep a event b answer
+some_answer tsc channel events answers a known said run event says =
+    let r = going_on events (start_on tsc channel) (start-spoken tsc channel known) said in
+    let same = one_run (start_on tsc channel) events r.1 a r.0 answers r.2 run in
+    some_answer_at a (subst IsSpoken same.0 r.3) event says (refusal event a) refl
