@@ -1,5 +1,5 @@
 -- Parts of a world after one of them changed, and of lines after more of them.
-use Rattle.lapdm_link.proofs.Words.{◌≡◌, refl, Bool, true, false, ◌&&◌, List, [], ◌∷◌, ◌++◌, map, drop, Option, None, append-nil, filter_map, filter_map-append, Channel, Frame, Message, Sapi, Zero, Three, Notice, Role, Mobile, Network, EndState, Outcome, start, Call, other, end_in, with_end_in, World, start_on, Line, Asked, Rivals, Told, is_role, is_sapi, call_in, notice_in, calls, notices}
+use Rattle.lapdm_link.proofs.Words.{Some, ◌≡◌, refl, Bool, true, false, ◌&&◌, List, [], ◌∷◌, ◌++◌, map, drop, Option, None, append-nil, filter_map, filter_map-append, Channel, Frame, Message, Sapi, Zero, Three, Notice, Role, Mobile, Network, EndState, Outcome, start, Call, other, end_in, with_end_in, World, start_on, Line, Asked, Rivals, Told, is_role, is_sapi, call_in, notice_in, calls, notices}
 use Rattle.lapdm_link.specs.Ways as W
 
 -- the words on ways, of a whole session
@@ -103,48 +103,38 @@ link_else Mobile Mobile s' s h = h
 link_else Network Network s' s h = h
 link_else r' r s' s h = refl
 
-pub other_twice : (r : Role) → other (other r) ≡ r
-other_twice Mobile = refl
-other_twice Network = refl
-
 -- those lines with such of other mobiles before them
 abbrev pub spoken : Role → Sapi → List Message → List Call → List Notice → List Line
 spoken r s is cs ns = map Rivals is ++ said r s cs ns
 
-spoken-calls : (r : Role) (s : Sapi) (is : List Message) (cs : List Call) (ns : List Notice) → calls r s (spoken r s is cs ns) ≡ cs
-spoken-calls r s (i ∷ is) cs ns = spoken-calls r s is cs ns
-spoken-calls r s [] (c ∷ cs) ns = rw (is_end-self r s, spoken-calls r s [] cs ns) refl
-spoken-calls r s [] [] (n ∷ ns) = spoken-calls r s [] [] ns
-spoken-calls r s [] [] [] = refl
+-- of such lines all are picked, or none
+all_picked : {T : Type 0} (pick : Line → Option T) (line : T → Line) → ((x : T) → pick (line x) ≡ Some x) → (xs : List T) →
+    filter_map pick (map line xs) ≡ xs
+all_picked pick line h [] = refl
+all_picked pick line h (x ∷ xs) = rw (h x, all_picked pick line h xs) refl
 
-spoken-notices : (r : Role) (s : Sapi) (is : List Message) (cs : List Call) (ns : List Notice) → notices r s (spoken r s is cs ns) ≡ ns
-spoken-notices r s (i ∷ is) cs ns = spoken-notices r s is cs ns
-spoken-notices r s [] (c ∷ cs) ns = spoken-notices r s [] cs ns
-spoken-notices r s [] [] (n ∷ ns) = rw (is_end-self r s, spoken-notices r s [] [] ns) refl
-spoken-notices r s [] [] [] = refl
-
--- none of them is picked
-unspoken : {T : Type 0} (pick : Line → Option T) (r : Role) (s : Sapi) → ((i : Message) → pick (Rivals i) ≡ None) →
-    ((c : Call) → pick (Asked r s c) ≡ None) → ((n : Notice) → pick (Told r s n) ≡ None) → (is : List Message) (cs : List Call)
-    (ns : List Notice) → filter_map pick (spoken r s is cs ns) ≡ []
-unspoken pick r s f g h (i ∷ is) cs ns = rw (f i) (unspoken pick r s f g h is cs ns)
-unspoken pick r s f g h [] (c ∷ cs) ns = rw (g c) (unspoken pick r s f g h [] cs ns)
-unspoken pick r s f g h [] [] (n ∷ ns) = rw (h n) (unspoken pick r s f g h [] [] ns)
-unspoken pick r s f g h [] [] [] = refl
+none_picked : {T X : Type 0} (pick : Line → Option T) (line : X → Line) → ((x : X) → pick (line x) ≡ None) → (xs : List X) →
+    filter_map pick (map line xs) ≡ []
+none_picked pick line h [] = refl
+none_picked pick line h (x ∷ xs) = rw (h x) (none_picked pick line h xs)
 
 module _ (r : Role) (s : Sapi) (ls : List Line) (is : List Message) (cs : List Call) (ns : List Notice) where
   pub calls-own : calls r s (ls ++ spoken r s is cs ns) ≡ calls r s ls ++ cs
-  calls-own = rw (filter_map-append, spoken-calls r s is cs ns) refl
+  calls-own = simp (filter_map-append, append-nil, none_picked (call_in r s) Rivals (λ i. refl),
+      all_picked (call_in r s) (Asked r s) (λ c. rw (is_end-self r s) refl), none_picked (call_in r s) (Told r s) (λ n. refl))
 
   pub notices-own : notices r s (ls ++ spoken r s is cs ns) ≡ notices r s ls ++ ns
-  notices-own = rw (filter_map-append, spoken-notices r s is cs ns) refl
+  notices-own = simp (filter_map-append, none_picked (notice_in r s) Rivals (λ i. refl),
+      none_picked (notice_in r s) (Asked r s) (λ c. refl), all_picked (notice_in r s) (Told r s) (λ n. rw (is_end-self r s) refl))
 
   module _ (r' : Role) (s' : Sapi) (e : is_end r' s' r s ≡ false) where
     pub calls-else : calls r' s' (ls ++ spoken r s is cs ns) ≡ calls r' s' ls
-    calls-else = rw (filter_map-append, unspoken (call_in r' s') r s (λ i. refl) (λ c. rw e refl) (λ n. refl) is cs ns, append-nil) refl
+    calls-else = simp (filter_map-append, append-nil, none_picked (call_in r' s') Rivals (λ i. refl),
+        none_picked (call_in r' s') (Asked r s) (λ c. rw e refl), none_picked (call_in r' s') (Told r s) (λ n. refl))
 
     pub notices-else : notices r' s' (ls ++ spoken r s is cs ns) ≡ notices r' s' ls
-    notices-else = rw (filter_map-append, unspoken (notice_in r' s') r s (λ i. refl) (λ c. refl) (λ n. rw e refl) is cs ns, append-nil) refl
+    notices-else = simp (filter_map-append, append-nil, none_picked (notice_in r' s') Rivals (λ i. refl),
+        none_picked (notice_in r' s') (Asked r s) (λ c. refl), none_picked (notice_in r' s') (Told r s) (λ n. rw e refl))
 
 -- a notice among the lines
 pub notices-at : (r : Role) (s : Sapi) (before : List Line) (n : Notice) (more : List Line) →
