@@ -72,9 +72,8 @@ first_lost : (r : Role) (s : Sapi) (w : World) (ls : List Line) → Links r s w 
 first_lost Mobile s w ls h = rest_gone _ (side Network s w ls) w.ways.down h
 first_lost Network s w ls h = rest_gone _ (side Mobile s w ls) w.ways.up h
 
-sides : {e e' : EndState} {o o' : List Content} {c c' : List Call} {n n' : List Notice} → e ≡ e' → o ≡ o' → c ≡ c' → n ≡ n' →
-    ◌≡◌ {A = Side} (record { end = e; out = o; asked = c; told = n }) (record { end = e'; out = o'; asked = c'; told = n' })
-sides h g k l = cc
+sides : {x y : Side} → x.end ≡ y.end → x.out ≡ y.out → x.asked ≡ y.asked → x.told ≡ y.told → x ≡ y
+sides h g k l = λ i. record { end = h i; out = g i; asked = k i; told = l i }
 
 -- what an end does is seen at its end alone
 module _ (v : World) (ls : List Line) (a : Act) (own : AllOf (IsOf a.sapi) a.does.frames) where
@@ -209,23 +208,21 @@ start-links channel Mobile Three = start-link Mobile Network Three channel
 start-links channel Network Zero = start-link Network Mobile Zero channel
 start-links channel Network Three = start-link Network Mobile Three channel
 
--- every harmless session leads to such a state
-harmless-session : (channel : Channel) (events : List Event) → IsHarmless events (start_on channel) →
-    ((z : World) × IsSession z (C.lines events (answers events (start_on channel))))
-harmless-session channel events harmless = session-run events (start_on channel) [] harmless
-    (record { reported = start-reported channel; links = start-links channel; after_got = tt; after_cause = tt })
+started : (channel : Channel) → IsSession (start_on channel) []
+started channel = record { reported = start-reported channel; links = start-links channel; after_got = tt; after_cause = tt }
 
 pub counts : (channel : Channel) (events : List Event) → IsHarmless events (start_on channel) →
     CountsAgree (C.lines events (answers events (start_on channel)))
 counts channel events harmless r s =
-    let (z, h) = harmless-session channel events harmless in acked_most (h.reported r s) (h.reported (other r) s) (carried (h.links r s))
+    let (z, h) = session-run events (start_on channel) [] harmless (started channel) in
+    acked_most (h.reported r s) (h.reported (other r) s) (carried (h.links r s))
 
 pub claims : (channel : Channel) (events : List Event) → IsHarmless events (start_on channel) →
     Claims (C.lines events (answers events (start_on channel)))
 claims channel events harmless =
     let ls : List Line = C.lines events (answers events (start_on channel)) in
     let in_order : OrderClaims ls = order_claims channel events in
-    let (z, h) = harmless-session channel events harmless in
+    let (z, h) = session-run events (start_on channel) [] harmless (started channel) in
     record {
       in_order = λ r s. got_in_order (h.reported r s) (h.reported (other r) s) (carried (h.links r s));
       acknowledged = λ r s n before place.

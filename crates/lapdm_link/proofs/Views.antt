@@ -12,21 +12,15 @@ end_of r s w = end_in r s w.ends
 abbrev pub way : Role → World → List Frame
 way r w = W.way r w.ways
 
-abbrev pub with_way : Role → List Frame → World → World
-with_way r fs w = record w { ways = W.with_way r fs w.ways }
-
 abbrev pub without_first : Role → World → World
 without_first r w = record w { ways = W.without_first r w.ways }
 
 abbrev pub with_frames : Role → List Frame → World → World
 with_frames r fs w = record w { ways = W.with_more r fs w.ways }
 
-abbrev pub with_end : Role → Sapi → EndState → World → World
-with_end r s e w = record w { ends = with_end_in r s e w.ends }
-
 -- the world after an end did this
 abbrev pub acted : Role → Sapi → Outcome → World → World
-acted r s o w = with_frames r o.frames (with_end r s o.after w)
+acted r s o w = with_frames r o.frames (record w { ends = with_end_in r s o.after w.ends })
 
 abbrev pub is_end : Role → Sapi → Role → Sapi → Bool
 is_end r s r' s' = is_role r r' && is_sapi s s'

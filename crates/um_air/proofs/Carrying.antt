@@ -1,6 +1,6 @@
 -- A session over the air is a session of frames, with the same lines: an event of blocks is an event of the frames that are
 -- read.
-use Rattle.um_air.proofs.Words.{◌≡◌, refl, sym, ◌∙◌, ap, subst, ℕ, suc, ◌+◌, ◌-◌, ◌<◌, ◌≤◌, List, [], ◌∷◌, ◌++◌, map, length, drop, Option, Some, None, ap₂, IfSome, AllZip, All-head, All-take, All-drop, Channel, header, Frame, information, Fits, IsFrame, octets_of, octets_canonical, same_frame, Role, Mobile, Network, Received, IsSentBlock, softened, IsReceivedBlock, accepted_octets, Ways, no_ways, way, without_first, with_more, count, IsAsSent, Deliver, Lose, Ends, Deed, deed, taken, sender_of, Why, refusal_by, World, answer_by, after_by, Line, event_lines, notice_lines, answer_lines, Claims, OrderClaims, CountsAgree, Knows, KnowsBy, SaysOctets, AllFit, IsFitting, fits-step, AllReported, in_order-step, start-reported, order_claims, start-fits, claims, counts, Octets, Block, Event, as_read, AirState, Reads, Arrives, AreSent, Answer, Refuses, Does, refusal, AirStep, turned, start_on, AirRun, told, after, IsHarmlessStep, AreOctets, IsKindEvent, lines, IsHarmlessAfter, IsHarmless, IsKind, with_way, AllZip-long}
+use Rattle.um_air.proofs.Words.{arith, ◌≡◌, refl, sym, ◌∙◌, ap, subst, ℕ, suc, ◌+◌, ◌-◌, ◌<◌, ◌≤◌, List, [], ◌∷◌, ◌++◌, map, length, drop, Option, Some, None, ap₂, IfSome, AllZip, All-head, All-take, All-drop, Channel, header, Frame, information, Fits, IsFrame, octets_of, octets_canonical, same_frame, Role, Mobile, Network, Received, IsSentBlock, softened, IsReceivedBlock, accepted_octets, Ways, no_ways, way, without_first, with_more, count, IsAsSent, Deliver, Lose, Ends, Deed, deed, taken, sender_of, Why, refusal_by, World, answer_by, after_by, Line, event_lines, notice_lines, answer_lines, Claims, OrderClaims, CountsAgree, Knows, KnowsBy, SaysOctets, AllFit, IsFitting, fits-step, AllReported, in_order-step, start-reported, order_claims, start-fits, claims, counts, Octets, Block, Event, as_read, AirState, Reads, Arrives, AreSent, Answer, Refuses, Does, refusal, AirStep, turned, start_on, AirRun, told, after, IsHarmlessStep, AreOctets, IsKindEvent, lines, IsHarmlessAfter, IsHarmless, IsKind, with_way, AllZip-long}
 use Rattle.lapdm_link.specs as L
 use Rattle.um_air.proofs.Determined.{left, done}
 use Rattle.um_air.proofs.FewTurned.{accepted_as_sent}
@@ -123,10 +123,6 @@ all-written : (channel : Channel) (fs : List Frame) → AllZip (λ f o. o ≡ oc
 all-written channel [] = tt
 all-written channel (f ∷ fs) = (refl, all-written channel fs)
 
-harmless-refused : (event : Event) (why : Why) (octets : Ways Octets) → IsHarmlessStep event (Refuses why) octets
-harmless-refused (Deliver sender places) why octets = tt
-harmless-refused event why octets = tt
-
 -- the step is one of frames, where that event is refused or not
 pub record IsSeenBy (a : AirState) (octets : Ways Octets) (fs : Ways Frame) (event : Event) (answer : Answer) (b : AirState)
     (read : Option Frame) (o : Option Why) : Type 0 where
@@ -153,8 +149,8 @@ module _ (a : AirState) (octets : Ways Octets) (h : IsSeenAt a octets) where
 
   module _ (event : Event) where
     seen-refused : (why : Why) → IsSeenBy a octets h.frames event (Refuses why) a None (Some why)
-    seen-refused why = (let k = harmless-refused event why octets in
-        record { next = h; later = refl; tsc = refl; same = refl; known = tt; harmless = λ q. tt; kind = λ q. k })
+    seen-refused why =
+        record { next = h; later = refl; tsc = refl; same = refl; known = tt; harmless = λ q. tt; kind = λ q. grind arith }
 
     seen-done : (read : Option Frame) (report : Option Received) (blocks : List Block) → Arrives a event report read →
         (let e : L.Events.Event = as_read read event in L.Worlds.refusal e (world_of a h.frames) ≡ None →
