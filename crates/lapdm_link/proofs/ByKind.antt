@@ -1,5 +1,5 @@
 -- Each event is refused, or is of one of five kinds.
-use Rattle.lapdm_link.proofs.Words.{◌≡◌, refl, sym, ap, subst, Bool, true, false, List, [], ◌∷◌, map, nat_eq, Option, Some, None, if◌then◌else◌, append-nil, Frame, Message, Sapi, Zero, Three, Refused, Role, Mobile, Network, sapi_number, Call, Opens, OpensBare, refusal_of, after_call, after_frame, Request, Send, Event, Open, OpenBare, Ask, Deliver, Lose, Rival, other, rival_frame, Deed, does, does_nothing, deed, End, Why, AirFull, because, unless, rival_refusal, call_of, World, next, refusal, after_by, answer_by, answer, after, Line, Asked, Rivals, Told, notice_lines, answer_lines}
+use Rattle.lapdm_link.proofs.Words.{arith, ◌≡◌, refl, sym, ap, subst, Bool, true, false, List, [], ◌∷◌, map, nat_eq, Option, Some, None, if◌then◌else◌, append-nil, Frame, Message, Sapi, Zero, Three, Refused, Role, Mobile, Network, sapi_number, Call, Opens, OpensBare, refusal_of, after_call, after_frame, Request, Send, Event, Open, OpenBare, Ask, Deliver, Lose, Rival, other, rival_frame, Deed, does, does_nothing, deed, End, Why, AirFull, because, unless, rival_refusal, call_of, World, next, refusal, after_by, answer_by, answer, after, Line, Asked, Rivals, Told, notice_lines, answer_lines}
 use Rattle.lapdm_link.proofs.Views.{end_of, without_first, with_frames, acted}
 
 -- a mobile alone opens the link of SAPI 0, and by some information; that of SAPI 3 is opened bare
@@ -9,8 +9,7 @@ IsPlaced r s OpensBare = s ≡ Three
 IsPlaced r s call = Unit {0}
 
 placed-request : (r : Role) (s : Sapi) (request : Request) → IsPlaced r s (call_of request)
-placed-request r s (Send m) = tt
-placed-request r s request = tt
+placed-request r s request = grind arith
 
 -- what is known of the frames that are read
 abbrev pub Knows : (Role → Frame → Type 0) → Event → Type 0
@@ -22,9 +21,7 @@ KnowsBy (Some why) Known event = Unit {0}
 KnowsBy None Known event = Knows Known event
 
 no_refusal : (b : Bool) (o : Option Refused) → unless b AirFull (because o) ≡ None → o ≡ None
-no_refusal true o h = cc
-no_refusal false None h = refl
-no_refusal false (Some refused) h = cc
+no_refusal b o h = grind arith
 
 none_sent : (r : Role) (w : World) → with_frames r [] w ≡ w
 none_sent Mobile w = ap (λ (fs : List Frame). record w { ways = record w.ways { up = fs } }) (append-nil w.ways.up)

@@ -127,11 +127,8 @@ few-takes r f es false true = (let h = few-frame f (end_in r Three es) in (h.fra
 few-takes r f es false false = (omega arith, omega arith)
 
 few-deed : (event : Event) (es : Ends) → IsFew (deed event es)
-few-deed (Open info) es = (let h = few-call (Opens info) (end_in Mobile Zero es) in (h.frames, h.notices))
-few-deed (OpenBare r) es = (let h = few-call OpensBare (end_in r Three es) in (h.frames, h.notices))
-few-deed (Ask r s request) es = (let h = few-call (call_of request) (end_in r s es) in (h.frames, h.notices))
 few-deed (Deliver sender (Some f)) es = few-takes (other sender) f es (nat_eq f.sapi 0) (nat_eq f.sapi 3)
-few-deed event es = (omega arith, omega arith)
+few-deed event es = grind (arith, few-call)
 
 sendable : (channel : Channel) (w : World) (event : Event) (o : Option Why) → IsFitting channel (after_by o event w) →
     IsSendable channel (answer_by o (deed event w.ends))
@@ -141,8 +138,7 @@ sendable channel w event None h =
     (few.0, deed-holds (FitsEnd channel) (Fits channel) channel w event None refl h, few.1)
 
 readable : (channel : Channel) (o : Option Why) (event : Event) → IsReadable channel event → KnowsBy o (λ sender f. Fits channel f) event
-readable channel None (Deliver sender (Some f)) h = h
-readable channel o event h = tt
+readable channel o event h = grind arith
 
 small-run : (channel : Channel) (events : List Event) (w : World) → All (IsReadable channel) events → IsFitting channel w →
     All (IsSendable channel) (answers events w)

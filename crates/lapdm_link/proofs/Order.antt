@@ -91,8 +91,7 @@ acts w ls h r s cs o link end run =
     (λ r' s' n. unseen (h r' s') new (runs-else r' s' r s n cs o.notices (known (end_of r' s' w))))
 
 any_frame : (o : Option Why) (event : Event) → KnowsBy o (λ r f. Unit {0}) event
-any_frame None (Deliver sender (Some f)) = tt
-any_frame o event = tt
+any_frame o event = grind arith
 
 pub in_order-step : (w : World) (ls : List Line) (event : Event) → AllReported w ls →
     AllReported (after event w) (ls ++ answer_lines event (answer event w))

@@ -163,8 +163,7 @@ lost Network w ls h = seen_by Mobile (without_first Network w) ls (λ s. first_l
 
 as_sent : (o : Option Why) (event : Event) (w : World) → IsHarmlessBy o event w →
     KnowsBy o (λ sender f. IsAsSent (Some f) (way sender w)) event
-as_sent None (Deliver sender (Some f)) w h = h
-as_sent o event w h = tt
+as_sent o event w h = grind arith
 
 goes : (w : World) (ls : List Line) (event : Event) → IsHarmlessBy (refusal event w) event w → IsSession w ls →
     Goes ls (after event w) (answer_lines event (answer event w))

@@ -21,10 +21,6 @@ module _ {X Y : Type 0} (R : X → Y → Type 0) where
   abbrev pub AreAlike : Ways X → Ways Y → Type 0
   AreAlike xs ys = (r : Role) → AllZip R (way r xs) (way r ys)
 
-  pub alike-none : AreAlike no_ways no_ways
-  alike-none Mobile = tt
-  alike-none Network = tt
-
   alike-with : (sender : Role) (x : List X) (y : List Y) (xs : Ways X) (ys : Ways Y) → AreAlike xs ys → AllZip R x y →
       AreAlike (with_way sender x xs) (with_way sender y ys)
   alike-with Mobile x y xs ys h g Mobile = g
@@ -64,8 +60,7 @@ pub record IsSeenAt (a : AirState) (octets : Ways Octets) : Type 0 where
 -- neither the refusal nor the lines of an event hang on what is read
 unread : (read : Option Frame) (event : Event) (channel : Channel) (n : Role → ℕ) (es : Ends) →
     (refusal_by channel n (as_read read event) es ≡ refusal_by channel n event es) × (event_lines event ≡ event_lines (as_read read event))
-unread read (Deliver sender places) channel n es = (refl, refl)
-unread read event channel n es = (refl, refl)
+unread read event channel n es = grind arith
 
 pub refusal-same : (a : AirState) (fs : Ways Frame) (read : Option Frame) (event : Event) → Coded a.channel a.tsc fs a.ways →
     L.Worlds.refusal (as_read read event) (world_of a fs) ≡ refusal event a
@@ -200,7 +195,7 @@ module _ (a : AirState) (octets : Ways Octets) (h : IsSeenAt a octets) where
 
 abbrev pub start-seen : (tsc : ℕ) (channel : Channel) → IsSeenAt (start_on tsc channel) no_ways
 start-seen tsc channel = (let fit = start-fits channel in let reported = start-reported channel in
-    record { frames = no_ways; ls = []; blocks = alike-none _; written = alike-none _; fit = fit; reported = reported })
+    record { frames = no_ways; ls = []; blocks = λ r. grind arith; written = λ r. grind arith; fit = fit; reported = reported })
 
 -- a session, as one of frames
 pub record IsSeen (a : AirState) (octets : Ways Octets) (h : IsSeenAt a octets) (events : List Event) (answers : List Answer) : Type 0 where

@@ -7,18 +7,14 @@ use Rattle.um_air.proofs.Carrying.{Coded, world_of, refusal-same, known-read, Is
 -- ---- the octets of a frame
 
 control_small : (c : Content) → NumbersFit c → control c < 256
-control_small (I ns nr p more info) h = omega (arith, bit_bound)
-control_small c h = omega (arith, bit_bound)
-
-room_small : (channel : Channel) → n201 channel ≤ 20
-room_small Sdcch = omega arith
-room_small Sacch = omega arith
+control_small c h = grind (arith, bit_bound)
 
 pub octets_small : (channel : Channel) (f : Frame) → Fits channel f → AreOctets (information f.content) → AreOctets (octets_of channel f)
 octets_small channel f h info =
     let small : ℕ → Type 0 = λ octet. octet < 256 in
     let most : length (information f.content) ≤ n201 channel = information_bound channel f.content h.information in
-    let last : length_octet f.content < 256 = omega (arith, most, room_small channel, bit_bound (goes_on f.content)) in
+    let room : n201 channel ≤ 20 = grind arith in
+    let last : length_octet f.content < 256 = omega (arith, most, room, bit_bound (goes_on f.content)) in
     let head = All-cons small (address f) (control f.content ∷ length_octet f.content ∷ []) (omega (arith, h.sapi, bit_bound f.cr))
     (All-cons small (control f.content) (length_octet f.content ∷ []) (control_small f.content h.numbers)
     (All-cons small (length_octet f.content) [] last (All-nil small))) in
@@ -97,11 +93,7 @@ told_octets who s ns = tt
 
 line_octets : (read : Option Frame) (event : Event) (answer : L.Events.Answer) → IsOctetEvent event →
     LineOctets (answer_lines (as_read read event) answer)
-line_octets read event (L.Events.Refuses why) h = tt
-line_octets read (Deliver sender places) (L.Events.Does who s fs ns) h = told_octets who s ns
-line_octets read (Lose sender) (L.Events.Does who s fs ns) h = told_octets who s ns
-line_octets read (Ask r q (Send m)) (L.Events.Does who s fs ns) h = (h, told_octets who s ns)
-line_octets read event (L.Events.Does who s fs ns) h = (h, told_octets who s ns)
+line_octets read event answer h = grind (arith, told_octets)
 
 -- what holds between two steps
 record IsSpoken (a : AirState) : Type 0 where
