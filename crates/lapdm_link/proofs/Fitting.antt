@@ -63,9 +63,7 @@ IsFitting channel w = Holds (FitsEnd channel) (Fits channel) channel w
 
 -- what is asked of an end is a call that it has
 has_call : (r : Role) (s : Sapi) (call : Call) (x : EndState) → IsPlaced r s call → x.sapi ≡ s → HasCall x call
-has_call r s (Opens info) x placed at = at ∙ placed.1
-has_call r s OpensBare x placed at = at ∙ placed
-has_call r s call x placed at = tt
+has_call r s call x placed at = grind arith
 
 fits-kept : (channel : Channel) (s : Sapi) (e : EndState) (o : Outcome) → FitsEnd channel s e → Keeps e o →
     FitsEnd channel s o.after × AllFit channel o.frames

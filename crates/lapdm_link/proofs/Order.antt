@@ -66,10 +66,7 @@ module _ {r : Role} {s : Sapi} {e : EndState} {ls : List Line} (h : IsReported r
       (g.2.1 ∙ ap (λ k. capped (k + 1)) (sym t.acked), omega (arith, t.acked, ap length t.taken, g.2.2))
 
   of_open : (m : Known) (n : Notice) → IsOfOpenEnd n → MayTell (Some n) m → m.stage ≡ 1
-  of_open m (N.Got t) of may = may
-  of_open m (N.Acked n) of may = may.0
-  of_open m N.Oversize of may = may
-  of_open m other of may = absurd of
+  of_open m n of may = grind arith
 
   inside : (n : Notice) (before : List Line) → IsOfOpenEnd n → StandsAfter before (Told r s n) ls → IsOpenEnd r s before
   inside n before of place =

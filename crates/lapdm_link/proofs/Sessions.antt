@@ -149,13 +149,11 @@ comes-first s f [] on sent = absurd sent
 comes-first s f (g ∷ gs) on sent = rw (← sent, on) refl
 
 left-here : (r : Role) (s : Sapi) (w : World) (ls : List Line) → side r s (without_first (other r) w) ls ≡ side r s w ls
-left-here Mobile s w ls = refl
-left-here Network s w ls = refl
+left-here r s w ls = grind arith
 
 left-there : (r : Role) (s : Sapi) (w : World) (ls : List Line) → side (other r) s (without_first (other r) w) ls ≡
     record (side (other r) s w ls) { out = contents_on s (rest (way (other r) w)) }
-left-there Mobile s w ls = refl
-left-there Network s w ls = refl
+left-there r s w ls = grind arith
 
 lost : (sender : Role) (w : World) (ls : List Line) → AllLinks w ls → AllLinks (without_first sender w) ls
 lost Mobile w ls h = seen_by Network (without_first Mobile w) ls (λ s. first_lost Network s w ls (h Network s))

@@ -18,8 +18,7 @@ other_bit place q block other =
     ]
 
 or_false : (a b : Bool) → (a || b) ≡ false → (a ≡ false) × (b ≡ false)
-or_false true b h = absurd (false≢true (sym h))
-or_false false b h = (refl, h)
+or_false a b h = grind arith
 
 -- a place that is not named keeps its bit
 turned-other : (places : List ℕ) (block : Block) (q : ℕ) → listed q places ≡ false → bit_at (turned places block) q ≡ bit_at block q
