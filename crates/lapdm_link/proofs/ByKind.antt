@@ -39,8 +39,7 @@ module _ (w : World) (P : World → List Line → Type 0) (Known : Role → Fram
     either : (o : Option Why) (event : Event) → KnowsBy o Known event → (o ≡ None → Knows Known event →
         P (after_by None event w) (answer_lines event (answer_by None (deed event w.ends)))) →
         P (after_by o event w) (answer_lines event (answer_by o (deed event w.ends)))
-    either (Some why) event known h = refused
-    either None event known h = h refl known
+    either o event known h = grind arith
 
     -- nothing is sent
     quietly : (sender r : Role) → P (with_frames r [] (without_first sender w)) []

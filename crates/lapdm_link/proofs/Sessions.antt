@@ -145,8 +145,7 @@ acts ls v {x} {y} {a} i role same e e' h others reported =
 -- the first that comes is the first that was sent
 comes-first : (s : Sapi) (f : Frame) (fs : List Frame) → is_on s f ≡ true → IsAsSent (Some f) fs →
     contents_on s fs ≡ cons_option (content_of f.content) (contents_on s (rest fs))
-comes-first s f [] on sent = absurd sent
-comes-first s f (g ∷ gs) on sent = rw (← sent, on) refl
+comes-first s f fs on sent = grind arith
 
 left-here : (r : Role) (s : Sapi) (w : World) (ls : List Line) → side r s (without_first (other r) w) ls ≡ side r s w ls
 left-here r s w ls = grind arith

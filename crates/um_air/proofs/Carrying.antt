@@ -9,9 +9,7 @@ use Rattle.um_air.proofs.FewTurned.{accepted_as_sent}
 
 module _ {X Y : Type 0} (R : X → Y → Type 0) where
   zip-rest : (xs : List X) (ys : List Y) → AllZip R xs ys → AllZip R (drop 1 xs) (drop 1 ys)
-  zip-rest [] [] h = h
-  zip-rest (x ∷ xs) (y ∷ ys) h = h.1
-  zip-rest xs ys h = absurd assumption
+  zip-rest xs ys h = grind arith
 
   zip-append : (xs xs' : List X) (ys ys' : List Y) → AllZip R xs ys → AllZip R xs' ys' → AllZip R (xs ++ xs') (ys ++ ys')
   zip-append [] xs' [] ys' h g = g
@@ -23,9 +21,7 @@ module _ {X Y : Type 0} (R : X → Y → Type 0) where
 
   alike-with : (sender : Role) (x : List X) (y : List Y) (xs : Ways X) (ys : Ways Y) → AreAlike xs ys → AllZip R x y →
       AreAlike (with_way sender x xs) (with_way sender y ys)
-  alike-with Mobile x y xs ys h g Mobile = g
-  alike-with Network x y xs ys h g Network = g
-  alike-with sender x y xs ys h g r = h r
+  alike-with sender x y xs ys h g r = grind arith
 
   alike-more : (sender : Role) (x : List X) (y : List Y) (xs : Ways X) (ys : Ways Y) → AreAlike xs ys → AllZip R x y →
       AreAlike (with_more sender x xs) (with_more sender y ys)
@@ -33,9 +29,7 @@ module _ {X Y : Type 0} (R : X → Y → Type 0) where
 
   alike-taken : (read : Option Frame) (event : Event) (xs : Ways X) (ys : Ways Y) → AreAlike xs ys →
       AreAlike (taken (as_read read event) xs) (taken event ys)
-  alike-taken read (Deliver sender places) xs ys h = alike-with sender _ _ xs ys h (zip-rest (way sender xs) (way sender ys) (h sender))
-  alike-taken read (Lose sender) xs ys h = alike-with sender _ _ xs ys h (zip-rest (way sender xs) (way sender ys) (h sender))
-  alike-taken read event xs ys h = h
+  alike-taken read event xs ys h = grind (arith, alike-with, zip-rest)
 
 -- ---- an air, as the session of the frames on its ways
 
