@@ -1,5 +1,5 @@
 -- Each event is refused, or is of one of five kinds.
-use Rattle.lapdm_link.proofs.Words.{arith, ◌≡◌, refl, sym, ap, subst, Bool, true, false, List, [], ◌∷◌, map, nat_eq, Option, Some, None, if◌then◌else◌, append-nil, Frame, Message, Sapi, Zero, Three, Refused, Role, Mobile, Network, sapi_number, Call, Opens, OpensBare, refusal_of, after_call, after_frame, Request, Send, Event, Open, OpenBare, Ask, Deliver, Lose, Rival, other, rival_frame, Deed, does, does_nothing, deed, End, Why, AirFull, because, unless, rival_refusal, call_of, World, next, refusal, after_by, answer_by, answer, after, Line, Asked, Rivals, Told, notice_lines, answer_lines}
+use Rattle.lapdm_link.proofs.Words.{arith, ◌≡◌, refl, sym, ap, subst, Bool, true, false, List, [], ◌∷◌, map, nat_eq, Option, Some, None, if◌then◌else◌, append-nil, Frame, Message, Sapi, Zero, Three, Refused, Role, Mobile, Network, sapi_number, Call, Opens, OpensBare, refusal_of, after_call, after_frame, Request, Event, Open, OpenBare, Ask, Deliver, Lose, Rival, other, rival_frame, Deed, does, does_nothing, deed, End, Why, AirFull, because, unless, rival_refusal, call_of, World, next, refusal, after_by, answer_by, answer, after, Line, Asked, Rivals, Told, notice_lines, answer_lines}
 use Rattle.lapdm_link.proofs.Views.{end_of, without_first, with_frames, acted}
 
 -- a mobile alone opens the link of SAPI 0, and by some information; that of SAPI 3 is opened bare

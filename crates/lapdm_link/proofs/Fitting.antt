@@ -1,5 +1,5 @@
 -- Every frame on its way can be written.
-use Rattle.lapdm_link.proofs.Words.{◌≡◌, sym, subst, List, [], ◌∷◌, ◌++◌, None, All, refl, ◌∙◌, ap, arith, false, nat_eq, nat_lt, length, ◌≤◌, Bool, true, if◌then◌else◌, Option, Some, All-nil, All-cons, All-head, All-tail, All-append, All-drop, drop-append_seam, Channel, Frame, Message, Sapi, Role, Mobile, Network, EndState, Outcome, start, IsEnd, Call, refusal_of, after_call, Opens, OpensBare, HasCall, after_frame, Event, other, rival_frame, rival_refusal, Open, OpenBare, Ask, Deliver, Ends, end_in, sender_of, Deed, does, does_nothing, deed, call_of, End, taken, Why, World, start_on, refusal, answer, after, answer_by, after_by, answers, IsReadable, IsSendable, Line, Rivals, answer_lines, nat_tests, n201, Fits, Zero, Three, passes, plain_fits, Keeps, keeps-frame, keeps-call, IsEnd-start, AtMost, few-frame, few-call, Ways, with_more, All-push}
+use Rattle.lapdm_link.proofs.Words.{◌≡◌, sym, subst, List, [], ◌∷◌, ◌++◌, None, All, refl, ◌∙◌, ap, arith, false, nat_eq, nat_lt, length, ◌≤◌, Bool, true, if◌then◌else◌, Option, Some, All-nil, All-cons, All-head, All-tail, All-append, All-drop, drop-append_seam, Channel, Frame, Message, Sapi, Role, Mobile, Network, EndState, Outcome, start, IsEnd, Call, refusal_of, after_call, HasCall, after_frame, Event, other, rival_frame, rival_refusal, Deliver, Ends, end_in, sender_of, Deed, does, does_nothing, deed, End, taken, Why, World, start_on, refusal, answer, after, answer_by, after_by, answers, IsReadable, IsSendable, Line, Rivals, answer_lines, nat_tests, n201, Fits, Zero, Three, passes, plain_fits, Keeps, keeps-frame, keeps-call, IsEnd-start, few-frame, few-call, Ways, with_more, All-push}
 use Rattle.lapdm_link.proofs.Views.{end_of, way, without_first, with_frames, acted, said, ends_do, each_way, each_lost, each_start, way_does, way_does-other}
 use Rattle.lapdm_link.proofs.ByKind.{IsPlaced, KnowsBy, by_kind}
 use Rattle.lapdm_link.specs.Ways as W

@@ -1,5 +1,5 @@
 -- Every harmless session: one event after another.
-use Rattle.lapdm_link.proofs.Words.{◌≡◌, refl, ◌∙◌, ap, arith, ◌+◌, ◌≤◌, true, false, List, [], ◌∷◌, ◌++◌, length, Option, Some, None, append_assoc, cons_option, append-nil, length-append, filter_map-append, Channel, Content, Frame, Sapi, Zero, Three, Notice, Role, Mobile, Network, EndState, start, Call, Event, Deliver, Why, other, World, start_on, refusal, answer, after, answers, IsHarmlessBy, IsHarmless, IsAsSent, Line, Asked, Rivals, Told, Message, OrderClaims, CountsAgree, is_sapi, answer_lines, Claims, acked, got}
+use Rattle.lapdm_link.proofs.Words.{◌≡◌, refl, ◌∙◌, ap, arith, ◌+◌, ◌≤◌, true, false, List, [], ◌∷◌, ◌++◌, length, Option, Some, append_assoc, cons_option, append-nil, length-append, filter_map-append, Channel, Content, Frame, Sapi, Zero, Three, Notice, Role, Mobile, Network, start, Call, Event, Why, other, World, start_on, refusal, answer, after, answers, IsHarmlessBy, IsHarmless, IsAsSent, Line, Asked, Rivals, Told, Message, OrderClaims, CountsAgree, is_sapi, answer_lines, Claims, acked, got}
 use Rattle.lapdm_window.specs.declared.Notice.TheVariants as N
 use Rattle.lapdm_link.specs.Claims as C
 use Rattle.lapdm_link.proofs.Queues.{is_on, content_of, content_on, contents_on, AllOf, IsOf, contents-own, contents-else}

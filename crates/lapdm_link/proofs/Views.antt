@@ -1,5 +1,5 @@
 -- Parts of a world after one of them changed, and of lines after more of them.
-use Rattle.lapdm_link.proofs.Words.{arith, Some, ◌≡◌, refl, Bool, true, false, ◌&&◌, List, [], ◌∷◌, ◌++◌, map, drop, Option, None, append-nil, filter_map, filter_map-append, Channel, Frame, Message, Sapi, Zero, Three, Notice, Role, Mobile, Network, EndState, Outcome, start, Call, other, end_in, with_end_in, World, start_on, Line, Asked, Rivals, Told, is_role, is_sapi, call_in, notice_in, calls, notices}
+use Rattle.lapdm_link.proofs.Words.{arith, Some, ◌≡◌, refl, Bool, true, false, ◌&&◌, List, [], ◌∷◌, ◌++◌, map, drop, Option, None, append-nil, filter_map, filter_map-append, Channel, Frame, Message, Sapi, Notice, Role, EndState, Outcome, start, Call, other, end_in, with_end_in, World, start_on, Line, Asked, Rivals, Told, is_role, is_sapi, call_in, notice_in, calls, notices}
 use Rattle.lapdm_link.specs.Ways as W
 
 -- the words on ways, of a whole session
