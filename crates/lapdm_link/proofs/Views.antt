@@ -92,21 +92,40 @@ none_picked pick line h (x ∷ xs) = rw (h x) (none_picked pick line h xs)
 
 module _ (r : Role) (s : Sapi) (ls : List Line) (is : List Message) (cs : List Call) (ns : List Notice) where
   pub calls-own : calls r s (ls ++ spoken r s is cs ns) ≡ calls r s ls ++ cs
-  calls-own = simp (filter_map-append, append-nil, none_picked (call_in r s) Rivals (λ i. refl),
-      all_picked (call_in r s) (Asked r s) (λ c. rw (is_end-self r s) refl), none_picked (call_in r s) (Told r s) (λ n. refl))
+  calls-own = simp (
+    filter_map-append,
+    append-nil,
+    none_picked (call_in r s) Rivals (λ i. refl),
+    all_picked (call_in r s) (Asked r s) (λ c. rw (is_end-self r s) refl),
+    none_picked (call_in r s) (Told r s) (λ n. refl),
+  )
 
   pub notices-own : notices r s (ls ++ spoken r s is cs ns) ≡ notices r s ls ++ ns
-  notices-own = simp (filter_map-append, none_picked (notice_in r s) Rivals (λ i. refl),
-      none_picked (notice_in r s) (Asked r s) (λ c. refl), all_picked (notice_in r s) (Told r s) (λ n. rw (is_end-self r s) refl))
+  notices-own = simp (
+    filter_map-append,
+    none_picked (notice_in r s) Rivals (λ i. refl),
+    none_picked (notice_in r s) (Asked r s) (λ c. refl),
+    all_picked (notice_in r s) (Told r s) (λ n. rw (is_end-self r s) refl),
+  )
 
   module _ (r' : Role) (s' : Sapi) (e : is_end r' s' r s ≡ false) where
     pub calls-else : calls r' s' (ls ++ spoken r s is cs ns) ≡ calls r' s' ls
-    calls-else = simp (filter_map-append, append-nil, none_picked (call_in r' s') Rivals (λ i. refl),
-        none_picked (call_in r' s') (Asked r s) (λ c. rw e refl), none_picked (call_in r' s') (Told r s) (λ n. refl))
+    calls-else = simp (
+      filter_map-append,
+      append-nil,
+      none_picked (call_in r' s') Rivals (λ i. refl),
+      none_picked (call_in r' s') (Asked r s) (λ c. rw e refl),
+      none_picked (call_in r' s') (Told r s) (λ n. refl),
+    )
 
     pub notices-else : notices r' s' (ls ++ spoken r s is cs ns) ≡ notices r' s' ls
-    notices-else = simp (filter_map-append, append-nil, none_picked (notice_in r' s') Rivals (λ i. refl),
-        none_picked (notice_in r' s') (Asked r s) (λ c. refl), none_picked (notice_in r' s') (Told r s) (λ n. rw e refl))
+    notices-else = simp (
+      filter_map-append,
+      append-nil,
+      none_picked (notice_in r' s') Rivals (λ i. refl),
+      none_picked (notice_in r' s') (Asked r s) (λ c. refl),
+      none_picked (notice_in r' s') (Told r s) (λ n. rw e refl),
+    )
 
 -- a notice among the lines
 pub notices-at : (r : Role) (s : Sapi) (before : List Line) (n : Notice) (more : List Line) →

@@ -25,9 +25,9 @@ pub use Rattle.lapdm_window.specs.Tables.{after_frame, becomes_closed, is_comman
 pub use Rattle.lapdm_frame.specs.Layout.{n201, header}
 pub use Rattle.segmenting.specs.Joining.{endings, messages, ended, open_after, within, open_part}
 pub use Rattle.segmenting.proofs.Lemmas.{endings-all, endings-append, ended-take, ended-endings, messages_of, endings-more, endings-last}
-pub use Rattle.lapdm_link.specs.Ways.{IsAsSent, Ways, with_more, way, no_ways, without_first, count, with_way}
+pub use Rattle.lapdm_link.specs.Ways.{IsAsSent, Ways, with_more, way, no_ways, count, with_way}
 pub use Rattle.lapdm_window.specs.Steps.{IsSameLink}
-pub use Rattle.lapdm_window.proofs.Lemmas.{wholly_acked-taken, all_pieces-taken, KeepsWindow-taken, is_message, not_false, passes, is_idle-is, is_open-is, three_bits, waits_within, wholly_acked-more, wholly_acked-last, wholly_acked-most, KeepsWindow-acked, plain_fits, Keeps, keeps-frame, keeps-call, IsEnd-start, AtMost, few-frame, few-call}
+pub use Rattle.lapdm_window.proofs.Lemmas.{wholly_acked-taken, all_pieces-taken, KeepsWindow-taken, is_message, not_false, passes, is_idle-is, is_open-is, three_bits, waits_within, wholly_acked-more, wholly_acked-last, wholly_acked-most, KeepsWindow-acked, plain_fits, Keeps, keeps-frame, keeps-call, IsEnd-start, few-frame, few-call}
 pub use Rattle.std.specs.Str.{bytes_eq}
 pub use Rattle.std.proofs.lemmas.Slice.Eq.{bytes_eq-Decides}
 pub use Rattle.lapdm_window.specs.declared.State.TheVariants.{Idle, Opening, Closing, Closed}
@@ -35,4 +35,4 @@ pub use Rattle.lapdm_window.specs.declared.Reason.{Reason}
 pub use Rattle.lapdm_window.specs.declared.Notice.TheVariants.{Acked}
 pub use Rattle.std.proofs.Math.Seq.{drop-append_seam, map-set_same}
 pub use Rattle.lapdm_frame.specs.Frames.{Fits, IsFrame, octets_of, address, control, length_octet, NumbersFit}
-pub use Rattle.lapdm_frame.specs.declared.Channel.TheVariants.{Sdcch, Sacch}
+pub use Rattle.lapdm_frame.specs.declared.Channel.TheVariants.{Sdcch}

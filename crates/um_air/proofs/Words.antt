@@ -1,5 +1,5 @@
 -- The words of the library and of the specs, and the lemmas of the crates below, that these proofs cite.
-pub use Rattle.lapdm_link.proofs.Words.{◌≡◌, refl, sym, ◌∙◌, ap, subst, ℕ, List, [], ◌∷◌, map, Option, Some, None, inl, inr, Channel, Frame, Role, with_more, Deliver, sender_of, Deed, deed, taken, ◌≢◌, arith, ◌+◌, ◌%◌, ◌<◌, ◌≤◌, Bool, true, false, if◌then◌else◌, nat_eq, length, get_or, take, drop, All, false≢true, nat_tests, length-append, suc, ◌-◌, ◌++◌, All-head, All-take, All-drop, information, Fits, Mobile, Network, Ways, way, IsAsSent, Lose, Ends, Why, World, answer_by, after_by, Line, notice_lines, answer_lines, Claims, OrderClaims, CountsAgree, All-nil, All-cons, All-tail, All-append, Sdcch, n201, Content, I, Sapi, Notice, Ask, Send, End, unless, ap₂, ◌*◌, ◌/◌, ◌||◌, ◌==◌, ℤ, pos, negsuc, set, IsFrame, octets_of, address, control, length_octet, NumbersFit, unsigned_abs, IfSome, cases_eq, cases_lt, get_or-set_other, get_or_default, get_or-take, get_or-drop, length-take, length-set, length-map, set_past, get_or-map, map-set_same, AllZip, header, no_ways, without_first, count, refusal_by, Who, Nothing, event_lines, All-replicate, All-set, All-map, Sacch, goes_on, with_way}
+pub use Rattle.lapdm_link.proofs.Words.{◌≡◌, refl, sym, ◌∙◌, ap, subst, ℕ, List, [], ◌∷◌, map, Option, Some, None, inl, inr, Channel, Frame, Role, with_more, Deliver, sender_of, Deed, deed, taken, ◌≢◌, arith, ◌+◌, ◌%◌, ◌<◌, ◌≤◌, Bool, true, false, if◌then◌else◌, nat_eq, length, get_or, take, drop, All, nat_tests, length-append, ◌-◌, ◌++◌, All-head, All-take, All-drop, information, Fits, Ways, way, IsAsSent, Ends, Why, World, answer_by, after_by, Line, notice_lines, answer_lines, Claims, OrderClaims, CountsAgree, All-nil, All-cons, All-tail, All-append, n201, Content, Sapi, Notice, End, unless, ap₂, ◌*◌, ◌/◌, ◌||◌, ◌==◌, ℤ, pos, negsuc, set, IsFrame, octets_of, address, control, length_octet, NumbersFit, unsigned_abs, IfSome, cases_eq, cases_lt, get_or-set_other, get_or_default, get_or-take, get_or-drop, length-take, length-set, length-map, set_past, get_or-map, map-set_same, AllZip, header, no_ways, count, refusal_by, Who, Nothing, event_lines, All-replicate, All-set, All-map, goes_on, with_way}
 pub use Rattle.lapdm_frame.specs.declared.Refusal.{Refusal}
 pub use Rattle.lapdm_frame.specs.Refusals.{IsRefused}
 pub use Rattle.lapdm_frame.proofs.Uniqueness.{same_frame, information_bound}
@@ -15,7 +15,7 @@ pub use Rattle.interleave.proofs.Lemmas.{burst_place-lower, burst_place-upper, b
 pub use Rattle.weight_bound.proofs.Lemmas.{IsLightlyDamaged-equal}
 pub use Rattle.um_block.specs.Sent.{IsSentBlock}
 pub use Rattle.lapdm_frame.proofs.Canonical.{octets_canonical}
-pub use Rattle.lapdm_link.proofs.Lemmas.{Knows, KnowsBy, SaysOctets, AllFit, IsFitting, fits-step, AllReported, in_order-step, start-reported, order_claims, start-fits, claims, counts, LineOctets, AllSay, EndOctets, WorldOctets, octets-step, start-octets, deed-fits, deed-holds}
+pub use Rattle.lapdm_link.proofs.Lemmas.{KnowsBy, SaysOctets, AllFit, IsFitting, fits-step, AllReported, in_order-step, start-reported, order_claims, start-fits, claims, counts, LineOctets, AllSay, EndOctets, WorldOctets, octets-step, start-octets, deed-fits, deed-holds}
 pub use Rattle.um_air.specs.Sessions.{told, after, IsHarmlessStep, AreOctets, IsKindEvent, lines, IsHarmlessAfter, IsHarmless, IsKind, IsOctetEvent}
 pub use Rattle.lapdm_frame.proofs.Controls.{bit_bound}
 pub use Rattle.std.proofs.lemmas.Slice.Zip.{AllZip-long}
