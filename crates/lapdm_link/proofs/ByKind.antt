@@ -1,7 +1,6 @@
 -- Each event is refused, or is of one of five kinds.
-use Rattle.lapdm_link.proofs.Words.{◌≡◌, refl, sym, ap, subst, Bool, true, false, List, [], ◌∷◌, map, nat_eq, Option, Some, None, if◌then◌else◌, append-nil, Frame, Message, Sapi, Zero, Three, Refused, Role, Mobile, Network, sapi_number, Call, Opens, OpensBare, refusal_of, after_call, after_frame, Request, Send, Event, Open, OpenBare, Ask, Deliver, Lose, Rival, other, rival_frame, Deed, does, does_nothing, deed, End, Why, AirFull, because, unless, rival_refusal, call_of, World, next, refusal, after_by, answer_by, answer, after, Line, Asked, Rivals, Told, notice_lines, answer_lines}
-use Rattle.lapdm_link.proofs.Views.{end_of, without_first, with_frames}
-use Rattle.lapdm_link.proofs.Views.{acted}
+use Rattle.lapdm_link.proofs.Words.{arith, ◌≡◌, refl, sym, ap, subst, Bool, true, false, List, [], ◌∷◌, map, nat_eq, Option, Some, None, if◌then◌else◌, append-nil, Frame, Message, Sapi, Zero, Three, Refused, Role, Mobile, Network, sapi_number, Call, Opens, OpensBare, refusal_of, after_call, after_frame, Request, Event, Open, OpenBare, Ask, Deliver, Lose, Rival, other, rival_frame, Deed, does, does_nothing, deed, End, Why, AirFull, because, unless, rival_refusal, call_of, World, next, refusal, after_by, answer_by, answer, after, Line, Asked, Rivals, Told, notice_lines, answer_lines}
+use Rattle.lapdm_link.proofs.Views.{end_of, without_first, with_frames, acted}
 
 -- a mobile alone opens the link of SAPI 0, and by some information; that of SAPI 3 is opened bare
 abbrev pub IsPlaced : Role → Sapi → Call → Type 0
@@ -10,8 +9,7 @@ IsPlaced r s OpensBare = s ≡ Three
 IsPlaced r s call = Unit {0}
 
 placed-request : (r : Role) (s : Sapi) (request : Request) → IsPlaced r s (call_of request)
-placed-request r s (Send m) = tt
-placed-request r s request = tt
+placed-request r s request = grind arith
 
 -- what is known of the frames that are read
 abbrev pub Knows : (Role → Frame → Type 0) → Event → Type 0
@@ -23,16 +21,13 @@ KnowsBy (Some why) Known event = Unit {0}
 KnowsBy None Known event = Knows Known event
 
 no_refusal : (b : Bool) (o : Option Refused) → unless b AirFull (because o) ≡ None → o ≡ None
-no_refusal true o h = cc
-no_refusal false None h = refl
-no_refusal false (Some refused) h = cc
+no_refusal b o h = grind arith
 
 none_sent : (r : Role) (w : World) → with_frames r [] w ≡ w
 none_sent Mobile w = ap (λ (fs : List Frame). record w { ways = record w.ways { up = fs } }) (append-nil w.ways.up)
 none_sent Network w = ap (λ (fs : List Frame). record w { ways = record w.ways { down = fs } }) (append-nil w.ways.down)
 
-module _ (w : World) (P : World → List Line → Type 0) (Known : Role → Frame → Type 0)
-    (refused : P w [])
+module _ (w : World) (P : World → List Line → Type 0) (Known : Role → Frame → Type 0) (refused : P w [])
     (called : (r : Role) (s : Sapi) (call : Call) → IsPlaced r s call → refusal_of call (end_of r s w) ≡ None →
     P (acted r s (after_call call (end_of r s w)) w) (Asked r s call ∷ map (Told r s) (after_call call (end_of r s w)).notices))
     (taken : (r : Role) (s : Sapi) (f : Frame) → nat_eq f.sapi (sapi_number s) ≡ true → Known (other r) f →
@@ -44,8 +39,7 @@ module _ (w : World) (P : World → List Line → Type 0) (Known : Role → Fram
     either : (o : Option Why) (event : Event) → KnowsBy o Known event → (o ≡ None → Knows Known event →
         P (after_by None event w) (answer_lines event (answer_by None (deed event w.ends)))) →
         P (after_by o event w) (answer_lines event (answer_by o (deed event w.ends)))
-    either (Some why) event known h = refused
-    either None event known h = h refl known
+    either o event known h = grind arith
 
     -- nothing is sent
     quietly : (sender r : Role) → P (with_frames r [] (without_first sender w)) []
@@ -60,8 +54,7 @@ module _ (w : World) (P : World → List Line → Type 0) (Known : Role → Fram
     taken_by r f known false false e e' = quietly (other r) r
 
     pub by_kind : (event : Event) → KnowsBy (refusal event w) Known event → P (after event w) (answer_lines event (answer event w))
-    by_kind (Open info) known =
-        either _ (Open info) known (λ e k. called Mobile Zero (Opens info) (refl, refl) (no_refusal _ _ e))
+    by_kind (Open info) known = either _ (Open info) known (λ e k. called Mobile Zero (Opens info) (refl, refl) (no_refusal _ _ e))
     by_kind (OpenBare r) known = either _ (OpenBare r) known (λ e k. called r Three OpensBare refl (no_refusal _ _ e))
     by_kind (Ask r s request) known =
         either _ (Ask r s request) known (λ e k. called r s (call_of request) (placed-request r s request) (no_refusal _ _ e))

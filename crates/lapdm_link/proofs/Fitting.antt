@@ -1,5 +1,5 @@
 -- Every frame on its way can be written.
-use Rattle.lapdm_link.proofs.Words.{◌≡◌, sym, subst, List, [], ◌∷◌, ◌++◌, None, All, refl, ◌∙◌, ap, arith, false, nat_eq, nat_lt, length, ◌≤◌, Bool, true, if◌then◌else◌, Option, Some, All-nil, All-cons, All-head, All-tail, All-append, All-drop, drop-append_seam, Channel, Frame, Message, Sapi, Role, Mobile, Network, EndState, Outcome, start, IsEnd, Call, refusal_of, after_call, Opens, OpensBare, HasCall, after_frame, Event, other, rival_frame, rival_refusal, Open, OpenBare, Ask, Deliver, Ends, end_in, sender_of, Deed, does, does_nothing, deed, call_of, End, taken, Why, World, start_on, refusal, answer, after, answer_by, after_by, answers, IsReadable, IsSendable, Line, Rivals, answer_lines, nat_tests, n201, Fits, Zero, Three, passes, plain_fits, Keeps, keeps-frame, keeps-call, IsEnd-start, AtMost, few-frame, few-call, Ways, with_more, All-push}
+use Rattle.lapdm_link.proofs.Words.{◌≡◌, sym, subst, List, [], ◌∷◌, ◌++◌, None, All, refl, ◌∙◌, ap, arith, false, nat_eq, nat_lt, length, ◌≤◌, Bool, true, if◌then◌else◌, Option, Some, All-nil, All-cons, All-head, All-tail, All-append, All-drop, drop-append_seam, Channel, Frame, Message, Sapi, Role, Mobile, Network, EndState, Outcome, start, IsEnd, Call, refusal_of, after_call, HasCall, after_frame, Event, other, rival_frame, rival_refusal, Deliver, Ends, end_in, sender_of, Deed, does, does_nothing, deed, End, taken, Why, World, start_on, refusal, answer, after, answer_by, after_by, answers, IsReadable, IsSendable, Line, Rivals, answer_lines, nat_tests, n201, Fits, Zero, Three, passes, plain_fits, Keeps, keeps-frame, keeps-call, IsEnd-start, few-frame, few-call, Ways, with_more, All-push}
 use Rattle.lapdm_link.proofs.Views.{end_of, way, without_first, with_frames, acted, said, ends_do, each_way, each_lost, each_start, way_does, way_does-other}
 use Rattle.lapdm_link.proofs.ByKind.{IsPlaced, KnowsBy, by_kind}
 use Rattle.lapdm_link.specs.Ways as W
@@ -18,9 +18,8 @@ module _ (E : Sapi → EndState → Type 0) (F : Frame → Type 0) where
   acts channel r s o w h g = record {
     on_channel = h.on_channel;
     ends = ends_do (λ r' s' e. E s' e) r s o w g.0 (λ r' s' n. h.ends r' s');
-    ways = each_way (λ r'. All F (way r' (acted r s o w))) r
-        (subst (All F) (sym (way_does r s o w)) (All-append F (way r w) o.frames (h.ways r) g.1))
-        (subst (All F) (sym (way_does-other r s o w)) (h.ways (other r)));
+    ways = each_way (λ r'. All F (way r' (acted r s o w))) r (rw (way_does r s o w) (All-append F (way r w) o.frames (h.ways r) g.1))
+        (rw (way_does-other r s o w) (h.ways (other r)));
   }
 
   lost : (channel : Channel) (w : World) → Holds channel w → (sender : Role) → Holds channel (without_first sender w)
@@ -35,8 +34,7 @@ module _ (E : Sapi → EndState → Type 0) (F : Frame → Type 0) where
       (let o : Outcome = after_frame f (end_of r s w) in E s o.after × All F o.frames)) →
       ((info : Message) → rival_refusal w.channel info ≡ None → Says (Rivals info ∷ []) → F (rival_frame info)) →
       (event : Event) → KnowsBy (refusal event w) Known event → Says (answer_lines event (answer event w)) → Holds channel (after event w)
-  holds-step Says Known channel w h called taken rival event known =
-      by_kind w (λ z new. Says new → Holds channel z) Known (λ l. h)
+  holds-step Says Known channel w h called taken rival event known = by_kind w (λ z new. Says new → Holds channel z) Known (λ l. h)
       (λ r s call placed ok l. acts channel r s (after_call call (end_of r s w)) w h (called r s call placed ok l))
       (λ r s f on k l. acts channel r s (after_frame f (end_of r s w)) (without_first (other r) w) (lost channel w h (other r))
       (taken r s f k))
@@ -65,9 +63,7 @@ IsFitting channel w = Holds (FitsEnd channel) (Fits channel) channel w
 
 -- what is asked of an end is a call that it has
 has_call : (r : Role) (s : Sapi) (call : Call) (x : EndState) → IsPlaced r s call → x.sapi ≡ s → HasCall x call
-has_call r s (Opens info) x placed at = at ∙ placed.1
-has_call r s OpensBare x placed at = at ∙ placed
-has_call r s call x placed at = tt
+has_call r s call x placed at = grind arith
 
 fits-kept : (channel : Channel) (s : Sapi) (e : EndState) (o : Outcome) → FitsEnd channel s e → Keeps e o →
     FitsEnd channel s o.after × AllFit channel o.frames
@@ -87,8 +83,7 @@ rival_fits channel w info same ok =
 -- where each frame that is read can be written, so can each that is on its way
 pub fits-step : (channel : Channel) (w : World) (event : Event) → KnowsBy (refusal event w) (λ sender f. Fits channel f) event →
     IsFitting channel w → IsFitting channel (after event w)
-fits-step channel w event known h =
-    holds-step (FitsEnd channel) (Fits channel) (λ ls. Unit {0}) (λ sender f. Fits channel f) channel w h
+fits-step channel w event known h = holds-step (FitsEnd channel) (Fits channel) (λ ls. Unit {0}) (λ sender f. Fits channel f) channel w h
     (λ r s call placed ok l. fits-kept channel s (end_of r s w) _ (h.ends r s)
     (keeps-call call (end_of r s w) (h.ends r s).end (has_call r s call (end_of r s w) placed (h.ends r s).on_sapi) ok))
     (λ r s f fits. fits-kept channel s (end_of r s w) _ (h.ends r s)
@@ -112,9 +107,8 @@ deed-holds E F channel w event o none h =
     went_out F (sender_of (deed event w.ends).who) (deed event w.ends).frames (taken event w.ways) g.ways
 
 -- the frames of a deed fit, where what is read does
-pub deed-fits : (channel : Channel) (w : World) (event : Event) → KnowsBy (refusal event w)
-    (λ sender f. Fits channel f) event → IsFitting channel w → refusal event w ≡ None →
-    AllFit channel (deed event w.ends).frames
+pub deed-fits : (channel : Channel) (w : World) (event : Event) → KnowsBy (refusal event w) (λ sender f. Fits channel f) event →
+    IsFitting channel w → refusal event w ≡ None → AllFit channel (deed event w.ends).frames
 deed-fits channel w event known h none =
     deed-holds (FitsEnd channel) (Fits channel) channel w event (refusal event w) none (fits-step channel w event known h)
 
@@ -123,22 +117,16 @@ deed-fits channel w event known h none =
 abbrev IsFew : Deed → Type 0
 IsFew d = (length d.frames ≤ 2) × (length d.notices ≤ 2)
 
-few-does : (r : Role) (s : Sapi) {x : EndState} (o : Outcome) (es : Ends) → AtMost 2 2 x o → IsFew (does r s o es)
-few-does r s o es h = (h.frames, h.notices)
-
 few-takes : (r : Role) (f : Frame) (es : Ends) (zero three : Bool) →
     IsFew (if zero then does r Zero (after_frame f (end_in r Zero es)) es else
     (if three then does r Three (after_frame f (end_in r Three es)) es else does_nothing (End r) es))
-few-takes r f es true three = few-does r Zero _ es (few-frame f (end_in r Zero es))
-few-takes r f es false true = few-does r Three _ es (few-frame f (end_in r Three es))
+few-takes r f es true three = (let h = few-frame f (end_in r Zero es) in (h.frames, h.notices))
+few-takes r f es false true = (let h = few-frame f (end_in r Three es) in (h.frames, h.notices))
 few-takes r f es false false = (omega arith, omega arith)
 
 few-deed : (event : Event) (es : Ends) → IsFew (deed event es)
-few-deed (Open info) es = few-does Mobile Zero _ es (few-call (Opens info) (end_in Mobile Zero es))
-few-deed (OpenBare r) es = few-does r Three _ es (few-call OpensBare (end_in r Three es))
-few-deed (Ask r s request) es = few-does r s _ es (few-call (call_of request) (end_in r s es))
 few-deed (Deliver sender (Some f)) es = few-takes (other sender) f es (nat_eq f.sapi 0) (nat_eq f.sapi 3)
-few-deed event es = (omega arith, omega arith)
+few-deed event es = grind (arith, few-call)
 
 sendable : (channel : Channel) (w : World) (event : Event) (o : Option Why) → IsFitting channel (after_by o event w) →
     IsSendable channel (answer_by o (deed event w.ends))
@@ -148,8 +136,7 @@ sendable channel w event None h =
     (few.0, deed-holds (FitsEnd channel) (Fits channel) channel w event None refl h, few.1)
 
 readable : (channel : Channel) (o : Option Why) (event : Event) → IsReadable channel event → KnowsBy o (λ sender f. Fits channel f) event
-readable channel None (Deliver sender (Some f)) h = h
-readable channel o event h = tt
+readable channel o event h = grind arith
 
 small-run : (channel : Channel) (events : List Event) (w : World) → All (IsReadable channel) events → IsFitting channel w →
     All (IsSendable channel) (answers events w)

@@ -127,36 +127,36 @@ module _ (r : Role) (s : Sapi) where
   -- it acts
   module _ (ls : List Line) (x : Side) (role : x.end.role ≡ r) (same : x.end.sapi ≡ s) (h : HasOpenings r s x ls) (left : List Content)
     where
-    opening-cause : (c : Content) (info : Message) → OpensBy c x.end info →
-        AllOf (IsCaused (other r) s ls) (cons_option (content_of c) left) → HasCause r s info ls × IsBare s info
-    opening-cause (Sabm p i) info o sent = sabm-cause r s ls info (rw (same, role) at o.2)
-        (let g : IsCaused (other r) s ls (Sabm p i) = sent.0 in rw o.0 at g)
-    opening-cause (Ua f i) info o sent = ua-cause r s ls info (rw o.2 (rw o.1 at h.1))
-        (let g : IsCaused (other r) s ls (Ua f i) = sent.0 in rw o.0 at g)
-    opening-cause c info o sent = absurd o
+      opening-cause : (c : Content) (info : Message) → OpensBy c x.end info →
+          AllOf (IsCaused (other r) s ls) (cons_option (content_of c) left) → HasCause r s info ls × IsBare s info
+      opening-cause (Sabm p i) info o sent = sabm-cause r s ls info (rw (same, role) at o.2)
+          (let g : IsCaused (other r) s ls (Sabm p i) = sent.0 in rw o.0 at g)
+      opening-cause (Ua f i) info o sent = ua-cause r s ls info (rw o.2 (rw o.1 at h.1))
+          (let g : IsCaused (other r) s ls (Ua f i) = sent.0 in rw o.0 at g)
+      opening-cause c info o sent = absurd o
 
-    module _ (call : Option Call) (c : Content) (o : Outcome) (asked : HasAsked ls call)
-        (sent : AllOf (IsCaused (other r) s ls) (cons_option (content_of c) left)) where
-      abbrev told : List Line
-      told = map (Told r s) o.notices
+      module _ (call : Option Call) (c : Content) (o : Outcome) (asked : HasAsked ls call)
+          (sent : AllOf (IsCaused (other r) s ls) (cons_option (content_of c) left)) where
+        abbrev told : List Line
+        told = map (Told r s) o.notices
 
-      goes-on : Goes call c x.end o → HasReached r s (ls ++ told) o.after × AllStand IsOpenedAfter ls told
-      goes-on (remains same e n) = (rw (same, e) (reached-more r s ls told x.end.state x.end.kept h.1), none-opened o.notices ls n)
-      goes-on (ends over e n) = (rw over tt, none-opened o.notices ls n)
-      goes-on (closes now closing e n) =
-          (rw (closing, e) (opened-more r s ls told x.end.kept (rw now at h.1)), none-opened o.notices ls n)
-      goes-on (begins opening a n) =
-          (rw opening (asked-more r s ls told o.after.kept (was-asked ls call o.after.kept a asked)), none-opened o.notices ls n)
-      goes-on (opens {info} n now e by) =
-          let cause = opening-cause c info by sent in rw (now, e, n) ((Contains-push ls _, cause.1), (cause.0, tt))
+        goes-on : Goes call c x.end o → HasReached r s (ls ++ told) o.after × AllStand IsOpenedAfter ls told
+        goes-on (remains same e n) = (rw (same, e) (reached-more r s ls told x.end.state x.end.kept h.1), none-opened o.notices ls n)
+        goes-on (ends over e n) = (rw over tt, none-opened o.notices ls n)
+        goes-on (closes now closing e n) =
+            (rw (closing, e) (opened-more r s ls told x.end.kept (rw now at h.1)), none-opened o.notices ls n)
+        goes-on (begins opening a n) =
+            (rw opening (asked-more r s ls told o.after.kept (was-asked ls call o.after.kept a asked)), none-opened o.notices ls n)
+        goes-on (opens {info} n now e by) =
+            let cause = opening-cause c info by sent in rw (now, e, n) ((Contains-push ls _, cause.1), (cause.0, tt))
 
-      done : IsDone call c x.end o → (AllOf (IsCaused r s (ls ++ told)) (x.out ++ contents o.frames) ×
-          HasReached r s (ls ++ told) o.after) × AllStand IsOpenedAfter ls told
-      done d =
-          let h' : HasOpenings r s x (ls ++ told) = openings-more r s ls told x h in
-          let to = goes-on d.goes in
-          let says = said-caused (ls ++ told) call x.end o.after h'.1 to.0 in
-          ((of-append _ x.out _ h'.0 (frames-say _ (IsCaused r s (ls ++ told)) says x.end.sapi o.frames d.frames), to.0), to.1)
+        done : IsDone call c x.end o → (AllOf (IsCaused r s (ls ++ told)) (x.out ++ contents o.frames) ×
+            HasReached r s (ls ++ told) o.after) × AllStand IsOpenedAfter ls told
+        done d =
+            let h' : HasOpenings r s x (ls ++ told) = openings-more r s ls told x h in
+            let to = goes-on d.goes in
+            let says = said-caused (ls ++ told) call x.end o.after h'.1 to.0 in
+            ((of-append _ x.out _ h'.0 (frames-say _ (IsCaused r s (ls ++ told)) says x.end.sapi o.frames d.frames), to.0), to.1)
 
 -- an end acts
 pub openings-here : {x y : Side} {a : Act} (ls : List Line) → IsActed x y a → x.end.role ≡ a.role → x.end.sapi ≡ a.sapi →

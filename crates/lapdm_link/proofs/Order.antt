@@ -1,5 +1,5 @@
 -- The claims on every session, whatever frames arrive.
-use Rattle.lapdm_link.proofs.Words.{sym, List, [], ◌∷◌, ◌++◌, append_assoc, ◌≡◌, refl, ◌∙◌, ap, arith, ℕ, ◌+◌, ◌≤◌, length, Option, Some, None, append-nil, All-nil, Channel, IsMessage, Sapi, Notice, Role, EndState, Outcome, KeepsWindow, capped, Call, Closes, after_call, after_frame, IsSameLink, Line, Asked, StandsAfter, Told, call_in, notice_in, answer_lines, lines, sent, acked, IsOfOpenEnd, IsOpenEnd, OrderClaims, Event, Deliver, Why, other, World, start_on, refusal, answer, after, answers}
+use Rattle.lapdm_link.proofs.Words.{sym, List, [], ◌∷◌, ◌++◌, append_assoc, ◌≡◌, refl, ◌∙◌, ap, arith, ℕ, ◌+◌, ◌≤◌, length, Option, Some, append-nil, All-nil, Channel, IsMessage, Sapi, Notice, Role, EndState, Outcome, KeepsWindow, capped, Call, Closes, after_call, after_frame, IsSameLink, Line, Asked, StandsAfter, Told, call_in, notice_in, answer_lines, lines, sent, acked, IsOfOpenEnd, IsOpenEnd, OrderClaims, Event, Why, other, World, start_on, refusal, answer, after, answers}
 use Rattle.lapdm_window.specs.declared.Notice.TheVariants as N
 use Rattle.lapdm_link.proofs.Told.{Known, known, nothing, MayTell, goes-append, Runs, runs-told, runs-else, IsTold, is_told, at_place, none_beyond}
 use Rattle.lapdm_link.proofs.Taking.{taken-frame}
@@ -66,10 +66,7 @@ module _ {r : Role} {s : Sapi} {e : EndState} {ls : List Line} (h : IsReported r
       (g.2.1 ∙ ap (λ k. capped (k + 1)) (sym t.acked), omega (arith, t.acked, ap length t.taken, g.2.2))
 
   of_open : (m : Known) (n : Notice) → IsOfOpenEnd n → MayTell (Some n) m → m.stage ≡ 1
-  of_open m (N.Got t) of may = may
-  of_open m (N.Acked n) of may = may.0
-  of_open m N.Oversize of may = may
-  of_open m other of may = absurd of
+  of_open m n of may = grind arith
 
   inside : (n : Notice) (before : List Line) → IsOfOpenEnd n → StandsAfter before (Told r s n) ls → IsOpenEnd r s before
   inside n before of place =
@@ -91,8 +88,7 @@ acts w ls h r s cs o link end run =
     (λ r' s' n. unseen (h r' s') new (runs-else r' s' r s n cs o.notices (known (end_of r' s' w))))
 
 any_frame : (o : Option Why) (event : Event) → KnowsBy o (λ r f. Unit {0}) event
-any_frame None (Deliver sender (Some f)) = tt
-any_frame o event = tt
+any_frame o event = grind arith
 
 pub in_order-step : (w : World) (ls : List Line) (event : Event) → AllReported w ls →
     AllReported (after event w) (ls ++ answer_lines event (answer event w))

@@ -1,9 +1,9 @@
 -- Every harmless session: one event after another.
-use Rattle.lapdm_link.proofs.Words.{◌≡◌, refl, sym, ◌∙◌, ap, subst, arith, ◌+◌, ◌≤◌, true, false, List, [], ◌∷◌, ◌++◌, length, Option, Some, None, append_assoc, cons_option, append-nil, length-append, filter_map-append, Channel, Content, Frame, Sapi, Zero, Three, Notice, Role, Mobile, Network, EndState, start, Call, Event, Deliver, Why, other, World, start_on, refusal, answer, after, answers, IsHarmlessBy, IsHarmless, IsAsSent, Line, Asked, Told, OrderClaims, CountsAgree, is_sapi, answer_lines, notices, Claims, acked, got}
+use Rattle.lapdm_link.proofs.Words.{◌≡◌, refl, ◌∙◌, ap, arith, ◌+◌, ◌≤◌, true, false, List, [], ◌∷◌, ◌++◌, length, Option, Some, append_assoc, cons_option, append-nil, length-append, filter_map-append, Channel, Content, Frame, Sapi, Zero, Three, Notice, Role, Mobile, Network, start, Call, Event, Why, other, World, start_on, refusal, answer, after, answers, IsHarmlessBy, IsHarmless, IsAsSent, Line, Asked, Rivals, Told, Message, OrderClaims, CountsAgree, is_sapi, answer_lines, Claims, acked, got}
 use Rattle.lapdm_window.specs.declared.Notice.TheVariants as N
 use Rattle.lapdm_link.specs.Claims as C
 use Rattle.lapdm_link.proofs.Queues.{is_on, content_of, content_on, contents_on, AllOf, IsOf, contents-own, contents-else}
-use Rattle.lapdm_link.proofs.Views.{end_of, way, rest, without_first, acted, said, is_end, by_link, other_is, link_else, end_does, end_does-else, way_does, calls-own, calls-else, notices-own, notices-else}
+use Rattle.lapdm_link.proofs.Views.{end_of, way, rest, without_first, acted, spoken, is_end, by_link, other_is, link_else, end_does, end_does-else, way_does, calls-own, calls-else, notices-own, notices-else}
 use Rattle.lapdm_link.proofs.ByKind.{KnowsBy, by_kind}
 use Rattle.lapdm_link.proofs.Taking.{taken-frame}
 use Rattle.lapdm_link.proofs.Asked.{is_called}
@@ -72,27 +72,20 @@ first_lost : (r : Role) (s : Sapi) (w : World) (ls : List Line) → Links r s w 
 first_lost Mobile s w ls h = rest_gone _ (side Network s w ls) w.ways.down h
 first_lost Network s w ls h = rest_gone _ (side Mobile s w ls) w.ways.up h
 
-sides : {e e' : EndState} {o o' : List Content} {c c' : List Call} {n n' : List Notice} → e ≡ e' → o ≡ o' → c ≡ c' → n ≡ n' →
-    ◌≡◌ {A = Side} (record { end = e; out = o; asked = c; told = n }) (record { end = e'; out = o'; asked = c'; told = n' })
-sides h g k l = cc
+sides : {x y : Side} → x.end ≡ y.end → x.out ≡ y.out → x.asked ≡ y.asked → x.told ≡ y.told → x ≡ y
+sides h g k l = λ i. record { end = h i; out = g i; asked = k i; told = l i }
 
 -- what an end does is seen at its end alone
 module _ (v : World) (ls : List Line) (a : Act) (own : AllOf (IsOf a.sapi) a.does.frames) where
   here : side a.role a.sapi (acted_by a v) (ls ++ lines a) ≡ L.after a (side a.role a.sapi v ls)
   here = sides (end_does a.role a.sapi a.does v)
-      (rw (
-        way_does a.role a.sapi a.does v,
-        filter_map-append (content_on a.sapi) (way a.role v),
-        contents-own a.sapi a.does.frames own,
-      ) refl)
+      (rw (way_does a.role a.sapi a.does v, filter_map-append, contents-own a.sapi a.does.frames own) refl)
       (calls-own a.role a.sapi ls a.rivals a.asks a.does.notices) (notices-own a.role a.sapi ls a.rivals a.asks a.does.notices)
 
   out-else : (r' r : Role) (s : Sapi) → is_end r s r' a.sapi ≡ false →
       contents_on s (way r (acted r' a.sapi a.does v)) ≡ contents_on s (way r v)
-  out-else Mobile Mobile s n =
-      rw (filter_map-append (content_on s) v.ways.up, contents-else s a.sapi n a.does.frames own, append-nil) refl
-  out-else Network Network s n =
-      rw (filter_map-append (content_on s) v.ways.down, contents-else s a.sapi n a.does.frames own, append-nil) refl
+  out-else Mobile Mobile s n = rw (filter_map-append, contents-else s a.sapi n a.does.frames own, append-nil) refl
+  out-else Network Network s n = rw (filter_map-append, contents-else s a.sapi n a.does.frames own, append-nil) refl
   out-else r' r s n = refl
 
   elsewhere : (r : Role) (s : Sapi) → is_end r s a.role a.sapi ≡ false → side r s (acted_by a v) (ls ++ lines a) ≡ side r s v ls
@@ -106,11 +99,8 @@ module _ (v : World) (ls : List Line) (a : Act) (own : AllOf (IsOf a.sapi) a.doe
   links-act e e' own others = seen_by a.role (acted_by a v) (ls ++ lines a)
       (by_link (λ s. Links a.role s (acted_by a v) (ls ++ lines a)) a.sapi
       (rw (here ∙ ap (L.after a) e, elsewhere (other a.role) a.sapi (other_is a.role a.sapi) ∙ e') own)
-      (λ s n. rw (
-        elsewhere a.role s (link_else a.role a.role s a.sapi n),
-        elsewhere (other a.role) s
-            (link_else (other a.role) a.role s a.sapi n),
-      ) (more (lines a) (others s n))))
+      (λ s n. rw (elsewhere a.role s (link_else a.role a.role s a.sapi n), elsewhere (other a.role) s (link_else _ a.role s a.sapi n))
+      (more (lines a) (others s n))))
 
 -- ---- what stands before a notice, by the claim on acknowledgements
 
@@ -118,32 +108,18 @@ abbrev pub IsAfterGot : List Line → Line → Type 0
 IsAfterGot before (Told r s (N.Acked n)) = length (acked r s before) + 1 ≤ length (got (other r) s before)
 IsAfterGot before other = Unit {0}
 
-after_got : (r : Role) (s : Sapi) (n : Notice) (ns : List Notice) (ls : List Line) →
-    length (acked r s (ls ++ said r s [] (n ∷ ns))) ≤ length (got (other r) s (ls ++ said r s [] (n ∷ ns))) → IsAfterGot ls (Told r s n)
-after_got r s (N.Acked i) ns ls h =
+-- where the end's own lines leave no more acknowledged than the other end handed up
+told-after : (r : Role) (s : Sapi) (is : List Message) (cs : List Call) (ns : List Notice) (ls : List Line) →
+    (let zs : List Line = ls ++ spoken r s is cs ns in length (acked r s zs) ≤ length (got (other r) s zs)) →
+    AllStand IsAfterGot ls (spoken r s is cs ns)
+told-after r s (i ∷ is) cs ns ls h = (tt, told-after r s is cs ns (ls ++ Rivals i ∷ []) (rw append_assoc h))
+told-after r s [] (c ∷ cs) ns ls h = (tt, told-after r s [] cs ns (ls ++ Asked r s c ∷ []) (rw append_assoc h))
+told-after r s [] [] (N.Acked i ∷ ns) ls h =
     let g = rw (notices-own r s ls [] [] (N.Acked i ∷ ns), notices-else r s ls [] [] (N.Acked i ∷ ns) (other r) s (other_is r s)) at h in
-    omega (arith, simp (filter_map-append, length-append) at g)
-after_got r s n ns ls h = tt
-
-told-after : (r : Role) (s : Sapi) (ns : List Notice) (ls : List Line) →
-    length (acked r s (ls ++ said r s [] ns)) ≤ length (got (other r) s (ls ++ said r s [] ns)) → AllStand IsAfterGot ls (said r s [] ns)
-told-after r s [] ls h = tt
-told-after r s (n ∷ ns) ls h = (
-  after_got r s n ns ls h,
-  told-after r s ns (ls ++ Told r s n ∷ [])
-      (subst (λ xs. length (acked r s xs) ≤ length (got (other r) s xs)) (sym (append_assoc ls (Told r s n ∷ []) (said r s [] ns))) h),
-)
-
-acts-after : {x y : Side} {a : Act} (ls : List Line) → IsActed x y a →
-    length (acked a.role a.sapi (ls ++ lines a)) ≤ length (got (other a.role) a.sapi (ls ++ lines a)) → AllStand IsAfterGot ls (lines a)
-acts-after {a = a} ls (called {r} {s} {call} p c) h = (
-  tt,
-  told-after r s a.does.notices (ls ++ Asked r s call ∷ [])
-      (subst (λ xs. length (acked r s xs) ≤ length (got (other r) s xs))
-      (sym (append_assoc ls (Asked r s call ∷ []) (said r s [] a.does.notices))) h),
-)
-acts-after {a = a} ls (took e t) h = told-after a.role a.sapi a.does.notices ls h
-acts-after ls rival h = (tt, tt)
+    let later = told-after r s [] [] ns (ls ++ Told r s (N.Acked i) ∷ []) (rw append_assoc h) in
+    (omega (arith, simp (filter_map-append, length-append) at g), later)
+told-after r s [] [] (n ∷ ns) ls h = (tt, told-after r s [] [] ns (ls ++ Told r s n ∷ []) (rw append_assoc h))
+told-after r s [] [] [] ls h = tt
 
 -- ---- a session
 
@@ -163,22 +139,20 @@ acts : (ls : List Line) (v : World) {x y : Side} {a : Act} → IsActed x y a →
 acts ls v {x} {y} {a} i role same e e' h others reported =
     let link = link-acts ls i role same h in
     let all : AllLinks (acted_by a v) (ls ++ lines a) = links-act v ls a (acts_own i same) e e' link.0 others in
-    (all, acts-after ls i (acked_most (reported a.role a.sapi) (reported (other a.role) a.sapi) (carried (all a.role a.sapi))), link.1)
+    let most = acked_most (reported a.role a.sapi) (reported (other a.role) a.sapi) (carried (all a.role a.sapi)) in
+    (all, told-after a.role a.sapi a.rivals a.asks a.does.notices ls most, link.1)
 
 -- the first that comes is the first that was sent
 comes-first : (s : Sapi) (f : Frame) (fs : List Frame) → is_on s f ≡ true → IsAsSent (Some f) fs →
     contents_on s fs ≡ cons_option (content_of f.content) (contents_on s (rest fs))
-comes-first s f [] on sent = absurd sent
-comes-first s f (g ∷ gs) on sent = rw (← sent, on) refl
+comes-first s f fs on sent = grind arith
 
 left-here : (r : Role) (s : Sapi) (w : World) (ls : List Line) → side r s (without_first (other r) w) ls ≡ side r s w ls
-left-here Mobile s w ls = refl
-left-here Network s w ls = refl
+left-here r s w ls = grind arith
 
 left-there : (r : Role) (s : Sapi) (w : World) (ls : List Line) → side (other r) s (without_first (other r) w) ls ≡
     record (side (other r) s w ls) { out = contents_on s (rest (way (other r) w)) }
-left-there Mobile s w ls = refl
-left-there Network s w ls = refl
+left-there r s w ls = grind arith
 
 lost : (sender : Role) (w : World) (ls : List Line) → AllLinks w ls → AllLinks (without_first sender w) ls
 lost Mobile w ls h = seen_by Network (without_first Mobile w) ls (λ s. first_lost Network s w ls (h Network s))
@@ -186,8 +160,7 @@ lost Network w ls h = seen_by Mobile (without_first Network w) ls (λ s. first_l
 
 as_sent : (o : Option Why) (event : Event) (w : World) → IsHarmlessBy o event w →
     KnowsBy o (λ sender f. IsAsSent (Some f) (way sender w)) event
-as_sent None (Deliver sender (Some f)) w h = h
-as_sent o event w h = tt
+as_sent o event w h = grind arith
 
 goes : (w : World) (ls : List Line) (event : Event) → IsHarmlessBy (refusal event w) event w → IsSession w ls →
     Goes ls (after event w) (answer_lines event (answer event w))
@@ -209,12 +182,8 @@ session-step w ls event harmless h =
     let new : List Line = answer_lines event (answer event w) in
     let reported : AllReported (after event w) (ls ++ new) = in_order-step w ls event h.reported in
     let g = goes w ls event harmless h reported in
-    record {
-      reported = reported;
-      links = g.0;
-      after_got = stand-append IsAfterGot [] ls new h.after_got g.1;
-      after_cause = stand-append IsOpenedAfter [] ls new h.after_cause g.2;
-    }
+    let after_got : AllStand IsAfterGot [] (ls ++ new) = stand-append IsAfterGot [] ls new h.after_got g.1 in
+    record { reported = reported; links = g.0; after_got = after_got; after_cause = stand-append _ [] ls new h.after_cause g.2 }
 
 session-run : (events : List Event) (w : World) (ls : List Line) → IsHarmless events w → IsSession w ls →
     ((z : World) × IsSession z (ls ++ C.lines events (answers events w)))
@@ -230,29 +199,26 @@ start-link r q s channel = link (record { there = start-direction; back = start-
     (record { some = none }) (tt, tt) (tt, tt)
 
 start-links : (channel : Channel) → AllLinks (start_on channel) []
-start-links channel = seen_by Mobile (start_on channel) [] each
-  where
-    each : (s : Sapi) → Links Mobile s (start_on channel) []
-    each Zero = start-link Mobile Network Zero channel
-    each Three = start-link Mobile Network Three channel
+start-links channel Mobile Zero = start-link Mobile Network Zero channel
+start-links channel Mobile Three = start-link Mobile Network Three channel
+start-links channel Network Zero = start-link Network Mobile Zero channel
+start-links channel Network Three = start-link Network Mobile Three channel
 
--- every harmless session leads to such a state
-harmless-session : (channel : Channel) (events : List Event) → IsHarmless events (start_on channel) →
-    ((z : World) × IsSession z (C.lines events (answers events (start_on channel))))
-harmless-session channel events harmless = session-run events (start_on channel) [] harmless
-    (record { reported = start-reported channel; links = start-links channel; after_got = tt; after_cause = tt })
+started : (channel : Channel) → IsSession (start_on channel) []
+started channel = record { reported = start-reported channel; links = start-links channel; after_got = tt; after_cause = tt }
 
 pub counts : (channel : Channel) (events : List Event) → IsHarmless events (start_on channel) →
     CountsAgree (C.lines events (answers events (start_on channel)))
 counts channel events harmless r s =
-    let (z, h) = harmless-session channel events harmless in acked_most (h.reported r s) (h.reported (other r) s) (carried (h.links r s))
+    let (z, h) = session-run events (start_on channel) [] harmless (started channel) in
+    acked_most (h.reported r s) (h.reported (other r) s) (carried (h.links r s))
 
 pub claims : (channel : Channel) (events : List Event) → IsHarmless events (start_on channel) →
     Claims (C.lines events (answers events (start_on channel)))
 claims channel events harmless =
     let ls : List Line = C.lines events (answers events (start_on channel)) in
     let in_order : OrderClaims ls = order_claims channel events in
-    let (z, h) = harmless-session channel events harmless in
+    let (z, h) = session-run events (start_on channel) [] harmless (started channel) in
     record {
       in_order = λ r s. got_in_order (h.reported r s) (h.reported (other r) s) (carried (h.links r s));
       acknowledged = λ r s n before place.
@@ -260,6 +226,5 @@ claims channel events harmless =
       units = λ r s. units-claim (side r s z ls) (side (other r) s z ls) (units (h.links r s));
       cause = λ r s info before place. stands IsOpenedAfter ls before (Told r s (N.Opened info)) h.after_cause place;
       once = in_order.opened_once;
-      no_oversize = λ r s before place. none_oversize (h.reported (other r) s) (h.reported r s)
-          (let c = (carried (h.links r s)) in record { there = c.back; back = c.there }) before place;
+      no_oversize = λ r s. none_oversize (h.reported (other r) s) (h.reported r s) (carried (turned (h.links r s)));
     }

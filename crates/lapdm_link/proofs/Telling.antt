@@ -163,9 +163,13 @@ module _ (c : Content) (nr n : ℕ) (counts_in : (k : ℕ) → CountsIn k c → 
           (λ y out comes may. acknowledged y out comes)
       reports-acked false is =
           let last : wholly_acked (with_acked x) ≡ wholly_acked x + 1 = wholly_acked-last x one (omega (arith, e.sent)) is in
-          openly x x.sent x.sent x.accepted x.rejecting 0 [] (Acked (acked_number x) ∷ []) (KeepsWindow-acked x e) tt
-          (((ap stage_of is_now, ap capped last, omega (arith, last, wholly_acked-most (with_acked x))),
-          ap (λ a. record (known x) { acked = a }) last), ((refl, refl), tt)) (λ y out comes may. acknowledged y out comes)
+          openly x x.sent x.sent x.accepted x.rejecting 0 [] (Acked (acked_number x) ∷ []) (KeepsWindow-acked x e) tt (
+            (
+              (ap stage_of is_now, ap capped last, omega (arith, last, wholly_acked-most (with_acked x))),
+              ap (λ a. record (known x) { acked = a }) last,
+            ),
+            ((refl, refl), tt),
+          ) (λ y out comes may. acknowledged y out comes)
 
     in-counts : Stays (Arriving c n) To (counts nr)
     in-counts x is_now e = in-if (acknowledges nr x)

@@ -1,5 +1,5 @@
 -- Parts of a world after one of them changed, and of lines after more of them.
-use Rattle.lapdm_link.proofs.Words.{◌≡◌, refl, Bool, true, false, ◌&&◌, List, [], ◌∷◌, ◌++◌, map, drop, Option, None, append-nil, filter_map, filter_map-append, Channel, Frame, Message, Sapi, Zero, Three, Notice, Role, Mobile, Network, EndState, Outcome, start, Call, other, end_in, with_end_in, World, start_on, Line, Asked, Rivals, Told, is_role, is_sapi, call_in, notice_in, calls, notices}
+use Rattle.lapdm_link.proofs.Words.{arith, Some, ◌≡◌, refl, Bool, true, false, ◌&&◌, List, [], ◌∷◌, ◌++◌, map, drop, Option, None, append-nil, filter_map, filter_map-append, Channel, Frame, Message, Sapi, Notice, Role, EndState, Outcome, start, Call, other, end_in, with_end_in, World, start_on, Line, Asked, Rivals, Told, is_role, is_sapi, call_in, notice_in, calls, notices}
 use Rattle.lapdm_link.specs.Ways as W
 
 -- the words on ways, of a whole session
@@ -12,21 +12,15 @@ end_of r s w = end_in r s w.ends
 abbrev pub way : Role → World → List Frame
 way r w = W.way r w.ways
 
-abbrev pub with_way : Role → List Frame → World → World
-with_way r fs w = record w { ways = W.with_way r fs w.ways }
-
 abbrev pub without_first : Role → World → World
 without_first r w = record w { ways = W.without_first r w.ways }
 
 abbrev pub with_frames : Role → List Frame → World → World
 with_frames r fs w = record w { ways = W.with_more r fs w.ways }
 
-abbrev pub with_end : Role → Sapi → EndState → World → World
-with_end r s e w = record w { ends = with_end_in r s e w.ends }
-
 -- the world after an end did this
 abbrev pub acted : Role → Sapi → Outcome → World → World
-acted r s o w = with_frames r o.frames (with_end r s o.after w)
+acted r s o w = with_frames r o.frames (record w { ends = with_end_in r s o.after w.ends })
 
 abbrev pub is_end : Role → Sapi → Role → Sapi → Bool
 is_end r s r' s' = is_role r r' && is_sapi s s'
@@ -36,58 +30,38 @@ abbrev pub said : Role → Sapi → List Call → List Notice → List Line
 said r s cs ns = map (Asked r s) cs ++ map (Told r s) ns
 
 pub by_link : (P : Sapi → Type 0) (s : Sapi) → P s → ((s' : Sapi) → is_sapi s' s ≡ false → P s') → (s' : Sapi) → P s'
-by_link P Zero h g Zero = h
-by_link P Three h g Three = h
-by_link P s h g s' = g s' refl
+by_link P s h g s' = grind arith
 
 pub each_way : (P : Role → Type 0) (r : Role) → P r → P (other r) → (r' : Role) → P r'
-each_way P Mobile h g Mobile = h
-each_way P Network h g Network = h
-each_way P r h g r' = g
+each_way P r h g r' = grind arith
 
 pub each_start : (P : Role → Sapi → EndState → Type 0) (channel : Channel) → ((r : Role) (s : Sapi) → P r s (start r s channel)) →
     (r : Role) (s : Sapi) → P r s (end_of r s (start_on channel))
-each_start P channel h Mobile Zero = h Mobile Zero
-each_start P channel h Mobile Three = h Mobile Three
-each_start P channel h Network Zero = h Network Zero
-each_start P channel h Network Three = h Network Three
+each_start P channel h r s = grind arith
 
 -- after what an end did: what holds of its state then, and of each other end, holds of all
 pub ends_do : (P : Role → Sapi → EndState → Type 0) (r : Role) (s : Sapi) (o : Outcome) (w : World) → P r s o.after →
     ((r' : Role) (s' : Sapi) → is_end r' s' r s ≡ false → P r' s' (end_of r' s' w)) → (r' : Role) (s' : Sapi) →
     P r' s' (end_of r' s' (acted r s o w))
-ends_do P Mobile Zero o w h g Mobile Zero = h
-ends_do P Mobile Three o w h g Mobile Three = h
-ends_do P Network Zero o w h g Network Zero = h
-ends_do P Network Three o w h g Network Three = h
-ends_do P Mobile s o w h g Network Zero = g Network Zero refl
-ends_do P Network s o w h g Mobile Zero = g Mobile Zero refl
-ends_do P r s o w h g r' s' = g r' s' refl
+ends_do P r s o w h g r' s' = grind arith
 
 pub way_does : (r : Role) (s : Sapi) (o : Outcome) (w : World) → way r (acted r s o w) ≡ way r w ++ o.frames
-way_does Mobile s o w = refl
-way_does Network s o w = refl
+way_does r s o w = grind arith
 
 pub way_does-other : (r : Role) (s : Sapi) (o : Outcome) (w : World) → way (other r) (acted r s o w) ≡ way (other r) w
-way_does-other Mobile s o w = refl
-way_does-other Network s o w = refl
+way_does-other r s o w = grind arith
 
 -- what holds of each way, where the first on one is gone
 pub each_lost : (P : Role → List Frame → Type 0) → ((r : Role) (fs : List Frame) → P r fs → P r (rest fs)) → (sender : Role) (w : World) →
     ((r : Role) → P r (way r w)) → (r : Role) → P r (way r (without_first sender w))
-each_lost P gone Mobile w h Mobile = gone Mobile w.ways.up (h Mobile)
-each_lost P gone Network w h Network = gone Network w.ways.down (h Network)
-each_lost P gone sender w h r = h r
+each_lost P gone sender w h r = grind arith
 
 -- lines of one end, and of each other one
 pub is_end-self : (r : Role) (s : Sapi) → is_end r s r s ≡ true
-is_end-self Mobile Zero = refl
-is_end-self Network Zero = refl
-is_end-self r s = refl
+is_end-self r s = grind arith
 
 pub other_is : (r : Role) (s : Sapi) → is_end (other r) s r s ≡ false
-other_is Mobile s = refl
-other_is Network s = refl
+other_is r s = grind arith
 
 pub end_does : (r : Role) (s : Sapi) (o : Outcome) (w : World) → end_of r s (acted r s o w) ≡ o.after
 end_does r s o w = ends_do (λ r' s' e. is_end r' s' r s ≡ true → e ≡ o.after) r s o w (λ e. refl) (λ r' s' n e. cc (n, e)) r s
@@ -99,52 +73,59 @@ end_does-else r s o w = ends_do (λ r' s' e. is_end r' s' r s ≡ false → e �
     (λ r' s' n m. refl)
 
 pub link_else : (r' r : Role) (s' s : Sapi) → is_sapi s' s ≡ false → is_end r' s' r s ≡ false
-link_else Mobile Mobile s' s h = h
-link_else Network Network s' s h = h
-link_else r' r s' s h = refl
-
-pub other_twice : (r : Role) → other (other r) ≡ r
-other_twice Mobile = refl
-other_twice Network = refl
+link_else r' r s' s h = grind arith
 
 -- those lines with such of other mobiles before them
 abbrev pub spoken : Role → Sapi → List Message → List Call → List Notice → List Line
 spoken r s is cs ns = map Rivals is ++ said r s cs ns
 
-spoken-calls : (r : Role) (s : Sapi) (is : List Message) (cs : List Call) (ns : List Notice) → calls r s (spoken r s is cs ns) ≡ cs
-spoken-calls r s (i ∷ is) cs ns = spoken-calls r s is cs ns
-spoken-calls r s [] (c ∷ cs) ns = rw (is_end-self r s, spoken-calls r s [] cs ns) refl
-spoken-calls r s [] [] (n ∷ ns) = spoken-calls r s [] [] ns
-spoken-calls r s [] [] [] = refl
+-- of such lines all are picked, or none
+all_picked : {T : Type 0} (pick : Line → Option T) (line : T → Line) → ((x : T) → pick (line x) ≡ Some x) → (xs : List T) →
+    filter_map pick (map line xs) ≡ xs
+all_picked pick line h [] = refl
+all_picked pick line h (x ∷ xs) = rw (h x, all_picked pick line h xs) refl
 
-spoken-notices : (r : Role) (s : Sapi) (is : List Message) (cs : List Call) (ns : List Notice) → notices r s (spoken r s is cs ns) ≡ ns
-spoken-notices r s (i ∷ is) cs ns = spoken-notices r s is cs ns
-spoken-notices r s [] (c ∷ cs) ns = spoken-notices r s [] cs ns
-spoken-notices r s [] [] (n ∷ ns) = rw (is_end-self r s, spoken-notices r s [] [] ns) refl
-spoken-notices r s [] [] [] = refl
-
--- none of them is picked
-unspoken : {T : Type 0} (pick : Line → Option T) (r : Role) (s : Sapi) → ((i : Message) → pick (Rivals i) ≡ None) →
-    ((c : Call) → pick (Asked r s c) ≡ None) → ((n : Notice) → pick (Told r s n) ≡ None) → (is : List Message) (cs : List Call)
-    (ns : List Notice) → filter_map pick (spoken r s is cs ns) ≡ []
-unspoken pick r s f g h (i ∷ is) cs ns = rw (f i) (unspoken pick r s f g h is cs ns)
-unspoken pick r s f g h [] (c ∷ cs) ns = rw (g c) (unspoken pick r s f g h [] cs ns)
-unspoken pick r s f g h [] [] (n ∷ ns) = rw (h n) (unspoken pick r s f g h [] [] ns)
-unspoken pick r s f g h [] [] [] = refl
+none_picked : {T X : Type 0} (pick : Line → Option T) (line : X → Line) → ((x : X) → pick (line x) ≡ None) → (xs : List X) →
+    filter_map pick (map line xs) ≡ []
+none_picked pick line h [] = refl
+none_picked pick line h (x ∷ xs) = rw (h x) (none_picked pick line h xs)
 
 module _ (r : Role) (s : Sapi) (ls : List Line) (is : List Message) (cs : List Call) (ns : List Notice) where
   pub calls-own : calls r s (ls ++ spoken r s is cs ns) ≡ calls r s ls ++ cs
-  calls-own = rw (filter_map-append, spoken-calls r s is cs ns) refl
+  calls-own = simp (
+    filter_map-append,
+    append-nil,
+    none_picked (call_in r s) Rivals (λ i. refl),
+    all_picked (call_in r s) (Asked r s) (λ c. rw (is_end-self r s) refl),
+    none_picked (call_in r s) (Told r s) (λ n. refl),
+  )
 
   pub notices-own : notices r s (ls ++ spoken r s is cs ns) ≡ notices r s ls ++ ns
-  notices-own = rw (filter_map-append, spoken-notices r s is cs ns) refl
+  notices-own = simp (
+    filter_map-append,
+    none_picked (notice_in r s) Rivals (λ i. refl),
+    none_picked (notice_in r s) (Asked r s) (λ c. refl),
+    all_picked (notice_in r s) (Told r s) (λ n. rw (is_end-self r s) refl),
+  )
 
   module _ (r' : Role) (s' : Sapi) (e : is_end r' s' r s ≡ false) where
     pub calls-else : calls r' s' (ls ++ spoken r s is cs ns) ≡ calls r' s' ls
-    calls-else = rw (filter_map-append, unspoken (call_in r' s') r s (λ i. refl) (λ c. rw e refl) (λ n. refl) is cs ns, append-nil) refl
+    calls-else = simp (
+      filter_map-append,
+      append-nil,
+      none_picked (call_in r' s') Rivals (λ i. refl),
+      none_picked (call_in r' s') (Asked r s) (λ c. rw e refl),
+      none_picked (call_in r' s') (Told r s) (λ n. refl),
+    )
 
     pub notices-else : notices r' s' (ls ++ spoken r s is cs ns) ≡ notices r' s' ls
-    notices-else = rw (filter_map-append, unspoken (notice_in r' s') r s (λ i. refl) (λ c. refl) (λ n. rw e refl) is cs ns, append-nil) refl
+    notices-else = simp (
+      filter_map-append,
+      append-nil,
+      none_picked (notice_in r' s') Rivals (λ i. refl),
+      none_picked (notice_in r' s') (Asked r s) (λ c. refl),
+      none_picked (notice_in r' s') (Told r s) (λ n. rw e refl),
+    )
 
 -- a notice among the lines
 pub notices-at : (r : Role) (s : Sapi) (before : List Line) (n : Notice) (more : List Line) →

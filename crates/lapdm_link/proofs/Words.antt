@@ -1,4 +1,4 @@
--- The words of the library and of the specs that these proofs cite.
+-- The words of the library and of the specs that these proofs and those of the crates above cite.
 pub use Rattle.std.specs.Prelude.{◌⊎◌, Contains}
 pub use Rattle.std.specs.List.{filter_map, cons_option, flat_map}
 pub use Rattle.std.proofs.Common.{◌≡◌, refl, Bool, true, false, nat_eq, if◌then◌else◌, List, [], ◌∷◌, ◌++◌, Option, Some, None, inl, inr, arith, ℕ, ◌≤◌, ◌≢◌, sym, ◌∙◌, ap, ◌+◌, ◌%◌, ◌<◌, length, take, get_or, append_assoc, ◌&&◌, map, drop, subst, suc, All, max, not, nat_lt, zero, ◌-◌, min, replicate}
@@ -27,7 +27,7 @@ pub use Rattle.segmenting.specs.Joining.{endings, messages, ended, open_after, w
 pub use Rattle.segmenting.proofs.Lemmas.{endings-all, endings-append, ended-take, ended-endings, messages_of, endings-more, endings-last}
 pub use Rattle.lapdm_link.specs.Ways.{IsAsSent, Ways, with_more, way}
 pub use Rattle.lapdm_window.specs.Steps.{IsSameLink}
-pub use Rattle.lapdm_window.proofs.Lemmas.{wholly_acked-taken, all_pieces-taken, KeepsWindow-taken, is_message, not_false, passes, is_idle-is, is_open-is, wholly_acked-more, wholly_acked-last, wholly_acked-most, KeepsWindow-acked, plain_fits, Keeps, keeps-frame, keeps-call, IsEnd-start, AtMost, few-frame, few-call}
+pub use Rattle.lapdm_window.proofs.Lemmas.{wholly_acked-taken, all_pieces-taken, KeepsWindow-taken, is_message, not_false, passes, is_idle-is, is_open-is, wholly_acked-more, wholly_acked-last, wholly_acked-most, KeepsWindow-acked, plain_fits, Keeps, keeps-frame, keeps-call, IsEnd-start, few-frame, few-call}
 pub use Rattle.std.specs.Str.{bytes_eq}
 pub use Rattle.std.proofs.lemmas.Slice.Eq.{bytes_eq-Decides}
 pub use Rattle.lapdm_window.specs.declared.State.TheVariants.{Idle, Opening, Closing, Closed}

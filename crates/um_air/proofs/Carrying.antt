@@ -1,75 +1,35 @@
 -- A session over the air is a session of frames, with the same lines: an event of blocks is an event of the frames that are
 -- read.
-use Rattle.std.proofs.Common.{◌≡◌, refl, sym, ◌∙◌, ap, subst, ℕ, suc, ◌+◌, ◌-◌, ◌<◌, ◌≤◌, List, [], ◌∷◌, ◌++◌, map, length, drop, Option, Some, None, ap₂}
-use Rattle.std.specs.Prelude.{IfSome}
-use Rattle.std.specs.List.{AllZip}
-use Rattle.std.proofs.lemmas.List.Elements.{All-head, All-take, All-drop}
-use Rattle.lapdm_frame.specs.declared.Channel.{Channel}
-use Rattle.lapdm_frame.specs.Layout.{header}
-use Rattle.lapdm_frame.specs.Content.{Frame, information}
-use Rattle.lapdm_frame.specs.Frames.{Fits, IsFrame, octets_of}
-use Rattle.lapdm_frame.proofs.Canonical.{octets_canonical}
-use Rattle.lapdm_frame.proofs.Uniqueness.{same_frame}
-use Rattle.lapdm_window.specs.Ends.{Role, Mobile, Network}
-use Rattle.um_block.specs.declared.received.Received.{Received}
-use Rattle.um_block.specs.Sent.{IsSentBlock}
-use Rattle.um_block.specs.Received.{softened, IsReceivedBlock}
-use Rattle.um_block.proofs.Lemmas.{accepted_octets}
-use Rattle.lapdm_link.specs.Ways.{Ways, no_ways, way, without_first, with_more, count, IsAsSent}
-use Rattle.lapdm_link.specs.Events.{Deliver, Lose, Ends, Deed, deed, taken, sender_of, Why, refusal_by}
-use Rattle.lapdm_link.specs.Worlds.{World, answer_by, after_by}
-use Rattle.lapdm_link.specs.Claims.{Line, event_lines, notice_lines, answer_lines, Claims, OrderClaims, CountsAgree}
-use Rattle.lapdm_link.proofs.Lemmas.{Knows, KnowsBy, SaysOctets, AllFit, IsFitting, fits-step, AllReported, in_order-step, start-reported, order_claims, start-fits, claims, counts}
-use Rattle.um_air.specs.Air.{Octets, Block, Event, as_read, AirState, Reads, Arrives, AreSent, Answer, Refuses, Does, refusal, AirStep, turned, start_on, AirRun}
-use Rattle.um_air.specs.Sessions.{told, after, IsHarmlessStep, AreOctets, IsKindEvent, lines, IsHarmlessAfter, IsHarmless, IsKind}
+use Rattle.um_air.proofs.Words.{arith, ◌≡◌, refl, sym, ◌∙◌, ap, subst, ℕ, ◌+◌, ◌-◌, ◌<◌, ◌≤◌, List, [], ◌∷◌, ◌++◌, map, length, drop, Option, Some, None, ap₂, IfSome, AllZip, All-head, All-take, All-drop, Channel, header, Frame, information, Fits, IsFrame, octets_of, octets_canonical, same_frame, Role, Received, IsSentBlock, softened, IsReceivedBlock, accepted_octets, Ways, no_ways, way, with_more, count, IsAsSent, Deliver, Ends, Deed, deed, taken, sender_of, Why, refusal_by, World, answer_by, after_by, Line, event_lines, notice_lines, answer_lines, Claims, OrderClaims, CountsAgree, KnowsBy, SaysOctets, AllFit, IsFitting, fits-step, AllReported, in_order-step, start-reported, order_claims, start-fits, claims, counts, Octets, Block, Event, as_read, AirState, Reads, Arrives, AreSent, Answer, Refuses, Does, refusal, AirStep, turned, start_on, AirRun, told, after, IsHarmlessStep, AreOctets, IsKindEvent, lines, IsHarmlessAfter, IsHarmless, IsKind, with_way, AllZip-long}
+use Rattle.lapdm_link.specs as L
 use Rattle.um_air.proofs.Determined.{left, done}
 use Rattle.um_air.proofs.FewTurned.{accepted_as_sent}
-use Rattle.lapdm_link.specs.Events as E
-use Rattle.lapdm_link.specs.Worlds as W
-use Rattle.lapdm_link.specs.Claims as C
 
 -- ---- lists that correspond item by item, and ways of such lists
 
 module _ {X Y : Type 0} (R : X → Y → Type 0) where
   zip-rest : (xs : List X) (ys : List Y) → AllZip R xs ys → AllZip R (drop 1 xs) (drop 1 ys)
-  zip-rest [] [] h = h
-  zip-rest (x ∷ xs) (y ∷ ys) h = h.1
-  zip-rest xs ys h = absurd assumption
+  zip-rest xs ys h = grind arith
 
   zip-append : (xs xs' : List X) (ys ys' : List Y) → AllZip R xs ys → AllZip R xs' ys' → AllZip R (xs ++ xs') (ys ++ ys')
   zip-append [] xs' [] ys' h g = g
   zip-append (x ∷ xs) xs' (y ∷ ys) ys' h g = (h.0, zip-append xs xs' ys ys' h.1 g)
   zip-append xs xs' ys ys' h g = absurd assumption
 
-  zip-length : (xs : List X) (ys : List Y) → AllZip R xs ys → length xs ≡ length ys
-  zip-length [] [] h = refl
-  zip-length (x ∷ xs) (y ∷ ys) h = ap suc (zip-length xs ys h.1)
-  zip-length xs ys h = absurd assumption
-
   abbrev pub AreAlike : Ways X → Ways Y → Type 0
   AreAlike xs ys = (r : Role) → AllZip R (way r xs) (way r ys)
 
-  pub alike-none : AreAlike no_ways no_ways
-  alike-none Mobile = tt
-  alike-none Network = tt
+  alike-with : (sender : Role) (x : List X) (y : List Y) (xs : Ways X) (ys : Ways Y) → AreAlike xs ys → AllZip R x y →
+      AreAlike (with_way sender x xs) (with_way sender y ys)
+  alike-with sender x y xs ys h g r = grind arith
 
   alike-more : (sender : Role) (x : List X) (y : List Y) (xs : Ways X) (ys : Ways Y) → AreAlike xs ys → AllZip R x y →
       AreAlike (with_more sender x xs) (with_more sender y ys)
-  alike-more Mobile x y xs ys h g Mobile = zip-append xs.up x ys.up y (h Mobile) g
-  alike-more Network x y xs ys h g Network = zip-append xs.down x ys.down y (h Network) g
-  alike-more sender x y xs ys h g r = h r
-
-  alike-rest : (sender : Role) (xs : Ways X) (ys : Ways Y) → AreAlike xs ys →
-      AreAlike (without_first sender xs) (without_first sender ys)
-  alike-rest Mobile xs ys h Mobile = zip-rest xs.up ys.up (h Mobile)
-  alike-rest Network xs ys h Network = zip-rest xs.down ys.down (h Network)
-  alike-rest sender xs ys h r = h r
+  alike-more sender x y xs ys h g = alike-with sender _ _ xs ys h (zip-append (way sender xs) x (way sender ys) y (h sender) g)
 
   alike-taken : (read : Option Frame) (event : Event) (xs : Ways X) (ys : Ways Y) → AreAlike xs ys →
       AreAlike (taken (as_read read event) xs) (taken event ys)
-  alike-taken read (Deliver sender places) xs ys h = alike-rest sender xs ys h
-  alike-taken read (Lose sender) xs ys h = alike-rest sender xs ys h
-  alike-taken read event xs ys h = h
+  alike-taken read event xs ys h = grind (arith, alike-with, zip-rest)
 
 -- ---- an air, as the session of the frames on its ways
 
@@ -94,15 +54,13 @@ pub record IsSeenAt (a : AirState) (octets : Ways Octets) : Type 0 where
 -- neither the refusal nor the lines of an event hang on what is read
 unread : (read : Option Frame) (event : Event) (channel : Channel) (n : Role → ℕ) (es : Ends) →
     (refusal_by channel n (as_read read event) es ≡ refusal_by channel n event es) × (event_lines event ≡ event_lines (as_read read event))
-unread read (Deliver sender places) channel n es = (refl, refl)
-unread read event channel n es = (refl, refl)
+unread read event channel n es = grind arith
 
 pub refusal-same : (a : AirState) (fs : Ways Frame) (read : Option Frame) (event : Event) → Coded a.channel a.tsc fs a.ways →
-    W.refusal (as_read read event) (world_of a fs) ≡ refusal event a
+    L.Worlds.refusal (as_read read event) (world_of a fs) ≡ refusal event a
 refusal-same a fs read event h =
     (unread read event a.channel (count fs) a.ends).0
-    ∙ (λ i. refusal_by a.channel (λ r. zip-length (λ f block. IsSentBlock (octets_of a.channel f) a.tsc block) (way r fs) (way r a.ways)
-    (h r) i) event a.ends)
+    ∙ (λ i. refusal_by a.channel (λ r. sym (AllZip-long _ (way r fs) (way r a.ways) (h r)) i) event a.ends)
 
 -- ---- what is read
 
@@ -116,12 +74,14 @@ reads-well channel (Some octets) f all h =
     (h.fits, subst AreOctets h.at_information (All-take small (from + size - from) (drop from octets) (All-drop small from octets all)))
 reads-well channel None f all h = absurd h
 
-pub known-read : (a : AirState) (event : Event) (report : Option Received) (read : Option Frame) → Arrives a event report read →
-    Knows (λ r f. Fits a.channel f) (as_read read event) × Knows (λ r f. SaysOctets f) (as_read read event)
-known-read a (Deliver sender places) (Some report) (Some f) h =
+pub known-read : (o : Option Why) (a : AirState) (event : Event) (report : Option Received) (read : Option Frame) →
+    Arrives a event report read → (let e : L.Events.Event = as_read read event in
+    KnowsBy o (λ r f. Fits a.channel f) e × KnowsBy o (λ r f. SaysOctets f) e)
+known-read (Some why) a event report read h = (tt, tt)
+known-read None a (Deliver sender places) (Some report) (Some f) h =
     reads-well a.channel report.accepted f (accepted_octets (map softened (turned places h.block)) report h.received) h.reads
-known-read a (Deliver sender places) None read h = absurd h
-known-read a event report read h = (tt, tt)
+known-read None a (Deliver sender places) None read h = absurd h
+known-read None a event report read h = (tt, tt)
 
 -- a frame that was sent is read as itself
 read_back : (channel : Channel) (accepted : Option Octets) (read : Option Frame) (fs : List Frame) (os : List Octets) →
@@ -152,10 +112,6 @@ all-written : (channel : Channel) (fs : List Frame) → AllZip (λ f o. o ≡ oc
 all-written channel [] = tt
 all-written channel (f ∷ fs) = (refl, all-written channel fs)
 
-harmless-refused : (event : Event) (why : Why) (octets : Ways Octets) → IsHarmlessStep event (Refuses why) octets
-harmless-refused (Deliver sender places) why octets = tt
-harmless-refused event why octets = tt
-
 -- the step is one of frames, where that event is refused or not
 pub record IsSeenBy (a : AirState) (octets : Ways Octets) (fs : Ways Frame) (event : Event) (answer : Answer) (b : AirState)
     (read : Option Frame) (o : Option Why) : Type 0 where
@@ -164,14 +120,14 @@ pub record IsSeenBy (a : AirState) (octets : Ways Octets) (fs : Ways Frame) (eve
   pub tsc : b.tsc ≡ a.tsc
   pub same : answer_lines event (told answer) ≡ answer_lines (as_read read event) (answer_by o (deed (as_read read event) a.ends))
   pub known : KnowsBy o (λ r f. SaysOctets f) (as_read read event)
-  pub harmless : IsHarmlessStep event answer octets → W.IsHarmlessBy o (as_read read event) (world_of a fs)
+  pub harmless : IsHarmlessStep event answer octets → L.Worlds.IsHarmlessBy o (as_read read event) (world_of a fs)
   pub kind : IsKindEvent event → IsHarmlessStep event answer octets
 
 module _ (a : AirState) (octets : Ways Octets) (h : IsSeenAt a octets) where
   -- where a block arrives: what is read of it, if it was accepted as it was sent, and that it was, if few bits were turned
   arrived : (event : Event) (report : Option Received) (read : Option Frame) → Arrives a event report read →
       (let now = IsHarmlessStep event (Does (done a (as_read read event) report)) octets in
-      (now → W.IsHarmlessBy None (as_read read event) (world_of a h.frames)) × (IsKindEvent event → now))
+      (now → L.Worlds.IsHarmlessBy None (as_read read event) (world_of a h.frames)) × (IsKindEvent event → now))
   arrived (Deliver sender places) (Some report) read t = (
     read_back a.channel report.accepted read (way sender h.frames) (way sender octets) (h.written sender) (h.fit.ways sender) t.reads,
     λ few. kind_block a.channel a.tsc (way sender h.frames) (way sender octets) (way sender a.ways) t.others places report t.block
@@ -182,19 +138,18 @@ module _ (a : AirState) (octets : Ways Octets) (h : IsSeenAt a octets) where
 
   module _ (event : Event) where
     seen-refused : (why : Why) → IsSeenBy a octets h.frames event (Refuses why) a None (Some why)
-    seen-refused why = (let k = harmless-refused event why octets in
-        record { next = h; later = refl; tsc = refl; same = refl; known = tt; harmless = λ q. tt; kind = λ q. k })
+    seen-refused why =
+        record { next = h; later = refl; tsc = refl; same = refl; known = tt; harmless = λ q. tt; kind = λ q. grind arith }
 
     seen-done : (read : Option Frame) (report : Option Received) (blocks : List Block) → Arrives a event report read →
-        (let e : E.Event = as_read read event in W.refusal e (world_of a h.frames) ≡ None →
+        (let e : L.Events.Event = as_read read event in L.Worlds.refusal e (world_of a h.frames) ≡ None →
         AreSent a.channel a.tsc (deed e a.ends).frames blocks →
         IsSeenBy a octets h.frames event (Does (done a e report)) (left a event e blocks) read None)
     seen-done read report blocks t none sent =
-        let e : E.Event = as_read read event in
+        let e : L.Events.Event = as_read read event in
         let w : World = world_of a h.frames in
         let d : Deed = deed e a.ends in
         let r : Role = sender_of d.who in
-        let known = known-read a event report read t in
         let now = arrived event report read t in
         record {
           next = record {
@@ -203,20 +158,20 @@ module _ (a : AirState) (octets : Ways Octets) (h : IsSeenAt a octets) where
             blocks = alike-more _ r d.frames blocks _ _ (alike-taken _ read event h.frames a.ways h.blocks) sent;
             written = alike-more _ r d.frames _ _ _ (alike-taken _ read event h.frames octets h.written) (all-written a.channel d.frames);
             fit = subst (λ (o : Option Why). IsFitting a.channel (after_by o e w)) none
-                (fits-step a.channel w e (subst (λ (o : Option Why). KnowsBy o (λ r f. Fits a.channel f) e) (sym none) known.0) h.fit);
+                (fits-step a.channel w e (known-read (L.Worlds.refusal e w) a event report read t).0 h.fit);
             reported = subst (λ (o : Option Why). AllReported (after_by o e w) (h.ls ++ answer_lines e (answer_by o d))) none
                 (in_order-step w h.ls e h.reported);
           };
           later = refl;
           tsc = refl;
           same = ap (λ ls. ls ++ notice_lines d.who d.sapi d.notices) (unread read event a.channel (count h.frames) a.ends).1;
-          known = known.1;
+          known = (known-read None a event report read t).1;
           harmless = now.0;
           kind = now.1;
         }
 
     pub seen-step : (answer : Answer) (b : AirState) → AirStep a event b answer →
-        (read : Option Frame) × IsSeenBy a octets h.frames event answer b read (W.refusal (as_read read event) (world_of a h.frames))
+        (read : Option Frame) × IsSeenBy a octets h.frames event answer b read (L.Worlds.refusal (as_read read event) (world_of a h.frames))
     seen-step (Refuses why) b t = (
       None,
       subst (IsSeenBy a octets h.frames event (Refuses why) b None) (sym (refusal-same a h.frames None event h.blocks ∙ t.0))
@@ -234,13 +189,13 @@ module _ (a : AirState) (octets : Ways Octets) (h : IsSeenAt a octets) where
 
 abbrev pub start-seen : (tsc : ℕ) (channel : Channel) → IsSeenAt (start_on tsc channel) no_ways
 start-seen tsc channel = (let fit = start-fits channel in let reported = start-reported channel in
-    record { frames = no_ways; ls = []; blocks = alike-none _; written = alike-none _; fit = fit; reported = reported })
+    record { frames = no_ways; ls = []; blocks = λ r. grind arith; written = λ r. grind arith; fit = fit; reported = reported })
 
 -- a session, as one of frames
 pub record IsSeen (a : AirState) (octets : Ways Octets) (h : IsSeenAt a octets) (events : List Event) (answers : List Answer) : Type 0 where
-  pub seen : List E.Event
-  pub same : lines events answers ≡ C.lines seen (W.answers seen (world_of a h.frames))
-  pub harmless : IsHarmlessAfter octets events answers → W.IsHarmless seen (world_of a h.frames)
+  pub seen : List L.Events.Event
+  pub same : lines events answers ≡ L.Claims.lines seen (L.Worlds.answers seen (world_of a h.frames))
+  pub harmless : IsHarmlessAfter octets events answers → L.Worlds.IsHarmless seen (world_of a h.frames)
   pub kind : IsKind events → IsHarmlessAfter octets events answers
 
 seen-run : (events : List Event) (answers : List Answer) (a b : AirState) (octets : Ways Octets) (h : IsSeenAt a octets) →
@@ -251,8 +206,8 @@ seen-run (event ∷ events) (answer ∷ answers) a b octets h run =
     let r = seen-run events answers run.0 b (after event answer octets) s.1.next run.2 in
     record {
       seen = as_read s.0 event ∷ r.seen;
-      same = ap₂ (λ xs ys. xs ++ ys) s.1.same (r.same ∙ ap (λ z. C.lines r.seen (W.answers r.seen z)) (sym s.1.later));
-      harmless = λ q. (s.1.harmless q.0, subst (W.IsHarmless r.seen) (sym s.1.later) (r.harmless q.1));
+      same = ap₂ (λ xs ys. xs ++ ys) s.1.same (r.same ∙ ap (λ z. L.Claims.lines r.seen (L.Worlds.answers r.seen z)) (sym s.1.later));
+      harmless = λ q. (s.1.harmless q.0, subst (L.Worlds.IsHarmless r.seen) (sym s.1.later) (r.harmless q.1));
       kind = λ k. (s.1.kind k.0, r.kind k.2);
     }
 seen-run events answers a b octets h run = absurd assumption

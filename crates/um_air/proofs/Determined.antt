@@ -1,20 +1,6 @@
 -- Events determine their answers and the air that they lead to.
-use Rattle.std.proofs.Common.{◌≡◌, refl, sym, ◌∙◌, ap, ap₂, subst, ℕ, List, [], ◌∷◌, map, Option, Some, None, inl, inr}
-use Rattle.lapdm_frame.specs.declared.Channel.{Channel}
-use Rattle.lapdm_frame.specs.declared.Refusal.{Refusal}
-use Rattle.lapdm_frame.specs.Content.{Frame}
-use Rattle.lapdm_frame.specs.Frames.{IsFrame, octets_of}
-use Rattle.lapdm_frame.specs.Refusals.{IsRefused}
-use Rattle.lapdm_frame.proofs.Uniqueness.{same_frame}
-use Rattle.lapdm_frame.proofs.Existence.{one_reading}
-use Rattle.lapdm_window.specs.Ends.{Role}
-use Rattle.um_block.specs.declared.received.Received.{Received}
-use Rattle.um_block.specs.Received.{softened}
-use Rattle.um_block.proofs.Lemmas.{one_received_block, one_sent_block}
-use Rattle.lapdm_link.specs.Ways.{with_more}
+use Rattle.um_air.proofs.Words.{arith, ◌≡◌, refl, sym, ◌∙◌, ap, ap₂, subst, ℕ, List, [], ◌∷◌, map, Option, inl, inr, Channel, Refusal, Frame, IsFrame, octets_of, IsRefused, same_frame, one_reading, Role, Received, softened, one_received_block, one_sent_block, with_more, sender_of, Deed, deed, taken, Octets, Block, Event, as_read, AirState, Reads, Hears, Arrives, AreSent, Step, Answer, Refuses, Does, Happens, AirStep, AirRun, turned}
 use Rattle.lapdm_link.specs.Events as E
-use Rattle.lapdm_link.specs.Events.{Deliver, sender_of, Deed, deed, taken}
-use Rattle.um_air.specs.Air.{Octets, Block, Event, as_read, AirState, Reads, Hears, Arrives, AreSent, Step, Answer, Refuses, Does, Happens, AirStep, AirRun, turned}
 
 -- octets are not both a frame and refused
 never_both : (channel : Channel) (octets : List ℕ) (f : Frame) (why : Refusal) → IsFrame channel f octets → IsRefused channel octets why → ⊥
@@ -24,11 +10,7 @@ never_both channel octets f why h g = elim (one_reading channel octets h.count) 
 ]
 
 pub one_read : (channel : Channel) (o : Option Octets) (f g : Option Frame) → Reads channel o f → Reads channel o g → f ≡ g
-one_read channel (Some octets) (Some f) (Some g) h k = ap Some (same_frame channel octets f g h k)
-one_read channel (Some octets) (Some f) None h k = absurd (never_both channel octets f k.0 h k.1)
-one_read channel (Some octets) None (Some f) h k = absurd (never_both channel octets f h.0 k h.1)
-one_read channel o None None h k = refl
-one_read channel o f g h k = absurd assumption
+one_read channel o f g h k = grind (arith, same_frame, never_both)
 
 one_hearing : (a : AirState) (sender : Role) (places : List ℕ) (r s : Received) (f g : Option Frame) → Hears a sender places r f →
     Hears a sender places s g → (r ≡ s) × (f ≡ g)
@@ -39,12 +21,7 @@ one_hearing a sender places r s f g h k =
 
 one_arrival : (a : AirState) (event : Event) (o p : Option Received) (f g : Option Frame) → Arrives a event o f → Arrives a event p g →
     (o ≡ p) × (as_read f event ≡ as_read g event)
-one_arrival a (Deliver sender places) (Some r) (Some s) f g h k =
-    let same : (r ≡ s) × (f ≡ g) = one_hearing a sender places r s f g h k in
-    (ap Some same.0, ap (Deliver sender) same.1)
-one_arrival a (Deliver sender places) o p f g h k = absurd assumption
-one_arrival a event None None f g h k = (refl, refl)
-one_arrival a event o p f g h k = absurd assumption
+one_arrival a event o p f g h k = grind (arith, one_hearing)
 
 same_blocks : (channel : Channel) (tsc : ℕ) (fs : List Frame) (bs cs : List Block) → AreSent channel tsc fs bs → AreSent channel tsc fs cs →
     bs ≡ cs

@@ -1,22 +1,7 @@
 -- A block of which at most three bits were turned over is accepted with the octets that were sent.
-use Rattle.std.proofs.Common.{◌≡◌, ◌≢◌, refl, sym, ◌∙◌, ap, arith, ℕ, ◌+◌, ◌*◌, ◌/◌, ◌%◌, ◌<◌, ◌≤◌, Bool, true, false, ◌||◌, ◌==◌, if◌then◌else◌, nat_eq, ℤ, pos, negsuc, List, [], ◌∷◌, map, length, get_or, take, drop, All, Some, inl, inr}
-use Rattle.std.specs.Prelude.{unsigned_abs}
-use Rattle.std.proofs.lemmas.Bool.{false≢true, cases_eq}
-use Rattle.std.proofs.lemmas.Bool.Decides.{nat_tests}
-use Rattle.std.proofs.lemmas.List.{get_or-set_other, get_or_default, get_or-take, get_or-drop, length-take, length-append}
-use Rattle.std.proofs.Math.ListN.{get_or-map}
-use Rattle.std.proofs.Math.Seq.{map-set_same}
-use Rattle.bit_blocks.specs.SoftValues.{wrong_places}
-use Rattle.interleave.specs.Places.{burst_of, place_of, burst_place}
-use Rattle.interleave.specs.Bursts.{IsInterleaved}
-use Rattle.interleave.proofs.Lemmas.{burst_place-lower, burst_place-upper, burst_of-below, halves-at}
-use Rattle.weight_bound.proofs.Lemmas.{IsLightlyDamaged-equal}
+use Rattle.um_air.proofs.Words.{◌≡◌, ◌≢◌, refl, sym, ◌∙◌, ap, arith, ℕ, ◌+◌, ◌*◌, ◌/◌, ◌%◌, ◌<◌, ◌≤◌, Bool, true, false, ◌||◌, ◌==◌, if◌then◌else◌, nat_eq, ℤ, pos, negsuc, List, [], ◌∷◌, map, length, get_or, take, drop, All, Some, inl, inr, unsigned_abs, cases_eq, nat_tests, get_or-set_other, get_or_default, get_or-take, get_or-drop, length-take, length-append, get_or-map, map-set_same, wrong_places, burst_of, place_of, burst_place, IsInterleaved, burst_place-lower, burst_place-upper, burst_of-below, halves-at, IsLightlyDamaged-equal, IsSentBlock, soft_value, softened, coded_places, IsReceivedBlock, Received, AreBits, few_spoilt, clean_gathered, coded_block_bits, restored_block, Block, turned_at, turned}
+use Rattle.um_block.proofs.Lemmas.{listed}
 use Rattle.burst_map.specs.NormalBurst as N
-use Rattle.um_block.specs.Sent.{IsSentBlock}
-use Rattle.um_block.specs.Received.{soft_value, softened, coded_places, IsReceivedBlock}
-use Rattle.um_block.specs.declared.received.Received.{Received}
-use Rattle.um_block.proofs.Lemmas.{AreBits, listed, few_spoilt, clean_gathered, coded_block_bits, restored_block}
-use Rattle.um_air.specs.Air.{Block, turned_at, turned}
 
 -- the bit at a place of four bursts end to end
 abbrev bit_at : Block → ℕ → ℕ
@@ -33,8 +18,7 @@ other_bit place q block other =
     ]
 
 or_false : (a b : Bool) → (a || b) ≡ false → (a ≡ false) × (b ≡ false)
-or_false true b h = absurd (false≢true (sym h))
-or_false false b h = (refl, h)
+or_false a b h = grind arith
 
 -- a place that is not named keeps its bit
 turned-other : (places : List ℕ) (block : Block) (q : ℕ) → listed q places ≡ false → bit_at (turned places block) q ≡ bit_at block q

@@ -1,51 +1,20 @@
 -- There is an answer to every event, where messages are octets: a session can always go on.
-use Rattle.std.proofs.Common.{◌≡◌, refl, sym, subst, arith, ℕ, ◌-◌, ◌<◌, ◌≤◌, List, [], ◌∷◌, length, Option, None, ◌∙◌, ◌/◌, ◌%◌, map, get_or, set, nat_eq, Some, All, inl, inr}
-use Rattle.std.specs.Prelude.{IfSome}
-use Rattle.std.proofs.lemmas.Bool.{cases_lt}
-use Rattle.std.proofs.lemmas.List.{length-set, length-map, set_past}
-use Rattle.std.proofs.lemmas.List.Elements.{All-nil, All-cons, All-head, All-tail, All-append, All-replicate, All-set, All-map}
-use Rattle.lapdm_frame.specs.declared.Channel.{Channel}
-use Rattle.lapdm_frame.specs.declared.Channel.TheVariants.{Sdcch, Sacch}
-use Rattle.lapdm_frame.specs.Layout.{header, n201}
-use Rattle.lapdm_frame.specs.Content.{Content, I, Frame, information, goes_on}
-use Rattle.lapdm_frame.specs.Frames.{address, control, length_octet, NumbersFit, Fits, octets_of}
-use Rattle.lapdm_frame.proofs.Canonical.{octets_canonical}
-use Rattle.lapdm_frame.proofs.Controls.{bit_bound}
-use Rattle.lapdm_frame.proofs.Existence.{one_reading}
-use Rattle.lapdm_frame.proofs.Uniqueness.{information_bound}
-use Rattle.lapdm_window.specs.declared.Sapi.{Sapi}
-use Rattle.lapdm_window.specs.declared.Notice.{Notice}
-use Rattle.lapdm_window.specs.Ends.{Role}
-use Rattle.um_block.specs.declared.received.Received.{Received}
-use Rattle.um_block.specs.Received.{softened, IsReceivedBlock}
-use Rattle.um_block.proofs.Lemmas.{some_sent_block, sent_block_bits, some_received_block, accepted_count}
-use Rattle.lapdm_link.specs.Ways.{Ways, way, no_ways}
-use Rattle.lapdm_link.specs.Events as E
-use Rattle.lapdm_link.specs.Events.{Ask, Deliver, Lose, Send, Who, End, Why, deed, Nothing, unless}
-use Rattle.lapdm_link.specs.Worlds.{World}
-use Rattle.lapdm_link.specs.Worlds as W
-use Rattle.lapdm_link.specs.Claims.{notice_lines, answer_lines}
-use Rattle.lapdm_link.proofs.Lemmas.{KnowsBy, LineOctets, AllSay, EndOctets, SaysOctets, WorldOctets, octets-step, start-octets, AllFit, deed-fits, deed-holds}
-use Rattle.um_air.specs.Air.{Octets, Event, as_read, AirState, start_on, Answer, AirStep, AirRun, Block, Reads, Hears, Arrives, AreSent, Happens, Refuses, Does, refusal, turned_at, turned}
-use Rattle.um_air.specs.Sessions.{AreOctets, IsOctetEvent, after}
-use Rattle.um_air.proofs.Determined.{left, done}
+use Rattle.um_air.proofs.Words.{◌≡◌, refl, sym, subst, arith, ℕ, ◌-◌, ◌<◌, ◌≤◌, List, [], ◌∷◌, length, Option, None, ◌∙◌, ◌/◌, ◌%◌, map, get_or, set, nat_eq, Some, All, inl, inr, IfSome, cases_lt, length-set, length-map, set_past, All-nil, All-cons, All-head, All-tail, All-append, All-replicate, All-set, All-map, Channel, header, n201, Content, Frame, information, goes_on, address, control, length_octet, NumbersFit, Fits, octets_of, octets_canonical, bit_bound, one_reading, information_bound, Sapi, Notice, Role, Received, softened, IsReceivedBlock, some_sent_block, sent_block_bits, some_received_block, accepted_count, Ways, way, no_ways, Deliver, Who, End, Why, deed, Nothing, unless, World, notice_lines, answer_lines, KnowsBy, LineOctets, AllSay, EndOctets, SaysOctets, WorldOctets, octets-step, start-octets, AllFit, deed-fits, deed-holds, Octets, Event, as_read, AirState, start_on, Answer, AirStep, AirRun, Block, Reads, Hears, Arrives, AreSent, Happens, Refuses, Does, refusal, turned_at, turned, AreOctets, IsOctetEvent, after}
+use Rattle.lapdm_link.specs as L
+use Rattle.um_air.proofs.Determined.{left, done, one_run}
 use Rattle.um_air.proofs.Carrying.{Coded, world_of, refusal-same, known-read, IsSeenAt, seen-step, start-seen}
 
 -- ---- the octets of a frame
 
 control_small : (c : Content) → NumbersFit c → control c < 256
-control_small (I ns nr p more info) h = omega (arith, bit_bound)
-control_small c h = omega (arith, bit_bound)
-
-room_small : (channel : Channel) → n201 channel ≤ 20
-room_small Sdcch = omega arith
-room_small Sacch = omega arith
+control_small c h = grind (arith, bit_bound)
 
 pub octets_small : (channel : Channel) (f : Frame) → Fits channel f → AreOctets (information f.content) → AreOctets (octets_of channel f)
 octets_small channel f h info =
     let small : ℕ → Type 0 = λ octet. octet < 256 in
     let most : length (information f.content) ≤ n201 channel = information_bound channel f.content h.information in
-    let last : length_octet f.content < 256 = omega (arith, most, room_small channel, bit_bound (goes_on f.content)) in
+    let room : n201 channel ≤ 20 = grind arith in
+    let last : length_octet f.content < 256 = omega (arith, most, room, bit_bound (goes_on f.content)) in
     let head = All-cons small (address f) (control f.content ∷ length_octet f.content ∷ []) (omega (arith, h.sapi, bit_bound f.cr))
     (All-cons small (control f.content) (length_octet f.content ∷ []) (control_small f.content h.numbers)
     (All-cons small (length_octet f.content) [] last (All-nil small))) in
@@ -122,13 +91,9 @@ told_octets (End r) s [] = tt
 told_octets (End r) s (n ∷ ns) = told_octets (End r) s ns
 told_octets who s ns = tt
 
-line_octets : (read : Option Frame) (event : Event) (answer : E.Answer) → IsOctetEvent event →
+line_octets : (read : Option Frame) (event : Event) (answer : L.Events.Answer) → IsOctetEvent event →
     LineOctets (answer_lines (as_read read event) answer)
-line_octets read event (E.Refuses why) h = tt
-line_octets read (Deliver sender places) (E.Does who s fs ns) h = told_octets who s ns
-line_octets read (Lose sender) (E.Does who s fs ns) h = told_octets who s ns
-line_octets read (Ask r q (Send m)) (E.Does who s fs ns) h = (h, told_octets who s ns)
-line_octets read event (E.Does who s fs ns) h = (h, told_octets who s ns)
+line_octets read event answer h = grind (arith, told_octets)
 
 -- what holds between two steps
 record IsSpoken (a : AirState) : Type 0 where
@@ -138,16 +103,15 @@ record IsSpoken (a : AirState) : Type 0 where
   known : a.tsc ≤ 7
 
 start-spoken : (tsc : ℕ) (channel : Channel) → tsc ≤ 7 → IsSpoken (start_on tsc channel)
-start-spoken tsc channel known =
-    record { octets = no_ways; at = start-seen tsc channel; small = start-octets channel; known = known }
+start-spoken tsc channel known = record { octets = no_ways; at = start-seen tsc channel; small = start-octets channel; known = known }
 
 module _ (a : AirState) (h : IsSpoken a) (event : Event) (says : IsOctetEvent event) where
-  octets-next : (read : Option Frame) → (let e : E.Event = as_read read event in
-      let w : World = world_of a h.at.frames in KnowsBy (W.refusal e w) (λ r f. SaysOctets f) e → WorldOctets (W.after e w))
+  octets-next : (read : Option Frame) → (let e : L.Events.Event = as_read read event in
+      let w : World = world_of a h.at.frames in KnowsBy (L.Worlds.refusal e w) (λ r f. SaysOctets f) e → WorldOctets (L.Worlds.after e w))
   octets-next read reads =
-      let e : E.Event = as_read read event in
+      let e : L.Events.Event = as_read read event in
       let w : World = world_of a h.at.frames in
-      octets-step w h.at.ls e h.at.reported reads h.small (line_octets read event (W.answer e w) says)
+      octets-step w h.at.ls e h.at.reported reads h.small (line_octets read event (L.Worlds.answer e w) says)
 
   spoken-next : (answer : Answer) (b : AirState) → AirStep a event b answer → IsSpoken b
   spoken-next answer b t =
@@ -160,43 +124,36 @@ module _ (a : AirState) (h : IsSpoken a) (event : Event) (says : IsOctetEvent ev
   some_answer_at None is =
       let fs : Ways Frame = h.at.frames in
       let t = some_arrival a fs event h.at.blocks is in
-      let e : E.Event = as_read t.1 event in
+      let e : L.Events.Event = as_read t.1 event in
       let w : World = world_of a fs in
-      let none : W.refusal e w ≡ None = refusal-same a fs t.1 event h.at.blocks ∙ is in
-      let known = known-read a event t.0 t.1 t.2 in
-      let next = octets-next t.1 (subst (λ (q : Option Why). KnowsBy q (λ r f. SaysOctets f) e) (sym none) known.1) in
-      let bs = some_blocks a.channel a.tsc (deed e a.ends).frames h.known
-      (deed-fits a.channel w e (subst (λ (q : Option Why). KnowsBy q (λ r f. Fits a.channel f) e) (sym none) known.0) h.at.fit none)
-      (deed-holds (λ s x. EndOctets x) SaysOctets next.0 w e (W.refusal e w) none next.1) in
+      let none : L.Worlds.refusal e w ≡ None = refusal-same a fs t.1 event h.at.blocks ∙ is in
+      let known = known-read (L.Worlds.refusal e w) a event t.0 t.1 t.2 in
+      let next = octets-next t.1 known.1 in
+      let bs = some_blocks a.channel a.tsc (deed e a.ends).frames h.known (deed-fits a.channel w e known.0 h.at.fit none)
+      (deed-holds (λ s x. EndOctets x) SaysOctets next.0 w e (L.Worlds.refusal e w) none next.1) in
       let happens : Happens a event (left a event e bs.0) (done a e t.0) =
       record { read = t.1; blocks = bs.0; arrives = t.2; sent = bs.1; after = refl; step_is = refl } in
       (left a event e bs.0, Does (done a e t.0), (is, happens))
 
-spoken-run : (events : List Event) (answers : List Answer) (a b : AirState) → IsSpoken a → All IsOctetEvent events →
-    AirRun a events answers b → IsSpoken b
-spoken-run [] [] a b h says run = rw run h
-spoken-run (event ∷ events) (answer ∷ answers) a b h says run =
-    let next = spoken-next a h event (All-head IsOctetEvent event events says) answer run.0 run.1 in
-    spoken-run events answers run.0 b next (All-tail IsOctetEvent event events says) run.2
-spoken-run events answers a b h says run = absurd assumption
-
-pub some_answer : (tsc : ℕ) (channel : Channel) (events : List Event) (answers : List Answer) (a : AirState) → tsc ≤ 7 →
-    All IsOctetEvent events → AirRun (start_on tsc channel) events answers a →
-    (event : Event) → IsOctetEvent event → (b : AirState) × (answer : Answer) × AirStep a event b answer
-some_answer tsc channel events answers a known said run event says =
-    some_answer_at a (spoken-run events answers (start_on tsc channel) a (start-spoken tsc channel known) said run)
-    event says (refusal event a) refl
-
 going_on : (events : List Event) (a : AirState) → IsSpoken a → All IsOctetEvent events →
-    (answers : List Answer) × (b : AirState) × AirRun a events answers b
-going_on [] a h says = ([], a, refl)
+    (answers : List Answer) × (b : AirState) × AirRun a events answers b × IsSpoken b
+going_on [] a h says = ([], a, refl, h)
 going_on (event ∷ events) a h says =
     let now : IsOctetEvent event = All-head IsOctetEvent event events says in
     let s = some_answer_at a h event now (refusal event a) refl in
     let r = going_on events s.0 (spoken-next a h event now s.1 s.0 s.2) (All-tail IsOctetEvent event events says) in
-    (s.1 ∷ r.0, r.1, (s.0, s.2, r.2))
+    (s.1 ∷ r.0, r.1, (s.0, s.2, r.2), r.3)
 
 pub some_run : (tsc : ℕ) (channel : Channel) (events : List Event) → tsc ≤ 7 → All IsOctetEvent events →
     (answers : List Answer) × (b : AirState) × AirRun (start_on tsc channel) events answers b
 some_run tsc channel events known said =
-    going_on events (start_on tsc channel) (start-spoken tsc channel known) said
+    let r = going_on events (start_on tsc channel) (start-spoken tsc channel known) said in (r.0, r.1, r.2)
+
+-- every session of these events ends as that one does
+pub some_answer : (tsc : ℕ) (channel : Channel) (events : List Event) (answers : List Answer) (a : AirState) → tsc ≤ 7 →
+    All IsOctetEvent events → AirRun (start_on tsc channel) events answers a →
+    (event : Event) → IsOctetEvent event → (b : AirState) × (answer : Answer) × AirStep a event b answer
+some_answer tsc channel events answers a known said run event says =
+    let r = going_on events (start_on tsc channel) (start-spoken tsc channel known) said in
+    let same = one_run (start_on tsc channel) events r.1 a r.0 answers r.2 run in
+    some_answer_at a (subst IsSpoken same.0 r.3) event says (refusal event a) refl
