@@ -80,52 +80,37 @@ abbrev pub spoken : Role → Sapi → List Message → List Call → List Notice
 spoken r s is cs ns = map Rivals is ++ said r s cs ns
 
 -- of such lines all are picked, or none
-all_picked : {T : Type 0} (pick : Line → Option T) (line : T → Line) → ((x : T) → pick (line x) ≡ Some x) → (xs : List T) →
+all_of : {T : Type 0} (pick : Line → Option T) (line : T → Line) → ((x : T) → pick (line x) ≡ Some x) → (xs : List T) →
     filter_map pick (map line xs) ≡ xs
-all_picked pick line h [] = refl
-all_picked pick line h (x ∷ xs) = rw (h x, all_picked pick line h xs) refl
+all_of pick line h [] = refl
+all_of pick line h (x ∷ xs) = rw (h x, all_of pick line h xs) refl
 
-none_picked : {T X : Type 0} (pick : Line → Option T) (line : X → Line) → ((x : X) → pick (line x) ≡ None) → (xs : List X) →
+none_of : {T X : Type 0} (pick : Line → Option T) (line : X → Line) → ((x : X) → pick (line x) ≡ None) → (xs : List X) →
     filter_map pick (map line xs) ≡ []
-none_picked pick line h [] = refl
-none_picked pick line h (x ∷ xs) = rw (h x) (none_picked pick line h xs)
+none_of pick line h [] = refl
+none_of pick line h (x ∷ xs) = rw (h x) (none_of pick line h xs)
 
 module _ (r : Role) (s : Sapi) (ls : List Line) (is : List Message) (cs : List Call) (ns : List Notice) where
   pub calls-own : calls r s (ls ++ spoken r s is cs ns) ≡ calls r s ls ++ cs
-  calls-own = simp (
-    filter_map-append,
-    append-nil,
-    none_picked (call_in r s) Rivals (λ i. refl),
-    all_picked (call_in r s) (Asked r s) (λ c. rw (is_end-self r s) refl),
-    none_picked (call_in r s) (Told r s) (λ n. refl),
-  )
+  calls-own =
+      let asked = all_of (call_in r s) (Asked r s) (λ c. rw (is_end-self r s) refl) cs in
+      simp (filter_map-append, append-nil, asked, none_of (call_in r s) Rivals (λ i. refl), none_of (call_in r s) (Told r s) (λ n. refl))
 
   pub notices-own : notices r s (ls ++ spoken r s is cs ns) ≡ notices r s ls ++ ns
-  notices-own = simp (
-    filter_map-append,
-    none_picked (notice_in r s) Rivals (λ i. refl),
-    none_picked (notice_in r s) (Asked r s) (λ c. refl),
-    all_picked (notice_in r s) (Told r s) (λ n. rw (is_end-self r s) refl),
-  )
+  notices-own =
+      let told = all_of (notice_in r s) (Told r s) (λ n. rw (is_end-self r s) refl) ns in
+      simp (filter_map-append, told, none_of (notice_in r s) Rivals (λ i. refl), none_of (notice_in r s) (Asked r s) (λ c. refl))
 
   module _ (r' : Role) (s' : Sapi) (e : is_end r' s' r s ≡ false) where
     pub calls-else : calls r' s' (ls ++ spoken r s is cs ns) ≡ calls r' s' ls
-    calls-else = simp (
-      filter_map-append,
-      append-nil,
-      none_picked (call_in r' s') Rivals (λ i. refl),
-      none_picked (call_in r' s') (Asked r s) (λ c. rw e refl),
-      none_picked (call_in r' s') (Told r s) (λ n. refl),
-    )
+    calls-else =
+        let pick = call_in r' s' in let asked = none_of pick (Asked r s) (λ c. rw e refl) cs in
+        simp (filter_map-append, append-nil, asked, none_of pick Rivals (λ i. refl), none_of pick (Told r s) (λ n. refl))
 
     pub notices-else : notices r' s' (ls ++ spoken r s is cs ns) ≡ notices r' s' ls
-    notices-else = simp (
-      filter_map-append,
-      append-nil,
-      none_picked (notice_in r' s') Rivals (λ i. refl),
-      none_picked (notice_in r' s') (Asked r s) (λ c. refl),
-      none_picked (notice_in r' s') (Told r s) (λ n. rw e refl),
-    )
+    notices-else =
+        let pick = notice_in r' s' in let told = none_of pick (Told r s) (λ n. rw e refl) ns in
+        simp (filter_map-append, append-nil, told, none_of pick Rivals (λ i. refl), none_of pick (Asked r s) (λ c. refl))
 
 -- a notice among the lines
 pub notices-at : (r : Role) (s : Sapi) (before : List Line) (n : Notice) (more : List Line) →
