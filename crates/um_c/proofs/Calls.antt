@@ -77,7 +77,8 @@ answered_by : {A : Type 0} (call : Call) (before after : PlainEnd) (untold told 
     IfErr r (λ reason. IsRefusal reason answer before after untold told) → IsCalledAs call answer before after untold told
 answered_by call before after untold told m n effects answer (Ok x) read may refusal follows is refused =
     record {
-      done = λ e h asked none. let s = follows e (read.stands e h) in carried_out (after_call call e) e n effects answer after told s.0 s.1 is;
+      done = λ e h asked none.
+          let s = follows e (read.stands e h) in carried_out (after_call call e) e n effects answer after told s.0 s.1 is;
       refused = λ e h asked reason refuses. none_is (refusal e (read.stands e h) ∙ refuses);
       other = λ e h not_one. absurd (not_one (may e h));
       no_end = λ none. absurd (none read.one.0 read.one.1);
@@ -92,12 +93,13 @@ answered_by call before after untold told m n effects answer (Err reason) read m
       unchanged = λ other. (is.1, is.2);
     }
 
-pub called_by : {A : Type 0} (call : Call) (before after : PlainEnd) (untold told : PlainEffects) (m n : End) (effects : Effects) (answer : ℕ)
-    (r : Result A Refused) → IsRead before m → ((e : EndState) → StandsFor before e → MayAsk e call) → IsRefusedAs call m r →
+pub called_by : {A : Type 0} (call : Call) (before after : PlainEnd) (untold told : PlainEffects) (m n : End) (effects : Effects)
+    (answer : ℕ) (r : Result A Refused) → IsRead before m → ((e : EndState) → StandsFor before e → MayAsk e call) → IsRefusedAs call m r →
     OnOk r (Follows (after_call call) m effects n) → OnOk r (IsWritten effects n answer after told) →
     IfErr r (λ reason. IsRefusal reason answer before after untold told) → IsCalledAs call answer before after untold told
 called_by call before after untold told m n effects answer r read may refusal follows is refused =
-    answered_by call before after untold told m n effects answer r read may refusal follows (written r effects n answer after told is) refused
+    answered_by call before after untold told m n effects answer r read may refusal follows (written r effects n answer after told is)
+    refused
 
 -- a call that may not be asked
 pub not_asked : (call : Call) (s : PlainEnd) (told : PlainEffects) (m : End) → IsRead s m →
@@ -170,5 +172,11 @@ begun role sapi channel r s c before after m of_role of_sapi of_channel is stand
     let by_channel : Option Channel → Type 0 = λ z. IsBegun (Some r) (Some s) z true before after in
     let by_sapi : Option Sapi → Type 0 = λ y. IsBegun (Some r) y (channel_of channel) true before after in
     let by_role : Option Role → Type 0 = λ x. IsBegun x (sapi_of sapi) (channel_of channel) true before after in
-    subst by_role of_role (subst by_sapi of_sapi (subst by_channel of_channel
-    (refl, record { values = values_of m; said = ap said_end is ∙ end-plain (values_of m) m.window.few; stand = record { end = m; values = refl; stands = stands } })))
+    subst by_role of_role (subst by_sapi of_sapi (subst by_channel of_channel (
+      refl,
+      record {
+        values = values_of m;
+        said = ap said_end is ∙ end-plain (values_of m) m.window.few;
+        stand = record { end = m; values = refl; stands = stands };
+      },
+    )))

@@ -10,8 +10,8 @@ returns-in-Three-clause-called c =
     called_by OpensBare c.args.end.now c.carry_out.new.end c.args.effects.now c.carry_out.new.effects c.read_end.new.end
     c.open_bare_into-answer.new.self c.open_bare_into-answer.new.effects c.carry_out.result c.open_bare_into-answer.result
     (record { stands = c.read_end.ensures.stands c.if-not-read_end.false; one = c.read_end.ensures.known.0 c.if-not-read_end.false })
-    (λ e h. sym (c.in-Three.ensures.stands e (c.read_end.ensures.stands c.if-not-read_end.false e h))) c.open_bare_into-answer.ensures.refusal
-    c.open_bare_into-answer.ensures.follows c.carry_out.ensures.done c.carry_out.ensures.refused
+    (λ e h. sym (c.in-Three.ensures.stands e (c.read_end.ensures.stands c.if-not-read_end.false e h)))
+    c.open_bare_into-answer.ensures.refusal c.open_bare_into-answer.ensures.follows c.carry_out.ensures.done c.carry_out.ensures.refused
 
 pub returns-in-Three-clause-plain : goal.returns-in-Three-clause-plain
 returns-in-Three-clause-plain c = λ zero. (values_of c.open_bare_into-answer.new.self, c.carry_out.ensures.plain zero)

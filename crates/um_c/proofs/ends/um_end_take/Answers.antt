@@ -9,7 +9,8 @@ returns-clause-given c =
     c.carry_out.new.effects c.read_end.new.end c.take_into.new.self c.carry_out.result c.take_into.new.effects
     (record { stands = c.read_end.ensures.stands c.if-not-read_end.false; one = c.read_end.ensures.known.0 c.if-not-read_end.false })
     c.channel.ensures.stands c.in-Ok.ensures.frame c.take_into.ensures.follows
-    (is_done c.take_into.new.effects c.take_into.new.self c.carry_out.result c.carry_out.new.end c.carry_out.new.effects c.carry_out.ensures.done)
+    (is_done c.take_into.new.effects c.take_into.new.self c.carry_out.result c.carry_out.new.end c.carry_out.new.effects
+    c.carry_out.ensures.done)
 
 pub returns-clause-plain : goal.returns-clause-plain
 returns-clause-plain c = λ zero. (values_of c.take_into.new.self, c.carry_out.ensures.plain zero)

@@ -13,8 +13,8 @@ returns c =
     let told = c.tell.new.effects in
     let answer = c.tell.result in
     subst (λ (m : List ℕ). IsCalledAs (SendsUnit m) answer s s untold told) c.octets.ensures.value
-    (told_by (SendsUnit c.octets.result.now) s untold told c.read_end.new.end c.unit_into-answer.new.self c.unit_into-answer.new.effects answer
-    c.unit_into-answer.result
+    (told_by (SendsUnit c.octets.result.now) s untold told c.read_end.new.end c.unit_into-answer.new.self
+    c.unit_into-answer.new.effects answer c.unit_into-answer.result
     (record { stands = c.read_end.ensures.stands c.if-not-read_end.false; one = c.read_end.ensures.known.0 c.if-not-read_end.false })
-    (c.read_end.ensures.said c.if-not-read_end.false ∙ ap (λ (x : End). Some (values_of x)) (sym c.unit_into-answer.ensures.unchanged)) (λ e h. tt)
-    c.unit_into-answer.ensures.refusal c.unit_into-answer.ensures.follows c.tell.ensures.done c.tell.ensures.refused)
+    (c.read_end.ensures.said c.if-not-read_end.false ∙ ap (λ (x : End). Some (values_of x)) (sym c.unit_into-answer.ensures.unchanged))
+    (λ e h. tt) c.unit_into-answer.ensures.refusal c.unit_into-answer.ensures.follows c.tell.ensures.done c.tell.ensures.refused)
