@@ -8,8 +8,9 @@ LIBDIR  ?= $(PREFIX)/lib
 LIBEXEC ?= $(PREFIX)/libexec/um
 INCLUDE ?= $(PREFIX)/include
 SHARE   ?= $(PREFIX)/share
-PYTHON  ?= $(shell python3 -c 'import sys; p = "$(PREFIX)/lib"; print(next((f for f in sys.path if f.startswith(p) and f.endswith("-packages")), \
-	p + "/python%d.%d/site-packages" % sys.version_info[:2]))' 2>/dev/null)
+# the folder below PREFIX in which python3 looks for modules, if it looks in one
+PYTHON  ?= $(shell python3 -c 'import sys; p = "$(PREFIX)/lib"; f = [f for f in sys.path if f.startswith(p) and f.endswith("-packages")]; \
+	print(f[0] if f else p + "/python%d.%d/site-packages" % sys.version_info[:2])' 2>/dev/null)
 D       := $(DESTDIR)
 HEADERS := bindings/c/um.h bindings/c/um_osmo.h
 MODULE  := $(wildcard bindings/python/um/*.py bindings/python/um/*.pyi bindings/python/um/py.typed)
@@ -35,7 +36,8 @@ dist:
 ## make install    installs below PREFIX (/usr/local), LIBDIR (PREFIX/lib) and DESTDIR: program, manual page, libraries, headers,
 ##                 pkg-config, CMake, Python module, completion. FROM names the folder of the built files (dist/ARCH-linux)
 install:
-	@test -f $(FROM)/libum.so.0 || { echo "make install: there is no $(FROM)/libum.so.0; dist/ has x86_64 and aarch64, and FROM names others" >&2; exit 1; }
+	@test -f $(FROM)/libum.so.0 || \
+	  { echo "make install: no $(FROM)/libum.so.0; dist/ has x86_64-linux and aarch64-linux, and FROM names another folder" >&2; exit 1; }
 	install -d $(D)$(INCLUDE) $(D)$(LIBDIR)/pkgconfig $(D)$(LIBDIR)/cmake/um
 	install -m 644 $(HEADERS) $(D)$(INCLUDE)/
 	install -m 644 $(FROM)/libum.a $(D)$(LIBDIR)/libum.a
@@ -55,14 +57,16 @@ ifneq ($(wildcard $(FROM)/um),)
 else
 	@echo "make install: $(FROM) has no program, so that the libraries alone are installed"
 endif
-ifneq ($(PYTHON),)
+ifneq ($(and $(PYTHON),$(MODULE)),)
 	install -d $(D)$(PYTHON)/um
 	install -m 644 $(MODULE) $(D)$(PYTHON)/um/
+	ln -srf $(D)$(LIBDIR)/libum.so.0 $(D)$(PYTHON)/um/libum.so.0
 endif
 
 ## make uninstall  removes what make install put there, with the same PREFIX, LIBDIR and DESTDIR
 uninstall:
-	rm -f $(D)$(BINDIR)/um $(D)$(LIBEXEC)/um $(D)$(LIBEXEC)/refused.awk $(D)$(SHARE)/man/man1/um.1 $(D)$(SHARE)/bash-completion/completions/um \
+	rm -f $(D)$(BINDIR)/um $(D)$(LIBEXEC)/um $(D)$(LIBEXEC)/refused.awk \
+	  $(D)$(SHARE)/man/man1/um.1 $(D)$(SHARE)/bash-completion/completions/um \
 	  $(addprefix $(D)$(INCLUDE)/,$(notdir $(HEADERS))) $(D)$(LIBDIR)/libum.a $(D)$(LIBDIR)/libum.so $(D)$(LIBDIR)/libum.so.0 \
 	  $(D)$(LIBDIR)/libum.so.$(VERSION) $(D)$(LIBDIR)/pkgconfig/um.pc
 	rm -rf $(D)$(LIBDIR)/cmake/um $(if $(PYTHON),$(D)$(PYTHON)/um)

@@ -62,7 +62,8 @@ function quoted(text) {
 
 function tell_of_spaces(   at) {
   if (line ~ /^\357\273\277/) tell("a byte order mark comes before the first word", 1)
-  if (line ~ /^(\376\377|\377\376)/ || line ~ /[\001-\010\016-\037].*[\001-\010\016-\037]/) tell("this is no text: is it compressed, binary or UTF-16?", 1)
+  if (line ~ /^(\376\377|\377\376)/ || line ~ /[\001-\010\016-\037].*[\001-\010\016-\037]/)
+    tell("this is no text: is it compressed, binary or UTF-16?", 1)
   if (line ~ /\r$/) tell("the line ends in CR LF; tr -d '\\r' removes the CR", length(line))
   if (at = index(line, "\t")) tell("words are separated by one space, and this is a tab", at)
   if (line ~ /^ /) tell("there is a space before the first word", 1)
@@ -112,14 +113,19 @@ function fault_of(word, type,   n) {
   n += 0
   if (type ~ /^[TSN]$/) return word ~ /^[0-7]$/ ? "" : type " is one digit from 0 to 7"
   if (type ~ /^[CPMF]$/) return word ~ /^[01]$/ ? "" : type " is 0 or 1"
-  if (type == "PLACE") return word !~ /^(0|[1-9][0-9]*)$/ || word > 591 ? "a place is a number from 0 to 591" : word in seen ? "this place comes twice" : ""
+  if (type == "PLACE") {
+    if (word !~ /^(0|[1-9][0-9]*)$/ || word > 591) return "a place is a number from 0 to 591"
+    return word in seen ? "this place comes twice" : ""
+  }
   if (type ~ /^HEX/) {
     if (type == "HEX" && word == "-") return reason == "length" ? "this frame has at least one octet" : ""
-    if (at = stranger(word, "0123456789abcdefABCDEF")) return type " has hexadecimal digits only" (word ~ /^0[xX]/ ? ", no 0x" : type == "HEX" ? ", or is - for no octets" : "")
+    if (at = stranger(word, "0123456789abcdefABCDEF"))
+      return type " has hexadecimal digits only" (word ~ /^0[xX]/ ? ", no 0x" : type == "HEX" ? ", or is - for no octets" : "")
   } else if (at = stranger(word, "01")) return type " has the digits 0 and 1 only"
   at = 1
   if (n && length(word) != n) return type " has " n " digits, and these are " length(word)
-  if (type == "HEX" && (word == "" || length(word) % 2)) return "each octet has two digits, and these are " length(word) "; - stands for no octets"
+  if (type == "HEX" && (word == "" || length(word) % 2))
+    return "each octet has two digits, and these are " length(word) "; - stands for no octets"
   if (type == "HEX" && reason == "length") return "a frame has at most 20 octets here, and these are " length(word) / 2
   if (reason != "soft") return ""
   while (at < n && substr(word, at, 2) != "80") at += 2
