@@ -1,0 +1,79 @@
+# `make help` says what each target does. Everything but `prove` and `dist` works without the Rattle toolchain, from dist/.
+VERSION := $(shell cat VERSION)
+ARCH    ?= $(shell uname -m)
+FROM    ?= dist/$(ARCH)-linux
+PREFIX  ?= /usr/local
+BINDIR  ?= $(PREFIX)/bin
+LIBDIR  ?= $(PREFIX)/lib
+LIBEXEC ?= $(PREFIX)/libexec/um
+INCLUDE ?= $(PREFIX)/include
+SHARE   ?= $(PREFIX)/share
+# the folder below PREFIX in which python3 looks for modules, if it looks in one
+PYTHON  ?= $(shell python3 -c 'import sys; p = "$(PREFIX)/lib"; f = [f for f in sys.path if f.startswith(p) and f.endswith("-packages")]; \
+	print(f[0] if f else p + "/python%d.%d/site-packages" % sys.version_info[:2])' 2>/dev/null)
+D       := $(DESTDIR)
+HEADERS := bindings/c/um.h bindings/c/um_osmo.h
+MODULE  := $(wildcard bindings/python/um/*.py bindings/python/um/*.pyi bindings/python/um/py.typed)
+# from LIBDIR up to PREFIX, for the files of CMake, which find all from where they are
+UP      := $(shell echo '$(LIBDIR)' | sed 's|^$(PREFIX)/||; s|[^/][^/]*|..|g')
+FILL    := sed -e 's|@PREFIX@|$(PREFIX)|; s|@LIBDIR@|$(LIBDIR)|; s|@INCLUDE@|$(INCLUDE)|; s|@VERSION@|$(VERSION)|; s|@UP@|$(UP)|'
+
+help:
+	@sed -n 's/^## //p' Makefile
+
+## make check      tests the program and the library of dist/: two minutes; what a missing tool would test is named
+check:
+	@checks/run quick
+
+## make prove      proves everything and runs every check; needs the Rattle toolchain, and from nothing half an hour and more
+prove:
+	.ci/run
+
+## make dist       makes dist/ from the proved sources; needs the Rattle toolchain and wasm-opt
+dist:
+	tools/release
+
+## make install    installs below PREFIX (/usr/local), LIBDIR (PREFIX/lib) and DESTDIR: program, manual page, libraries, headers,
+##                 pkg-config, CMake, Python module, completion. FROM names the folder of the built files (dist/ARCH-linux)
+install:
+	@test -f $(FROM)/libum.so.0 || \
+	  { echo "make install: no $(FROM)/libum.so.0; dist/ has x86_64-linux and aarch64-linux, and FROM names another folder" >&2; exit 1; }
+	install -d $(D)$(INCLUDE) $(D)$(LIBDIR)/pkgconfig $(D)$(LIBDIR)/cmake/um
+	install -m 644 $(HEADERS) $(D)$(INCLUDE)/
+	install -m 644 $(FROM)/libum.a $(D)$(LIBDIR)/libum.a
+	install -m 644 $(FROM)/libum.so.0 $(D)$(LIBDIR)/libum.so.$(VERSION)
+	ln -sf libum.so.$(VERSION) $(D)$(LIBDIR)/libum.so.0
+	ln -sf libum.so.0 $(D)$(LIBDIR)/libum.so
+	$(FILL) packaging/um.pc.in >$(D)$(LIBDIR)/pkgconfig/um.pc
+	$(FILL) packaging/umConfig.cmake.in >$(D)$(LIBDIR)/cmake/um/umConfig.cmake
+	$(FILL) packaging/umConfigVersion.cmake.in >$(D)$(LIBDIR)/cmake/um/umConfigVersion.cmake
+ifneq ($(wildcard $(FROM)/um),)
+	install -d $(D)$(BINDIR) $(D)$(LIBEXEC) $(D)$(SHARE)/man/man1 $(D)$(SHARE)/bash-completion/completions
+	install -m 755 um $(D)$(BINDIR)/um
+	install -m 755 $(FROM)/um $(D)$(LIBEXEC)/um
+	install -m 644 tools/refused.awk $(D)$(LIBEXEC)/refused.awk
+	install -m 644 docs/um.1 $(D)$(SHARE)/man/man1/um.1
+	install -m 644 packaging/um.bash $(D)$(SHARE)/bash-completion/completions/um
+else
+	@echo "make install: $(FROM) has no program, so that the libraries alone are installed"
+endif
+ifneq ($(and $(PYTHON),$(MODULE)),)
+	install -d $(D)$(PYTHON)/um
+	install -m 644 $(MODULE) $(D)$(PYTHON)/um/
+	ln -srf $(D)$(LIBDIR)/libum.so.0 $(D)$(PYTHON)/um/libum.so.0
+endif
+
+## make uninstall  removes what make install put there, with the same PREFIX, LIBDIR and DESTDIR
+uninstall:
+	rm -f $(D)$(BINDIR)/um $(D)$(LIBEXEC)/um $(D)$(LIBEXEC)/refused.awk \
+	  $(D)$(SHARE)/man/man1/um.1 $(D)$(SHARE)/bash-completion/completions/um \
+	  $(addprefix $(D)$(INCLUDE)/,$(notdir $(HEADERS))) $(D)$(LIBDIR)/libum.a $(D)$(LIBDIR)/libum.so $(D)$(LIBDIR)/libum.so.0 \
+	  $(D)$(LIBDIR)/libum.so.$(VERSION) $(D)$(LIBDIR)/pkgconfig/um.pc
+	rm -rf $(D)$(LIBDIR)/cmake/um $(if $(PYTHON),$(D)$(PYTHON)/um)
+	-rmdir $(D)$(LIBEXEC) 2>/dev/null
+
+## make packages   makes Debian packages for amd64 and arm64 and the archive of the sources in out/packages
+packages:
+	packaging/packages out/packages
+
+.PHONY: help check prove dist install uninstall packages

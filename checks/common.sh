@@ -1,0 +1,28 @@
+# What checks share: the library that belongs to these sources. Each script of bash sources this file at the repository's top.
+
+# dist_is_ours: whether dist/ was made from these sources
+dist_is_ours() {
+  [ -f dist/MANIFEST ] && [ "$(tools/sources)" = "$(sed -n 's/^sources //p' dist/MANIFEST)" ]
+}
+
+# find_library: sets archive and shared to the library of dist/ for this machine where it was made from these sources, and else to one
+# that is proved and built. False: there is neither.
+find_library() {
+  local machine
+  machine=$(uname -m)
+  if dist_is_ours && [ -f "dist/$machine-linux/libum.a" ]; then
+    archive=dist/$machine-linux/libum.a
+    shared=dist/$machine-linux/libum.so.0
+    return
+  fi
+  command -v rt >/dev/null || return
+  (cd crates/um_c && rt lib </dev/null) >&2 || return
+  archive=crates/um_c/out/libum_c.a
+  shared=crates/um_c/out/libum.so.0
+  cc -shared -o "$shared" -Wl,-soname,libum.so.0 -Wl,--whole-archive "$archive" -Wl,--no-whole-archive
+}
+
+# exports: the names of the functions that um.h declares
+exports() {
+  cc -E -P -Ibindings/c -xc - <<<'#include "um.h"' | grep -oE '\bum_[a-z0-9_]+ *\(' | tr -d ' (' | LC_ALL=C sort -u
+}

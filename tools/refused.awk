@@ -1,0 +1,162 @@
+# Says what is wrong with a line that was refused, and marks the column. Standard input is the line. The environment has number and
+# reason as the program gave them, called (the command), own (the forms of its lines), and others (those of all commands, each
+# behind the command's name). In a form | parts words of which one stands, and .. stands for more words like the last.
+
+# the offset in a word of the first character that is none of these, or 0
+function stranger(word, digits,   i) {
+  for (i = 1; i <= length(word); i++) if (!index(digits, substr(word, i, 1))) return i
+  return 0
+}
+
+function is_one_of(word, choice,   part, i, n) {
+  n = split(choice, part, "|")
+  for (i = 1; i <= n; i++) if (word == part[i]) return 1
+  return 0
+}
+
+# a word that a line has as it stands in the form
+function is_fixed(i, type) { return i == 1 || type !~ /[A-Z.]/ }
+
+# splits a form into wanted[], with as many words as the line has where it ends in .., and returns how many
+function fields(form,   n) {
+  n = split(form, wanted, " ")
+  if (wanted[n] != "..") return n
+  for (n--; n < count; n++) wanted[n + 1] = wanted[n]
+  return n
+}
+
+# how many words of the line come before the first that the form does not have there, and a half more if the line has the form
+function fit(form,   i, n) {
+  n = fields(form)
+  for (i = 1; i <= n && i <= count; i++) if (is_fixed(i, wanted[i]) && !is_one_of(word[i], wanted[i])) return i - 1
+  return n == count ? count + 0.5 : i - 1
+}
+
+# says the fault, shows the line with a mark under this column, if it is above 0, and ends
+function tell(fault, column,   from, shown, margin) {
+  printf "um: line %d was refused (%s): %s\n", number, reason, fault
+  if (column > 0) {
+    from = column > 70 ? column - 50 : 1
+    shown = substr(line, from, 100)
+    gsub(/[^ -~]/, "?", shown)
+    margin = from > 1 ? "  ..." : "  "
+    print margin shown (length(line) >= from + 100 ? "..." : "")
+    gsub(/./, " ", shown)
+    gsub(/\./, " ", margin)
+    print substr(margin shown, 1, length(margin) + column - from) "^"
+  }
+  is_told = 1
+  exit
+}
+
+function column_of(i,   k, column) {
+  column = 1
+  for (k = 1; k < i; k++) column += length(word[k]) + 1
+  return column
+}
+
+function quoted(text) {
+  gsub(/[^ -~]/, "?", text)
+  return "'" (length(text) > 30 ? substr(text, 1, 27) "..." : text) "'"
+}
+
+function tell_of_spaces(   at) {
+  if (line ~ /^\357\273\277/) tell("a byte order mark comes before the first word", 1)
+  if (line ~ /^(\376\377|\377\376)/ || line ~ /[\001-\010\016-\037].*[\001-\010\016-\037]/)
+    tell("this is no text: is it compressed, binary or UTF-16?", 1)
+  if (line ~ /\r$/) tell("the line ends in CR LF; tr -d '\\r' removes the CR", length(line))
+  if (at = index(line, "\t")) tell("words are separated by one space, and this is a tab", at)
+  if (line ~ /^ /) tell("there is a space before the first word", 1)
+  if (at = index(line, "  ")) tell("words are separated by one space, and these are two", at + 1)
+  if (line ~ / $/) tell("there is a space behind the last word", length(line))
+}
+
+# the command whose lines begin with the first word, if any
+function reader_of(   part, form, i, n) {
+  n = split(ENVIRON["others"], part, "\n")
+  for (i = 1; i <= n; i++) {
+    form = part[i]
+    sub(/^[a-z]+ /, "", form)
+    if (fit(form) >= 1) return substr(part[i], 1, index(part[i], " ") - 1)
+  }
+  return ""
+}
+
+# the reason `word`: the line has no form of the command
+function tell_of_words(   part, i, n, most, best, list, other) {
+  tell_of_spaces()
+  n = split(ENVIRON["own"], part, "\n")
+  for (i = 1; i <= n; i++) {
+    if (fit(part[i]) > most) {
+      most = fit(part[i])
+      best = part[i]
+    }
+    fields(part[i])
+    if (index(" " list ",", " " wanted[1] ",") == 0) list = list (list ? ", " : "") wanted[1]
+  }
+  if (!best) {
+    other = reader_of()
+    if (other) tell("um " other " reads such lines, and " called " does not", 1)
+    gsub(/\|/, ", ", list)
+    tell(quoted(word[1]) " begins no line of " called "; lines begin with " list, 1)
+  }
+  n = fields(best)
+  if (most < count && most < n) tell(quoted(word[most + 1]) " does not belong here; the form is " best, column_of(most + 1))
+  tell("the line has " count " words and the form " best " has " n, 1)
+}
+
+# what is wrong with a word that stands for digits, if something is; leaves the offset in `at`
+function fault_of(word, type,   n) {
+  at = 1
+  n = type
+  gsub(/[^0-9]/, "", n)
+  n += 0
+  if (type ~ /^[TSN]$/) return word ~ /^[0-7]$/ ? "" : type " is one digit from 0 to 7"
+  if (type ~ /^[CPMF]$/) return word ~ /^[01]$/ ? "" : type " is 0 or 1"
+  if (type == "PLACE") {
+    if (word !~ /^(0|[1-9][0-9]*)$/ || word > 591) return "a place is a number from 0 to 591"
+    return word in seen ? "this place comes twice" : ""
+  }
+  if (type ~ /^HEX/) {
+    if (type == "HEX" && word == "-") return reason == "length" ? "this frame has at least one octet" : ""
+    if (at = stranger(word, "0123456789abcdefABCDEF"))
+      return type " has hexadecimal digits only" (word ~ /^0[xX]/ ? ", no 0x" : type == "HEX" ? ", or is - for no octets" : "")
+  } else if (at = stranger(word, "01")) return type " has the digits 0 and 1 only"
+  at = 1
+  if (n && length(word) != n) return type " has " n " digits, and these are " length(word)
+  if (type == "HEX" && (word == "" || length(word) % 2))
+    return "each octet has two digits, and these are " length(word) "; - stands for no octets"
+  if (type == "HEX" && reason == "length") return "a frame has at most 20 octets here, and these are " length(word) / 2
+  if (reason != "soft") return ""
+  while (at < n && substr(word, at, 2) != "80") at += 2
+  return at < n ? "80 is -128; soft values are from -127 to 127" : ""
+}
+
+# the other reasons: the line has a form, and a word is wrong
+function tell_of_values(   part, fault, i, n) {
+  n = split(ENVIRON["own"], part, "\n")
+  for (i = 1; i < n && fit(part[i]) != count + 0.5; i++);
+  fields(part[i])
+  for (i = 2; i <= count; i++) {
+    if (is_fixed(i, wanted[i])) continue
+    fault = fault_of(word[i], wanted[i])
+    if (fault && substr(word[i], at, 1) == "\r") tell_of_spaces()
+    if (fault) tell(fault, column_of(i) + at - 1)
+    seen[word[i]]
+  }
+}
+
+{ line = $0 }
+
+END {
+  number = ENVIRON["number"]
+  reason = ENVIRON["reason"]
+  called = ENVIRON["called"]
+  count = split(line, word, / /)
+  if (is_told) exit
+  if (reason == "order" && NR == 0) tell("the input ends inside a block, which is four lines n, N or lost", 0)
+  if (reason == "order") tell("this line comes inside a block, which is four lines n, N or lost", 1)
+  if (reason == "long") tell("it has more than 4,096 octets; is this a text?", 1)
+  if (reason == "word") tell_of_words()
+  tell_of_values()
+}
