@@ -3,6 +3,7 @@ ghost use Rattle.std.specs.Prelude.{◌≡◌, ◌++◌, length};
 ghost use Rattle.bit_blocks.specs.Bits.{AllBits};
 ghost use Rattle.burst_map.specs.AccessBurst.{access_burst, access_sequence};
 ghost use Rattle.burst_map.specs.AccessBurst as parts;
+ghost use Rattle.burst_map.specs.Parts.{LiesAt};
 
 use crate::place::place;
 use std::marker::Model;
@@ -43,20 +44,22 @@ pub struct AccessView<'a> {
     burst: &'a [i8; 88],
 }
 
-// Clauses see the burst.
+// Clauses see the burst that is lent.
 impl<'a> Model for AccessView<'a> {
     ghost use Rattle.std.specs.Prelude.{◌≡◌, List, ℤ, length};
+    ghost use Rattle.std.specs.Borrow.{Bor};
 
-    ghost Value = { List ℤ };
+    ghost Value = { Bor (List ℤ) };
 
-    ghost view = { λ parts. parts.burst.now };
+    ghost view = { λ parts. parts.burst };
 
     ghost invariant = { λ parts. length parts.burst.now ≡ 88 };
 }
 
 impl<'a> AccessView<'a> {
     pub fn new(burst: &'a [i8; 88]) -> AccessView<'a>
-        ensures value { result ≡ burst.now }
+        ensures value { result.now ≡ burst.now }
+        ensures lent { result.ref_ptr ≡ burst.entry.ref_ptr }
         ensures whole { burst.now ≡ parts.head burst.now ++ parts.training burst.now ++ parts.body burst.now ++ parts.tail burst.now }
     {
         AccessView { burst }
@@ -64,8 +67,9 @@ impl<'a> AccessView<'a> {
 
     /// The extended tail bits before.
     pub fn head(&self) -> &'a [i8]
-        ensures value { result.now ≡ parts.head self.now }
+        ensures value { result.now ≡ parts.head self.now.now }
         ensures count { length result.now ≡ 8 }
+        ensures lent { LiesAt 0 self.now result }
     {
         let burst = self.burst;
         &burst[..8]
@@ -73,8 +77,9 @@ impl<'a> AccessView<'a> {
 
     /// The training bits.
     pub fn training(&self) -> &'a [i8]
-        ensures value { result.now ≡ parts.training self.now }
+        ensures value { result.now ≡ parts.training self.now.now }
         ensures count { length result.now ≡ 41 }
+        ensures lent { LiesAt 8 self.now result }
     {
         let burst = self.burst;
         &burst[8..49]
@@ -82,8 +87,9 @@ impl<'a> AccessView<'a> {
 
     /// The 36 coded bits.
     pub fn body(&self) -> &'a [i8]
-        ensures value { result.now ≡ parts.body self.now }
+        ensures value { result.now ≡ parts.body self.now.now }
         ensures count { length result.now ≡ 36 }
+        ensures lent { LiesAt 49 self.now result }
     {
         let burst = self.burst;
         &burst[49..85]
@@ -91,8 +97,9 @@ impl<'a> AccessView<'a> {
 
     /// The tail bits after.
     pub fn tail(&self) -> &'a [i8]
-        ensures value { result.now ≡ parts.tail self.now }
+        ensures value { result.now ≡ parts.tail self.now.now }
         ensures count { length result.now ≡ 3 }
+        ensures lent { LiesAt 85 self.now result }
     {
         let burst = self.burst;
         &burst[85..88]

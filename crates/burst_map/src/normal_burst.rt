@@ -3,6 +3,7 @@ ghost use Rattle.std.specs.Prelude.{◌≡◌, ◌≤◌, ◌++◌, length};
 ghost use Rattle.bit_blocks.specs.Bits.{AllBits};
 ghost use Rattle.burst_map.specs.NormalBurst.{normal_burst};
 ghost use Rattle.burst_map.specs.NormalBurst as parts;
+ghost use Rattle.burst_map.specs.Parts.{LiesAt};
 
 use crate::place::place;
 use std::marker::Model;
@@ -33,20 +34,22 @@ pub struct NormalView<'a> {
     burst: &'a [i8; 148],
 }
 
-// Clauses see the burst.
+// Clauses see the burst that is lent.
 impl<'a> Model for NormalView<'a> {
     ghost use Rattle.std.specs.Prelude.{◌≡◌, List, ℤ, length};
+    ghost use Rattle.std.specs.Borrow.{Bor};
 
-    ghost Value = { List ℤ };
+    ghost Value = { Bor (List ℤ) };
 
-    ghost view = { λ parts. parts.burst.now };
+    ghost view = { λ parts. parts.burst };
 
     ghost invariant = { λ parts. length parts.burst.now ≡ 148 };
 }
 
 impl<'a> NormalView<'a> {
     pub fn new(burst: &'a [i8; 148]) -> NormalView<'a>
-        ensures value { result ≡ burst.now }
+        ensures value { result.now ≡ burst.now }
+        ensures lent { result.ref_ptr ≡ burst.entry.ref_ptr }
         ensures whole { burst.now ≡
             parts.head burst.now ++ parts.first_half burst.now ++ parts.lower_flag burst.now ++ parts.training burst.now
             ++ parts.upper_flag burst.now ++ parts.second_half burst.now ++ parts.tail burst.now }
@@ -56,8 +59,9 @@ impl<'a> NormalView<'a> {
 
     /// The tail bits before.
     pub fn head(&self) -> &'a [i8]
-        ensures value { result.now ≡ parts.head self.now }
+        ensures value { result.now ≡ parts.head self.now.now }
         ensures count { length result.now ≡ 3 }
+        ensures lent { LiesAt 0 self.now result }
     {
         let burst = self.burst;
         &burst[..3]
@@ -65,8 +69,9 @@ impl<'a> NormalView<'a> {
 
     /// The first 57 coded bits.
     pub fn first(&self) -> &'a [i8]
-        ensures value { result.now ≡ parts.first_half self.now }
+        ensures value { result.now ≡ parts.first_half self.now.now }
         ensures count { length result.now ≡ 57 }
+        ensures lent { LiesAt 3 self.now result }
     {
         let burst = self.burst;
         &burst[3..60]
@@ -74,8 +79,9 @@ impl<'a> NormalView<'a> {
 
     /// The stealing flag below the training sequence.
     pub fn lower(&self) -> &'a [i8]
-        ensures value { result.now ≡ parts.lower_flag self.now }
+        ensures value { result.now ≡ parts.lower_flag self.now.now }
         ensures count { length result.now ≡ 1 }
+        ensures lent { LiesAt 60 self.now result }
     {
         let burst = self.burst;
         &burst[60..61]
@@ -83,8 +89,9 @@ impl<'a> NormalView<'a> {
 
     /// The training sequence.
     pub fn training(&self) -> &'a [i8]
-        ensures value { result.now ≡ parts.training self.now }
+        ensures value { result.now ≡ parts.training self.now.now }
         ensures count { length result.now ≡ 26 }
+        ensures lent { LiesAt 61 self.now result }
     {
         let burst = self.burst;
         &burst[61..87]
@@ -92,8 +99,9 @@ impl<'a> NormalView<'a> {
 
     /// The stealing flag above the training sequence.
     pub fn upper(&self) -> &'a [i8]
-        ensures value { result.now ≡ parts.upper_flag self.now }
+        ensures value { result.now ≡ parts.upper_flag self.now.now }
         ensures count { length result.now ≡ 1 }
+        ensures lent { LiesAt 87 self.now result }
     {
         let burst = self.burst;
         &burst[87..88]
@@ -101,8 +109,9 @@ impl<'a> NormalView<'a> {
 
     /// The other 57 coded bits.
     pub fn second(&self) -> &'a [i8]
-        ensures value { result.now ≡ parts.second_half self.now }
+        ensures value { result.now ≡ parts.second_half self.now.now }
         ensures count { length result.now ≡ 57 }
+        ensures lent { LiesAt 88 self.now result }
     {
         let burst = self.burst;
         &burst[88..145]
@@ -110,8 +119,9 @@ impl<'a> NormalView<'a> {
 
     /// The tail bits after.
     pub fn tail(&self) -> &'a [i8]
-        ensures value { result.now ≡ parts.tail self.now }
+        ensures value { result.now ≡ parts.tail self.now.now }
         ensures count { length result.now ≡ 3 }
+        ensures lent { LiesAt 145 self.now result }
     {
         let burst = self.burst;
         &burst[145..148]

@@ -3,6 +3,7 @@ ghost use Rattle.std.specs.Prelude.{◌≡◌, ◌++◌, length};
 ghost use Rattle.bit_blocks.specs.Bits.{AllBits};
 ghost use Rattle.burst_map.specs.SyncBurst.{sync_burst, sync_sequence};
 ghost use Rattle.burst_map.specs.SyncBurst as parts;
+ghost use Rattle.burst_map.specs.Parts.{LiesAt};
 
 use crate::place::place;
 use std::marker::Model;
@@ -42,20 +43,22 @@ pub struct SyncView<'a> {
     burst: &'a [i8; 148],
 }
 
-// Clauses see the burst.
+// Clauses see the burst that is lent.
 impl<'a> Model for SyncView<'a> {
     ghost use Rattle.std.specs.Prelude.{◌≡◌, List, ℤ, length};
+    ghost use Rattle.std.specs.Borrow.{Bor};
 
-    ghost Value = { List ℤ };
+    ghost Value = { Bor (List ℤ) };
 
-    ghost view = { λ parts. parts.burst.now };
+    ghost view = { λ parts. parts.burst };
 
     ghost invariant = { λ parts. length parts.burst.now ≡ 148 };
 }
 
 impl<'a> SyncView<'a> {
     pub fn new(burst: &'a [i8; 148]) -> SyncView<'a>
-        ensures value { result ≡ burst.now }
+        ensures value { result.now ≡ burst.now }
+        ensures lent { result.ref_ptr ≡ burst.entry.ref_ptr }
         ensures whole { burst.now ≡
             parts.head burst.now ++ parts.first_half burst.now ++ parts.training burst.now
             ++ parts.second_half burst.now ++ parts.tail burst.now }
@@ -65,8 +68,9 @@ impl<'a> SyncView<'a> {
 
     /// The tail bits before.
     pub fn head(&self) -> &'a [i8]
-        ensures value { result.now ≡ parts.head self.now }
+        ensures value { result.now ≡ parts.head self.now.now }
         ensures count { length result.now ≡ 3 }
+        ensures lent { LiesAt 0 self.now result }
     {
         let burst = self.burst;
         &burst[..3]
@@ -74,8 +78,9 @@ impl<'a> SyncView<'a> {
 
     /// The first 39 coded bits.
     pub fn first(&self) -> &'a [i8]
-        ensures value { result.now ≡ parts.first_half self.now }
+        ensures value { result.now ≡ parts.first_half self.now.now }
         ensures count { length result.now ≡ 39 }
+        ensures lent { LiesAt 3 self.now result }
     {
         let burst = self.burst;
         &burst[3..42]
@@ -83,8 +88,9 @@ impl<'a> SyncView<'a> {
 
     /// The training bits.
     pub fn training(&self) -> &'a [i8]
-        ensures value { result.now ≡ parts.training self.now }
+        ensures value { result.now ≡ parts.training self.now.now }
         ensures count { length result.now ≡ 64 }
+        ensures lent { LiesAt 42 self.now result }
     {
         let burst = self.burst;
         &burst[42..106]
@@ -92,8 +98,9 @@ impl<'a> SyncView<'a> {
 
     /// The other 39 coded bits.
     pub fn second(&self) -> &'a [i8]
-        ensures value { result.now ≡ parts.second_half self.now }
+        ensures value { result.now ≡ parts.second_half self.now.now }
         ensures count { length result.now ≡ 39 }
+        ensures lent { LiesAt 106 self.now result }
     {
         let burst = self.burst;
         &burst[106..145]
@@ -101,8 +108,9 @@ impl<'a> SyncView<'a> {
 
     /// The tail bits after.
     pub fn tail(&self) -> &'a [i8]
-        ensures value { result.now ≡ parts.tail self.now }
+        ensures value { result.now ≡ parts.tail self.now.now }
         ensures count { length result.now ≡ 3 }
+        ensures lent { LiesAt 145 self.now result }
     {
         let burst = self.burst;
         &burst[145..148]

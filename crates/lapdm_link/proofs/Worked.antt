@@ -1,5 +1,5 @@
 -- Sessions worked by hand, and for each claim lines that break it.
-use Rattle.lapdm_link.proofs.Words.{◌≡◌, refl, arith, ℕ, false, List, [], ◌∷◌, ◌++◌, replicate, Option, Some, None, Sdcch, I, Frame, Message, Zero, Three, Role, Mobile, Network, Opens, OpensBare, Sends, Closes, Ticks, way, Event, Send, Close, Tick, Open, OpenBare, Ask, Deliver, Lose, Rival, World, start_on, after, answers, IsHarmless, Line, Asked, Rivals, Told, lines, Claims, OrderClaims}
+use Rattle.lapdm_link.proofs.Words.{◌≡◌, refl, arith, ℕ, false, List, [], ◌∷◌, ◌++◌, replicate, inl, inr, Option, Some, None, Sdcch, I, Frame, Message, Zero, Three, Role, Mobile, Network, Opens, OpensBare, Sends, Closes, Ticks, way, Event, Send, Close, Tick, Open, OpenBare, Ask, Deliver, Lose, Rival, World, start_on, after, answers, IsHarmless, Line, Asked, Rivals, Told, lines, Claims, OrderClaims}
 use Rattle.lapdm_window.specs.declared.Notice.TheVariants as N
 use Rattle.lapdm_window.specs.declared.Reason.TheVariants as R
 
@@ -112,6 +112,18 @@ unit_from_nowhere h = no_such ((3 ∷ []) ∷ []) refl (h.units Mobile Zero)
 opened_alone : Claims (Told Mobile Zero (N.Opened (1 ∷ [])) ∷ []) → ⊥
 opened_alone h = (let cause = h.cause Mobile Zero (1 ∷ []) [] ([], refl) in omega (arith, cause.0.1))
 
+opened_by_nobody : Claims (Told Network Zero (N.Opened (1 ∷ [])) ∷ []) → ⊥
+opened_by_nobody h = elim (h.cause Network Zero (1 ∷ []) [] ([], refl)) [
+      | inl asked ↦ omega (arith, asked.1)
+      | inr rival ↦ omega (arith, rival.1)
+    ]
+
+opened_unasked : Claims (Told Mobile Three (N.Opened []) ∷ []) → ⊥
+opened_unasked h = elim (h.cause Mobile Three [] [] ([], refl)) [
+      | inl asked ↦ omega (arith, asked.1)
+      | inr own ↦ omega (arith, own.0.1)
+    ]
+
 opened_twice : Claims (Told Mobile Zero (N.Opened []) ∷ Told Mobile Zero (N.Opened []) ∷ []) → ⊥
 opened_twice h = omega (arith, h.once Mobile Zero)
 
@@ -137,3 +149,16 @@ closed_again h = omega (arith, h.closed_once Mobile Zero)
 
 got_unopened : OrderClaims (Told Mobile Zero (N.Got []) ∷ []) → ⊥
 got_unopened h = omega (arith, (h.inside Mobile Zero (N.Got []) [] tt ([], refl)).opened)
+
+abbrev an_open_end : List Line
+an_open_end = Told Mobile Zero (N.Opened []) ∷ []
+
+got_when_closed : OrderClaims (an_open_end ++ Told Mobile Zero (N.Closed R.Failed) ∷ Told Mobile Zero (N.Got []) ∷ []) → ⊥
+got_when_closed h =
+    let before = an_open_end ++ Told Mobile Zero (N.Closed R.Failed) ∷ [] in
+    (h.inside Mobile Zero (N.Got []) before tt ([], refl)).closed R.Failed (1, omega arith, refl)
+
+got_when_closing : OrderClaims (an_open_end ++ Asked Mobile Zero Closes ∷ Told Mobile Zero (N.Got []) ∷ []) → ⊥
+got_when_closing h =
+    let before = an_open_end ++ Asked Mobile Zero Closes ∷ [] in
+    (h.inside Mobile Zero (N.Got []) before tt ([], refl)).asked (1, omega arith, refl)

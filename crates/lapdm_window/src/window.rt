@@ -187,7 +187,7 @@ impl Window {
         ensures counted { (e : EndState) → Stands self.old e
             → Stands self.new (after_timer result e) }
         ensures waiting { result ≡ Timer.Again → IsWaiting self.new }
-        ensures unchanged { result ≡ Timer.NotRunning → self.new ≡ self.old }
+        ensures unchanged { result ≢ Timer.Again → self.new ≡ self.old }
         ensures channel { channel_of self.new ≡ channel_of self.old }
     {
         if self.vs == self.va {

@@ -1,5 +1,5 @@
 -- Pieces that lead to whatever a joiner holds.
-use Rattle.std.proofs.Common.{◌≡◌, refl, sym, ◌∙◌, ap, arith, ℕ, zero, suc, ◌+◌, ◌%◌, ◌≤◌, true, false, List, [], ◌∷◌, ◌++◌, length, take, replicate}
+use Rattle.std.proofs.Common.{◌≡◌, refl, sym, ◌∙◌, ap, subst, arith, ℕ, zero, suc, ◌+◌, ◌%◌, ◌≤◌, true, false, List, [], ◌∷◌, ◌++◌, length, take, replicate}
 use Rattle.std.proofs.lemmas.List.{length-append, length-replicate, length-take}
 use Rattle.segmenting.specs.declared.joiner.Part.{Part}
 use Rattle.segmenting.specs.declared.joiner.Part.TheVariants as P
@@ -39,35 +39,36 @@ counted r piece few =
     let k = (r + 7) % 8 in
     ap (λ n. n % 8) (length-append (ends_of k) (piece ∷ []) ∙ ap (λ n. n + 1) (length-ends_of k)) ∙ number_of r few
 
-past_of : (part : Part) (held : List ℕ) (r : ℕ) → r ≤ 7 → length held ≤ longest → HasPast part held r
-past_of P.Open held r few fits =
+past_of : (part : Part) (held : List ℕ) (r : ℕ) → r ≤ 7 → length held ≤ longest → (part ≡ P.Over → held ≡ []) → HasPast part held r
+past_of P.Open held r few fits dropped =
     let k = (r + 7) % 8 in
     record {
       taken = ends_of k ++ (held, true) ∷ [];
       count = counted r (held, true) few;
       joined = goes_on (ends_of k) held held (begins k held) fits;
     }
-past_of P.Whole held r few fits =
+past_of P.Whole held r few fits dropped =
     let k = (r + 7) % 8 in
     record {
       taken = ends_of k ++ (held, false) ∷ [];
       count = counted r (held, false) few;
       joined = completes (ends_of k) held held (begins k held) fits;
     }
-past_of P.Over held r few fits =
+past_of P.Over held r few fits dropped =
     let k = (r + 7) % 8 in
     let long : List ℕ = replicate 252 0 in
+    let over = goes_over (ends_of k) long (omega (arith, ap length (begins k long), length-replicate {A = ℕ} 252 0)) in
     record {
       taken = ends_of k ++ (long, true) ∷ [];
       count = counted r (long, true) few;
-      joined = goes_over (ends_of k) long held (omega (arith, ap length (begins k long), length-replicate {A = ℕ} 252 0));
+      joined = subst (λ (octets : List ℕ). HasJoined P.Over octets (ends_of k ++ (long, true) ∷ [])) (sym (dropped refl)) over;
     }
 
-pub some_past : (part : Part) (count : ℕ) (octets : List ℕ) → count ≤ longest →
-    (taken : List Piece) × HasJoined part (take count octets) taken
-some_past part count octets fits =
-    let past = past_of part (take count octets) 0 (omega arith) (omega (arith, length-take count octets)) in
-    (past.taken, past.joined)
+pub buffer_past : (part : Part) (count : ℕ) (octets : List ℕ) (r : ℕ) → count ≤ longest → (part ≡ P.Over → count ≡ 0) → r ≤ 7 →
+    HasPast part (take count octets) r
+buffer_past part count octets r fits dropped few =
+    past_of part (take count octets) r few (omega (arith, length-take count octets))
+    (λ over. ap (λ n. take n octets) (dropped over))
 
 pub joiner_past : (j : Joiner) (r : ℕ) → r ≤ 7 → HasPast j.part (take j.len j.octets) r
-joiner_past j r few = past_of j.part (take j.len j.octets) r few (omega (arith, length-take j.len j.octets, j.within))
+joiner_past j r few = buffer_past j.part j.len j.octets r j.within j.dropped few

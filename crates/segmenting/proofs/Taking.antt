@@ -1,5 +1,5 @@
 -- What a joiner holds after one more piece.
-use Rattle.std.proofs.Common.{◌≡◌, sym, ◌∙◌, ap, subst, arith, ℕ, ◌+◌, ◌-◌, ◌<◌, ◌≤◌, Bool, true, false, List, [], ◌∷◌, ◌++◌, length, take, Some, None, unwrap_or}
+use Rattle.std.proofs.Common.{◌≡◌, refl, sym, ◌∙◌, ap, subst, arith, ℕ, ◌+◌, ◌-◌, ◌<◌, ◌≤◌, Bool, true, false, List, [], ◌∷◌, ◌++◌, length, take, Some, None, unwrap_or}
 use Rattle.std.proofs.lemmas.List.{length-append, length-take-le}
 use Rattle.std.proofs.lemmas.Slice.{take-put_mid}
 use borrow.Rule.Slice.PartMut.{put_mid}
@@ -27,6 +27,7 @@ goes_on ps octets held e h =
     record {
       begun = sym (within_some held h) ∙ ap within (e ∙ sym (open_after-more [] ps octets));
       completed = sym (latest_after-more [] ps octets);
+      dropped = λ over. cc;
     }
 
 pub completes : (ps : List Piece) (octets held : List ℕ) → held ≡ open_part ps ++ octets → length held ≤ longest →
@@ -36,15 +37,17 @@ completes ps octets held e h =
     record {
       begun = ap within (sym (open_after-last [] ps octets));
       completed = ap (λ o. unwrap_or o []) (sym whole) ∙ sym (latest_after-last [] ps octets);
+      dropped = λ over. cc;
     }
 
 -- where they are
-pub goes_over : (ps : List Piece) (octets held : List ℕ) → longest < length (open_part ps ++ octets) →
-    HasJoined P.Over held (ps ++ (octets, true) ∷ [])
-goes_over ps octets held h =
+pub goes_over : (ps : List Piece) (octets : List ℕ) → longest < length (open_part ps ++ octets) →
+    HasJoined P.Over [] (ps ++ (octets, true) ∷ [])
+goes_over ps octets h =
     record {
       begun = sym (within_none (open_part ps ++ octets) h) ∙ ap within (sym (open_after-more [] ps octets));
       completed = sym (latest_after-more [] ps octets);
+      dropped = λ over. refl;
     }
 
 pub drops : (ps : List Piece) (octets : List ℕ) → longest < length (open_part ps ++ octets) →
@@ -53,6 +56,7 @@ drops ps octets h =
     record {
       begun = ap within (sym (open_after-last [] ps octets));
       completed = ap (λ o. unwrap_or o []) (sym (within_none (open_part ps ++ octets) h)) ∙ sym (latest_after-last [] ps octets);
+      dropped = λ over. cc;
     }
 
 -- octets written behind those that are begun

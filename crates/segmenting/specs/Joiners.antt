@@ -16,11 +16,12 @@ abbrev pub completed_by : Part → List ℕ → Message
 completed_by Whole octets = octets
 completed_by other octets = []
 
--- these octets are what the pieces left open, or the message that the last of them completed; where the
--- pieces are over, only that is known
+-- these octets are what the pieces left open, or the message that the last of them completed; of a message
+-- that is too long none are kept
 pub record HasJoined (part : Part) (octets : List ℕ) (taken : List Piece) : Type 0 where
   pub begun : begun_by part octets ≡ within (open_part taken)
   pub completed : completed_by part octets ≡ latest taken
+  pub dropped : part ≡ Over → octets ≡ []
 
 -- the joiner has taken these pieces and no others
 abbrev pub HasTaken : Joiner → List Piece → Type 0

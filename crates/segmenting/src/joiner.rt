@@ -3,6 +3,7 @@
 ghost use Rattle.std.specs.Prelude.{◌≡◌, ◌≤◌, length};
 ghost use Rattle.lapdm_frame.specs.Layout.{most_information};
 ghost use Rattle.segmenting.specs.Pieces.{longest};
+ghost use Rattle.segmenting.specs.declared.joiner.Part.TheVariants.{Over};
 
 use crate::LONGEST;
 
@@ -37,6 +38,7 @@ pub struct Joiner {
     len: usize,
     part: Part,
     ghost within: { len ≤ longest },
+    ghost dropped: { part ≡ Over → len ≡ 0 },
 }
 
 impl Joiner {

@@ -26,7 +26,7 @@ pub struct Pieces<'a> {
 impl<'a> Pieces<'a> {
     ghost use Rattle.std.specs.Prelude.{slice_get, Some};
     ghost use Rattle.segmenting.specs.Pieces.{pieces, most_pieces};
-    ghost use Rattle.segmenting.specs.Cuttings.{pieces_of, cut_for};
+    ghost use Rattle.segmenting.specs.Cuttings.{pieces_of, cut_for, LiesIn};
 
     /// The pieces of the message for SDCCH, of at most 20 octets each.
     pub fn new(message: &'a [u8]) -> Pieces<'a>
@@ -60,7 +60,8 @@ impl<'a> Pieces<'a> {
     /// One of the pieces, counted from 0.
     pub fn piece(&self, i: usize) -> Piece<'a>
         requires { i < length (pieces_of self.now) }
-        ensures { slice_get (pieces_of self.now) i ≡ Some (result.octets.now, result.more) }
+        ensures value { slice_get (pieces_of self.now) i ≡ Some (result.octets.now, result.more) }
+        ensures lent { LiesIn self.now i result.octets }
     {
         let most = self.channel.n201();
         let start = i * most;

@@ -1,6 +1,6 @@
 //! A joiner as plain values, and made from them again.
 
-ghost use Rattle.std.specs.Prelude.{◌≡◌, ◌↔◌, ◌≤◌, false, List, length, IsTrue};
+ghost use Rattle.std.specs.Prelude.{◌≡◌, ◌↔◌, ◌≤◌, false, List, [], length, IsTrue};
 ghost use Rattle.segmenting.specs.Joiners.{HasTaken};
 ghost use Rattle.segmenting.specs.Pieces.{Piece, longest};
 ghost use Rattle.segmenting.specs.Parts.{values_of, IsOfAJoiner};
@@ -34,13 +34,24 @@ impl Joiner {
         // Some pieces lead to whatever a joiner holds.
         ensures taken { IsTrue result → (taken : List Piece) × HasTaken self.new taken }
     {
-        if octets.len() > LONGEST {
+        if octets.len() > LONGEST || !are_kept(octets, part) {
             return false;
         }
         let len = octets.len();
+        self.part = Part::Open;
         self.octets[0..len].copy_from_slice(octets);
         self.len = len;
         self.part = part;
         true
+    }
+}
+
+// Of a message that is too long no octets are kept.
+fn are_kept(octets: &[u8], part: Part) -> bool
+    ensures { IsTrue result ↔ (part ≡ Part.Over → octets.now ≡ []) }
+{
+    match part {
+        Part::Over => octets.is_empty(),
+        Part::Open | Part::Whole => true,
     }
 }

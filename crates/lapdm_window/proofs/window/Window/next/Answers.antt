@@ -22,4 +22,4 @@ returns c =
     let w = c.args.self.now in
     let n = n201 w.channel in
     let same : c.first.result.now ≡ slice_index_or w.held.items 0 [] = c.first.ensures in
-    ap (λ ps. slice_get ps w.place) (sym (c.new_on.ensures.pieces ∙ ap (pieces n) same)) ∙ c.piece.ensures
+    ap (λ ps. slice_get ps w.place) (sym (c.new_on.ensures.pieces ∙ ap (pieces n) same)) ∙ c.piece.ensures.value

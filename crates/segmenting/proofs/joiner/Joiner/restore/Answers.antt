@@ -1,18 +1,30 @@
-use Rattle.std.proofs.Common.{◌≡◌, refl, ap, ◌++◌, [], length, List, ℕ}
+use Rattle.std.proofs.Common.{◌≡◌, refl, ap, arith, ◌++◌, [], length, List, ℕ}
 use Rattle.std.proofs.lemmas.List.{take_at}
+use Rattle.segmenting.specs.declared.joiner.Part.TheVariants.{Over}
 use Rattle.segmenting.specs.declared.joiner.Joiner.{Joiner}
 use Rattle.segmenting.specs.Parts.{JoinerValues, values_of}
-use Rattle.segmenting.proofs.Pasts.{some_past}
+use Rattle.segmenting.proofs.Pasts.{buffer_past}
 use Rattle.segmenting.proofs.joiner.Joiner.restore.Goals as goal
+
+none_over : (c : goal.After-self-1) → c.args.part ≡ Over → length c.args.octets.now ≡ 0
+none_over c over = ap length (c.are_kept.ensures.0 c.if-not-are_kept.false over)
 
 pub returns-clause-known : goal.returns-clause-known
 returns-clause-known c =
     let octets = c.args.octets.now in
     let part = c.args.part in
-    let j : Joiner = record { octets = octets ++ []; len = length octets; part = part; within = c.if-octets-gt-LONGEST.false } in
+    let j : Joiner = record {
+      octets = octets ++ [];
+      len = length octets;
+      part = part;
+      within = c.if-octets-gt-LONGEST.false;
+      dropped = none_over c;
+    } in
     let same : values_of j ≡ record { octets = octets; part = part } = ap
     (λ (o : List ℕ). let x : JoinerValues = record { octets = o; part = part } in x) (take_at octets [] (length octets) refl) in
     (λ s. (j, same), λ h. refl)
 
 pub returns-clause-taken : goal.returns-clause-taken
-returns-clause-taken c = λ s. some_past c.args.part (length c.args.octets.now) _ c.if-octets-gt-LONGEST.false
+returns-clause-taken c =
+    let past = buffer_past c.args.part (length c.args.octets.now) _ 0 c.if-octets-gt-LONGEST.false (none_over c) (omega arith) in
+    λ s. (past.taken, past.joined)

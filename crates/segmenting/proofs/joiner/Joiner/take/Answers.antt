@@ -8,7 +8,7 @@ pub returns-in_default-clause-after : goal.returns-in_default-clause-after
 returns-in_default-clause-after c taken h =
     let over = c.in_default.ensures.place taken h in
     elim c.if-more.branch [
-      | then-more w ↦ HasJoined-same _ _ _ taken _ _ _ (sym w.self-is) (sym w.if-more.true) (goes_over taken c.args.piece.now [] over)
+      | then-more w ↦ HasJoined-same _ _ _ taken _ _ _ (sym w.self-is) (sym w.if-more.true) (goes_over taken c.args.piece.now over)
       | else-more w ↦ HasJoined-same _ _ _ taken _ _ _ (sym w.self-is) (sym w.if-more.false) (drops taken c.args.piece.now over)
     ]
 

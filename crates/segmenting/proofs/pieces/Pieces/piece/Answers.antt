@@ -22,7 +22,7 @@ slice_bounds-result-end c =
     let p = c.args.self.now in
     omega (arith, begins_at p.channel _ c.args.i p.message.now c.n201-most.ensures p.some c.requires)
 
-pub returns : goal.returns
-returns c =
+pub returns-clause-value : goal.returns-clause-value
+returns-clause-value c =
     let p = c.args.self.now in
     piece_at p.channel _ c.args.i _ p.message.now c.n201-most.ensures c.min.ensures (record { some = p.some; most = p.most }) c.requires
