@@ -1,0 +1,109 @@
+// Wrong arguments are refused in JavaScript, with what was wrong and what was expected; and an instance that trapped is discarded.
+import assert from "node:assert/strict";
+import { Refused, soften, Um } from "../um.mjs";
+
+const zeros = (count) => new Array(count).fill(0);
+const change = (list, at, value) => list.map((old, i) => (i === at ? value : old));
+
+const WRONG = (um) => [
+  [() => um.sendBlock(zeros(22), 0), RangeError, "octets has 22 values; expected 23 octets, integers from 0 to 255"],
+  [() => um.sendBlock(new Uint8Array(24), 0), RangeError, "octets has 24 values; expected 23 octets"],
+  [() => um.sendBlock("00".repeat(23), 0), TypeError, 'octets is "0000'],
+  [() => um.sendBlock(undefined, 0), TypeError, "octets is undefined; expected an array of 23 octets"],
+  [() => um.sendBlock(change(zeros(23), 4, 256), 0), RangeError, "octets[4] is 256; expected an integer from 0 to 255"],
+  [() => um.sendBlock(change(zeros(23), 4, 0.5), 0), RangeError, "octets[4] is 0.5"],
+  [() => um.sendBlock(change(zeros(23), 4, "7"), 0), RangeError, 'octets[4] is "7"'],
+  [() => um.sendBlock(zeros(23), 256), RangeError, "tsc is 256; expected an integer from 0 to 7"],
+  [() => um.sendBlock(zeros(23), -1), RangeError, "tsc is -1"],
+  [() => um.sendBlock(zeros(23)), RangeError, "tsc is undefined"],
+  [() => um.sendBlock(zeros(23), 3n), RangeError, "tsc is 3n"],
+  [() => um.receiveBlock(zeros(591)), RangeError, "bursts has 591 values; expected 592 soft bits"],
+  [() => um.receiveBlock(change(zeros(592), 9, -128)), RangeError, "bursts[9] is -128; expected an integer from -127 to 127"],
+  [() => um.receiveBlock(Int8Array.from(change(zeros(592), 9, -128))), RangeError, "bursts[9] is -128"],
+  [() => um.receiveBlock(change(zeros(592), 9, 200)), RangeError, "bursts[9] is 200"],
+  [() => um.receiveBlock(new Uint8Array(592).fill(200)), RangeError, "bursts[0] is 200"],
+  [() => um.receiveBlock([zeros(148), zeros(148), zeros(147), zeros(148)]), RangeError, "bursts[2] has 147 values; expected 148 soft bits"],
+  [() => um.receiveBlock([zeros(148)]), RangeError, "bursts has 1 values; expected 592 soft bits"],
+  [() => um.receiveBlock(new Float32Array(592).fill(0.25)), RangeError, "bursts[0] is 0.25"],
+  [() => um.receiveBlockAmong(zeros(592), 0), RangeError, "most is 0; expected an integer from 1 to 64"],
+  [() => um.receiveBlockAmong(zeros(592), 65), RangeError, "most is 65"],
+  [() => um.receiveBlockAmong(zeros(592), 2 ** 32 + 1), RangeError, "most is 4294967297"],
+  [() => um.marginBlock(new DataView(new ArrayBuffer(592))), TypeError, "bursts is DataView of 592; expected an array of 592 soft bits"],
+  [() => um.repair(change(zeros(224), 100, 2)), RangeError, "word[100] is 2; expected an integer from 0 to 1"],
+  [() => um.repair(new Uint8Array(228)), RangeError, "word has 228 values; expected 224 bits"],
+  [() => um.sendAccess(zeros(8), zeros(5)), RangeError, "bsic has 5 values; expected 6 bits"],
+  [() => um.sendAccess(change(zeros(8), 0, 2), zeros(6)), RangeError, "info[0] is 2"],
+  [() => um.receiveAccess(zeros(88), change(zeros(6), 5, -1)), RangeError, "bsic[5] is -1"],
+  [() => um.receiveAccess(zeros(148), zeros(6)), RangeError, "burst has 148 values; expected 88 soft bits"],
+  [() => um.sendSync(zeros(24)), RangeError, "info has 24 values; expected 25 bits"],
+  [() => um.receiveSync(Int8Array.from(zeros(148).fill(-128))), RangeError, "burst[0] is -128"],
+  [() => um.readFrame(zeros(23), "tch"), RangeError, 'channel is "tch"; expected "sdcch" or "sacch"'],
+  [() => um.writeFrame("i"), TypeError, 'frame is "i"; expected an object'],
+  [() => um.writeFrame({ kind: "xid" }), RangeError, 'frame.kind is "xid"; expected "i" or "rr"'],
+  [() => um.writeFrame({ kind: "rr", sapi: 8 }), RangeError, "frame.sapi is 8; expected an integer from 0 to 7"],
+  [() => um.writeFrame({ kind: "rr", nr: 256 }), RangeError, "frame.nr is 256"],
+  [() => um.writeFrame({ kind: "rr", pf: 2 }), RangeError, "frame.pf is 2; expected an integer from 0 to 1"],
+  [() => um.writeFrame({ kind: "i" }), RangeError, 'frame.info has 0 octets; expected 1 to 20 in a frame "i" on "sdcch"'],
+  [() => um.writeFrame({ kind: "ui", info: zeros(19) }, "sacch"), RangeError, "frame.info has 19 octets; expected 0 to 18"],
+  [() => um.writeFrame({ kind: "rr", info: [1] }), RangeError, "frame.info has 1 octets; expected 0 to 0"],
+  [() => um.end("phone"), RangeError, 'role is "phone"; expected "mobile" or "network"'],
+  [() => um.end("mobile", { sapi: 256 }), RangeError, "sapi is 256; expected 0 or 3"],
+  [() => um.end("mobile", { channel: 0 }), RangeError, "channel is 0"],
+  [() => um.end("mobile").take(zeros(22)), RangeError, "octets has 22 values"],
+  [() => um.end("mobile").send([300]), RangeError, "octets[0] is 300"],
+  [() => um.restoreEnd(zeros(2583)), RangeError, "bytes has 2583 values; expected 2584 octets"],
+  [() => soften([0, 1, 2]), RangeError, "bits[2] is 2; expected an integer from 0 to 1"],
+];
+
+const REFUSED = (um) => [
+  ["notopen", () => um.end("mobile").send([1])],
+  ["notrunning", () => um.end("network").timer()],
+  ["empty", () => um.end("mobile").open([])],
+  ["toolong", () => um.end("mobile").open(zeros(21))],
+  ["toolong", () => um.end("mobile").unit(new Uint8Array(1000))],
+  ["nocall", () => um.end("network").open([1])],
+  ["nocall", () => um.end("mobile").open()],
+  ["noframe", () => um.end("mobile").take(new Uint8Array(23))],
+  ["noend", () => um.restoreEnd(new Uint8Array(2584).fill(255))],
+  ["notidle", () => {
+    const mobile = um.end("mobile", { sapi: 3 });
+    mobile.open();
+    mobile.open();
+  }],
+  ["full", () => {
+    const [mobile, network] = [um.end("mobile"), um.end("network")];
+    mobile.take(network.take(mobile.open([1]).frames[0]).frames[0]);
+    for (let i = 0; i < 9; i++) mobile.send([i]);
+  }],
+];
+
+const states = (um) => {
+  const mobile = um.end("mobile", { sapi: 3, channel: "sacch" });
+  assert.deepEqual([mobile.role, mobile.sapi, mobile.channel, mobile.state, mobile.timerRuns], ["mobile", 3, "sacch", "idle", false]);
+  const saved = mobile.copy();
+  mobile.open();
+  assert.deepEqual([mobile.state, mobile.timerRuns, saved.state], ["opening", true, "idle"]);
+  assert.deepEqual(um.restoreEnd(mobile.bytes).bytes, mobile.bytes);
+  mobile.bytes.fill(255);
+  assert.equal(mobile.state, "opening");
+};
+
+const trap = (um) => {
+  const fine = () => um.receiveBlock(soften(um.sendBlock(zeros(23), 6))).tsc;
+  const before = um.exports;
+  assert.throws(() => um.exports.um_send_block(2n ** 31n, 0, 2n ** 31n), WebAssembly.RuntimeError);
+  assert.throws(fine, /um_send_block trapped in WebAssembly .*; the instance was discarded/);
+  assert.equal(fine(), 6);
+  assert.notEqual(um.exports, before);
+};
+
+export const tryArguments = (um) => {
+  for (const [call, type, words] of WRONG(um)) {
+    assert.throws(call, (error) => error.constructor === type && error.message.startsWith(words) || assert.fail(`${error}, not ${words}`));
+  }
+  for (const [reason, call] of REFUSED(um)) assert.throws(call, (error) => error instanceof Refused && error.reason === reason);
+  states(um);
+  trap(um);
+  assert.ok(um instanceof Um);
+  return WRONG(um).length + REFUSED(um).length;
+};

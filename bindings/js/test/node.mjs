@@ -1,0 +1,34 @@
+// node test/node.mjs WASM VECTORS ANSWERS [times]: the module in node, in this thread and in a Worker, beside the vectors and the
+// native library's answers
+import { readFileSync } from "node:fs";
+import { join } from "node:path";
+import { isMainThread, parentPort, Worker, workerData } from "node:worker_threads";
+import { load } from "../um.mjs";
+import { compare, times } from "./compare.mjs";
+import { tryArguments } from "./arguments.mjs";
+
+const [wasm, folder, answers, timed] = isMainThread ? process.argv.slice(2) : workerData;
+const read = (path) => readFileSync(path, "utf8");
+const texts = {
+  codeIn: read(join(folder, "code.in")),
+  codeOut: read(join(folder, "code.out")),
+  repairIn: read(join(folder, "repair.in")),
+  repairOut: read(join(folder, "repair.out")),
+  answers: read(answers),
+};
+const um = await load(readFileSync(wasm));
+const found = compare(um, texts);
+
+if (!isMainThread) {
+  parentPort.postMessage(found);
+} else {
+  const inWorker = await new Promise((resolve, reject) => {
+    new Worker(new URL(import.meta.url), { workerData: process.argv.slice(2) }).on("message", resolve).on("error", reject);
+  });
+  const wrong = [...found, ...inWorker].filter((part) => part.wrong);
+  for (const part of wrong) console.log("js: node:", JSON.stringify(part));
+  if (wrong.length === 0) console.log(`js: node ${process.versions.node}, also in a Worker: ${found.map((part) => part.name).join(", ")}`);
+  console.log(`js: ${tryArguments(um)} wrong calls are refused, and an instance that trapped is discarded`);
+  if (timed) console.log("js: us a call in node:", JSON.stringify(times(um)));
+  process.exitCode = wrong.length ? 1 : 0;
+}

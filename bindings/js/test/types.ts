@@ -1,0 +1,29 @@
+// What um.d.ts lets pass and what it does not: read by tsc, never run.
+import { End, Frame, load, Refused, soften, Um } from "um-gsm";
+
+const use = async (): Promise<void> => {
+  const um: Um = await load(fetch("um.wasm"));
+  const bursts: Uint8Array = um.sendBlock([1, 2, 3], 7);
+  const { accepted, tsc, rank } = um.receiveBlockAmong([soften(bursts), [0], new Int8Array(148), []], 64);
+  const frame = um.readFrame(accepted ?? new Uint8Array(23), "sacch");
+  if (frame.unread !== undefined) throw new Error(frame.unread);
+  const read: Frame = frame;
+  um.writeFrame({ kind: "i", info: [tsc, rank], pf: true }, "sdcch");
+  um.writeFrame(read);
+  const end: End = um.end("network", { sapi: 3 });
+  for (const notice of end.take(um.writeFrame({ kind: "sabm", pf: 1 })).notices) {
+    if (notice.kind === "acked") notice.number.toString();
+    else if (notice.kind === "closed") notice.reason.toUpperCase();
+    else if (notice.kind !== "oversize") notice.message.fill(0);
+  }
+  const { span } = um.repair(new Uint8Array(224)) ?? { span: 0 };
+  const refusal = new Refused("full", `${span} ${end.variables.vs}`);
+  console.log(refusal.reason === "full", um.receiveSync(new Int8Array(148)).word.length, um.restoreEnd(end.bytes).timerRuns);
+  // @ts-expect-error no such kind
+  um.writeFrame({ kind: "xid" });
+  // @ts-expect-error no such channel
+  um.readFrame(bursts, "tch");
+  // @ts-expect-error ends are made by an Um
+  new End();
+};
+use();

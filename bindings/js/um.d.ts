@@ -1,0 +1,136 @@
+/** A list of numbers; what a call says of their range is tested, and a TypeError or RangeError says what was wrong. */
+export type Numbers = readonly number[] | Uint8Array | Uint8ClampedArray | Int8Array | Uint16Array | Int16Array | Uint32Array | Int32Array;
+/** Octets, integers from 0 to 255. */
+export type Octets = Numbers;
+/** Bits, each 0 or 1, in the order of sending. */
+export type Bits = Numbers;
+/** Soft bits: integers from -127, a sure 1, to 127, a sure 0; 0 says nothing. Of a block 592, or four bursts of 148. */
+export type SoftBits = Numbers | readonly Numbers[];
+
+export type Kind = "i" | "rr" | "rnr" | "rej" | "sabm" | "dm" | "ui" | "disc" | "ua";
+export type Channel = "sdcch" | "sacch";
+export type Role = "mobile" | "network";
+export type State = "idle" | "opening" | "open" | "closing" | "closed";
+export type Unread = "lpd" | "ea" | "control" | "el" | "length" | "empty" | "more";
+export type Bit = 0 | 1;
+
+export const KINDS: readonly Kind[];
+export const CHANNELS: readonly Channel[];
+export const ROLES: readonly Role[];
+export const STATES: readonly State[];
+export const UNREAD: readonly Unread[];
+
+export interface Report {
+  /** The data where the CRC holds: 23 octets of a block, or 8 or 25 bits of a single burst; else null. */
+  accepted: Uint8Array | null;
+  /** The path metric: the soft bits, each with the sign of its bit in the word. */
+  metric: number;
+  /** How many bits of the training sequence differ; a soft bit of 0 counts. */
+  wrongTraining: number;
+  /** How many coded bits differ from the word's; a soft bit of 0 counts. */
+  wrongCoded: number;
+  /** The word decided for, a bit an octet: data, CRC, tail (184 + 40 + 4, 8 + 6 + 4 or 25 + 10 + 4). */
+  word: Uint8Array;
+}
+export interface BlockReport extends Report {
+  /** The training sequence heard, 0 to 7. */
+  tsc: number;
+}
+export interface Frame {
+  kind: Kind;
+  sapi: number;
+  cr: number;
+  pf: number;
+  ns: number;
+  nr: number;
+  more: number;
+  info: Uint8Array;
+  unread?: undefined;
+}
+/** A frame to be written; what is left out is 0, or empty. */
+export interface FrameFields {
+  kind: Kind;
+  sapi?: number;
+  cr?: Bit | boolean;
+  pf?: Bit | boolean;
+  ns?: number;
+  nr?: number;
+  more?: Bit | boolean;
+  info?: Octets;
+}
+export type Notice =
+  | { kind: "opened" | "got" | "unit"; message: Uint8Array }
+  | { kind: "acked"; number: bigint }
+  | { kind: "oversize" }
+  | { kind: "closed"; reason: "contention" | "failed" | "refused" | "released" };
+export interface Effects {
+  /** The blocks to be sent, in their order. */
+  frames: Uint8Array[];
+  /** What the end reports, in its order. */
+  notices: Notice[];
+}
+export interface Variables {
+  vs: number;
+  va: number;
+  vr: number;
+  /** How often the frame that awaits an answer went out again. */
+  retries: number;
+  /** Whether a REJ was sent and no I frame accepted since. */
+  rejecting: boolean;
+  /** How many messages are not wholly acknowledged. */
+  held: number;
+  /** How many messages are wholly acknowledged. */
+  done: bigint;
+}
+
+/** What an end refuses; it is as it was. */
+export class Refused extends Error {
+  readonly reason: "notidle" | "notopen" | "notrunning" | "empty" | "toolong" | "full" | "noend" | "nocall" | "noframe";
+  constructor(reason: Refused["reason"], message: string);
+}
+
+/** Soft bits of hard bits: 127 for a 0, -127 for a 1. */
+export function soften(bits: Bits): Int8Array;
+
+/** Loads um.wasm: the file beside this module, or what is given. */
+export function load(
+  source?: BufferSource | Response | WebAssembly.Module | Promise<BufferSource | Response | WebAssembly.Module>,
+): Promise<Um>;
+
+export class Um {
+  constructor(module: WebAssembly.Module, instance?: WebAssembly.Instance);
+  readonly exports: WebAssembly.Exports;
+  sendBlock(octets: Octets, tsc: number): Uint8Array;
+  receiveBlock(bursts: SoftBits): BlockReport;
+  receiveBlockAmong(bursts: SoftBits, most: number): BlockReport & { rank: number };
+  marginBlock(bursts: SoftBits): { margin: number; word: Uint8Array; next: Uint8Array };
+  repair(word: Bits): { word: Uint8Array; first: number; span: number } | null;
+  sendAccess(info: Bits, bsic: Bits): Uint8Array;
+  receiveAccess(burst: Numbers, bsic: Bits): Report;
+  sendSync(info: Bits): Uint8Array;
+  receiveSync(burst: Numbers): Report;
+  readFrame(octets: Octets, channel?: Channel): Frame | { unread: Unread };
+  writeFrame(frame: FrameFields | Frame, channel?: Channel): Uint8Array;
+  end(role: Role, options?: { sapi?: 0 | 3; channel?: Channel }): End;
+  restoreEnd(bytes: Octets): End;
+}
+
+/** One end of a link; made by `Um.end` and `Um.restoreEnd`. A call that is refused throws Refused. */
+export class End {
+  private constructor();
+  readonly bytes: Uint8Array;
+  readonly role: Role;
+  readonly sapi: 0 | 3;
+  readonly channel: Channel;
+  readonly state: State;
+  readonly variables: Variables;
+  readonly timerRuns: boolean;
+  copy(): End;
+  open(info?: Octets): Effects;
+  send(octets: Octets): Effects;
+  unit(octets: Octets): Effects;
+  close(): Effects;
+  timer(): Effects;
+  idle(): Effects;
+  take(octets: Octets): Effects;
+}

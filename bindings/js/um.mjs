@@ -1,0 +1,439 @@
+// um.mjs - the signalling link of GSM for JavaScript: blocks, bursts, LAPDm frames and ends of a link, by the proved library
+// libum_c as a WebAssembly module, um.wasm. Its calls are those of um.h.
+//
+//   import { load, soften } from "um-gsm";
+//   const um = await load();
+//   const octets = um.writeFrame({ kind: "i", ns: 5, nr: 2, info: [6, 1] });
+//   const bursts = um.sendBlock(octets, 7); // 592 bits, four bursts of 148
+//   const report = um.receiveBlock(soften(bursts)); // report.accepted holds the 23 octets
+//
+// A bit is 0 or 1. A soft bit is an integer from -127, a sure 1, to 127, a sure 0; 0 says nothing. Every argument is tested here,
+// since WebAssembly would take 256 for 0: a TypeError or RangeError says what was wrong and what was expected.
+
+export const KINDS = Object.freeze(["i", "rr", "rnr", "rej", "sabm", "dm", "ui", "disc", "ua"]);
+export const CHANNELS = Object.freeze(["sdcch", "sacch"]);
+export const ROLES = Object.freeze(["mobile", "network"]);
+export const STATES = Object.freeze(["idle", "opening", "open", "closing", "closed"]);
+/** Why 23 octets are no frame. */
+export const UNREAD = Object.freeze(["lpd", "ea", "control", "el", "length", "empty", "more"]);
+
+const NOTICES = ["opened", "got", "unit", "acked", "oversize", "closed"];
+const CLOSED_BY = ["contention", "failed", "refused", "released"];
+const REFUSALS = [
+  ["notidle", "the link was opened before"],
+  ["notopen", "the link is not open"],
+  ["notrunning", "T200 does not run: no frame awaits an answer"],
+  ["empty", "the message is empty; expected at least one octet"],
+  ["toolong", "the message is too long"],
+  ["full", "eight messages are not wholly acknowledged yet"],
+  ["noend", "no end has this state"],
+  ["nocall", "on SAPI 0 a mobile opens the link, with information; on SAPI 3 either end does, without"],
+  ["noframe", "the octets are no LAPDm frame; readFrame says why"],
+];
+
+// octets of the structs of um.h
+const END = 2584;
+const EFFECTS = 864;
+const NOTICE = 272;
+const FRAME = 28;
+const BLOCK_OCTETS = 23;
+const BLOCK_BITS = 592;
+
+/** A call that an end of a link refuses; `reason` is one word. The end is as it was. */
+export class Refused extends Error {
+  constructor(reason, message) {
+    super(message);
+    this.name = "Refused";
+    this.reason = reason;
+  }
+}
+
+// -- arguments --
+
+const shown = (value) => {
+  if (typeof value === "string") return JSON.stringify(value);
+  if (typeof value === "bigint") return `${value}n`;
+  if (Array.isArray(value) || ArrayBuffer.isView(value)) return `${value.constructor.name} of ${value.length ?? value.byteLength}`;
+  return typeof value === "object" && value !== null ? "an object" : String(value);
+};
+
+const integer = (name, value, least, most) => {
+  if (Number.isInteger(value) && value >= least && value <= most) return value;
+  throw new RangeError(`${name} is ${shown(value)}; expected an integer from ${least} to ${most}`);
+};
+
+const place = (name, value, words) => {
+  const at = words.indexOf(value);
+  if (at >= 0) return at;
+  throw new RangeError(`${name} is ${shown(value)}; expected ${words.map((word) => JSON.stringify(word)).join(" or ")}`);
+};
+
+const isList = (value) => Array.isArray(value) || (ArrayBuffer.isView(value) && !(value instanceof DataView));
+
+// values: a list of `count` integers from least to most, or of any number of them where count is undefined
+const integers = (name, values, count, least, most, what) => {
+  const wanted = `${count === undefined ? "" : `${count} `}${what}, integers from ${least} to ${most}`;
+  if (!isList(values)) throw new TypeError(`${name} is ${shown(values)}; expected an array of ${wanted}`);
+  if (count !== undefined && values.length !== count) throw new RangeError(`${name} has ${values.length} values; expected ${wanted}`);
+  const surely = values instanceof Uint8Array && least === 0 && most === 255;
+  for (let i = 0; !surely && i < values.length; i++) integer(`${name}[${i}]`, values[i], least, most);
+  return values;
+};
+
+const octetsOf = (name, values, count) => integers(name, values, count, 0, 255, "octets");
+const bitsOf = (name, values, count) => integers(name, values, count, 0, 1, "bits");
+const softOf = (name, values, count) => integers(name, values, count, -127, 127, "soft bits");
+
+/** Soft bits of hard bits: 127 for a 0, -127 for a 1. */
+export const soften = (bits) => Int8Array.from(bitsOf("bits", bits), (bit) => (bit ? -127 : 127));
+
+// -- the module's memory --
+
+// One instance of um.wasm. Nothing in it takes memory or grows it, so what lies behind __heap_base is ours and the views stay good.
+class Machine {
+  #module;
+  #exports;
+
+  constructor(module, instance) {
+    this.#module = module;
+    this.#begin(instance);
+  }
+
+  #begin(instance) {
+    const { memory, __heap_base: base } = (this.#exports = instance.exports);
+    this.input = (Number(base.value) + 63) & ~63;
+    this.second = this.input + 2624;
+    this.output = this.second + 640;
+    this.beside = this.output + 896;
+    if (memory.buffer.byteLength < this.beside + 64) throw new Error("um.wasm has too little memory behind its heap base");
+    this.octets = new Uint8Array(memory.buffer);
+    this.signed = new Int8Array(memory.buffer);
+    this.view = new DataView(memory.buffer);
+    [this.INPUT, this.SECOND, this.OUTPUT, this.BESIDE] = [this.input, this.second, this.output, this.beside].map(BigInt);
+  }
+
+  get exports() {
+    return this.#exports;
+  }
+
+  // An instance that trapped would trap in each later call, so another one takes its place.
+  call(name, ...values) {
+    try {
+      return this.#exports[name](...values);
+    } catch (cause) {
+      this.#begin(new WebAssembly.Instance(this.#module));
+      throw new Error(`${name} trapped in WebAssembly (${cause.message}); the instance was discarded`, { cause });
+    }
+  }
+
+  // for a call that refuses nothing that the tests here let through
+  told(name, ...values) {
+    if (!this.call(name, ...values)) throw new Error(`${name} refused arguments that um.mjs had tested`);
+  }
+
+  copy(at, count) {
+    return this.octets.slice(at, at + count);
+  }
+
+  // soft bits of `count` places: one list, or a list of bursts
+  putSoft(name, bursts, count) {
+    if (bursts instanceof Int8Array && bursts.length === count) {
+      this.signed.set(bursts, this.input);
+      if (bursts.includes(-128)) softOf(name, bursts, count);
+      return;
+    }
+    if (Array.isArray(bursts) && bursts.length === count / 148 && bursts.every(isList)) {
+      bursts.forEach((burst, i) => this.signed.set(softOf(`${name}[${i}]`, burst, 148), this.input + 148 * i));
+      return;
+    }
+    this.signed.set(softOf(name, bursts, count), this.input);
+  }
+
+  // what the three reports begin with; `at` is the place of `accepted`
+  report(at, data, word) {
+    const { view, output } = this;
+    return {
+      accepted: this.octets[output + at] ? this.copy(output + at + 1, data) : null,
+      metric: view.getInt32(output, true),
+      wrongTraining: view.getUint32(output + 4, true),
+      wrongCoded: view.getUint32(output + 8, true),
+      word: this.copy(output + at + 1 + data, word),
+    };
+  }
+
+  blockReport() {
+    return { ...this.report(13, BLOCK_OCTETS, 228), tsc: this.octets[this.output + 12] };
+  }
+
+  // a um_message; the library tests how long it is, and what does not fit its count is too long in any case
+  putMessage(octets) {
+    const count = Math.min(octets.length, 255);
+    this.octets[this.second] = count;
+    this.octets.set(count < octets.length ? Array.from(octets).slice(0, count) : octets, this.second + 1);
+  }
+
+  notice(at) {
+    const kind = NOTICES[this.octets[at + 8] - 1];
+    if (kind === "acked") return { kind, number: this.view.getBigUint64(at, true) };
+    if (kind === "closed") return { kind, reason: CLOSED_BY[this.octets[at + 9]] };
+    return kind === "oversize" ? { kind } : { kind, message: this.copy(at + 11, this.octets[at + 10]) };
+  }
+
+  effects() {
+    const at = this.output;
+    const counts = at + 3 * NOTICE;
+    const notices = Array.from({ length: this.octets[counts] }, (_, i) => this.notice(at + i * NOTICE));
+    const frames = Array.from({ length: this.octets[counts + 1] }, (_, i) => this.copy(counts + 2 + 23 * i, 23));
+    return { frames, notices };
+  }
+}
+
+// -- the calls --
+
+/** The calls of the library, over one instance of um.wasm. Made by `load`. */
+export class Um {
+  #machine;
+
+  constructor(module, instance = new WebAssembly.Instance(module)) {
+    this.#machine = new Machine(module, instance);
+  }
+
+  /** The exports of the WebAssembly instance. Calls by them are tested by nobody. */
+  get exports() {
+    return this.#machine.exports;
+  }
+
+  /** The 592 bits of the four normal bursts of a block of 23 octets. */
+  sendBlock(octets, tsc) {
+    const m = this.#machine;
+    m.octets.set(octetsOf("octets", octets, BLOCK_OCTETS), m.input);
+    m.told("um_send_block", m.INPUT, integer("tsc", tsc, 0, 7), m.OUTPUT);
+    return m.copy(m.output, BLOCK_BITS);
+  }
+
+  /** What four normal bursts are received as: the most likely word. */
+  receiveBlock(bursts) {
+    const m = this.#machine;
+    m.putSoft("bursts", bursts, BLOCK_BITS);
+    m.told("um_receive_block", m.INPUT, m.OUTPUT);
+    return m.blockReport();
+  }
+
+  /** What four normal bursts are received as, where the first of the `most` likeliest words whose CRC holds is taken. */
+  receiveBlockAmong(bursts, most) {
+    const m = this.#machine;
+    m.putSoft("bursts", bursts, BLOCK_BITS);
+    m.told("um_receive_block_among", m.INPUT, integer("most", most, 1, 64), m.OUTPUT, m.BESIDE);
+    return { ...m.blockReport(), rank: m.view.getUint32(m.beside, true) };
+  }
+
+  /** By how much the most likely word fits better than every other, that word, and the next one. */
+  marginBlock(bursts) {
+    const m = this.#machine;
+    m.putSoft("bursts", bursts, BLOCK_BITS);
+    m.told("um_margin_block", m.INPUT, m.OUTPUT);
+    return { margin: m.view.getInt32(m.output, true), word: m.copy(m.output + 4, 228), next: m.copy(m.output + 232, 228) };
+  }
+
+  /** A word of 224 bits put right where its wrong bits lie within 12 in a row; span 0 where it holds; null where no codeword is so near. */
+  repair(word) {
+    const m = this.#machine;
+    m.octets.set(bitsOf("word", word, 224), m.input);
+    const answer = m.call("um_repair", m.INPUT, m.OUTPUT);
+    if (answer === 0) return { word: Uint8Array.from(word), first: 0, span: 0 };
+    if (answer === 2) return null;
+    return { word: m.copy(m.output + 2, 224), first: m.octets[m.output], span: m.octets[m.output + 1] };
+  }
+
+  /** The 88 bits of an access burst under a base station's identity code. */
+  sendAccess(info, bsic) {
+    const m = this.#machine;
+    m.octets.set(bitsOf("info", info, 8), m.input);
+    m.octets.set(bitsOf("bsic", bsic, 6), m.second);
+    m.told("um_send_access", m.INPUT, m.SECOND, m.OUTPUT);
+    return m.copy(m.output, 88);
+  }
+
+  /** What an access burst is received as under a base station's identity code. */
+  receiveAccess(burst, bsic) {
+    const m = this.#machine;
+    m.putSoft("burst", burst, 88);
+    m.octets.set(bitsOf("bsic", bsic, 6), m.second);
+    m.told("um_receive_access", m.INPUT, m.SECOND, m.OUTPUT);
+    return m.report(12, 8, 18);
+  }
+
+  /** The 148 bits of a synchronisation burst. */
+  sendSync(info) {
+    const m = this.#machine;
+    m.octets.set(bitsOf("info", info, 25), m.input);
+    m.told("um_send_sync", m.INPUT, m.OUTPUT);
+    return m.copy(m.output, 148);
+  }
+
+  /** What a synchronisation burst is received as. */
+  receiveSync(burst) {
+    const m = this.#machine;
+    m.putSoft("burst", burst, 148);
+    m.told("um_receive_sync", m.INPUT, m.OUTPUT);
+    return m.report(12, 25, 39);
+  }
+
+  /** The LAPDm frame of a block on a channel, or `{ unread }` with the reason why it is none. */
+  readFrame(octets, channel = "sdcch") {
+    const m = this.#machine;
+    m.octets.set(octetsOf("octets", octets, BLOCK_OCTETS), m.input);
+    const answer = m.call("um_read_frame", m.INPUT, place("channel", channel, CHANNELS), m.OUTPUT);
+    if (answer) return { unread: UNREAD[answer - 1] };
+    const [kind, sapi, cr, pf, ns, nr, more, count] = m.octets.subarray(m.output, m.output + 8);
+    return { kind: KINDS[kind], sapi, cr, pf, ns, nr, more, info: m.copy(m.output + 8, count) };
+  }
+
+  /** The 23 octets of a frame on a channel, with fill 2b. */
+  writeFrame(frame, channel = "sdcch") {
+    const m = this.#machine;
+    if (typeof frame !== "object" || frame === null) throw new TypeError(`frame is ${shown(frame)}; expected an object with a kind`);
+    const { kind, sapi = 0, cr = 0, pf = 0, ns = 0, nr = 0, more = 0, info = [] } = frame;
+    const at = place("channel", channel, CHANNELS);
+    const bit = (name, value) => (typeof value === "boolean" ? Number(value) : integer(name, value, 0, 1));
+    const fields = [
+      ...[place("frame.kind", kind, KINDS), integer("frame.sapi", sapi, 0, 7), bit("frame.cr", cr), bit("frame.pf", pf)],
+      ...[integer("frame.ns", ns, 0, 7), integer("frame.nr", nr, 0, 7), bit("frame.more", more), octetsOf("frame.info", info).length],
+    ];
+    const most = /^(i|sabm|ui|ua)$/.test(kind) ? 20 - 2 * at : 0;
+    const least = kind === "i" ? 1 : 0;
+    if (info.length < least || info.length > most) {
+      throw new RangeError(`frame.info has ${info.length} octets; expected ${least} to ${most} in a frame "${kind}" on "${channel}"`);
+    }
+    m.octets.fill(0, m.input, m.input + FRAME);
+    m.octets.set(fields, m.input);
+    m.octets.set(info, m.input + 8);
+    m.told("um_write_frame", m.INPUT, at, m.OUTPUT);
+    return m.copy(m.output, BLOCK_OCTETS);
+  }
+
+  /** A new end of a link. */
+  end(role, { sapi = 0, channel = "sdcch" } = {}) {
+    const m = this.#machine;
+    const numbers = [place("role", role, ROLES), [0, 3][place("sapi", sapi, [0, 3])], place("channel", channel, CHANNELS)];
+    m.octets.fill(0, m.input, m.input + END);
+    m.told("um_end_new", m.INPUT, ...numbers);
+    return new End(m, m.copy(m.input, END));
+  }
+
+  /** An end whose state `end.bytes` gave before; refused with the reason "noend" where no end has such a state. */
+  restoreEnd(bytes) {
+    const end = new End(this.#machine, Uint8Array.from(octetsOf("bytes", bytes, END)));
+    end.idle();
+    return end;
+  }
+}
+
+/**
+ * One end of a link in acknowledged mode. It has no timer: its caller sends the `frames` that each call answers, in their order, hands
+ * it each block that comes in, and calls `timer` when T200 expires. A call that is refused throws Refused.
+ */
+export class End {
+  #machine;
+  #bytes;
+
+  constructor(machine, bytes) {
+    this.#machine = machine;
+    this.#bytes = bytes;
+  }
+
+  /** A copy of the state, for restoreEnd. */
+  get bytes() {
+    return this.#bytes.slice();
+  }
+  get role() {
+    return ROLES[this.#bytes[8]];
+  }
+  get sapi() {
+    return this.#bytes[9];
+  }
+  get channel() {
+    return CHANNELS[this.#bytes[10]];
+  }
+  get state() {
+    return STATES[this.#bytes[11]];
+  }
+  /** V(S), V(A), V(R), how often a frame went out again, how many messages are held, and how many were acknowledged. */
+  get variables() {
+    const [retries, vs, va, vr, repeats, rejecting, , held] = this.#bytes.subarray(12);
+    const done = new DataView(this.#bytes.buffer).getBigUint64(0, true);
+    return { vs, va, vr, retries: this.state === "open" ? repeats : retries, rejecting: rejecting !== 0, held, done };
+  }
+  /** Whether T200 runs, that is, whether a frame awaits an answer: `timer` is tried on a copy. */
+  get timerRuns() {
+    const m = this.#machine;
+    m.octets.set(this.#bytes, m.input);
+    return m.call("um_end_timer", m.INPUT, m.OUTPUT) === 0;
+  }
+  /** Another end in the same state. */
+  copy() {
+    return new End(this.#machine, this.bytes);
+  }
+
+  #call(name, ...places) {
+    const m = this.#machine;
+    m.octets.set(this.#bytes, m.input);
+    const answer = m.call(name, m.INPUT, ...places, m.OUTPUT);
+    if (answer) throw new Refused(...REFUSALS[answer - 1]);
+    this.#bytes.set(m.octets.subarray(m.input, m.input + END));
+    return m.effects();
+  }
+  #with(name, octets) {
+    this.#machine.putMessage(octetsOf("octets", octets));
+    return this.#call(name, this.#machine.SECOND);
+  }
+
+  /** Opens the link: of SAPI 0, by a mobile, with 1 to 20 octets of information (18 on SACCH); of SAPI 3, by either end, without. */
+  open(info) {
+    return info === undefined ? this.#call("um_end_open_bare") : this.#with("um_end_open", info);
+  }
+  /** Sends a message of 1 to 251 octets over the open link. */
+  send(octets) {
+    return this.#with("um_end_send", octets);
+  }
+  /** Sends 1 to 20 octets (18 on SACCH) in one UI frame, unacknowledged, in any state. */
+  unit(octets) {
+    return this.#with("um_end_unit", octets);
+  }
+  /** Releases the link. */
+  close() {
+    return this.#call("um_end_close");
+  }
+  /** T200 expired. */
+  timer() {
+    return this.#call("um_end_timer");
+  }
+  /** The fill frame. */
+  idle() {
+    return this.#call("um_end_idle");
+  }
+  /** Takes a block of 23 octets that came in. */
+  take(octets) {
+    this.#machine.octets.set(octetsOf("octets", octets, BLOCK_OCTETS), this.#machine.second);
+    return this.#call("um_end_take", this.#machine.SECOND);
+  }
+}
+
+// -- loading --
+
+const beside = async () => {
+  const url = new URL("./um.wasm", import.meta.url);
+  if (url.protocol !== "file:" || !globalThis.process?.versions?.node) return fetch(url);
+  return (await import("node:fs/promises")).readFile(url);
+};
+
+/** Loads um.wasm: the file beside this module, or what is given: its octets, a Response, or a compiled WebAssembly.Module. */
+export const load = async (source) => {
+  let from = await (source === undefined ? beside() : source);
+  if (typeof Response !== "undefined" && from instanceof Response) {
+    if (!from.ok) throw new Error(`um.wasm could not be fetched: ${from.url} answered ${from.status}`);
+    from = await from.arrayBuffer();
+  }
+  const module = from instanceof WebAssembly.Module ? from : await WebAssembly.compile(from);
+  return new Um(module, await WebAssembly.instantiate(module));
+};
