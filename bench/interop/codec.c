@@ -3,8 +3,9 @@
  *   codec BLOCKS SEED
  *
  * Both code the same. Where both accept the same octets, they count the same bit errors. Where several words fit equally well the two may
- * choose differently, so some are accepted by one of the two alone, or as another word: at most one in 500. Soft values of 0 and lost
- * bursts are among the blocks; all 256 access words go with all 64 identity codes. */
+ * choose differently, so some are accepted by one of the two alone, or as another word: at most one in 100; and no block that libosmocoding
+ * accepts fits better than what um reports. Soft values of 0 and lost bursts are among the blocks; all 256 access words go with all 64
+ * identity codes. */
 #define UM_OSMO_OWN_NAMES
 #include "um_osmo.h"
 #include "draw.h"
@@ -13,12 +14,12 @@
 #include <stdio.h>
 #include <stdlib.h>
 
-struct tally { long tried, coded_otherwise, osmo, um, um_alone, osmo_alone, octets_differ, errors_differ, wrong; };
+struct tally { long tried, coded_otherwise, osmo, um, um_alone, osmo_alone, octets_differ, errors_differ, wrong, better; };
 static long passed, failed;
 
 static void judge(const char *what, double sigma, const struct tally *t, bool clean)
 {
-	bool good = !t->coded_otherwise && !t->errors_differ && t->um_alone + t->osmo_alone + t->octets_differ <= t->tried / 500
+	bool good = !t->coded_otherwise && !t->errors_differ && !t->better && t->um_alone + t->osmo_alone + t->octets_differ <= t->tried / 100
 		&& (!clean || (t->um == t->tried && t->osmo == t->tried));
 	passed += good;
 	failed += !good;
@@ -44,6 +45,24 @@ static void add_noise(const ubit_t *bits, sbit_t *soft, int count, double sigma,
 		soft[i] = noisy(bits[i], 60, sigma, seed, stream, (uint64_t)i);
 }
 
+/* Whether the block that libosmocoding accepts fits the soft values better than the word that um reports. */
+static bool fits_better(const uint8_t *octets, const sbit_t *soft)
+{
+	ubit_t coded[464];
+	int8_t whole[4][148] = { { 0 } };
+	um_block_report report;
+	int metric = 0;
+	gsm0503_xcch_encode(coded, octets);
+	for (int i = 0; i < 464; i++)
+		if (i % 116 != 57 && i % 116 != 58) /* the stealing flags */
+			metric += coded[i] ? -soft[i] : soft[i];
+	for (int i = 0; i < 4; i++) {
+		memcpy(whole[i] + 3, soft + 116 * i, 58);
+		memcpy(whole[i] + 87, soft + 116 * i + 58, 58);
+	}
+	return !um_receive_block((const int8_t (*)[148])whole, &report) || metric > report.metric;
+}
+
 /* Every sixteenth block has a lost burst. */
 static void blocks(uint64_t seed, long count, double sigma)
 {
@@ -64,6 +83,7 @@ static void blocks(uint64_t seed, long count, double sigma)
 		bool osmo = gsm0503_xcch_decode(theirs, soft, &errors[0], &bits[0]) == 0;
 		bool um = um_xcch_decode(ours, soft, &errors[1], &bits[1]) == 0;
 		compare(&t, osmo, um, theirs, ours, sent, 23);
+		t.better += osmo && fits_better(theirs, soft);
 		t.errors_differ += (osmo && um && !memcmp(theirs, ours, 23) && errors[0] != errors[1]) || bits[0] != bits[1];
 	}
 	judge("blocks", sigma, &t, sigma == 0);

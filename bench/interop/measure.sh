@@ -1,17 +1,18 @@
 #!/usr/bin/env bash
 # Many sessions between um and libosmogsm, and of each with itself; what T200 costs; blocks and bursts through both codecs.
 #
-#   measure.sh [SESSIONS [LIBRARY]]     SESSIONS of each of 32 kinds (3000); takes some minutes
+#   measure.sh [SESSIONS]     of each of 32 kinds (3000); takes some minutes
 #
 # The lines go to standard output (the last run is measured.txt); summary.py makes tables of them, pictures/interop_svg.py the picture.
 # Needs a C compiler, pkg-config and libosmocore (Debian: libosmocore-dev).
 set -eu
 top=$(cd "$(dirname "${BASH_SOURCE[0]}")/../.." && pwd)
-. "$top/checks/common.sh"
-library=${2:-$(cd "$top" && um_library)}
+cd "$top"
+. checks/common.sh
+find_library
 work=$(mktemp -d)
 trap 'rm -rf "$work"' EXIT
-make -s -C "$top/bench/interop" B="$work" UM="$(realpath "$library")"
+make -s -C bench/interop B="$work" UM="$top/$archive"
 each=${1:-3000}
 
 for pair in uo ou uu oo; do
@@ -37,5 +38,5 @@ for delay in 1 2; do
     "$work/early" pp $expiries $delay rr
   done
 done
-"$work/scenes" <"$top/bench/interop/scenes.txt"
+"$work/scenes" <bench/interop/scenes.txt
 "$work/codec" 40000 1

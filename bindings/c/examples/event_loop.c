@@ -97,7 +97,7 @@ static void wait_for_air(channel *c, int link, const uint8_t block[23])
 		memcpy(c->waiting[link][c->count[link]++], block, 23);
 }
 
-/* Carries out what a call of an end wrote. An I frame that still waits when its message is acknowledged, or when the link ends, is a copy. */
+/* Carries out what a call of an end wrote. An I frame that still waits when its message is acknowledged, or the link ends, is a copy. */
 static void channel_done(channel *c, int link, const um_effects *done)
 {
 	for (int i = 0; i < done->notice_count; i++)
