@@ -1,0 +1,42 @@
+#!/usr/bin/env bash
+# Many sessions between um and libosmogsm, and of each with itself; what T200 costs; blocks and bursts through both codecs.
+#
+#   measure.sh [SESSIONS]     of each of 32 kinds (3000); takes some minutes
+#
+# The lines go to standard output (the last run is measured.txt); summary.py makes tables of them, pictures/interop_svg.py the picture.
+# Needs a C compiler, pkg-config and libosmocore (Debian: libosmocore-dev).
+set -eu
+top=$(cd "$(dirname "${BASH_SOURCE[0]}")/../.." && pwd)
+cd "$top"
+. checks/common.sh
+find_library
+work=$(mktemp -d)
+trap 'rm -rf "$work"' EXIT
+make -s -C bench/interop B="$work" UM="$top/$archive"
+each=${1:-3000}
+
+for pair in uo ou uu oo; do
+  for scene in 0 m3 n3 b3 all; do
+    "$work/sessions" $pair sdcch $scene 1000001 "$each"
+  done
+  for scene in m3 n3 b3; do
+    "$work/sessions" $pair sacch $scene 1000001 "$each"
+  done
+done
+for scene in 0 all; do
+  for blocks in 1.5 2.5 3.5 4.5 6.5; do
+    for pair in pp uu uo ou oo; do
+      "$work/sessions" $pair sdcch $scene 1 300 t200 $blocks loss 0 | sed "s/^/t200 $blocks /"
+    done
+  done
+done
+for delay in 1 2; do
+  for expiries in 0 1 3; do
+    for pair in pp po op oo uu; do
+      "$work/early" $pair $expiries $delay
+    done
+    "$work/early" pp $expiries $delay rr
+  done
+done
+"$work/scenes" <bench/interop/scenes.txt
+"$work/codec" 40000 1
