@@ -76,6 +76,7 @@ def main():
     counts = read(asked.parse_args().measured)
     sessions = sum(sessions for losses in counts.values() for sessions, _ in losses.values())
     out = [f'<text x="{LEFT}" y="26" font-size="15">Sessions that end well, of {sessions:,}; mobile and network</text>', *axes()]
+    out.append(f'<rect class="paper" x="{LEFT + 12}" y="{TOP + HIGH - 106}" width="214" height="90"/>')
     for row, (pair, words, name, kind) in enumerate(DRAWN):
         points = [(x_of(loss), y_of(100 * well / sessions)) for loss, (sessions, well) in sorted(counts[pair].items())]
         path = " ".join(f"{x:.1f} {y:.1f}" for x, y in points)

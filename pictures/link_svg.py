@@ -116,6 +116,7 @@ class Session:
         self.um, self.sacch, self.chart = um, sacch, Chart()
         self.ways = {"up": [], "down": []}
         self.numbers, self.open = {}, set()
+        self.arrived = None  # the height of the last arrival, while nothing stands below it
 
     def show_numbers(self, side, sapi, changed):
         numbers = self.numbers.setdefault((side, sapi), [0, 0])
@@ -129,6 +130,7 @@ class Session:
         side, y, frame = self.ways[way].pop(0)
         lost = words[1] == "lose"
         self.chart.y += ROW // 2
+        height = self.chart.y
         self.chart.arrow(side, y, frame, "lost" if lost else "arrives", len(words) - 2 if words[1] == "flip" else 0)
         if not lost and frame.ns is not None:
             taker = "net" if way == "up" else "mob"
@@ -138,6 +140,7 @@ class Session:
                     numbers[1] = (numbers[1] + 1) % 8
 
             self.show_numbers(taker, frame.sapi, accepted)
+        self.arrived = height + 9 if self.chart.y == height else None
         self.chart.y += 9
 
     def send(self, side, block):
@@ -147,6 +150,8 @@ class Session:
                 numbers[0] = (frame.ns + 1) % 8
 
             self.show_numbers(side, frame.sapi, sent)
+        if self.chart.y == self.arrived:  # the label clears the tip of the arrow above
+            self.chart.y += 11
         self.chart.lanes.add(side)
         self.ways["down" if side == "net" else "up"].append((side, self.chart.y, frame))
         self.chart.y += ROW - 6

@@ -58,9 +58,11 @@ def main():
         page.append(f"<h2>{heading}</h2>\n<p>{above}</p>\n{picture}")
         with open(os.path.join(HERE, "..", "docs", "pictures", name), "w", encoding="utf-8") as file:
             file.write(made([word for word in words if word != "--titles"], script, um))
-    # not of the program's output, and so not on the page: what bench/reach/measure.sh printed
-    with open(os.path.join(HERE, "..", "docs", "pictures", "reach.svg"), "w", encoding="utf-8") as file:
-        file.write(made(["reach_svg.py"], None))
+    # not on the page: of what bench/reach/measure.sh and bench/interop/measure.sh printed, and a chart of docs/RECIPES.md
+    for name, words, script in (("reach.svg", ["reach_svg.py"], None), ("interop.svg", ["interop_svg.py"], None),
+                                ("early_t200.svg", ["link_svg.py", "0"], "early_t200.txt")):
+        with open(os.path.join(HERE, "..", "docs", "pictures", name), "w", encoding="utf-8") as file:
+            file.write(made(words, script, um if script else None))
     with open(os.path.join(HERE, "..", "docs", "tour.html"), "w", encoding="utf-8") as file:
         file.write("\n".join(page) + "</body></html>\n")
 

@@ -2,6 +2,9 @@
  *
  *   codec BLOCKS SEED
  *
+ * Of each strength of noise: how many were tried, how many each received as they were sent, how many one of the two alone accepted, were
+ * coded otherwise, were accepted as other octets or with another count of bit errors, and how many that either accepted were not sent.
+ *
  * Both code the same. Where both accept the same octets, they count the same bit errors. Where several words fit equally well the two may
  * choose differently, so some are accepted by one of the two alone, or as another word: at most one in 100; and no block that libosmocoding
  * accepts fits better than what um reports. Soft values of 0 and lost bursts are among the blocks; all 256 access words go with all 64
@@ -23,9 +26,9 @@ static void judge(const char *what, double sigma, const struct tally *t, bool cl
 		&& (!clean || (t->um == t->tried && t->osmo == t->tried));
 	passed += good;
 	failed += !good;
-	printf("%s, sigma %.0f: %ld, right libosmocoding %ld um %ld, alone libosmocoding %ld um %ld, coded otherwise %ld, other octets %ld, "
-		"other counts of errors %ld, wrong ones accepted %ld%s\n", what, sigma, t->tried, t->osmo, t->um, t->osmo_alone, t->um_alone,
-		t->coded_otherwise, t->octets_differ, t->errors_differ, t->wrong, good ? "" : ": FAILED");
+	printf("%s sigma %.0f: %ld osmo %ld um %ld osmo-alone %ld um-alone %ld coded-otherwise %ld other-octets %ld other-errors %ld "
+		"wrong %ld%s\n", what, sigma, t->tried, t->osmo, t->um, t->osmo_alone, t->um_alone, t->coded_otherwise, t->octets_differ, t->errors_differ, t->wrong,
+		good ? "" : " FAILED");
 }
 
 static void compare(struct tally *t, bool osmo, bool um, const uint8_t *theirs, const uint8_t *ours, const uint8_t *sent, size_t count)
@@ -120,7 +123,7 @@ static void access_bursts(uint64_t seed, double sigma)
 		compare(&t, osmo, um, &theirs, &ours, &word, 1);
 		t.errors_differ += osmo && um && theirs == ours && errors != (int)heard.wrong_coded;
 	}
-	judge("access bursts", sigma, &t, sigma == 0);
+	judge("access", sigma, &t, sigma == 0);
 }
 
 /* A synchronisation burst is 148 places: tail 3, data 39, training 64, data 39, tail 3. */
@@ -149,7 +152,7 @@ static void sync_bursts(uint64_t seed, long count, double sigma)
 			ours[i / 8] |= (uint8_t)(heard.info[i] << i % 8);
 		compare(&t, osmo, um, theirs, ours, sent, 4);
 	}
-	judge("synchronisation bursts", sigma, &t, sigma == 0);
+	judge("sync", sigma, &t, sigma == 0);
 }
 
 int main(int count_of_words, char **words)

@@ -6,7 +6,7 @@
  * `send SAPI HEX`, `unit SAPI HEX`, `close SAPI`, calls; `t200 N`, T200 expires N times; `hold` and `go`, between which frames wait for
  * the air. Behind each step comes `both` with what both do, or a line `um` and a line `osmo`: the frames sent, `>HEX` up to their length
  * and how often in a row, then the reports, of more than 40 octets the first and last four and how many. Only the network reports the
- * information by which a link opened, and neither an acknowledgement, since libosmogsm does not report these. Blanks in HEX do not count. */
+ * information by which a link opened, and neither an acknowledgement, since libosmogsm does not. Blanks in HEX do not count. */
 #include "side.h"
 #include <stdio.h>
 #include <stdlib.h>

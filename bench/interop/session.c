@@ -32,9 +32,10 @@ static const char *side_name(int role)
 	return role == MOBILE ? "mobile" : "network";
 }
 
+/* Where libosmogsm plays both sides nothing is um's fault. */
 static void say_fault(const char *what, int role, int link)
 {
-	if (!result.fault[0])
+	if (!result.fault[0] && (is_um(0) || is_um(1)))
 		snprintf(result.fault, sizeof result.fault, "%s, SAPI %d: %s", side_name(role), link ? 3 : 0, what);
 }
 

@@ -6,6 +6,7 @@ import re
 import sys
 
 HERE = os.path.dirname(os.path.abspath(__file__))
+ORDER = ("uu", "uo", "ou", "oo")
 PAIRS = {"uu": "um, um", "uo": "um, libosmogsm", "ou": "libosmogsm, um", "oo": "libosmogsm, libosmogsm", "pp": "um, um, T200 from the call"}
 LOSSES = (0, 10, 50, 100, 200, 300)
 ROW = re.compile(r"(?:t200 ([\d.]+) )?(\w\w) (\w+) (\w+) (loss|sigma) (\d+): (.*)")
@@ -13,8 +14,8 @@ CAUSE = re.compile(r"(\w\w) (\w+) (\w+) cause (\d+) (.*) \(seed (\d+)\)")
 
 
 def read(path):
-    """The counts by pair and loss, by T200, scene and pair, and the causes by pair."""
-    by_loss, by_t200, causes = {}, {}, {}
+    """The counts by pair and loss, and by T200, scene and pair; how often each cause was seen by pair, and an example of it."""
+    by_loss, by_t200, causes, examples = {}, {}, {}, {}
     for line in open(path, encoding="utf-8"):
         found, cause = ROW.match(line), CAUSE.match(line)
         if found:
@@ -25,9 +26,10 @@ def read(path):
             place[key] = place.get(key, collections.Counter()) + counts
         elif cause:
             pair, on, scene, count, text, seed = cause.groups()
-            seen = causes.setdefault(pair, {}).setdefault(text, [0, f"{on} {scene} {seed}"])
-            seen[0] += int(count)
-    return by_loss, by_t200, causes
+            text = text.split(": ")[1]
+            causes.setdefault(text, collections.Counter())[pair] += int(count)
+            examples.setdefault((text, pair), f"{pair} {on} {scene} {seed}")
+    return by_loss, by_t200, causes, examples
 
 
 def well(counts):
@@ -35,10 +37,10 @@ def well(counts):
 
 
 def main():
-    by_loss, by_t200, causes = read(sys.argv[1] if len(sys.argv) > 1 else os.path.join(HERE, "measured.txt"))
+    by_loss, by_t200, causes, examples = read(sys.argv[1] if len(sys.argv) > 1 else os.path.join(HERE, "measured.txt"))
     print("| Mobile, network | Sessions | Blocks | " + " | ".join(f"{loss / 10:g} %" for loss in LOSSES) + " | bursts |")
     print("|---" * (4 + len(LOSSES)) + "|")
-    for pair in ("uu", "uo", "ou", "oo"):
+    for pair in ORDER:
         mine = {key: counts for key, counts in by_loss.items() if key[0] == pair}
         total = sum(mine.values(), collections.Counter())
         bursts = sum((counts for key, counts in mine.items() if key[1] == "sigma"), collections.Counter())
@@ -54,10 +56,11 @@ def main():
                 counts = by_t200[t200, scene, pair]
                 cells.append(f"{counts['blocks']:,}, {counts['sessions'] - well(counts)}")
             print(f"| {t200} | {links} | {' | '.join(cells)} |")
-    for pair, found in causes.items():
-        print(f"\n{PAIRS[pair]}:")
-        for text, (count, example) in sorted(found.items(), key=lambda item: -item[1][0]):
-            print(f"{count:7}  {text} [{example}]")
+    print("\n| Cause | " + " | ".join(PAIRS[pair] for pair in ORDER) + " | Example |")
+    print("|---" * 6 + "|")
+    for text, found in sorted(causes.items(), key=lambda item: -sum(item[1].values())):
+        example = next(examples[text, pair] for pair in ("uo", "ou", "oo", "uu") if (text, pair) in examples)
+        print(f"| {text} | {' | '.join(str(found[pair]) for pair in ORDER)} | `{example}` |")
 
 
 if __name__ == "__main__":
