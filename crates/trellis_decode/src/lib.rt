@@ -20,7 +20,7 @@ ghost use Rattle.std.specs.Prelude.{◌≡◌, ℕ, ◌*◌, ◌≤◌, List, le
 ghost use Rattle.conv_code.specs.Code.{coded};
 ghost use Rattle.conv_code.specs.Likelihood.{AllSoft, IsMostLikely, likelihood};
 
-use crate::backward::{fill_maps, walk_few};
+use crate::backward::{fill_maps, walk_places};
 use crate::maps::{follow_maps, write_few};
 pub use exhaustive::search;
 pub use trellis::{keep, read_list};
@@ -42,7 +42,7 @@ pub fn decode(soft: &[i8], u: &mut [u8]) -> i32
     let mut maps = [[0; 16]; 57];
     let maps = &mut maps[..u.len() / 4];
     let values = fill_maps(&soft[2 * few..], maps);
-    let walk = walk_few(values, &soft[..2 * few], few);
+    let walk = walk_places(values, &soft[..8], few);
     let at = walk.map.to_array()[0] % 16;
     let (first, others) = u.split_at_mut(few);
     write_few(at, few, first);

@@ -1,6 +1,6 @@
 use Rattle.std.proofs.Common.{arith, rules, lit≤, ◌≡◌, ◌*◌, ◌-◌, ◌%◌, ◌++◌, ℕ, ℤ, List, length, take, drop, refl, ap, ap₂, sym, ◌∙◌, w32, FitsSigned}
 use Rattle.std.proofs.lemmas.Int.{ints, to_z-of_z}
-use Rattle.std.proofs.lemmas.List.{length-append, length-take, length-drop, take_all, take-append-drop}
+use Rattle.std.proofs.lemmas.List.{length-append, length-take, length-drop, take_all, take-take, take-append-drop}
 use Rattle.std.proofs.lemmas.List.Elements.{All-take, All-drop}
 use Rattle.conv_code.specs.Likelihood.{AllSoft}
 use Rattle.trellis_decode.specs.Lanes.{lane, AreOctets, IsOctet}
@@ -20,25 +20,27 @@ octets soft h k d lt = let is = h k d lt in (omega (arith, ints, is.0), is.1)
 -- the list that is written is the best from state 0
 best : (c : After-of_state_0) →
     IsBest 0 (c.write_few.new.u ++ c.follow_maps.new.u) c.args.soft.now
-    (lane (worths c.walk_few-walk.result.values.even c.walk_few-walk.result.values.odd) 0)
+    (lane (worths c.walk_places-walk.result.values.even c.walk_places-walk.result.values.odd) 0)
 best c =
     let soft = c.args.soft.now in
     let n = length c.args.u.now in
     let few = n % 4 in
-    let front : List ℤ = take (2 * few) soft in
+    let front : List ℤ = take (2 * few) (take 8 soft) in
     let rest : List ℤ = take (length soft - 2 * few) (drop (2 * few) soft) in
     let whole : front ++ rest ≡ soft =
-    ap (λ rest. front ++ rest) (take_all _ _ (omega (arith, length-drop (2 * few) soft))) ∙ take-append-drop (2 * few) soft in
+    ap₂ (λ front rest. front ++ rest) (take-take (2 * few) 8 soft (omega arith))
+    (take_all _ _ (omega (arith, length-drop (2 * few) soft))) ∙ take-append-drop (2 * few) soft in
     let after = worths c.fill_maps-values.result.even c.fill_maps-values.result.odd in
-    let values = worths c.walk_few-walk.result.values.even c.walk_few-walk.result.values.odd in
-    let map = c.walk_few-walk.result.map in
+    let values = worths c.walk_places-walk.result.values.even c.walk_places-walk.result.values.odd in
+    let map = c.walk_places-walk.result.map in
     let maps = c.fill_maps-values.new.maps in
-    let walk = c.walk_few-walk.ensures.walk in
+    let walk = c.walk_places-walk.ensures.walk in
     let some = c.fill_maps-values.ensures.at_least in
     let each = c.fill_maps-values.ensures.best in
     let bits : List ℕ = walk.bits 0 in
     let count = walk.count 0 (lit≤ tt) in
-    let length_front : length front ≡ 2 * few = omega (arith, length-take (2 * few) soft, c.requires.count) in
+    let length_front : length front ≡ 2 * few =
+    omega (arith, length-take (2 * few) (take 8 soft), length-take 8 soft, c.requires.count, c.requires.at_least) in
     let counted : length bits ≡ few = omega (arith, count, length_front) in
     let state = walked_state after values front rest map maps walk some each 0 (lit≤ tt) in
     let first : c.write_few.new.u ≡ bits =
@@ -63,8 +65,8 @@ fill_maps-values-requires-clause-octets c =
     All-take IsOctet _ (drop (2 * (length c.args.u.now % 4)) c.args.soft.now)
     (All-drop IsOctet (2 * (length c.args.u.now % 4)) c.args.soft.now (octets c.args.soft.now c.requires.soft))
 
-pub walk_few-walk-requires-clause-octets : goal.walk_few-walk-requires-clause-octets
-walk_few-walk-requires-clause-octets c = All-take IsOctet (2 * (length c.args.u.now % 4)) c.args.soft.now
+pub walk_places-walk-requires-clause-octets : goal.walk_places-walk-requires-clause-octets
+walk_places-walk-requires-clause-octets c = All-take IsOctet 8 c.args.soft.now
     (octets c.args.soft.now c.requires.soft)
 
 pub returns-clause-best : goal.returns-clause-best

@@ -6,7 +6,7 @@ use Rattle.std.proofs.lemmas.List.Elements.{All-drop}
 use Rattle.trellis_decode.specs.Lanes.{lane, IsOctet}
 use Rattle.trellis_decode.specs.Trellis.{IsBest}
 use Rattle.trellis_decode.specs.Turned.{place, worths}
-use Rattle.trellis_decode.specs.Walks.{read_maps}
+use Rattle.trellis_decode.specs.Walks.{IsWalk, read_maps}
 use Rattle.trellis_decode.proofs.MapLists.{IsBest-map, read_last}
 use Rattle.trellis_decode.proofs.Paths.{IsBest-same}
 use Rattle.trellis_decode.proofs.Walks.{AreWithin-best, AreWithin-most}
@@ -44,8 +44,8 @@ loop-group-init c =
       odd = c.closing_values-values.ensures.odd;
     }
 
-pub walk_four-walk-requires-clause-within : goal.walk_four-walk-requires-clause-within
-walk_four-walk-requires-clause-within c =
+pub walk_places-walk-requires-clause-within : goal.walk_places-walk-requires-clause-within
+walk_places-walk-requires-clause-within c =
     AreWithin-most (worths c.loop-group.values.even c.loop-group.values.odd) (drop (8 * c.loop-group.group) c.args.soft.now)
     (λ s. read_maps (drop c.loop-group.group c.loop-group.maps) (place s))
     (All-drop IsOctet (8 * c.loop-group.group) c.args.soft.now c.requires.octets)
@@ -57,7 +57,7 @@ loop-group-preserved c =
     let soft = c.args.soft.now in
     let maps = c.loop-group.maps in
     let group = c.loop-group.group in
-    let map = c.walk_four-walk.result.map in
+    let map = c.walk_places-walk.result.map in
     let before = group - 1 in
     let n = 8 * before + 8 - 8 * before in
     let eight : n ≡ 8 = omega arith in
@@ -68,6 +68,9 @@ loop-group-preserved c =
     ∙ take-append-drop n (drop (8 * before) soft) in
     let counted : length four ≡ 8 =
     omega (arith, length-take n (drop (8 * before) soft), length-drop (8 * before) soft, c.requires.count) in
+    let walk = subst (IsWalk (worths c.loop-group.values.even c.loop-group.values.odd)
+    (worths c.walk_places-walk.result.values.even c.walk_places-walk.result.values.odd) map) (take_all 8 four (omega (arith, counted)))
+    c.walk_places-walk.ensures.walk in
     let same : length maps ≡ length c.args.maps.now = c.loop-group.auto.maps ∙ length-set c.args.maps.now (length c.args.maps.now - 1) _ in
     let within = c.loop-group.auto.group in
     let inside : before < length maps = omega (arith, same, within, c.requires.at_least) in
@@ -78,11 +81,11 @@ loop-group-preserved c =
     record {
       best = λ s lt. IsBest-same s (ap (λ maps. read_maps maps (place s)) grown) whole refl
           (IsBest-map (worths c.loop-group.values.even c.loop-group.values.odd)
-          (worths c.walk_four-walk.result.values.even c.walk_four-walk.result.values.odd)
-          four (drop (8 * group) soft) map (drop group maps) c.walk_four-walk.ensures.walk some c.loop-group.invariant.best counted s lt);
-      low = c.walk_four-walk.ensures.within.low;
-      even = c.walk_four-walk.ensures.even;
-      odd = c.walk_four-walk.ensures.odd;
+          (worths c.walk_places-walk.result.values.even c.walk_places-walk.result.values.odd)
+          four (drop (8 * group) soft) map (drop group maps) walk some c.loop-group.invariant.best counted s lt);
+      low = c.walk_places-walk.ensures.within.low;
+      even = c.walk_places-walk.ensures.even;
+      odd = c.walk_places-walk.ensures.odd;
     }
 
 pub returns-clause-best : goal.returns-clause-best
