@@ -3,13 +3,13 @@ use Rattle.std.proofs.Common.{◌≡◌, ℕ, zero, suc, ◌+◌, ◌-◌, ◌%�
 use Rattle.std.specs.Int.{cast_signed, cast_unsigned}
 use Rattle.std.proofs.lemmas.Int.{ints, to_z-of_z, of_z-to_z}
 use Rattle.std.proofs.lemmas.List.{get_or-take, get_or-drop, drop-drop, drop-take, take-take, take-append-drop, length-take, length-drop}
-use Rattle.std.proofs.lemmas.List.Elements.{All-nil, All-cons, All-append, All-head, All-tail, All-take, All-drop}
+use Rattle.std.proofs.lemmas.List.Elements.{All-head, All-tail, All-take, All-drop}
 use lib.Lanes.{Each1}
 use Rattle.trellis_decode.specs.Lanes.{lane, IsOctet, AreOctets}
 use Rattle.trellis_decode.specs.Trellis.{edge}
 use Rattle.trellis_decode.specs.Turned.{AreEdges, HasEdges, turned}
-use Rattle.trellis_decode.proofs.EdgeLanes.{each, pair_is, zero_edges, zero_lanes}
-use Rattle.trellis_decode.proofs.TurnedVectors.{fits_between, sum-lane, difference-lane, passed, passed-lanes, AreNarrow-edges}
+use Rattle.trellis_decode.proofs.EdgeLanes.{each, zero_edges, zero_lanes}
+use Rattle.trellis_decode.proofs.TurnedVectors.{fits_between, sum-lane, difference-lane}
 
 -- ---- octets in lanes of 16 bits
 

@@ -1,11 +1,9 @@
 -- What a pass backward keeps, one place more at a time, and how far apart the states are.
 use Rattle.std.proofs.Common.{◌≡◌, ℕ, zero, suc, ◌+◌, ◌-◌, ◌*◌, ◌/◌, ◌%◌, ◌^◌, ◌<◌, ◌≤◌, ℤ, pos, negsuc, ◌+ℤ◌, ◌-ℤ◌, ◌≤ℤ◌, List, [], ◌∷◌, ◌++◌, length, take, drop, replicate, refl, ap, ap₂, sym, ◌∙◌, subst, arith, lit≤}
-use Rattle.std.proofs.Math.ListN.{set}
 use Rattle.std.proofs.lemmas.Int.{ints}
-use Rattle.std.proofs.lemmas.List.{append-nil, drop_all, drop_at, drop-set, length-set, length-append, take-append-drop, length-take, length-drop}
+use Rattle.std.proofs.lemmas.List.{length-append, take-append-drop, length-take, length-drop}
 use Rattle.std.proofs.lemmas.List.Elements.{All-tail, All-take, All-drop, All-append}
 use Rattle.std.specs.List.{All}
-use borrow.Rule.Slice.PartMut.{put_mid}
 use Rattle.trellis_decode.specs.Kept.{Keeps}
 use Rattle.trellis_decode.specs.Lanes.{lane, IsOctet, AreOctets}
 use Rattle.trellis_decode.specs.Trellis.{next, gain, edge, Ends, Loses, Less, Later, read_out, IsBest, IsKept, way, Chooses}

@@ -1,4 +1,4 @@
-use Rattle.std.proofs.Common.{◌≡◌, ◌+◌, ◌*◌, drop, length}
+use Rattle.std.proofs.Common.{◌+◌, ◌*◌, drop}
 use Rattle.trellis_decode.specs.Kept.{Keeps}
 use Rattle.trellis_decode.specs.Turned.{AreNarrow, worths}
 use Rattle.trellis_decode.proofs.trellis.keep.Given as goal

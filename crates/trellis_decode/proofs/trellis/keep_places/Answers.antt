@@ -1,5 +1,5 @@
-use Rattle.std.proofs.Common.{◌≡◌, ℕ, ◌*◌, ◌+◌, ◌-◌, ◌≤◌, ◌<◌, ◌∷◌, ◌++◌, drop, take, length, ap, sym, ◌∙◌, subst, arith}
-use Rattle.std.proofs.lemmas.List.{drop-set, drop-take, take-take, length-drop}
+use Rattle.std.proofs.Common.{◌≡◌, ℕ, ◌*◌, ◌+◌, ◌-◌, ◌<◌, ◌∷◌, drop, ap, sym, ◌∙◌, subst, arith}
+use Rattle.std.proofs.lemmas.List.{drop-set, length-drop}
 use Rattle.std.proofs.lemmas.List.Elements.{All-take, All-drop}
 use Rattle.trellis_decode.specs.Kept.{Keeps}
 use Rattle.trellis_decode.specs.Lanes.{IsOctet, lane}

@@ -1,8 +1,8 @@
-use Rattle.std.proofs.Common.{ℤ, List, get_or, ap, sym, ◌∙◌, subst}
+use Rattle.std.proofs.Common.{get_or, ap, sym, ◌∙◌, subst}
 use Rattle.trellis_decode.specs.Lanes.{lane}
-use Rattle.trellis_decode.specs.Turned.{AreGaps, choices, HasEdges, worths}
+use Rattle.trellis_decode.specs.Turned.{AreGaps, choices, worths}
 use Rattle.trellis_decode.proofs.Leads.{AreLeads, choice_is, high_near, leads_are, loss_is, low_near}
-use Rattle.trellis_decode.proofs.TurnedVectors.{passed, passed-lanes, passed-gaps, AreEdges-passed, AreNarrow-edges, AreNarrow-passed}
+use Rattle.trellis_decode.proofs.TurnedVectors.{passed, passed-gaps, AreNarrow-passed}
 use Rattle.trellis_decode.proofs.kept_step.KeptStep.new.Goals as goal
 use Rattle.trellis_decode.proofs.kept_step.KeptStep.new.Goals.{After-by_state-leads, After-sizes}
 
