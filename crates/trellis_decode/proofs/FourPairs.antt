@@ -13,7 +13,7 @@ use Rattle.trellis_decode.proofs.TurnedVectors.{fits_between, sum-lane, differen
 
 -- ---- octets in lanes of 16 bits
 
-fits_octet : (x : ℤ) → IsOctet x → FitsSigned w8 x
+pub fits_octet : (x : ℤ) → IsOctet x → FitsSigned w8 x
 fits_octet (pos n) h = record { sfits = omega (arith, ints, h.0, h.1) }
 fits_octet (negsuc n) h = record { sfits = omega (arith, ints, h.0, h.1) }
 
