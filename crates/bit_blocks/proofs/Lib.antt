@@ -6,3 +6,4 @@ mod OctetLists
 mod OctetPlaces
 mod OctetWords
 mod Sums
+mod WrongPlaces

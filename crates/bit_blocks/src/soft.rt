@@ -11,6 +11,19 @@ pub fn wrong_places(soft: &[i8], bits: &[u8]) -> u32
     ensures value { result ≡ wrong_places soft.now bits.now }
     ensures within { result ≤ length soft.now }
 {
+    let (first, second) = soft.split_at(soft.len() / 2);
+    let (first_bits, second_bits) = bits.split_at(soft.len() / 2);
+    u32::from(wrong_part(first, first_bits)) + u32::from(wrong_part(second, second_bits))
+}
+
+// So few that an octet holds their number, and the compiler counts sixteen places at a time.
+fn wrong_part(soft: &[i8], bits: &[u8]) -> u8
+    requires count { length soft.now ≡ length bits.now }
+    requires few { length soft.now ≤ 255 }
+    requires bits { AllBits bits.now }
+    ensures value { result ≡ wrong_places soft.now bits.now }
+    ensures within { result ≤ length soft.now }
+{
     let mut wrong = 0;
     for (i, value) in soft.iter().enumerate() {
         if is_wrong(*value, bits[i]) {

@@ -2,18 +2,18 @@
 use Rattle.std.proofs.Common.{◌≡◌, ℕ, zero, suc, ◌+◌, ◌-◌, ◌%◌, ◌<◌, ◌≤◌, ℤ, pos, negsuc, ◌+ℤ◌, ◌-ℤ◌, ◌≤ℤ◌, List, [], ◌∷◌, ◌++◌, map, length, get_or, take, drop, refl, ap, ap₂, sym, ◌∙◌, subst, arith, lit≤, w8, w16, FitsSigned}
 use Rattle.std.specs.Int.{cast_signed, cast_unsigned}
 use Rattle.std.proofs.lemmas.Int.{ints, to_z-of_z, of_z-to_z}
-use Rattle.std.proofs.lemmas.List.{get_or-take, get_or-drop, length-append, length-take, length-drop}
-use Rattle.std.proofs.lemmas.List.Elements.{All-nil, All-cons, All-append, All-head, All-tail, All-take, All-drop}
+use Rattle.std.proofs.lemmas.List.{get_or-take, get_or-drop, drop-drop, drop-take, take-take, take-append-drop, length-take, length-drop}
+use Rattle.std.proofs.lemmas.List.Elements.{All-head, All-tail, All-take, All-drop}
 use lib.Lanes.{Each1}
 use Rattle.trellis_decode.specs.Lanes.{lane, IsOctet, AreOctets}
 use Rattle.trellis_decode.specs.Trellis.{edge}
 use Rattle.trellis_decode.specs.Turned.{AreEdges, HasEdges, turned}
-use Rattle.trellis_decode.proofs.EdgeLanes.{each, pair_is, zero_edges, zero_lanes}
-use Rattle.trellis_decode.proofs.TurnedVectors.{fits_between, sum-lane, difference-lane, passed, passed-lanes, AreNarrow-edges}
+use Rattle.trellis_decode.proofs.EdgeLanes.{each, zero_edges, zero_lanes}
+use Rattle.trellis_decode.proofs.TurnedVectors.{fits_between, sum-lane, difference-lane}
 
 -- ---- octets in lanes of 16 bits
 
-fits_octet : (x : ℤ) → IsOctet x → FitsSigned w8 x
+pub fits_octet : (x : ℤ) → IsOctet x → FitsSigned w8 x
 fits_octet (pos n) h = record { sfits = omega (arith, ints, h.0, h.1) }
 fits_octet (negsuc n) h = record { sfits = omega (arith, ints, h.0, h.1) }
 
@@ -219,93 +219,23 @@ module _ (soft : List ℤ) (octets : AreOctets soft) (count : length soft ≡ 8)
         (subst (λ x. negsuc 127 ≤ℤ x) (sym first_there) p.0) (subst (λ x. x ≤ℤ pos 127) (sym first_there) p.1)
         (subst (λ x. negsuc 127 ≤ℤ x) (sym second_there) q.0) (subst (λ x. x ≤ℤ pos 127) (sym second_there) q.1)
 
--- ---- edges that are handed on
+-- ---- the pairs of a list
 
-pub HasEdges-passed : (edges pair : List ℤ) → AreEdges edges → HasEdges edges pair → HasEdges (passed edges) pair
-HasEdges-passed edges pair fit has = subst (λ edges. HasEdges edges pair) (sym (passed-lanes edges (AreNarrow-edges edges fit))) has
-
--- the pair that begins at a place, and the pairs from there to the end
+-- the pair that begins at a place
 abbrev pub pair_at : List ℤ → ℕ → List ℤ
 pair_at soft i = take 2 (drop i soft)
-
-abbrev pub last_one : List ℤ → List ℤ
-last_one soft = pair_at soft 6 ++ []
-
-abbrev pub last_two : List ℤ → List ℤ
-last_two soft = pair_at soft 4 ++ last_one soft
-
-abbrev pub last_three : List ℤ → List ℤ
-last_three soft = pair_at soft 2 ++ last_two soft
-
-pub four_pairs : (soft : List ℤ) → length soft ≡ 8 → pair_at soft 0 ++ last_three soft ≡ soft
-four_pairs [] count = absurd (omega arith)
-four_pairs (a ∷ []) count = absurd (omega arith)
-four_pairs (a ∷ b ∷ []) count = absurd (omega arith)
-four_pairs (a ∷ b ∷ c ∷ []) count = absurd (omega arith)
-four_pairs (a ∷ b ∷ c ∷ d ∷ []) count = absurd (omega arith)
-four_pairs (a ∷ b ∷ c ∷ d ∷ e ∷ []) count = absurd (omega arith)
-four_pairs (a ∷ b ∷ c ∷ d ∷ e ∷ f ∷ []) count = absurd (omega arith)
-four_pairs (a ∷ b ∷ c ∷ d ∷ e ∷ f ∷ g ∷ []) count = absurd (omega arith)
-four_pairs (a ∷ b ∷ c ∷ d ∷ e ∷ f ∷ g ∷ h ∷ []) count = refl
-four_pairs (a ∷ b ∷ c ∷ d ∷ e ∷ f ∷ g ∷ h ∷ i ∷ soft) count = absurd (omega arith)
-
-pub four_and_rest : (soft rest : List ℤ) → length soft ≡ 8 →
-    pair_at soft 0 ++ (pair_at soft 2 ++ (pair_at soft 4 ++ (pair_at soft 6 ++ rest))) ≡ soft ++ rest
-four_and_rest [] rest count = absurd (omega arith)
-four_and_rest (a ∷ []) rest count = absurd (omega arith)
-four_and_rest (a ∷ b ∷ []) rest count = absurd (omega arith)
-four_and_rest (a ∷ b ∷ c ∷ []) rest count = absurd (omega arith)
-four_and_rest (a ∷ b ∷ c ∷ d ∷ []) rest count = absurd (omega arith)
-four_and_rest (a ∷ b ∷ c ∷ d ∷ e ∷ []) rest count = absurd (omega arith)
-four_and_rest (a ∷ b ∷ c ∷ d ∷ e ∷ f ∷ []) rest count = absurd (omega arith)
-four_and_rest (a ∷ b ∷ c ∷ d ∷ e ∷ f ∷ g ∷ []) rest count = absurd (omega arith)
-four_and_rest (a ∷ b ∷ c ∷ d ∷ e ∷ f ∷ g ∷ h ∷ []) rest count = refl
-four_and_rest (a ∷ b ∷ c ∷ d ∷ e ∷ f ∷ g ∷ h ∷ i ∷ soft) rest count = absurd (omega arith)
 
 pub AreOctets-pair : (soft : List ℤ) (i : ℕ) → AreOctets soft → AreOctets (pair_at soft i)
 AreOctets-pair soft i octets = All-take IsOctet 2 (drop i soft) (All-drop IsOctet i soft octets)
 
--- a few octets: so few that what they count stays small
-unfoldable pub AreFew : ℕ → List ℤ → Type 0
-AreFew n soft = AreOctets soft × (length soft ≤ n)
+pub pair_and_after : (soft : List ℤ) (i j : ℕ) → i + 2 ≡ j → pair_at soft i ++ drop j soft ≡ drop i soft
+pair_and_after soft i j e =
+    ap (λ rest. pair_at soft i ++ rest) (ap (λ n. drop n soft) (sym e) ∙ sym (drop-drop 2 i soft)) ∙ take-append-drop 2 (drop i soft)
 
-pub AreFew-none : AreFew 0 []
-unfolding AreFew
-AreFew-none = (All-nil IsOctet, lit≤ tt)
-
-pub AreFew-more : (soft rest : List ℤ) (i n : ℕ) → AreOctets soft → AreFew n rest → AreFew (n + 2) (pair_at soft i ++ rest)
-unfolding AreFew
-AreFew-more soft rest i n octets few =
-    let short = few.1 in (
-      All-append IsOctet (pair_at soft i) rest (AreOctets-pair soft i octets) few.0,
-      omega (arith, length-append (pair_at soft i) rest, length-take 2 (drop i soft)),
-    )
-
--- ---- one pair, and six zeros after it
-
-pub pair_back : (pair : List ℤ) → length pair ≡ 2 → AreOctets pair →
-    cast_signed w8 (cast_unsigned w8 (lane pair 0)) ∷ cast_signed w8 (cast_unsigned w8 (lane pair 1)) ∷ [] ≡ pair
-pair_back pair two octets =
-    let first = octets 0 (pos 0) (omega arith) in
-    let second = octets 1 (pos 0) (omega arith) in
-    ap₂ (λ x y. x ∷ y ∷ []) (to_z-of_z w8 (lane pair 0) (fits_octet (lane pair 0) first))
-    (to_z-of_z w8 (lane pair 1) (fits_octet (lane pair 1) second))
-    ∙ sym (pair_is pair two)
-
-zeros : List ℤ
-zeros = pos 0 ∷ pos 0 ∷ pos 0 ∷ pos 0 ∷ pos 0 ∷ pos 0 ∷ []
-
-pub padded_octets : (pair : List ℤ) → length pair ≡ 2 → AreOctets pair →
-    AreOctets (cast_signed w8 (cast_unsigned w8 (lane pair 0)) ∷ cast_signed w8 (cast_unsigned w8 (lane pair 1)) ∷
-    pos 0 ∷ pos 0 ∷ pos 0 ∷ pos 0 ∷ pos 0 ∷ pos 0 ∷ [])
-unfolding zeros
-padded_octets pair two octets =
-    let none : IsOctet (pos 0) = (omega (arith, ints), omega (arith, ints)) in
-    All-append IsOctet (cast_signed w8 (cast_unsigned w8 (lane pair 0)) ∷ cast_signed w8 (cast_unsigned w8 (lane pair 1)) ∷ []) zeros
-    (subst AreOctets (sym (pair_back pair two octets)) octets)
-    (All-cons IsOctet (pos 0) (pos 0 ∷ pos 0 ∷ pos 0 ∷ pos 0 ∷ pos 0 ∷ []) none
-    (All-cons IsOctet (pos 0) (pos 0 ∷ pos 0 ∷ pos 0 ∷ pos 0 ∷ []) none
-    (All-cons IsOctet (pos 0) (pos 0 ∷ pos 0 ∷ pos 0 ∷ []) none
-    (All-cons IsOctet (pos 0) (pos 0 ∷ pos 0 ∷ []) none
-    (All-cons IsOctet (pos 0) (pos 0 ∷ []) none
-    (All-cons IsOctet (pos 0) [] none (All-nil IsOctet)))))))
+-- a pair of a part of a list
+pub pair_of_part : (soft : List ℤ) (from n i j : ℕ) → i + 2 ≤ n → from + i ≡ j → pair_at (take n (drop from soft)) i ≡ pair_at soft j
+pair_of_part soft from n i j inside e =
+    let all : i + (n - i) ≡ n = omega arith in
+    ap (take 2) (ap (λ n. drop i (take n (drop from soft))) (sym all) ∙ drop-take i (n - i) (drop from soft))
+    ∙ take-take 2 (n - i) (drop i (drop from soft)) (omega arith)
+    ∙ ap (take 2) (drop-drop i from soft ∙ ap (λ n. drop n soft) e)

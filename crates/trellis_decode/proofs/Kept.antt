@@ -1,11 +1,9 @@
 -- What a pass backward keeps, one place more at a time, and how far apart the states are.
 use Rattle.std.proofs.Common.{◌≡◌, ℕ, zero, suc, ◌+◌, ◌-◌, ◌*◌, ◌/◌, ◌%◌, ◌^◌, ◌<◌, ◌≤◌, ℤ, pos, negsuc, ◌+ℤ◌, ◌-ℤ◌, ◌≤ℤ◌, List, [], ◌∷◌, ◌++◌, length, take, drop, replicate, refl, ap, ap₂, sym, ◌∙◌, subst, arith, lit≤}
-use Rattle.std.proofs.Math.ListN.{set}
 use Rattle.std.proofs.lemmas.Int.{ints}
-use Rattle.std.proofs.lemmas.List.{append-nil, drop_all, drop_at, drop-set, length-set, length-append, take-append-drop, length-take, length-drop}
+use Rattle.std.proofs.lemmas.List.{length-append, take-append-drop, length-take, length-drop}
 use Rattle.std.proofs.lemmas.List.Elements.{All-tail, All-take, All-drop, All-append}
 use Rattle.std.specs.List.{All}
-use borrow.Rule.Slice.PartMut.{put_mid}
 use Rattle.trellis_decode.specs.Kept.{Keeps}
 use Rattle.trellis_decode.specs.Lanes.{lane, IsOctet, AreOctets}
 use Rattle.trellis_decode.specs.Trellis.{next, gain, edge, Ends, Loses, Less, Later, read_out, IsBest, IsKept, way, Chooses}
@@ -206,33 +204,3 @@ pub Keeps-same : {rows rows' : List ℕ} {losses losses' : List (List ℤ)} {sof
 Keeps-same {rows} {rows'} {losses} {losses'} {soft} {soft'} {values} er el es keeps =
     subst (λ rows. Keeps rows losses' soft' values) er
     (subst (λ losses. Keeps rows losses soft' values) el (subst (λ soft. Keeps rows losses soft values) es keeps))
-
--- what was written to the end of a list
-pub drop-put_mid_here : {A : Type 0} (a k : ℕ) (xs ys : List A) → a + k ≡ length xs → length ys ≡ k → drop a (put_mid a k xs ys) ≡ ys
-drop-put_mid_here a k xs ys e count =
-    drop_at (take a xs) (ys ++ drop k (drop a xs)) a (omega (arith, length-take a xs))
-    ∙ ap (λ rest. ys ++ rest) (drop_all k (drop a xs) (omega (arith, length-drop a xs))) ∙ append-nil ys
-
--- ---- four places at once
-
--- four of a list, written from the last to the first
-pub set_four : {A : Type 0} (xs : List A) (j : ℕ) (a b c d : A) → j + 4 ≤ length xs →
-    drop j (set (set (set (set xs (j + 3) d) (j + 2) c) (j + 1) b) j a) ≡ a ∷ b ∷ c ∷ d ∷ drop (j + 4) xs
-set_four xs j a b c d inside =
-    let three = set xs (j + 3) d in
-    let two = set three (j + 2) c in
-    let one = set two (j + 1) b in
-    let long-3 = length-set xs (j + 3) d in
-    let long-2 = length-set three (j + 2) c in
-    let long-1 = length-set two (j + 1) b in
-    let at-2 : j + 1 + 1 ≡ j + 2 = omega arith in
-    let at-3 : j + 2 + 1 ≡ j + 3 = omega arith in
-    let at-4 : j + 3 + 1 ≡ j + 4 = omega arith in
-    let rest-1 : drop (j + 1) one ≡ b ∷ drop (j + 1 + 1) two = drop-set two (j + 1) b (omega arith) in
-    let rest-2 : drop (j + 2) two ≡ c ∷ drop (j + 2 + 1) three = drop-set three (j + 2) c (omega arith) in
-    let rest-3 : drop (j + 3) three ≡ d ∷ drop (j + 3 + 1) xs = drop-set xs (j + 3) d (omega arith) in
-    drop-set one j a (omega arith)
-    ∙ ap (λ rest. a ∷ rest) (rest-1
-    ∙ ap (λ rest. b ∷ rest) (ap (λ i. drop i two) at-2 ∙ rest-2
-    ∙ ap (λ rest. c ∷ rest) (ap (λ i. drop i three) at-3 ∙ rest-3
-    ∙ ap (λ rest. d ∷ rest) (ap (λ i. drop i xs) at-4))))

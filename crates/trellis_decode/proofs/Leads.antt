@@ -7,7 +7,7 @@ use Rattle.trellis_decode.specs.Turned.{AreClose, AreEdges, AreGaps, AreNarrow, 
 use Rattle.trellis_decode.specs.Ways.{AreWays}
 use Rattle.trellis_decode.specs.declared.turned_step.Ways.{Ways}
 use Rattle.trellis_decode.proofs.TurnedSteps.{each_state, low_in_order, high_in_order, even_worth, odd_worth, even_worth_high, odd_worth_high, edge-one, edge-high}
-use Rattle.trellis_decode.proofs.TurnedVectors.{passed, passed-lanes, passed-gaps, AreNarrow-edges, fits_between}
+use Rattle.trellis_decode.proofs.TurnedVectors.{passed, passed-lanes, passed-gaps, fits_between}
 
 pub AreNear-passed : (a b : List ℤ) → AreNarrow a → AreNarrow b → AreNear a b → AreNear (passed a) (passed b)
 AreNear-passed a b ha hb near =
@@ -62,16 +62,13 @@ pub record AreLeads (even odd edges leads : List ℤ) : Type 0 where
   pub each : (pair : List ℤ) → HasEdges edges pair → (s : ℕ) → s < 16 →
       lane leads s ≡ way (worths even odd) pair s 0 -ℤ way (worths even odd) pair s 1
 
-module _ (even odd edges : List ℤ) (ways : Ways) (is : AreWays even odd (passed edges) ways) (close : AreClose even odd)
+module _ (even odd edges : List ℤ) (ways : Ways) (is : AreWays even odd edges ways) (close : AreClose even odd)
     (bounded : AreEdges edges) where
-  edge_lane : (k : ℕ) → lane (passed edges) k ≡ lane edges k
-  edge_lane k = ap (λ l. lane l k) (passed-lanes edges (AreNarrow-edges edges bounded))
-
   low_gap : (k : ℕ) → k < 8 → lane ways.low_zero k -ℤ lane ways.low_one k ≡ lane even k -ℤ lane odd k +ℤ lane edges k +ℤ lane edges k
-  low_gap k lt = let zero = is.low_zero_lane k lt in let one = is.low_one_lane k lt in let edge = edge_lane k in omega (arith, ints)
+  low_gap k lt = let zero = is.low_zero_lane k lt in let one = is.low_one_lane k lt in omega (arith, ints)
 
   high_gap : (k : ℕ) → k < 8 → lane ways.high_zero k -ℤ lane ways.high_one k ≡ lane even k -ℤ lane odd k -ℤ lane edges k -ℤ lane edges k
-  high_gap k lt = let zero = is.high_zero_lane k lt in let one = is.high_one_lane k lt in let edge = edge_lane k in omega (arith, ints)
+  high_gap k lt = let zero = is.high_zero_lane k lt in let one = is.high_one_lane k lt in omega (arith, ints)
 
   abbrev Fits : ℤ → Type 0
   Fits x = (negsuc 32766 ≤ℤ x) × (x ≤ℤ pos 32767)

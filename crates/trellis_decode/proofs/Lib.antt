@@ -1,5 +1,7 @@
 mod EdgeLanes
 mod Existence
+mod HardLanes
+mod HardSteps
 mod Kept
 pub mod Lemmas
 mod Likelihoods

@@ -1,6 +1,8 @@
 -- The lists that maps give, one map more at the front.
-use Rattle.std.proofs.Common.{◌≡◌, ℕ, ◌+◌, ◌-◌, ◌*◌, ◌/◌, ◌%◌, ◌<◌, ◌≤◌, ℤ, List, [], ◌∷◌, ◌++◌, length, get_or, drop, refl, ap, ap₂, sym, ◌∙◌, subst, arith}
-use Rattle.std.proofs.lemmas.List.{length-append}
+use Rattle.std.proofs.Common.{◌≡◌, ℕ, ◌+◌, ◌-◌, ◌*◌, ◌/◌, ◌%◌, ◌<◌, ◌≤◌, ℤ, List, [], ◌∷◌, ◌++◌, length, get_or, take, drop, refl, ap, ap₂, sym, ◌∙◌, subst, arith}
+use Rattle.std.proofs.Math.Seq.{drop-length}
+use Rattle.std.proofs.Math.ListN.{set}
+use Rattle.std.proofs.lemmas.List.{drop-drop, drop-set, take-append-drop, length-append, length-take, length-drop}
 use Rattle.std.proofs.lemmas.List.Elements.{All-nil, All-cons}
 use Rattle.bit_blocks.specs.Bits.{AllBits, IsBit}
 use Rattle.trellis_decode.specs.Lanes.{lane}
@@ -9,6 +11,7 @@ use Rattle.trellis_decode.specs.Turned.{place}
 use Rattle.trellis_decode.specs.Walks.{reached, IsWalk, read_maps}
 use Rattle.trellis_decode.specs.Words.{word}
 use Rattle.trellis_decode.proofs.EdgeLanes.{each}
+use Rattle.trellis_decode.proofs.Paths.{IsBest-same}
 use Rattle.trellis_decode.proofs.Walks.{reached-inside}
 use Rattle.trellis_decode.proofs.WordLists.{length-word}
 
@@ -114,3 +117,31 @@ pub read_last : (s : ℕ) → s < 16 →
 read_last = each
     (λ s. read_maps ((0 ∷ 0 ∷ 0 ∷ 0 ∷ 0 ∷ 0 ∷ 0 ∷ 0 ∷ 0 ∷ 0 ∷ 0 ∷ 0 ∷ 0 ∷ 0 ∷ 0 ∷ 0 ∷ []) ∷ []) (place s) ≡ 0 ∷ 0 ∷ 0 ∷ 0 ∷ []) 16
     ((((((((((((((((tt, refl), refl), refl), refl), refl), refl), refl), refl), refl), refl), refl), refl), refl), refl), refl), refl)
+
+-- ---- maps that are filled from the last to the first
+
+pub last_map : (maps : List (List ℕ)) (soft values : List ℤ) (last : ℕ) → last + 1 ≡ length maps →
+    ((s : ℕ) → s < 16 → IsBest s (0 ∷ 0 ∷ 0 ∷ 0 ∷ []) soft (lane values s)) → (s : ℕ) → s < 16 →
+    IsBest s (read_maps (drop last (set maps last (0 ∷ 0 ∷ 0 ∷ 0 ∷ 0 ∷ 0 ∷ 0 ∷ 0 ∷ 0 ∷ 0 ∷ 0 ∷ 0 ∷ 0 ∷ 0 ∷ 0 ∷ 0 ∷ []))) (place s)) soft
+    (lane values s)
+last_map maps soft values last end best s lt =
+    let blank : List ℕ = 0 ∷ 0 ∷ 0 ∷ 0 ∷ 0 ∷ 0 ∷ 0 ∷ 0 ∷ 0 ∷ 0 ∷ 0 ∷ 0 ∷ 0 ∷ 0 ∷ 0 ∷ 0 ∷ [] in
+    let alone : drop last (set maps last blank) ≡ blank ∷ [] =
+    drop-set maps last blank (omega arith) ∙ ap (λ rest. blank ∷ rest) (ap (λ k. drop k maps) end ∙ drop-length maps) in
+    IsBest-same s (sym (ap (λ maps. read_maps maps (place s)) alone ∙ read_last s lt)) refl refl (best s lt)
+
+pub more_maps : (after values soft : List ℤ) (map : List ℕ) (maps : List (List ℕ)) (before group : ℕ) → before + 1 ≡ group →
+    group < length maps → 8 * group ≤ length soft → IsWalk after values map (take 8 (drop (8 * before) soft)) →
+    ((s : ℕ) → s < 16 → IsBest s (read_maps (drop group maps) (place s)) (drop (8 * group) soft) (lane after s)) → (s : ℕ) → s < 16 →
+    IsBest s (read_maps (drop before (set maps before map)) (place s)) (drop (8 * before) soft) (lane values s)
+more_maps after values soft map maps before group at inside within walk best s lt =
+    let four = take 8 (drop (8 * before) soft) in
+    let next : 8 * before + 8 ≡ 8 * group = omega arith in
+    let whole : four ++ drop (8 * group) soft ≡ drop (8 * before) soft =
+    ap (λ rest. four ++ rest) (ap (λ k. drop k soft) (sym next) ∙ sym (drop-drop 8 (8 * before) soft))
+    ∙ take-append-drop 8 (drop (8 * before) soft) in
+    let grown : map ∷ drop group maps ≡ drop before (set maps before map) =
+    ap (λ k. map ∷ drop k maps) (sym at) ∙ sym (drop-set maps before map (omega arith)) in
+    IsBest-same s (ap (λ maps. read_maps maps (place s)) grown) whole refl
+    (IsBest-map after values four (drop (8 * group) soft) map (drop group maps) walk (omega (arith, length-drop group maps)) best
+    (omega (arith, length-take 8 (drop (8 * before) soft), length-drop (8 * before) soft)) s lt)

@@ -1,9 +1,8 @@
 -- The best list from a state on, one place more at a time.
-use Rattle.std.proofs.Common.{◌≡◌, ℕ, zero, suc, ◌+◌, ◌*◌, ◌/◌, ◌%◌, ◌^◌, ◌<◌, ◌≤◌, inl, inr, ℤ, pos, ◌+ℤ◌, ◌-ℤ◌, List, [], ◌∷◌, ◌++◌, length, get_or, take, drop, replicate, refl, ap, sym, ◌∙◌, subst, arith}
+use Rattle.std.proofs.Common.{◌≡◌, ℕ, zero, suc, ◌*◌, ◌/◌, ◌%◌, ◌^◌, ◌<◌, ◌≤◌, inl, inr, ℤ, pos, ◌+ℤ◌, ◌-ℤ◌, List, [], ◌∷◌, ◌++◌, length, get_or, replicate, refl, ap, sym, ◌∙◌, subst, arith}
 use Rattle.std.specs.Prelude.{◌<ℤ◌, ◌≤ℤ◌}
 use Rattle.std.proofs.Math.Nat.{zero-div}
 use Rattle.std.proofs.lemmas.Int.{ints, by_lt_z}
-use Rattle.std.proofs.lemmas.List.{drop-drop, take-append-drop, length-take, length-drop}
 use Rattle.std.proofs.lemmas.List.Elements.{All-nil, All-cons, All-head, All-tail}
 use Rattle.std.specs.List.{All}
 use Rattle.bit_blocks.specs.Bits.{AllBits, IsBit}
@@ -179,18 +178,6 @@ AllBits-coded_from state (x ∷ u) =
     let rest = AllBits-coded_from (next state x) u in
     All-cons IsBit (first_bit state x) (second_bit state x ∷ coded_from (next state x) u) first
     (All-cons IsBit (second_bit state x) (coded_from (next state x) u) second rest)
-
--- ---- the soft values of a place, and those after it
-
-pub pair_and_rest : (soft : List ℤ) (k n : ℕ) → n ≡ 2 → 2 * k + 2 ≤ length soft →
-    take n (drop (2 * k) soft) ++ drop (2 * (k + 1)) soft ≡ drop (2 * k) soft
-pair_and_rest soft k n two within =
-    let at : 2 * (k + 1) ≡ 2 * k + n = omega arith in
-    ap (λ rest. take n (drop (2 * k) soft) ++ rest) (ap (λ j. drop j soft) at ∙ sym (drop-drop n (2 * k) soft))
-    ∙ take-append-drop n (drop (2 * k) soft)
-
-pub length-pair : (soft : List ℤ) (k n : ℕ) → n ≡ 2 → 2 * k + 2 ≤ length soft → length (take n (drop (2 * k) soft)) ≡ 2
-length-pair soft k n two within = omega (arith, length-take n (drop (2 * k) soft), length-drop (2 * k) soft)
 
 pub IsBest-same : (s : ℕ) {u u' : List ℕ} {soft soft' : List ℤ} {value value' : ℤ} → u ≡ u' → soft ≡ soft' → value ≡ value' →
     IsBest s u soft value → IsBest s u' soft' value'

@@ -9,7 +9,6 @@ use Rattle.trellis_decode.specs.Trellis.{next, first_bit, second_bit, coded_from
 use Rattle.trellis_decode.specs.Turned.{HaveRoom, place, raised, turned, worths}
 use Rattle.trellis_decode.specs.Walks.{reached, AreWithin, IsWalk}
 use Rattle.trellis_decode.proofs.EdgeLanes.{each}
-use Rattle.trellis_decode.proofs.FourPairs.{AreFew}
 use Rattle.trellis_decode.proofs.Paths.{IsBest-bit, IsBest-closing, likelihood_bound, AllBits-coded_from}
 use Rattle.trellis_decode.proofs.TurnedSteps.{even_worth, odd_worth, floor_kept}
 
@@ -148,13 +147,6 @@ AreWithin-best values soft lists octets few best = record {
   low = λ s lt. let bound = (best_bound s (lists s) soft (lane values s) octets (best s lt)).0 in omega (arith, ints);
   high = λ s lt. let bound = (best_bound s (lists s) soft (lane values s) octets (best s lt)).1 in omega (arith, ints);
 }
-
-pub AreWithin-few : (values soft : List ℤ) (lists : ℕ → List ℕ) (n : ℕ) → n ≤ 8 → AreFew n soft →
-    ((s : ℕ) → s < 16 → IsBest s (lists s) soft (lane values s)) → AreWithin 1024 values
-unfolding AreFew
-AreWithin-few values soft lists n few short best =
-    let long = short.1 in
-    AreWithin-best values soft lists short.0 (omega arith) best
 
 pub AreWithin-most : (values soft : List ℤ) (lists : ℕ → List ℕ) → AreOctets soft → length soft ≤ 456 →
     ((s : ℕ) → s < 16 → negsuc 1023 ≤ℤ lane values s) → ((s : ℕ) → s < 16 → IsBest s (lists s) soft (lane values s)) →

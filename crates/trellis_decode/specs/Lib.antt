@@ -1,3 +1,4 @@
+pub mod Hard
 pub mod Kept
 pub mod Lanes
 pub mod Trellis

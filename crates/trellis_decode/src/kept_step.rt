@@ -8,6 +8,7 @@ ghost use Rattle.trellis_decode.specs.Trellis.{Chooses, way};
 ghost use Rattle.trellis_decode.specs.Lanes.{lane};
 ghost use Rattle.trellis_decode.specs.Turned.{AreClose, AreEdges, AreGaps, AreNarrow, HasEdges, HaveRoom, worths};
 
+use crate::edges::Edges;
 use crate::turned_lanes::{by_state, gaps, signs, sizes};
 use crate::turned_step::{Step, Values};
 use std::simd::prelude::*;
@@ -25,15 +26,15 @@ pub struct KeptStep {
 
 impl KeptStep {
     /// The step at a place whose bits count `edges`; `after` is what each state is worth at the next place.
-    pub fn new(after: Values, edges: i16x8) -> KeptStep
+    pub fn new(after: Values, edges: Edges) -> KeptStep
         requires even { HaveRoom after.even }
         requires odd { HaveRoom after.odd }
         requires close { AreClose after.even after.odd }
-        requires edges { AreEdges edges }
-        ensures each { (pair : List ℤ) → HasEdges edges pair → (s : ℕ) → s < 16 →
+        requires edges { AreEdges edges.lanes }
+        ensures each { (pair : List ℤ) → HasEdges edges.lanes pair → (s : ℕ) → s < 16 →
             Chooses (worths after.even after.odd) pair s
             (lane (worths result.values.even result.values.odd) s) (result.row / 2 ^ s % 2) }
-        ensures losses { (pair : List ℤ) → HasEdges edges pair → (s : ℕ) → s < 16 → lane result.losses s ≡
+        ensures losses { (pair : List ℤ) → HasEdges edges.lanes pair → (s : ℕ) → s < 16 → lane result.losses s ≡
             way (worths after.even after.odd) pair s (result.row / 2 ^ s % 2)
             -ℤ way (worths after.even after.odd) pair s (1 - result.row / 2 ^ s % 2) }
         ensures lanes { AreGaps result.losses }

@@ -8,6 +8,7 @@ ghost use Rattle.trellis_decode.specs.Turned.{AreEdges, AreNarrow, AreTaken, cho
 ghost use Rattle.trellis_decode.specs.Walks.{AreWithin, IsWalk, read_maps};
 ghost use Rattle.trellis_decode.specs.Words.{word};
 
+use crate::edges::Edges;
 use crate::turned_step::{Step, Values};
 use std::simd::prelude::*;
 
@@ -37,15 +38,15 @@ impl Walk {
     }
 
     /// Over one place more at the front, whose bits count `edges`.
-    pub fn step(self, edges: i16x8) -> Walk
+    pub fn step(self, edges: Edges) -> Walk
         requires even { HaveRoom self.values.even }
         requires odd { HaveRoom self.values.odd }
         requires count { length self.map ≡ 16 }
-        requires edges { AreEdges edges }
-        ensures walk { (pair : List ℤ) → HasEdges edges pair → (after soft : List ℤ) →
+        requires edges { AreEdges edges.lanes }
+        ensures walk { (pair : List ℤ) → HasEdges edges.lanes pair → (after soft : List ℤ) →
             IsWalk after (worths self.values.even self.values.odd) self.map soft →
             IsWalk after (worths result.values.even result.values.odd) result.map (pair ++ soft) }
-        ensures within { (pair : List ℤ) → HasEdges edges pair → AreOctets pair → (most : ℕ) →
+        ensures within { (pair : List ℤ) → HasEdges edges.lanes pair → AreOctets pair → (most : ℕ) →
             AreWithin most (worths self.values.even self.values.odd) →
             AreWithin (most + 256) (worths result.values.even result.values.odd) }
         ensures even { AreNarrow result.values.even }

@@ -1,15 +1,15 @@
 //! The Viterbi algorithm from the last place to the first, for a list decoder: it keeps every choice, and what is lost by
 //! the other one, where `decode` keeps only which state a few choices lead to.
 
-ghost use Rattle.std.specs.Prelude.{◌≡◌, ℕ, ◌*◌, ◌%◌, ◌<◌, ◌≤◌, length};
+ghost use Rattle.std.specs.Prelude.{◌≡◌, ◌+◌, ◌*◌, ◌<◌, ◌≤◌, drop, length};
 ghost use Rattle.std.specs.List.{All};
 ghost use Rattle.trellis_decode.specs.Kept.{Keeps};
 ghost use Rattle.trellis_decode.specs.Lanes.{AreOctets};
 ghost use Rattle.trellis_decode.specs.Trellis.{IsKept, read_out};
 ghost use Rattle.trellis_decode.specs.Turned.{AreNarrow, worths};
 
-use crate::backward::{closing_values, pair_edges};
-use crate::edges::FourEdges;
+use crate::backward::closing_values;
+use crate::edges::four_edges;
 use crate::kept_step::KeptStep;
 use crate::turned_step::Values;
 
@@ -27,13 +27,11 @@ pub fn keep(soft: &[i8], rows: &mut [u16], losses: &mut [[i16; 16]])
 {
     see_octets(soft);
     let few = rows.len() % 4;
-    let mut values = keep_groups(&soft[2 * few..], &mut rows[few..], &mut losses[few..]);
-    for k in (0..few).rev() {
-        let step = KeptStep::new(values, pair_edges(&soft[2 * k..2 * k + 2]));
-        values = step.values;
-        rows[k] = step.row;
-        losses[k] = step.losses.to_array();
+    let mut values = closing_values(&soft[2 * (rows.len() - 4)..]);
+    for group in (0..rows.len() / 4 - 1).rev() {
+        values = keep_places(values, soft, few + 4 * group, 4, rows, losses);
     }
+    keep_places(values, soft, 0, few, rows, losses);
 }
 
 /// Soft values lie between -128 and 127, as each shows that is read. The compiler leaves nothing of the loop.
@@ -45,37 +43,38 @@ fn see_octets(soft: &[i8])
     }
 }
 
-/// The same for whole groups of four places; answers what each state is worth before them.
-fn keep_groups(soft: &[i8], rows: &mut [u16], losses: &mut [[i16; 16]]) -> Values
+/// The same for a few places from `first` on, where `after` is what each state is worth behind them; answers what each state is worth
+/// before them.
+#[inline]
+fn keep_places(
+    after: Values,
+    soft: &[i8],
+    first: usize,
+    places: usize,
+    rows: &mut [u16],
+    losses: &mut [[i16; 16]],
+) -> Values
+    requires places { places ≤ 4 }
+    requires inside { first + 4 ≤ length rows.old }
     requires count { length soft.now ≡ 2 * length rows.old }
     requires same { length losses.old ≡ length rows.old }
-    requires whole { length rows.old % 4 ≡ 0 }
-    requires at_least { 4 ≤ length rows.old }
     requires at_most { length rows.old ≤ 228 }
-    requires blank { All (λ row. row ≡ 0) rows.old }
     requires octets { AreOctets soft.now }
-    ensures keeps { Keeps rows.new losses.new soft.now (worths result.even result.odd) }
+    requires keeps { Keeps (drop (first + places) rows.old) (drop (first + places) losses.old) (drop (2 * (first + places)) soft.now)
+        (worths after.even after.odd) }
+    requires even { AreNarrow after.even }
+    requires odd { AreNarrow after.odd }
+    ensures keeps { Keeps (drop first rows.new) (drop first losses.new) (drop (2 * first) soft.now) (worths result.even result.odd) }
     ensures even { AreNarrow result.even }
     ensures odd { AreNarrow result.odd }
 {
-    let last = rows.len() / 4 - 1;
-    let mut values = closing_values(&soft[8 * last..]);
-    for group in (0..last).rev() {
-        let edges = FourEdges::new(&soft[8 * group..8 * group + 8]);
-        let fourth = KeptStep::new(values, edges.fourth);
-        let third = KeptStep::new(fourth.values, edges.third);
-        let second = KeptStep::new(third.values, edges.second);
-        let first = KeptStep::new(second.values, edges.first);
-        values = first.values;
-        let k = 4 * group;
-        rows[k + 3] = fourth.row;
-        rows[k + 2] = third.row;
-        rows[k + 1] = second.row;
-        rows[k] = first.row;
-        losses[k + 3] = fourth.losses.to_array();
-        losses[k + 2] = third.losses.to_array();
-        losses[k + 1] = second.losses.to_array();
-        losses[k] = first.losses.to_array();
+    let edges = four_edges(&soft[2 * first..2 * first + 8]);
+    let mut values = after;
+    for k in (0..places).rev() {
+        let step = KeptStep::new(values, edges[k]);
+        values = step.values;
+        rows[first + k] = step.row;
+        losses[first + k] = step.losses.to_array();
     }
     values
 }

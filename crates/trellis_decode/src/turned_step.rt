@@ -11,6 +11,7 @@ ghost use Rattle.trellis_decode.specs.Lanes.{lane};
 ghost use Rattle.trellis_decode.specs.Ways.{AreWays};
 ghost use Rattle.trellis_decode.specs.Turned.{AreEdges, AreNarrow, AreTaken, choices, HasEdges, HaveRoom, worths};
 
+use crate::edges::Edges;
 use crate::turned_lanes::{differences, first_in_turns, greater, larger, last_in_turns, sums};
 use std::simd::prelude::*;
 
@@ -69,24 +70,24 @@ pub struct Step {
 
 impl Step {
     /// The step at a place whose bits count `edges`; `after` is what each state is worth at the next place.
-    pub fn new(after: Values, edges: i16x8) -> Step
+    pub fn new(after: Values, edges: Edges) -> Step
         requires even { HaveRoom after.even }
         requires odd { HaveRoom after.odd }
-        requires edges { AreEdges edges }
-        ensures each { (pair : List ℤ) → HasEdges edges pair → (s : ℕ) → s < 16 →
+        requires edges { AreEdges edges.lanes }
+        ensures each { (pair : List ℤ) → HasEdges edges.lanes pair → (s : ℕ) → s < 16 →
             Chooses (worths after.even after.odd) pair s
             (lane (worths result.values.even result.values.odd) s)
             (slice_index (choices result.low result.high) s) }
-        ensures ways { AreWays after.even after.odd edges result.ways }
+        ensures ways { AreWays after.even after.odd edges.lanes result.ways }
         ensures low { AreTaken result.low }
         ensures high { AreTaken result.high }
         ensures even { AreNarrow result.values.even }
         ensures odd { AreNarrow result.values.odd }
     {
-        let low_zero = sums(after.even, edges);
-        let low_one = differences(after.odd, edges);
-        let high_zero = differences(after.even, edges);
-        let high_one = sums(after.odd, edges);
+        let low_zero = sums(after.even, edges.lanes);
+        let low_one = differences(after.odd, edges.lanes);
+        let high_zero = differences(after.even, edges.lanes);
+        let high_one = sums(after.odd, edges.lanes);
         let low = larger(low_zero, low_one);
         let high = larger(high_zero, high_one);
         let values = Values {
@@ -108,16 +109,16 @@ impl Step {
 }
 
 /// What each state is worth at a place whose bit is 0 in any case.
-pub fn closing_step(after: Values, edges: i16x8) -> Values
+pub fn closing_step(after: Values, edges: Edges) -> Values
     requires even { HaveRoom after.even }
-    requires edges { AreEdges edges }
-    ensures each { (pair : List ℤ) → HasEdges edges pair → (s : ℕ) → s < 16 →
+    requires edges { AreEdges edges.lanes }
+    ensures each { (pair : List ℤ) → HasEdges edges.lanes pair → (s : ℕ) → s < 16 →
         lane (worths result.even result.odd) s ≡ way (worths after.even after.odd) pair s 0 }
     ensures even { AreNarrow result.even }
     ensures odd { AreNarrow result.odd }
 {
-    let low = sums(after.even, edges);
-    let high = differences(after.even, edges);
+    let low = sums(after.even, edges.lanes);
+    let high = differences(after.even, edges.lanes);
     Values {
         even: first_in_turns(low, high),
         odd: last_in_turns(low, high),

@@ -1,2 +1,2 @@
 mod FirstToHold
-mod Once
+pub mod Once

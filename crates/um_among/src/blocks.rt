@@ -13,7 +13,7 @@ use crate::parity::Parity;
 use crate::reports::BlockAmong;
 use crate::search::first_to_hold;
 use bit_blocks::Bits;
-use um_block::{Received, block_data, gather_block, receive_block};
+use um_block::{Received, block_data, gather_block, receive_gathered};
 
 /// What the four bursts of a block are received as where the first of the `most` most likely lists whose parity holds is taken, with
 /// `most` from 1 to 64.
@@ -34,22 +34,23 @@ pub fn receive_block_among(bursts: &[[i8; 148]; 4], most: u32) -> BlockAmong
     ensures alone { result.rank ≡ 1 → IsReceivedBlock bursts.now result.report }
     ensures one { most ≡ 1 → result.rank ≡ 1 }
 {
-    taken_block(bursts, most)
+    receive_gathered_among(bursts, &gather_block(bursts), most)
 }
 
-/// The definition alone: what else is promised follows from it.
-fn taken_block(bursts: &[[i8; 148]; 4], most: u32) -> BlockAmong
-    requires soft { All AllSoft bursts.now }
+/// The same where the soft values of the coded bits are at hand: what else is promised follows from the definition.
+pub fn receive_gathered_among(bursts: &[[i8; 148]; 4], soft: &[i8; 456], most: u32) -> BlockAmong
+    requires soft { AllSoft soft.now }
+    requires gathered { IsInterleaved soft.now (map coded_places bursts.now) }
     requires at_least { 1 ≤ most }
     requires at_most { most ≤ 64 }
     ensures { IsBlockAmong bursts.now most result }
 {
-    let report = receive_block(bursts);
+    let report = receive_gathered(bursts, soft);
     if report.accepted.is_some() {
         return BlockAmong { report, rank: 1 };
     }
     let mut u = [0; 228];
-    let Some(found) = first_to_hold(&Parity::Block, &gather_block(bursts), most, &mut u) else {
+    let Some(found) = first_to_hold(&Parity::Block, soft, most, &mut u) else {
         return BlockAmong { report, rank: 1 };
     };
     BlockAmong {

@@ -15,6 +15,6 @@ mod search;
 #[cfg(test)]
 mod tests;
 
-pub use blocks::receive_block_among;
+pub use blocks::{receive_block_among, receive_gathered_among};
 pub use bursts::{receive_access_among, receive_sync_among};
 pub use reports::{AccessAmong, BlockAmong, SyncAmong};

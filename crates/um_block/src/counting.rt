@@ -19,9 +19,18 @@ pub fn wrong_block_places(bursts: &[[i8; 148]; 4], u: &[u8; 228]) -> u32
     ensures some { (soft : List ℤ) × IsInterleaved soft (map coded_places bursts.now) }
     ensures within { result ≤ 456 }
 {
+    wrong_coded_places(&gather_block(bursts), u)
+}
+
+/// Of the 456 soft values of a block's coded bits, against such a word.
+pub fn wrong_coded_places(soft: &[i8; 456], u: &[u8; 228]) -> u32
+    requires { IsInformation u.now }
+    ensures value { result ≡ wrong_places soft.now (coded u.now) }
+    ensures within { result ≤ 456 }
+{
     let mut coded = [0; 456];
     encode(u, &mut coded);
-    wrong_places(&gather_block(bursts), &coded)
+    wrong_places(soft, &coded)
 }
 
 /// Of the 36 coded places of an access burst, against a word of eight bits of data, six of parity and four zeros.

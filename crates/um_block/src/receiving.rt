@@ -30,9 +30,17 @@ pub fn receive_block(bursts: &[[i8; 148]; 4]) -> Received
     ensures restores { (octets c : List ℕ) (soft : List ℤ) → IsCodedBlock octets c →
         IsInterleaved soft (map coded_places bursts.now) → IsLightlyDamaged soft c → result.accepted ≡ Some octets }
 {
-    let soft = gather_block(bursts);
+    receive_gathered(bursts, &gather_block(bursts))
+}
+
+/// The same where the soft values of the coded bits are at hand.
+pub fn receive_gathered(bursts: &[[i8; 148]; 4], soft: &[i8; 456]) -> Received
+    requires soft { AllSoft soft.now }
+    requires gathered { IsInterleaved soft.now (map coded_places bursts.now) }
+    ensures { IsReceivedBlock bursts.now result }
+{
     let mut u = [0; 228];
-    let metric = decode(&soft, &mut u);
+    let metric = decode(soft, &mut u);
     let (tsc, wrong_training) = best_sequence(bursts);
     Received {
         u: Bits::from_array(u),

@@ -14,8 +14,8 @@ ghost use Rattle.um_among.specs.Parities.{HoldsInBlock};
 ghost use Rattle.um_c.specs.Reports.{IsBlockReport, IsBlockReportAmong, TellsBlock};
 
 use crate::soft::are_soft_bursts;
-use um_among::receive_block_among;
-use um_block::{Received, receive_block, send_block, wrong_block_places};
+use um_among::receive_gathered_among;
+use um_block::{Received, gather_block, receive_gathered, send_block, wrong_coded_places};
 
 /// How many of the most likely words can be tried.
 const MOST: u32 = 64;
@@ -68,7 +68,8 @@ pub extern "C" fn um_receive_block(bursts: &[[i8; 148]; 4], report: &mut BlockRe
     if !are_soft_bursts(bursts) {
         return false;
     }
-    *report = told_block(bursts, &receive_block(bursts));
+    let soft = gather_block(bursts);
+    *report = told_block(bursts, &soft, &receive_gathered(bursts, &soft));
     true
 }
 
@@ -99,15 +100,16 @@ pub extern "C" fn um_receive_block_among(
     if most == 0 || most > MOST || !are_soft_bursts(bursts) {
         return false;
     }
-    let among = receive_block_among(bursts, most);
-    *report = told_block(bursts, &among.report);
+    let soft = gather_block(bursts);
+    let among = receive_gathered_among(bursts, &soft, most);
+    *report = told_block(bursts, &soft, &among.report);
     *rank = among.rank;
     true
 }
 
 /// The report that tells what four bursts are received as.
-fn told_block(bursts: &[[i8; 148]; 4], received: &Received) -> BlockReport
-    requires soft { All AllSoft bursts.now }
+fn told_block(bursts: &[[i8; 148]; 4], soft: &[i8; 456], received: &Received) -> BlockReport
+    requires gathered { IsInterleaved soft.now (map coded_places bursts.now) }
     requires information { IsInformation received.now.u }
     ensures { TellsBlock bursts.now received.now result }
 {
@@ -117,7 +119,7 @@ fn told_block(bursts: &[[i8; 148]; 4], received: &Received) -> BlockReport
     BlockReport {
         metric: received.metric,
         wrong_training: received.wrong_training,
-        wrong_coded: wrong_block_places(bursts, &word),
+        wrong_coded: wrong_coded_places(soft, &word),
         tsc: received.tsc,
         accepted,
         octets,

@@ -1,13 +1,25 @@
 //! What a C program may hand over wrongly: soft values of -128, octets that are no bits.
 ghost use Rattle.std.specs.Prelude.{◌↔◌, All, IsTrue};
 ghost use Rattle.bit_blocks.specs.Bits.{AllBits};
-ghost use Rattle.bit_blocks.specs.SoftValues.{AllSoft};
+ghost use Rattle.bit_blocks.specs.SoftValues.{AllSoft, IsSoft};
 
-/// Whether no value is -128.
+/// Whether no value is -128. No place ends the search, so that the compiler looks at sixteen at a time.
 pub(crate) fn are_soft(values: &[i8]) -> bool
     ensures { IsTrue result ↔ AllSoft values.now }
 {
-    values.iter().all(|value| *value != i8::MIN)
+    let mut all = true;
+    for value in values {
+        let one = *value;
+        all &= is_soft(one);
+    }
+    all
+}
+
+#[inline]
+fn is_soft(value: i8) -> bool
+    ensures { IsTrue result ↔ IsSoft value }
+{
+    value != i8::MIN
 }
 
 /// Whether no value of four bursts is -128.

@@ -1,82 +1,8 @@
-use Rattle.std.proofs.Common.{arith, rules, lit≤, ◌≡◌, ◌*◌, ◌-◌, ◌%◌, ◌++◌, ℕ, ℤ, List, length, take, drop, refl, ap, ap₂, sym, ◌∙◌, w32, FitsSigned}
-use Rattle.std.proofs.lemmas.Int.{ints, to_z-of_z}
-use Rattle.std.proofs.lemmas.List.{length-append, length-take, length-drop, take_all, take-append-drop}
-use Rattle.std.proofs.lemmas.List.Elements.{All-take, All-drop}
-use Rattle.conv_code.specs.Likelihood.{AllSoft}
-use Rattle.trellis_decode.specs.Lanes.{lane, AreOctets, IsOctet}
-use Rattle.trellis_decode.specs.Trellis.{IsBest}
-use Rattle.trellis_decode.specs.Turned.{worths}
-use Rattle.trellis_decode.specs.Words.{word}
-use Rattle.trellis_decode.proofs.Lists.{IsMostLikely-best, likelihood-best}
-use Rattle.trellis_decode.proofs.MapLists.{walked, walked_bits, walked_state, list_of_few}
 use Rattle.conv_code.proofs.Lemmas.{IsMostLikely-only}
-use Rattle.trellis_decode.proofs.Paths.{IsBest-same}
 use Rattle.trellis_decode.proofs.decode.Goals as goal
-use Rattle.trellis_decode.proofs.decode.Goals.{After-of_state_0}
 
-octets : (soft : List ℤ) → AllSoft soft → AreOctets soft
-octets soft h k d lt = let is = h k d lt in (omega (arith, ints, is.0), is.1)
-
--- the list that is written is the best from state 0
-best : (c : After-of_state_0) →
-    IsBest 0 (c.write_few.new.u ++ c.follow_maps.new.u) c.args.soft.now
-    (lane (worths c.walk_few-walk.result.values.even c.walk_few-walk.result.values.odd) 0)
-best c =
-    let soft = c.args.soft.now in
-    let n = length c.args.u.now in
-    let few = n % 4 in
-    let front : List ℤ = take (2 * few) soft in
-    let rest : List ℤ = take (length soft - 2 * few) (drop (2 * few) soft) in
-    let whole : front ++ rest ≡ soft =
-    ap (λ rest. front ++ rest) (take_all _ _ (omega (arith, length-drop (2 * few) soft))) ∙ take-append-drop (2 * few) soft in
-    let after = worths c.fill_maps-values.result.even c.fill_maps-values.result.odd in
-    let values = worths c.walk_few-walk.result.values.even c.walk_few-walk.result.values.odd in
-    let map = c.walk_few-walk.result.map in
-    let maps = c.fill_maps-values.new.maps in
-    let walk = c.walk_few-walk.ensures.walk in
-    let some = c.fill_maps-values.ensures.at_least in
-    let each = c.fill_maps-values.ensures.best in
-    let bits : List ℕ = walk.bits 0 in
-    let count = walk.count 0 (lit≤ tt) in
-    let length_front : length front ≡ 2 * few = omega (arith, length-take (2 * few) soft, c.requires.count) in
-    let counted : length bits ≡ few = omega (arith, count, length_front) in
-    let state = walked_state after values front rest map maps walk some each 0 (lit≤ tt) in
-    let first : c.write_few.new.u ≡ bits =
-    c.write_few.ensures
-    ∙ ap₂ (λ k s. drop (4 - k) (word 4 s)) (sym counted) state
-    ∙ list_of_few bits (omega arith) (walked_bits after values front rest map maps walk some each 0 (lit≤ tt)) in
-    IsBest-same 0 (sym (ap₂ (λ u v. u ++ v) first c.follow_maps.ensures)) whole refl
-    (walked after values front rest map maps walk some each 0 (lit≤ tt))
-
-long : (c : After-of_state_0) → length (c.write_few.new.u ++ c.follow_maps.new.u) ≡ length c.args.u.now
-long c = omega (
-  arith,
-  length-append c.write_few.new.u c.follow_maps.new.u,
-  c.write_few.auto.u,
-  c.follow_maps.auto.u,
-  c.split_at_mut-first.ensures.front_len,
-  c.split_at_mut-first.ensures.back_len,
-)
-
-pub fill_maps-values-requires-clause-octets : goal.fill_maps-values-requires-clause-octets
-fill_maps-values-requires-clause-octets c =
-    All-take IsOctet _ (drop (2 * (length c.args.u.now % 4)) c.args.soft.now)
-    (All-drop IsOctet (2 * (length c.args.u.now % 4)) c.args.soft.now (octets c.args.soft.now c.requires.soft))
-
-pub walk_few-walk-requires-clause-octets : goal.walk_few-walk-requires-clause-octets
-walk_few-walk-requires-clause-octets c = All-take IsOctet (2 * (length c.args.u.now % 4)) c.args.soft.now
-    (octets c.args.soft.now c.requires.soft)
-
-pub returns-clause-best : goal.returns-clause-best
-returns-clause-best c =
-    IsMostLikely-best c.args.soft.now (c.write_few.new.u ++ c.follow_maps.new.u) _ (omega (arith, long c, c.requires.at_least))
-    (omega (arith, long c, c.requires.count)) (best c)
-
-pub returns-clause-value : goal.returns-clause-value
-returns-clause-value c =
-    let fits : FitsSigned w32 c.of_state_0.result = search rules in
-    to_z-of_z w32 c.of_state_0.result fits ∙ c.of_state_0.ensures
-    ∙ likelihood-best c.args.soft.now (c.write_few.new.u ++ c.follow_maps.new.u) _ (best c)
+pub returns-then-are_hard-clause-only : goal.returns-then-are_hard-clause-only
+returns-then-are_hard-clause-only c v h = IsMostLikely-only c.args.soft.now _ v c.decode_hard.ensures.best h
 
 pub returns-clause-only : goal.returns-clause-only
-returns-clause-only c v h = IsMostLikely-only c.args.soft.now (c.write_few.new.u ++ c.follow_maps.new.u) v (returns-clause-best c) h
+returns-clause-only c v h = IsMostLikely-only c.args.soft.now _ v c.decode_soft.ensures.best h

@@ -1,13 +1,11 @@
-use Rattle.std.proofs.Common.{◌≡◌, ℕ, ◌*◌, ◌+◌, ◌-◌, ◌<◌, ◌≤◌, List, [], ◌∷◌, ◌++◌, drop, take, length, refl, ap, sym, ◌∙◌, subst, arith}
-use Rattle.std.proofs.Math.Seq.{drop-length}
-use Rattle.std.proofs.Math.ListN.{set}
-use Rattle.std.proofs.lemmas.List.{drop-drop, drop-set, length-set, take_all, take-append-drop, length-take, length-drop}
+use Rattle.std.proofs.Common.{◌≡◌, ℕ, ◌*◌, ◌+◌, ◌-◌, ◌<◌, [], ◌∷◌, drop, take, length, refl, ◌∙◌, subst, arith}
+use Rattle.std.proofs.lemmas.List.{length-set, take_all, length-take, length-drop}
 use Rattle.std.proofs.lemmas.List.Elements.{All-drop}
 use Rattle.trellis_decode.specs.Lanes.{lane, IsOctet}
 use Rattle.trellis_decode.specs.Trellis.{IsBest}
 use Rattle.trellis_decode.specs.Turned.{place, worths}
-use Rattle.trellis_decode.specs.Walks.{read_maps}
-use Rattle.trellis_decode.proofs.MapLists.{IsBest-map, read_last}
+use Rattle.trellis_decode.specs.Walks.{IsWalk, read_maps}
+use Rattle.trellis_decode.proofs.MapLists.{last_map, more_maps}
 use Rattle.trellis_decode.proofs.Paths.{IsBest-same}
 use Rattle.trellis_decode.proofs.Walks.{AreWithin-best, AreWithin-most}
 use Rattle.trellis_decode.proofs.backward.fill_maps.Goals as goal
@@ -27,25 +25,18 @@ closing c s lt =
 pub loop-group-init : goal.loop-group-init
 loop-group-init c =
     let soft = c.args.soft.now in
-    let maps = c.args.maps.now in
-    let last = length maps - 1 in
-    let end : last + 1 ≡ length maps = omega (arith, c.requires.at_least) in
-    let inside : last < length maps = omega (arith, c.requires.at_least) in
-    let blank : List ℕ = 0 ∷ 0 ∷ 0 ∷ 0 ∷ 0 ∷ 0 ∷ 0 ∷ 0 ∷ 0 ∷ 0 ∷ 0 ∷ 0 ∷ 0 ∷ 0 ∷ 0 ∷ 0 ∷ [] in
-    let alone : drop last (set maps last blank) ≡ blank ∷ [] =
-    drop-set maps last blank inside ∙ ap (λ rest. blank ∷ rest) (ap (λ k. drop k maps) end ∙ drop-length maps) in
+    let last = length c.args.maps.now - 1 in
+    let values = worths c.closing_values-values.result.even c.closing_values-values.result.odd in
     record {
-      best = λ s lt. IsBest-same s (sym (ap (λ maps. read_maps maps (place s)) alone ∙ read_last s lt)) refl refl (closing c s lt);
-      low = (AreWithin-best (worths c.closing_values-values.result.even c.closing_values-values.result.odd) (drop (8 * last) soft)
-          (λ s. 0 ∷ 0 ∷ 0 ∷ 0 ∷ [])
-          (All-drop IsOctet (8 * last) soft c.requires.octets)
+      best = last_map c.args.maps.now (drop (8 * last) soft) values last (omega (arith, c.requires.at_least)) (closing c);
+      low = (AreWithin-best values (drop (8 * last) soft) (λ s. 0 ∷ 0 ∷ 0 ∷ 0 ∷ []) (All-drop IsOctet (8 * last) soft c.requires.octets)
           (omega (arith, length-drop (8 * last) soft, c.requires.count, c.requires.at_least)) (closing c)).low;
       even = c.closing_values-values.ensures.even;
       odd = c.closing_values-values.ensures.odd;
     }
 
-pub walk_four-walk-requires-clause-within : goal.walk_four-walk-requires-clause-within
-walk_four-walk-requires-clause-within c =
+pub walk_places-walk-requires-clause-within : goal.walk_places-walk-requires-clause-within
+walk_places-walk-requires-clause-within c =
     AreWithin-most (worths c.loop-group.values.even c.loop-group.values.odd) (drop (8 * c.loop-group.group) c.args.soft.now)
     (λ s. read_maps (drop c.loop-group.group c.loop-group.maps) (place s))
     (All-drop IsOctet (8 * c.loop-group.group) c.args.soft.now c.requires.octets)
@@ -57,32 +48,22 @@ loop-group-preserved c =
     let soft = c.args.soft.now in
     let maps = c.loop-group.maps in
     let group = c.loop-group.group in
-    let map = c.walk_four-walk.result.map in
     let before = group - 1 in
-    let n = 8 * before + 8 - 8 * before in
-    let eight : n ≡ 8 = omega arith in
-    let next_place : 8 * before + n ≡ 8 * group = omega arith in
-    let four : List _ = take n (drop (8 * before) soft) in
-    let whole : four ++ drop (8 * group) soft ≡ drop (8 * before) soft =
-    ap (λ rest. four ++ rest) (ap (λ k. drop k soft) (sym next_place) ∙ sym (drop-drop n (8 * before) soft))
-    ∙ take-append-drop n (drop (8 * before) soft) in
-    let counted : length four ≡ 8 =
-    omega (arith, length-take n (drop (8 * before) soft), length-drop (8 * before) soft, c.requires.count) in
+    let after = worths c.loop-group.values.even c.loop-group.values.odd in
+    let values = worths c.walk_places-walk.result.values.even c.walk_places-walk.result.values.odd in
+    let map = c.walk_places-walk.result.map in
+    let eight : 8 * before + 8 - 8 * before ≡ 8 = omega arith in
     let same : length maps ≡ length c.args.maps.now = c.loop-group.auto.maps ∙ length-set c.args.maps.now (length c.args.maps.now - 1) _ in
     let within = c.loop-group.auto.group in
-    let inside : before < length maps = omega (arith, same, within, c.requires.at_least) in
-    let some : 1 ≤ length (drop group maps) = omega (arith, length-drop group maps, same, within, c.requires.at_least) in
-    let at : before + 1 ≡ group = omega arith in
-    let grown : map ∷ drop group maps ≡ drop before (set maps before map) =
-    ap (λ k. map ∷ drop k maps) (sym at) ∙ sym (drop-set maps before map inside) in
+    let walk = subst (λ n. IsWalk after values map (take n (drop (8 * before) soft))) eight
+    (subst (IsWalk after values map) (take_all 8 (take (8 * before + 8 - 8 * before) (drop (8 * before) soft))
+    (omega (arith, length-take (8 * before + 8 - 8 * before) (drop (8 * before) soft)))) c.walk_places-walk.ensures.walk) in
     record {
-      best = λ s lt. IsBest-same s (ap (λ maps. read_maps maps (place s)) grown) whole refl
-          (IsBest-map (worths c.loop-group.values.even c.loop-group.values.odd)
-          (worths c.walk_four-walk.result.values.even c.walk_four-walk.result.values.odd)
-          four (drop (8 * group) soft) map (drop group maps) c.walk_four-walk.ensures.walk some c.loop-group.invariant.best counted s lt);
-      low = c.walk_four-walk.ensures.within.low;
-      even = c.walk_four-walk.ensures.even;
-      odd = c.walk_four-walk.ensures.odd;
+      best = more_maps after values soft map maps before group (omega arith) (omega (arith, same, within, c.requires.at_least))
+          (omega (arith, same, within, c.requires.at_least, c.requires.count)) walk c.loop-group.invariant.best;
+      low = c.walk_places-walk.ensures.within.low;
+      even = c.walk_places-walk.ensures.even;
+      odd = c.walk_places-walk.ensures.odd;
     }
 
 pub returns-clause-best : goal.returns-clause-best

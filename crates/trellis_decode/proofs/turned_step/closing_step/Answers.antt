@@ -11,13 +11,13 @@ pub sums-low-requires-clause-modest : goal.sums-low-requires-clause-modest
 sums-low-requires-clause-modest c = HaveRoom-passed c.args.after.even c.requires.even
 
 pub sums-low-requires-clause-edges : goal.sums-low-requires-clause-edges
-sums-low-requires-clause-edges c = AreEdges-passed c.args.edges c.requires.edges
+sums-low-requires-clause-edges c = AreEdges-passed c.args.edges.lanes c.requires.edges
 
 pub differences-high-requires-clause-modest : goal.differences-high-requires-clause-modest
 differences-high-requires-clause-modest c = HaveRoom-passed c.args.after.even c.requires.even
 
 pub differences-high-requires-clause-edges : goal.differences-high-requires-clause-edges
-differences-high-requires-clause-edges c = AreEdges-passed c.args.edges c.requires.edges
+differences-high-requires-clause-edges c = AreEdges-passed c.args.edges.lanes c.requires.edges
 
 pub first_in_turns-requires-clause-a_lanes : goal.first_in_turns-requires-clause-a_lanes
 first_in_turns-requires-clause-a_lanes c = AreNarrow-passed c.sums-low.result c.sums-low.ensures.lanes
@@ -39,23 +39,23 @@ stepped_is c = ap₂ worths
     (passed-lanes c.first_in_turns.result c.first_in_turns.ensures.lanes ∙ c.first_in_turns.ensures.each)
     (passed-lanes c.last_in_turns.result c.last_in_turns.ensures.lanes ∙ c.last_in_turns.ensures.each)
 
-low_way : (c : After-last_in_turns) (pair : List ℤ) → HasEdges c.args.edges pair → (k : ℕ) → k < 8 →
+low_way : (c : After-last_in_turns) (pair : List ℤ) → HasEdges c.args.edges.lanes pair → (k : ℕ) → k < 8 →
     lane (worths (passed c.first_in_turns.result) (passed c.last_in_turns.result)) (turned k)
     ≡ way (worths c.args.after.even c.args.after.odd) pair (turned k) 0
 low_way c pair has k lt =
     let even = c.args.after.even in
-    let edges = c.args.edges in
+    let edges = c.args.edges.lanes in
     ap (λ l. lane l (turned k)) (stepped_is c) ∙ low_worth (passed c.sums-low.result) (passed c.differences-high.result) k lt
     ∙ way_lane (worths even c.args.after.odd) pair (turned k) (lane even k) (lane edges k) (lane (passed c.sums-low.result) k)
     (even_worth even c.args.after.odd k lt) (sym (has.each k lt))
     (sum_passed even edges c.sums-low.result c.requires.even c.requires.edges c.sums-low.ensures.lanes k (c.sums-low.ensures.each k lt))
 
-high_way : (c : After-last_in_turns) (pair : List ℤ) → HasEdges c.args.edges pair → (k : ℕ) → k < 8 →
+high_way : (c : After-last_in_turns) (pair : List ℤ) → HasEdges c.args.edges.lanes pair → (k : ℕ) → k < 8 →
     lane (worths (passed c.first_in_turns.result) (passed c.last_in_turns.result)) (8 + turned k)
     ≡ way (worths c.args.after.even c.args.after.odd) pair (8 + turned k) 0
 high_way c pair has k lt =
     let even = c.args.after.even in
-    let edges = c.args.edges in
+    let edges = c.args.edges.lanes in
     let fewer = difference_passed even edges c.differences-high.result c.requires.even c.requires.edges c.differences-high.ensures.lanes k
     (c.differences-high.ensures.each k lt) in
     ap (λ l. lane l (8 + turned k)) (stepped_is c) ∙ high_worth (passed c.sums-low.result) (passed c.differences-high.result) k lt

@@ -3,7 +3,7 @@ use Rattle.um_among.proofs.blocks.receive_block_among.Goals as goal
 
 pub returns : goal.returns
 returns c =
-    let is = c.taken_block.ensures in
+    let is = c.receive_gathered_among.ensures in
     record {
       received = is;
       only = λ other h. one_block_among c.args.bursts.now c.args.most other _ h is;

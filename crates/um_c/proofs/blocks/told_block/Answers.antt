@@ -1,7 +1,9 @@
-use Rattle.std.proofs.Common.{◌≡◌, refl, ap, ◌∙◌}
+use Rattle.std.proofs.Common.{◌≡◌, map, refl, ap₂, ◌∙◌}
 use Rattle.std.proofs.lemmas.Int.{to_z-of_z}
 use Rattle.bit_blocks.specs.SoftValues.{wrong_places}
 use Rattle.conv_code.specs.Code.{coded}
+use Rattle.interleave.proofs.Lemmas.{same_coded}
+use Rattle.um_block.specs.Received.{coded_places}
 use Rattle.um_c.proofs.blocks.told_block.Goals as goal
 
 pub returns : goal.returns
@@ -12,6 +14,7 @@ returns c =
       metric = search (to_z-of_z);
       tsc = refl;
       wrong_training = refl;
-      wrong_coded = λ soft gathered. c.wrong_block_places.ensures.value soft gathered ∙ ap (λ word. wrong_places soft (coded word)) same;
+      wrong_coded = λ soft gathered. c.wrong_coded_places.ensures.value ∙ ap₂ (λ values word. wrong_places values (coded word))
+          (same_coded c.args.soft.now soft (map coded_places c.args.bursts.now) c.requires.gathered gathered) same;
       accepted = c.told_octets-accepted.ensures;
     }

@@ -1,13 +1,10 @@
-use Rattle.std.proofs.Common.{ℤ, List, get_or, ap, sym, ◌∙◌, subst}
+use Rattle.std.proofs.Common.{get_or, ap, sym, ◌∙◌, subst}
 use Rattle.trellis_decode.specs.Lanes.{lane}
-use Rattle.trellis_decode.specs.Turned.{AreGaps, choices, HasEdges, worths}
+use Rattle.trellis_decode.specs.Turned.{AreGaps, choices, worths}
 use Rattle.trellis_decode.proofs.Leads.{AreLeads, choice_is, high_near, leads_are, loss_is, low_near}
-use Rattle.trellis_decode.proofs.TurnedVectors.{passed, passed-lanes, passed-gaps, AreEdges-passed, AreNarrow-edges, AreNarrow-passed}
+use Rattle.trellis_decode.proofs.TurnedVectors.{passed, passed-gaps, AreNarrow-passed}
 use Rattle.trellis_decode.proofs.kept_step.KeptStep.new.Goals as goal
 use Rattle.trellis_decode.proofs.kept_step.KeptStep.new.Goals.{After-by_state-leads, After-sizes}
-
-pub new-step-requires-clause-edges : goal.new-step-requires-clause-edges
-new-step-requires-clause-edges c = AreEdges-passed c.args.edges c.requires.edges
 
 pub gaps-low-requires-clause-a_lanes : goal.gaps-low-requires-clause-a_lanes
 gaps-low-requires-clause-a_lanes c = AreNarrow-passed c.new-step.result.ways.low_zero c.new-step.ensures.ways.low_zero
@@ -17,7 +14,7 @@ gaps-low-requires-clause-b_lanes c = AreNarrow-passed c.new-step.result.ways.low
 
 pub gaps-low-requires-clause-near : goal.gaps-low-requires-clause-near
 gaps-low-requires-clause-near c =
-    low_near c.args.after.even c.args.after.odd c.args.edges c.new-step.result.ways c.new-step.ensures.ways
+    low_near c.args.after.even c.args.after.odd c.args.edges.lanes c.new-step.result.ways c.new-step.ensures.ways
     c.requires.close c.requires.edges
 
 pub gaps-high-requires-clause-a_lanes : goal.gaps-high-requires-clause-a_lanes
@@ -28,7 +25,7 @@ gaps-high-requires-clause-b_lanes c = AreNarrow-passed c.new-step.result.ways.hi
 
 pub gaps-high-requires-clause-near : goal.gaps-high-requires-clause-near
 gaps-high-requires-clause-near c =
-    high_near c.args.after.even c.args.after.odd c.args.edges c.new-step.result.ways c.new-step.ensures.ways
+    high_near c.args.after.even c.args.after.odd c.args.edges.lanes c.new-step.result.ways c.new-step.ensures.ways
     c.requires.close c.requires.edges
 
 pub by_state-leads-requires-clause-low_lanes : goal.by_state-leads-requires-clause-low_lanes
@@ -37,8 +34,8 @@ by_state-leads-requires-clause-low_lanes c = AreNarrow-passed c.gaps-low.result 
 pub by_state-leads-requires-clause-high_lanes : goal.by_state-leads-requires-clause-high_lanes
 by_state-leads-requires-clause-high_lanes c = AreNarrow-passed c.gaps-high.result c.gaps-high.ensures.lanes
 
-leads : (c : After-by_state-leads) → AreLeads c.args.after.even c.args.after.odd c.args.edges (passed c.by_state-leads.result)
-leads c = leads_are c.args.after.even c.args.after.odd c.args.edges c.new-step.result.ways c.new-step.ensures.ways
+leads : (c : After-by_state-leads) → AreLeads c.args.after.even c.args.after.odd c.args.edges.lanes (passed c.by_state-leads.result)
+leads c = leads_are c.args.after.even c.args.after.odd c.args.edges.lanes c.new-step.result.ways c.new-step.ensures.ways
     c.requires.close c.requires.edges
     c.gaps-low.result c.gaps-high.result c.by_state-leads.result c.gaps-low.ensures.lanes c.gaps-high.ensures.lanes
     c.gaps-low.ensures.each c.gaps-high.ensures.each c.by_state-leads.ensures
@@ -49,14 +46,10 @@ signs-requires c = (leads (goal.at.signs-requires c).After-by_state-leads).gaps
 pub sizes-requires : goal.sizes-requires
 sizes-requires c = (leads (goal.at.sizes-requires c).After-by_state-leads).gaps
 
-has_passed : (c : After-sizes) (pair : List ℤ) → HasEdges c.args.edges pair → HasEdges (passed c.args.edges) pair
-has_passed c pair has =
-    subst (λ edges. HasEdges edges pair) (sym (passed-lanes c.args.edges (AreNarrow-edges c.args.edges c.requires.edges))) has
-
 pub returns-clause-each : goal.returns-clause-each
 returns-clause-each c pair has s lt =
     choice_is (worths c.args.after.even c.args.after.odd) pair s (get_or (choices c.new-step.result.low c.new-step.result.high) s 0) _ _
-    (lane (passed c.by_state-leads.result) s) (c.new-step.ensures.each pair (has_passed c pair has) s lt)
+    (lane (passed c.by_state-leads.result) s) (c.new-step.ensures.each pair has s lt)
     ((leads (goal.at.returns-clause-each c).After-by_state-leads).each pair has s lt) (c.signs.ensures s lt)
 
 pub returns-clause-losses : goal.returns-clause-losses

@@ -2,13 +2,10 @@ use Rattle.std.proofs.Common.{◌≡◌, ℕ, ◌<◌, ℤ, List, get_or, ap, ap
 use Rattle.trellis_decode.specs.Lanes.{lane}
 use Rattle.trellis_decode.specs.Trellis.{next, Chooses}
 use Rattle.trellis_decode.specs.Turned.{AreTaken, choices, HasEdges, place, worths}
-use Rattle.trellis_decode.proofs.TurnedVectors.{passed-lanes, passed_octets-taken, AreEdges-passed, AreNarrow-edges}
+use Rattle.trellis_decode.proofs.TurnedVectors.{passed_octets-taken}
 use Rattle.trellis_decode.proofs.Walks.{IsWalk-more, AreWithin-more}
 use Rattle.trellis_decode.proofs.maps.Walk.step.Goals as goal
 use Rattle.trellis_decode.proofs.maps.Walk.step.Goals.{After-followed}
-
-pub new-step-requires-clause-edges : goal.new-step-requires-clause-edges
-new-step-requires-clause-edges c = AreEdges-passed c.args.edges c.requires.edges
 
 pub followed-requires-clause-low : goal.followed-requires-clause-low
 followed-requires-clause-low c =
@@ -22,13 +19,11 @@ followed-requires-clause-high c =
 bit : After-followed → ℕ → ℕ
 bit c s = get_or (choices c.new-step.result.low c.new-step.result.high) s 0
 
-chosen : (c : After-followed) (pair : List ℤ) → HasEdges c.args.edges pair → (s : ℕ) → s < 16 →
+chosen : (c : After-followed) (pair : List ℤ) → HasEdges c.args.edges.lanes pair → (s : ℕ) → s < 16 →
     Chooses (worths c.args.self.values.even c.args.self.values.odd) pair s
     (lane (worths c.new-step.result.values.even c.new-step.result.values.odd) s) (bit c s)
 unfolding bit
-chosen c pair has =
-    c.new-step.ensures.each pair
-    (subst (λ edges. HasEdges edges pair) (sym (passed-lanes c.args.edges (AreNarrow-edges c.args.edges c.requires.edges))) has)
+chosen c pair has = c.new-step.ensures.each pair has
 
 shown : (c : After-followed) (s : ℕ) → s < 16 → get_or c.followed.result (place s) 0 ≡ get_or c.args.self.map (place (next s (bit c s))) 0
 unfolding bit

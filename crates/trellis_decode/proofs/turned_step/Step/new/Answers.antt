@@ -11,25 +11,25 @@ pub sums-low_zero-requires-clause-modest : goal.sums-low_zero-requires-clause-mo
 sums-low_zero-requires-clause-modest c = HaveRoom-passed c.args.after.even c.requires.even
 
 pub sums-low_zero-requires-clause-edges : goal.sums-low_zero-requires-clause-edges
-sums-low_zero-requires-clause-edges c = AreEdges-passed c.args.edges c.requires.edges
+sums-low_zero-requires-clause-edges c = AreEdges-passed c.args.edges.lanes c.requires.edges
 
 pub differences-low_one-requires-clause-modest : goal.differences-low_one-requires-clause-modest
 differences-low_one-requires-clause-modest c = HaveRoom-passed c.args.after.odd c.requires.odd
 
 pub differences-low_one-requires-clause-edges : goal.differences-low_one-requires-clause-edges
-differences-low_one-requires-clause-edges c = AreEdges-passed c.args.edges c.requires.edges
+differences-low_one-requires-clause-edges c = AreEdges-passed c.args.edges.lanes c.requires.edges
 
 pub differences-high_zero-requires-clause-modest : goal.differences-high_zero-requires-clause-modest
 differences-high_zero-requires-clause-modest c = HaveRoom-passed c.args.after.even c.requires.even
 
 pub differences-high_zero-requires-clause-edges : goal.differences-high_zero-requires-clause-edges
-differences-high_zero-requires-clause-edges c = AreEdges-passed c.args.edges c.requires.edges
+differences-high_zero-requires-clause-edges c = AreEdges-passed c.args.edges.lanes c.requires.edges
 
 pub sums-high_one-requires-clause-modest : goal.sums-high_one-requires-clause-modest
 sums-high_one-requires-clause-modest c = HaveRoom-passed c.args.after.odd c.requires.odd
 
 pub sums-high_one-requires-clause-edges : goal.sums-high_one-requires-clause-edges
-sums-high_one-requires-clause-edges c = AreEdges-passed c.args.edges c.requires.edges
+sums-high_one-requires-clause-edges c = AreEdges-passed c.args.edges.lanes c.requires.edges
 
 pub larger-low-requires-clause-a_lanes : goal.larger-low-requires-clause-a_lanes
 larger-low-requires-clause-a_lanes c = AreNarrow-passed c.sums-low_zero.result c.sums-low_zero.ensures.lanes
@@ -75,14 +75,14 @@ stepped_is c = ap₂ worths
     (passed-lanes c.first_in_turns.result c.first_in_turns.ensures.lanes ∙ c.first_in_turns.ensures.each)
     (passed-lanes c.last_in_turns.result c.last_in_turns.ensures.lanes ∙ c.last_in_turns.ensures.each)
 
-low_chosen : (c : After-greater-2) (pair : List ℤ) → HasEdges c.args.edges pair → (k : ℕ) → k < 8 →
+low_chosen : (c : After-greater-2) (pair : List ℤ) → HasEdges c.args.edges.lanes pair → (k : ℕ) → k < 8 →
     Chooses (worths c.args.after.even c.args.after.odd) pair (turned k)
     (lane (worths (passed c.first_in_turns.result) (passed c.last_in_turns.result)) (turned k))
     (taken_bit (lane (passed_octets c.greater.result) k))
 low_chosen c pair has k lt =
     let even = c.args.after.even in
     let odd = c.args.after.odd in
-    let edges = c.args.edges in
+    let edges = c.args.edges.lanes in
     let zero = lane (passed c.sums-low_zero.result) k in
     let one = lane (passed c.differences-low_one.result) k in
     let taken = lane (passed_octets c.greater.result) k in
@@ -100,14 +100,14 @@ low_chosen c pair has k lt =
     (ap (λ l. lane l k) (passed-lanes c.larger-low.result c.larger-low.ensures.lanes) ∙ c.larger-low.ensures.each k lt)
     (taken_passed c.greater.result (int_lt zero one) k c.greater.ensures.count lt (c.greater.ensures.each k lt)))
 
-high_chosen : (c : After-greater-2) (pair : List ℤ) → HasEdges c.args.edges pair → (k : ℕ) → k < 8 →
+high_chosen : (c : After-greater-2) (pair : List ℤ) → HasEdges c.args.edges.lanes pair → (k : ℕ) → k < 8 →
     Chooses (worths c.args.after.even c.args.after.odd) pair (8 + turned k)
     (lane (worths (passed c.first_in_turns.result) (passed c.last_in_turns.result)) (8 + turned k))
     (taken_bit (lane (passed_octets c.greater-2.result) k))
 high_chosen c pair has k lt =
     let even = c.args.after.even in
     let odd = c.args.after.odd in
-    let edges = c.args.edges in
+    let edges = c.args.edges.lanes in
     let zero = lane (passed c.differences-high_zero.result) k in
     let one = lane (passed c.sums-high_one.result) k in
     let taken = lane (passed_octets c.greater-2.result) k in
@@ -138,7 +138,7 @@ pub returns-clause-ways : goal.returns-clause-ways
 returns-clause-ways c =
     let even = c.args.after.even in
     let odd = c.args.after.odd in
-    let edges = c.args.edges in
+    let edges = c.args.edges.lanes in
     record {
       low_zero = AreNarrow-passed c.sums-low_zero.result c.sums-low_zero.ensures.lanes;
       low_one = AreNarrow-passed c.differences-low_one.result c.differences-low_one.ensures.lanes;

@@ -1,12 +1,13 @@
-use Rattle.std.proofs.Common.{◌≡◌, ◌+◌, ◌*◌, ◌-◌, drop, length}
+use Rattle.std.proofs.Common.{◌≡◌, ◌+◌, ◌*◌, ◌-◌, drop, take, length}
 use Rattle.trellis_decode.specs.Turned.{AreNarrow, worths}
 use Rattle.trellis_decode.specs.Walks.{AreWithin, IsWalk}
-use Rattle.trellis_decode.proofs.backward.walk_few.Given as goal
+use Rattle.trellis_decode.proofs.backward.walk_places.Given as goal
 
 -- the best ways over the places from k on
 abbrev pub invariant-loop-k : goal.invariant-loop-k
 invariant-loop-k l = record {
-  walk : IsWalk (worths l.fn.after.even l.fn.after.odd) (worths l.walk.values.even l.walk.values.odd) l.walk.map (drop (2 * l.k) l.soft);
+  walk : IsWalk (worths l.fn.after.even l.fn.after.odd) (worths l.walk.values.even l.walk.values.odd) l.walk.map
+      (take (2 * (l.places - l.k)) (drop (2 * l.k) l.soft));
   within : AreWithin (58368 + 256 * (l.places - l.k)) (worths l.walk.values.even l.walk.values.odd);
   even : AreNarrow l.walk.values.even;
   odd : AreNarrow l.walk.values.odd;

@@ -1,6 +1,6 @@
 use Rattle.std.proofs.Common.{◌≡◌, ◌+◌, ◌≤◌, drop}
 use Rattle.bit_blocks.specs.SoftValues.{wrong_places}
-use Rattle.bit_blocks.proofs.soft.wrong_places.Given as goal
+use Rattle.bit_blocks.proofs.soft.wrong_part.Given as goal
 
 -- the count so far and that of the rest are that of all places
 abbrev pub invariant-loop-i : goal.invariant-loop-i

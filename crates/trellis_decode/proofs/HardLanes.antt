@@ -1,0 +1,272 @@
+-- The operations on vectors of sixteen 8-bit numbers, lane by lane. A lane stands in them as its bits.
+use Rattle.std.proofs.Common.{◌≡◌, ℕ, zero, suc, ◌+◌, ◌-◌, ◌/◌, ◌%◌, ◌^◌, ◌<◌, ◌≤◌, Bool, true, false, if◌then◌else◌, ℤ, pos, negsuc, ◌+ℤ◌, ◌-ℤ◌, ◌≤ℤ◌, List, [], ◌∷◌, ◌++◌, map, length, get_or, replicate, refl, ap, ap₂, sym, ◌∙◌, subst, arith, int_lt, w8, FitsSigned}
+use Rattle.std.specs.Int.{cast_signed, cast_unsigned}
+use Rattle.std.proofs.lemmas.Int.{ints, to_z-of_z, wrapping_add_is, wrapping_sub_is, int_wrap_fits}
+use Rattle.std.proofs.lemmas.List.{length-map, get_or-map, get_or_append_left}
+use Rattle.std.proofs.lemmas.Simd.{mask_l-mod, bit_mask_l}
+use lib.Lanes.{zip2, sel_l, mask_l, top}
+use Rattle.trellis_decode.specs.Lanes.{lane}
+use Rattle.trellis_decode.specs.Hard.{AreSmall, AreUnits, HasRoom, one_place, sign, zero_place}
+use Rattle.trellis_decode.proofs.EdgeLanes.{each}
+
+abbrev bits : List ℤ → List ℕ
+bits = map (cast_unsigned w8)
+
+bits_at : (a : List ℤ) (k : ℕ) → k < length a → get_or (bits a) k 0 ≡ cast_unsigned w8 (lane a k)
+bits_at [] k lt = absurd (omega arith)
+bits_at (x ∷ a) zero lt = refl
+bits_at (x ∷ a) (suc k) lt = let lt' : k < length a = omega arith in bits_at a k lt'
+
+-- one operation on each lane
+zip-lane : (f : ℕ → ℕ → ℕ) (xs ys : List ℕ) (k : ℕ) → k < length xs → k < length ys →
+    lane (map (cast_signed w8) (zip2 f xs ys)) k ≡ cast_signed w8 (f (get_or xs k 0) (get_or ys k 0))
+zip-lane f [] ys k lx ly = absurd (omega arith)
+zip-lane f (x ∷ xs) [] k lx ly = absurd (omega arith)
+zip-lane f (x ∷ xs) (y ∷ ys) zero lx ly = refl
+zip-lane f (x ∷ xs) (y ∷ ys) (suc k) lx ly =
+    let lx' : k < length xs = omega arith in
+    let ly' : k < length ys = omega arith in
+    zip-lane f xs ys k lx' ly'
+
+length-zip : (f : ℕ → ℕ → ℕ) (xs ys : List ℕ) → length xs ≡ length ys → length (map (cast_signed w8) (zip2 f xs ys)) ≡ length xs
+length-zip f [] ys e = refl
+length-zip f (x ∷ xs) [] e = absurd (omega arith)
+length-zip f (x ∷ xs) (y ∷ ys) e = let e' : length xs ≡ length ys = omega arith in ap suc (length-zip f xs ys e')
+
+fits_between : (x : ℤ) → negsuc 127 ≤ℤ x → x ≤ℤ pos 127 → FitsSigned w8 x
+fits_between (pos n) low high = record { sfits = omega (arith, ints) }
+fits_between (negsuc n) low high = record { sfits = omega (arith, ints) }
+
+AreSmall-room : (a : List ℤ) → HasRoom a → (k : ℕ) → k < 16 → FitsSigned w8 (lane a k)
+AreSmall-room a h k lt = let low = h.low k lt in let high = h.high k lt in fits_between (lane a k) (omega (arith, ints)) (omega (arith, ints))
+
+AreSmall-units : (a : List ℤ) → AreUnits a → (k : ℕ) → k < 16 → FitsSigned w8 (lane a k)
+AreSmall-units a h k lt = let low = h.low k lt in let high = h.high k lt in fits_between (lane a k) (omega (arith, ints)) (omega (arith, ints))
+
+-- ---- the ways of either bit
+
+-- the lanes of the states that each state comes to by either bit
+abbrev pub next_zero : List ℕ → List ℕ
+next_zero xs =
+    get_or xs 0 0 ∷ get_or xs 8 0 ∷ get_or xs 1 0 ∷ get_or xs 9 0 ∷ get_or xs 2 0 ∷ get_or xs 10 0 ∷ get_or xs 3 0 ∷ get_or xs 11 0 ∷
+    get_or xs 0 0 ∷ get_or xs 8 0 ∷ get_or xs 1 0 ∷ get_or xs 9 0 ∷ get_or xs 2 0 ∷ get_or xs 10 0 ∷ get_or xs 3 0 ∷ get_or xs 11 0 ∷ []
+
+abbrev pub next_one : List ℕ → List ℕ
+next_one xs =
+    get_or xs 4 0 ∷ get_or xs 12 0 ∷ get_or xs 5 0 ∷ get_or xs 13 0 ∷ get_or xs 6 0 ∷ get_or xs 14 0 ∷ get_or xs 7 0 ∷ get_or xs 15 0 ∷
+    get_or xs 4 0 ∷ get_or xs 12 0 ∷ get_or xs 5 0 ∷ get_or xs 13 0 ∷ get_or xs 6 0 ∷ get_or xs 14 0 ∷ get_or xs 7 0 ∷ get_or xs 15 0 ∷ []
+
+next_zero-at : (xs : List ℕ) (k : ℕ) → k < 16 → get_or (next_zero xs) k 0 ≡ get_or xs (zero_place k) 0
+next_zero-at xs = each (λ k. get_or (next_zero xs) k 0 ≡ get_or xs (zero_place k) 0) 16
+    ((((((((((((((((tt, refl), refl), refl), refl), refl), refl), refl), refl), refl), refl), refl), refl), refl), refl), refl), refl)
+
+next_one-at : (xs : List ℕ) (k : ℕ) → k < 16 → get_or (next_one xs) k 0 ≡ get_or xs (one_place k) 0
+next_one-at xs = each (λ k. get_or (next_one xs) k 0 ≡ get_or xs (one_place k) 0) 16
+    ((((((((((((((((tt, refl), refl), refl), refl), refl), refl), refl), refl), refl), refl), refl), refl), refl), refl), refl), refl)
+
+module _ (a edges : List ℤ) (ha : HasRoom a) (he : AreUnits edges) where
+  twice_at : (i : ℕ) → i < 16 → get_or (bits a ++ bits a) i 0 ≡ cast_unsigned w8 (lane a i)
+  twice_at i lt =
+      let within : i < length (bits a) = omega (arith, length-map a (cast_unsigned w8), ha.count) in
+      get_or_append_left (bits a) (bits a) 0 i within ∙ bits_at a i (omega (arith, ha.count))
+
+  edge_at : (k : ℕ) → k < 16 → get_or (bits edges) k 0 ≡ cast_unsigned w8 (lane edges k)
+  edge_at k lt = bits_at edges k (omega (arith, he.count))
+
+  long : (k : ℕ) → k < 16 → k < length (bits edges)
+  long k lt = omega (arith, length-map edges (cast_unsigned w8), he.count)
+
+  sum_fits : (i k : ℕ) → i < 16 → k < 16 → FitsSigned w8 (lane a i +ℤ lane edges k)
+  sum_fits i k li lk =
+      let low = ha.low i li in
+      let high = ha.high i li in
+      let low' = he.low k lk in
+      let high' = he.high k lk in
+      fits_between (lane a i +ℤ lane edges k) (omega (arith, ints)) (omega (arith, ints))
+
+  difference_fits : (i k : ℕ) → i < 16 → k < 16 → FitsSigned w8 (lane a i -ℤ lane edges k)
+  difference_fits i k li lk =
+      let low = ha.low i li in
+      let high = ha.high i li in
+      let low' = he.low k lk in
+      let high' = he.high k lk in
+      fits_between (lane a i -ℤ lane edges k) (omega (arith, ints)) (omega (arith, ints))
+
+  abbrev pub zeros : List ℤ
+  zeros = map (cast_signed w8) (zip2 (λ x y. (x + y) % 256) (next_zero (bits a ++ bits a)) (bits edges))
+
+  abbrev pub ones : List ℤ
+  ones = map (cast_signed w8) (zip2 (λ x y. (x + (256 - y)) % 256) (next_one (bits a ++ bits a)) (bits edges))
+
+  pub lane-zeros : (k : ℕ) → k < 16 → lane zeros k ≡ lane a (zero_place k) +ℤ lane edges k
+  lane-zeros k lt =
+      let inside : zero_place k < 16 = omega arith in
+      zip-lane (λ x y. (x + y) % 256) (next_zero (bits a ++ bits a)) (bits edges) k lt (long k lt)
+      ∙ ap₂ (λ x y. cast_signed w8 ((x + y) % 256)) (next_zero-at (bits a ++ bits a) k lt ∙ twice_at (zero_place k) inside) (edge_at k lt)
+      ∙ wrapping_add_is w8 (lane a (zero_place k)) (lane edges k) (AreSmall-room a ha (zero_place k) inside) (AreSmall-units edges he k lt)
+      ∙ int_wrap_fits w8 _ (sum_fits (zero_place k) k inside lt)
+
+  pub lane-ones : (k : ℕ) → k < 16 → lane ones k ≡ lane a (one_place k) -ℤ lane edges k
+  lane-ones k lt =
+      let inside : one_place k < 16 = omega arith in
+      zip-lane (λ x y. (x + (256 - y)) % 256) (next_one (bits a ++ bits a)) (bits edges) k lt (long k lt)
+      ∙ ap₂ (λ x y. cast_signed w8 ((x + (256 - y)) % 256)) (next_one-at (bits a ++ bits a) k lt ∙ twice_at (one_place k) inside)
+      (edge_at k lt)
+      ∙ wrapping_sub_is w8 (lane a (one_place k)) (lane edges k) (AreSmall-room a ha (one_place k) inside) (AreSmall-units edges he k lt)
+      ∙ int_wrap_fits w8 _ (difference_fits (one_place k) k inside lt)
+
+  counted : 16 ≡ length (bits edges)
+  counted = omega (arith, length-map edges (cast_unsigned w8), he.count)
+
+  pub AreSmall-zeros : AreSmall zeros
+  AreSmall-zeros = record {
+    count = length-zip (λ x y. (x + y) % 256) (next_zero (bits a ++ bits a)) (bits edges) counted;
+    fits = λ k lt. subst (FitsSigned w8) (sym (lane-zeros k lt)) (sum_fits (zero_place k) k (omega arith) lt);
+  }
+
+  pub AreSmall-ones : AreSmall ones
+  AreSmall-ones = record {
+    count = length-zip (λ x y. (x + (256 - y)) % 256) (next_one (bits a ++ bits a)) (bits edges) counted;
+    fits = λ k lt. subst (FitsSigned w8) (sym (lane-ones k lt)) (difference_fits (one_place k) k (omega arith) lt);
+  }
+
+-- ---- the better of both
+
+-- where a lane is less than that of another vector, as its bits all 1
+abbrev compared : ℕ → ℕ → ℕ
+compared x y = if int_lt (cast_signed w8 x) (cast_signed w8 y) then 255 else 0
+
+top-compared : (x y : ℕ) → top 7 (compared x y) ≡ int_lt (cast_signed w8 x) (cast_signed w8 y)
+top-compared x y = elim (int_lt (cast_signed w8 x) (cast_signed w8 y)) as (λ t. top 7 (if t then 255 else 0) ≡ t) [
+  | true ↦ refl
+  | false ↦ refl
+]
+
+-- a lane of either of two vectors, by a comparison
+chosen-at : (a b xs ys : List ℕ) (k : ℕ) → k < length a → k < length b → k < length xs → k < length ys →
+    get_or (sel_l (map (top 7) (zip2 compared a b)) xs ys) k 0
+    ≡ (if int_lt (cast_signed w8 (get_or a k 0)) (cast_signed w8 (get_or b k 0)) then get_or xs k 0 else get_or ys k 0)
+chosen-at [] b xs ys k la lb lx ly = absurd (omega arith)
+chosen-at (a ∷ rest) [] xs ys k la lb lx ly = absurd (omega arith)
+chosen-at (a ∷ rest) (b ∷ bs) [] ys k la lb lx ly = absurd (omega arith)
+chosen-at (a ∷ rest) (b ∷ bs) (x ∷ xs) [] k la lb lx ly = absurd (omega arith)
+chosen-at (a ∷ rest) (b ∷ bs) (x ∷ xs) (y ∷ ys) zero la lb lx ly = ap (λ t. if t then x else y) (top-compared a b)
+chosen-at (a ∷ rest) (b ∷ bs) (x ∷ xs) (y ∷ ys) (suc k) la lb lx ly =
+    let la' : k < length rest = omega arith in
+    let lb' : k < length bs = omega arith in
+    let lx' : k < length xs = omega arith in
+    let ly' : k < length ys = omega arith in
+    chosen-at rest bs xs ys k la' lb' lx' ly'
+
+length-chosen : (a b xs ys : List ℕ) → length b ≡ length a → length xs ≡ length a → length ys ≡ length a →
+    length (sel_l (map (top 7) (zip2 compared a b)) xs ys) ≡ length a
+length-chosen [] b xs ys eb ex ey = refl
+length-chosen (a ∷ rest) [] xs ys eb ex ey = absurd (omega arith)
+length-chosen (a ∷ rest) (b ∷ bs) [] ys eb ex ey = absurd (omega arith)
+length-chosen (a ∷ rest) (b ∷ bs) (x ∷ xs) [] eb ex ey = absurd (omega arith)
+length-chosen (a ∷ rest) (b ∷ bs) (x ∷ xs) (y ∷ ys) eb ex ey =
+    let eb' : length bs ≡ length rest = omega arith in
+    let ex' : length xs ≡ length rest = omega arith in
+    let ey' : length ys ≡ length rest = omega arith in
+    ap suc (length-chosen rest bs xs ys eb' ex' ey')
+
+module _ (zero_ways one_ways : List ℤ) (hz : AreSmall zero_ways) (ho : AreSmall one_ways) where
+  abbrev less : ℕ → Bool
+  less k = int_lt (lane zero_ways k) (lane one_ways k)
+
+  zero_back : (k : ℕ) → k < 16 → cast_signed w8 (get_or (bits zero_ways) k 0) ≡ lane zero_ways k
+  zero_back k lt = ap (cast_signed w8) (bits_at zero_ways k (omega (arith, hz.count))) ∙ to_z-of_z w8 (lane zero_ways k) (hz.fits k lt)
+
+  one_back : (k : ℕ) → k < 16 → cast_signed w8 (get_or (bits one_ways) k 0) ≡ lane one_ways k
+  one_back k lt = ap (cast_signed w8) (bits_at one_ways k (omega (arith, ho.count))) ∙ to_z-of_z w8 (lane one_ways k) (ho.fits k lt)
+
+  zero_long : length (bits zero_ways) ≡ 16
+  zero_long = length-map zero_ways (cast_unsigned w8) ∙ hz.count
+
+  one_long : length (bits one_ways) ≡ 16
+  one_long = length-map one_ways (cast_unsigned w8) ∙ ho.count
+
+  pub picked : (xs ys : List ℕ) → length xs ≡ 16 → length ys ≡ 16 → (k : ℕ) → k < 16 →
+      get_or (sel_l (map (top 7) (zip2 compared (bits zero_ways) (bits one_ways))) xs ys) k 0
+      ≡ (if less k then get_or xs k 0 else get_or ys k 0)
+  picked xs ys ex ey k lt =
+      let ez = zero_long in
+      let eo = one_long in
+      chosen-at (bits zero_ways) (bits one_ways) xs ys k (omega arith) (omega arith) (omega arith) (omega arith)
+      ∙ ap₂ (λ a b. if int_lt a b then get_or xs k 0 else get_or ys k 0) (zero_back k lt) (one_back k lt)
+
+  pub length-picked : (xs ys : List ℕ) → length xs ≡ 16 → length ys ≡ 16 →
+      length (sel_l (map (top 7) (zip2 compared (bits zero_ways) (bits one_ways))) xs ys) ≡ 16
+  length-picked xs ys ex ey =
+      length-chosen (bits zero_ways) (bits one_ways) xs ys (one_long ∙ sym zero_long) (ex ∙ sym zero_long) (ey ∙ sym zero_long) ∙ zero_long
+
+  abbrev larger : List ℤ
+  larger = map (cast_signed w8) (sel_l (map (top 7) (zip2 compared (bits zero_ways) (bits one_ways))) (bits one_ways) (bits zero_ways))
+
+  count-larger : length larger ≡ 16
+  count-larger = length-map _ (cast_signed w8) ∙ length-picked (bits one_ways) (bits zero_ways) one_long zero_long
+
+  pub lane-larger : (k : ℕ) → k < 16 → lane larger k ≡ (if less k then lane one_ways k else lane zero_ways k)
+  lane-larger k lt =
+      get_or-map (cast_signed w8) (sel_l (map (top 7) (zip2 compared (bits zero_ways) (bits one_ways))) (bits one_ways) (bits zero_ways)) k 0
+      (pos 0) (let n = length-picked (bits one_ways) (bits zero_ways) one_long zero_long in omega arith)
+      ∙ ap (cast_signed w8) (picked (bits one_ways) (bits zero_ways) one_long zero_long k lt)
+      ∙ elim (less k) as (λ t. cast_signed w8 (if t then get_or (bits one_ways) k 0 else get_or (bits zero_ways) k 0)
+      ≡ (if t then lane one_ways k else lane zero_ways k)) [
+        | true ↦ one_back k lt
+        | false ↦ zero_back k lt
+      ]
+
+  pub AreSmall-larger : AreSmall larger
+  AreSmall-larger = record {
+    count = count-larger;
+    fits = λ k lt. subst (FitsSigned w8) (sym (lane-larger k lt))
+        (elim (less k) as (λ t. FitsSigned w8 (if t then lane one_ways k else lane zero_ways k)) [
+          | true ↦ ho.fits k lt
+          | false ↦ hz.fits k lt
+        ]);
+  }
+
+  pub lane-followed : (xs : List ℕ) → length xs ≡ 16 → (k : ℕ) → k < 16 →
+      get_or (sel_l (map (top 7) (zip2 compared (bits zero_ways) (bits one_ways))) (next_one (xs ++ xs)) (next_zero (xs ++ xs))) k 0
+      ≡ get_or xs (if less k then one_place k else zero_place k) 0
+  lane-followed xs count k lt =
+      let zero_in : zero_place k < length xs = omega arith in
+      let one_in : one_place k < length xs = omega arith in
+      picked (next_one (xs ++ xs)) (next_zero (xs ++ xs)) refl refl k lt
+      ∙ ap₂ (λ x y. if less k then x else y)
+      (next_one-at (xs ++ xs) k lt ∙ get_or_append_left xs xs 0 (one_place k) one_in)
+      (next_zero-at (xs ++ xs) k lt ∙ get_or_append_left xs xs 0 (zero_place k) zero_in)
+      ∙ elim (less k) as (λ t. (if t then get_or xs (one_place k) 0 else get_or xs (zero_place k) 0)
+      ≡ get_or xs (if t then one_place k else zero_place k) 0) [
+        | true ↦ refl
+        | false ↦ refl
+      ]
+
+-- ---- the signs of eight soft values
+
+abbrev signs_below : ℕ → List ℤ → List Bool
+signs_below n a = map (top 7) (zip2 compared (bits a) (replicate n 0))
+
+signs-at : (a : List ℤ) (n k : ℕ) → length a ≡ n → k < n → get_or (signs_below n a) k false ≡ top 7 (compared (cast_unsigned w8 (lane a k)) 0)
+signs-at [] zero k e lt = absurd (omega arith)
+signs-at [] (suc n) k e lt = absurd (omega arith)
+signs-at (x ∷ a) zero k e lt = absurd (omega arith)
+signs-at (x ∷ a) (suc n) zero e lt = refl
+signs-at (x ∷ a) (suc n) (suc k) e lt = signs-at a n k (omega arith) (omega arith)
+
+length-signs : (a : List ℤ) (n : ℕ) → length a ≡ n → length (signs_below n a) ≡ n
+length-signs [] zero e = refl
+length-signs [] (suc n) e = absurd (omega arith)
+length-signs (x ∷ a) zero e = absurd (omega arith)
+length-signs (x ∷ a) (suc n) e = let e' : length a ≡ n = omega arith in ap suc (length-signs a n e')
+
+pub bit-signs : (a : List ℤ) → length a ≡ 8 → ((k : ℕ) → k < 8 → FitsSigned w8 (lane a k)) → (k : ℕ) → k < 8 →
+    mask_l (signs_below 8 a) % 18446744073709551616 / 2 ^ k % 2 ≡ sign (lane a k)
+bit-signs a count fits k lt =
+    let few : length (signs_below 8 a) ≤ 64 = omega (arith, length-signs a 8 count) in
+    ap (λ row. row / 2 ^ k % 2) (mask_l-mod (signs_below 8 a) 64 few)
+    ∙ bit_mask_l (signs_below 8 a) k
+    ∙ ap (λ t. if t then 1 else 0)
+    (signs-at a 8 k count lt ∙ top-compared (cast_unsigned w8 (lane a k)) 0
+    ∙ ap (λ x. int_lt x (pos 0)) (to_z-of_z w8 (lane a k) (fits k lt)))

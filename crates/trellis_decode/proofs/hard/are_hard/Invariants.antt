@@ -1,0 +1,8 @@
+use Rattle.std.proofs.Common.{take, IsTrue}
+use Rattle.std.specs.List.{All}
+use Rattle.trellis_decode.specs.Hard.{IsHard}
+use Rattle.trellis_decode.proofs.hard.are_hard.Given as goal
+
+-- the soft values so far
+abbrev pub invariant-loop-value : goal.invariant-loop-value
+invariant-loop-value l = IsTrue l.all → All IsHard (take l.value-index l.soft)
