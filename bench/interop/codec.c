@@ -27,8 +27,8 @@ static void judge(const char *what, double sigma, const struct tally *t, bool cl
 	passed += good;
 	failed += !good;
 	printf("%s sigma %.0f: %ld osmo %ld um %ld osmo-alone %ld um-alone %ld coded-otherwise %ld other-octets %ld other-errors %ld "
-		"wrong %ld%s\n", what, sigma, t->tried, t->osmo, t->um, t->osmo_alone, t->um_alone, t->coded_otherwise, t->octets_differ, t->errors_differ, t->wrong,
-		good ? "" : " FAILED");
+		"wrong %ld%s\n", what, sigma, t->tried, t->osmo, t->um, t->osmo_alone, t->um_alone, t->coded_otherwise, t->octets_differ,
+		t->errors_differ, t->wrong, good ? "" : " FAILED");
 }
 
 static void compare(struct tally *t, bool osmo, bool um, const uint8_t *theirs, const uint8_t *ours, const uint8_t *sent, size_t count)
