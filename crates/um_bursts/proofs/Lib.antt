@@ -1,1 +1,2 @@
 pub mod BurstRules
+pub mod NextAnswers

@@ -3,6 +3,9 @@ use Rattle.std.specs.Prelude.{ℕ, ℤ, ◌≡◌, ◌<◌, ◌⊎◌, List, [],
 use Rattle.um_text.specs.declared.burst_lines.BurstLine.{BurstLine}
 use Rattle.um_text.specs.declared.burst_lines.BurstLine.TheVariants.{Skip, Normal, Access, Sync}
 use Rattle.um_text.specs.BurstLines.{burst_fault, BurstMeans, unfinished}
+use Rattle.um_text.specs.declared.held.NextBurst.{NextBurst}
+use Rattle.um_text.specs.declared.held.NextBurst.TheVariants as N
+use Rattle.um_text.specs.Held.{Held}
 use Rattle.um_driver.specs.Rules.{Rules}
 
 -- what may be answered to the bursts of a block, to an access burst by the identity code of its cell, and to a
@@ -24,6 +27,14 @@ IsBurstAnswer a held Skip answer after = (answer ≡ []) × (after ≡ held)
 IsBurstAnswer a held (Normal soft) answer after = IsBlockAnswer a (held ++ soft ∷ []) answer after
 IsBurstAnswer a held (Access bsic soft) answer after = (after ≡ held) × a.access bsic soft answer
 IsBurstAnswer a held (Sync soft) answer after = (after ≡ held) × a.sync soft answer
+
+-- what is answered to what a line brought, where the places of the bursts are these now
+abbrev pub IsNextAnswer : Answers → NextBurst → Held → List ℕ → Type 0
+IsNextAnswer a N.Skip now answer = answer ≡ []
+IsNextAnswer a N.Held now answer = answer ≡ []
+IsNextAnswer a N.Block now answer = a.block now.places answer
+IsNextAnswer a (N.Access bsic soft) now answer = a.access bsic soft answer
+IsNextAnswer a (N.Sync soft) now answer = a.sync soft answer
 
 -- the state of the command is the bursts of an unfinished block, in their order
 abbrev pub burst_rules : Answers → Rules (List (List ℤ))

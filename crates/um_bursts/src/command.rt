@@ -1,14 +1,14 @@
 //! A command over lines of bursts.
 ghost use Rattle.std.specs.Prelude.{◌≡◌, ◌<◌, ℤ, List, [], ◌∷◌, ◌++◌, length};
-ghost use Rattle.bit_blocks.specs.SoftValues.{AllSoft};
-ghost use Rattle.um_bursts.specs.BurstRules.{burst_rules, IsBlockAnswer};
+ghost use Rattle.um_text.specs.Held.{BringsSoft};
+ghost use Rattle.um_bursts.specs.BurstRules.{burst_rules, IsNextAnswer};
 ghost use Rattle.um_driver.specs.Rules.{Answers};
 
 use crate::reports::Reports;
 use std::marker::Model;
 use um_driver::Command;
 use um_lines::{LineFault, Text};
-use um_text::{BurstLine, HeldBursts, parse_burst};
+use um_text::{HeldBursts, NextBurst, read_burst_into};
 
 /// The command that answers bursts by these reports, with the normal bursts of a block that has not all its four.
 #[derive(Drop)]
@@ -23,7 +23,7 @@ impl<R> Model for BurstCommand<R> {
 
     ghost Value = { List (List ℤ) };
 
-    ghost view = { λ c. c.held };
+    ghost view = { λ c. c.held.held };
 }
 
 impl<R: Reports> BurstCommand<R> {
@@ -34,18 +34,6 @@ impl<R: Reports> BurstCommand<R> {
         BurstCommand {
             held: HeldBursts::new(),
             reports,
-        }
-    }
-
-    /// Holds a burst; the fourth is the last of a block, which is answered.
-    fn hold(&mut self, burst: [i8; 148], out: &mut Text)
-        requires soft { AllSoft burst }
-        requires empty { out.old ≡ [] }
-        ensures answered { IsBlockAnswer R.answers (self.old ++ burst ∷ []) out.new self.new }
-        ensures few { length out.new < 2000 }
-    {
-        if let Some(block) = self.held.add(burst) {
-            self.reports.block(out, &block);
         }
     }
 }
@@ -70,12 +58,8 @@ impl<R: Reports> Command for BurstCommand<R> {
         ensures keeps { tt {0} ≡ tt }
         ensures few { length out.new < 2000 }
     {
-        match parse_burst(line, self.held.count())? {
-            BurstLine::Skip => {}
-            BurstLine::Normal(burst) => self.hold(burst, out),
-            BurstLine::Access { bsic, soft } => self.reports.access(out, &bsic, &soft),
-            BurstLine::Sync(burst) => self.reports.sync(out, &burst),
-        }
+        let next = read_burst_into(line, &mut self.held)?;
+        write_answer(out, &self.reports, &next, &self.held);
         Ok(())
     }
 
@@ -85,5 +69,21 @@ impl<R: Reports> Command for BurstCommand<R> {
         } else {
             Some(LineFault::Order)
         }
+    }
+}
+
+/// Writes what is answered to what a line brought.
+fn write_answer<R: Reports>(out: &mut Text, reports: &R, next: &NextBurst, held: &HeldBursts)
+    requires empty { out.old ≡ [] }
+    requires soft { BringsSoft next.now }
+    ensures answer { IsNextAnswer R.answers next.now held.now out.new }
+    ensures few { length out.new < 2000 }
+{
+    match next {
+        NextBurst::Skip => {}
+        NextBurst::Held => {}
+        NextBurst::Block => reports.block(out, held.block()),
+        NextBurst::Access { bsic, soft } => reports.access(out, bsic, soft),
+        NextBurst::Sync(soft) => reports.sync(out, soft),
     }
 }

@@ -8,7 +8,7 @@ use Rattle.um_text.proofs.CodeLaws.{one_meaning, can_be_sent}
 use Rattle.um_block.proofs.Lemmas.{one_sent_block, one_access_burst, one_sync_burst, some_sent_block, some_access_burst, some_sync_burst}
 use Rattle.um_driver.specs.Rules.{IsDetermined}
 use Rattle.um_driver.specs.Laws.{HasOneOutput}
-use Rattle.um_driver.proofs.Stateless.{stateless_is_determined, stateless_has_one_output}
+use Rattle.um_driver.proofs.StatelessRules.{stateless_is_determined, stateless_has_one_output}
 use Rattle.um_cli.specs.Code.{IsCodeAnswer, code_rules}
 
 -- a meaning has at most one answer

@@ -8,7 +8,7 @@ use Rattle.um_text.proofs.ShowLaws.{one_meaning, shown_octets}
 use Rattle.um_text.proofs.ReportLaws.{one_frame_text, some_frame_text}
 use Rattle.um_driver.specs.Rules.{IsDetermined}
 use Rattle.um_driver.specs.Laws.{HasOneOutput}
-use Rattle.um_driver.proofs.Stateless.{stateless_is_determined, stateless_has_one_output}
+use Rattle.um_driver.proofs.StatelessRules.{stateless_is_determined, stateless_has_one_output}
 use Rattle.um_cli.specs.Show.{IsShowAnswer, show_rules}
 
 -- a meaning has at most one answer

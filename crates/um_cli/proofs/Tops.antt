@@ -1,12 +1,12 @@
 -- What a run of the command that was named says of the shape of the words.
 use Rattle.std.proofs.Common.{◌≡◌, ℕ, ℤ, List, [], Option, Some, None, subst}
 use Rattle.um_driver.specs.Table.{IsRun, EndsAsDue}
-use Rattle.um_driver.specs.Rules.{Rules, IsDetermined}
+use Rattle.um_driver.specs.Rules.{Rules, Machine, IsDetermined}
 use Rattle.um_driver.specs.declared.status.Status.{Status}
 use Rattle.um_driver.specs.declared.status.Status.TheVariants.{Done}
 use Rattle.um_driver.proofs.Weaker.{as_weak, weaker_run}
 use Rattle.um_cli.specs.Headline.{headline_rules}
-use Rattle.um_cli.specs.Machines.{OneOutput}
+use Rattle.um_cli.specs.Machines.{machine, OfMachine, IsTable, IsDueEnd, OneOutput}
 use Rattle.um_cli.specs.Replay.{replay_rules}
 use Rattle.um_cli.specs.Restored.{Restores}
 use Rattle.um_cli.specs.declared.words.Shape.{Shape}
@@ -20,7 +20,7 @@ use Rattle.um_session.proofs.Laws.{link_has_one_output}
 use Rattle.um_end.proofs.EndRules.{end_has_one_output}
 use Rattle.um_cli.proofs.CodeRules.{code_has_one_output}
 use Rattle.um_cli.proofs.Headlines.{headline_is_weaker}
-use Rattle.um_cli.proofs.ReplayRules.{replay_has_one_output}
+use Rattle.um_cli.proofs.ReplayRules.{replay_is_determined, replay_has_one_output}
 use Rattle.um_cli.proofs.Restoring.{restored_whole}
 use Rattle.um_cli.proofs.ShowRules.{show_has_one_output}
 
@@ -34,39 +34,42 @@ one_output (Link tsc channel) fits = link_has_one_output tsc channel fits
 one_output (Make n tsc) fits = one_generated_summary n tsc fits.2
 one_output (End side tsc) fits = end_has_one_output (role_of side) tsc fits
 
--- what holds for the shape of the words holds for whatever shape they have
-pub for_shape : (P : Shape → Type 0) (found : Option Shape) (s : Shape) → found ≡ Some s → P s → (t : Shape) → found ≡ Some t → P t
-for_shape P found s h p t k = let same : s ≡ t = cc (h, k) in subst P same p
+-- a run by the rules of the shape that the words have, from its first state
+module _ {State : Type 0} (r : Rules State) (begun : State) (s : Shape) (is : (P : Machine → Type 0) → P (machine r begun) → OfMachine s P)
+    (found : Option Shape) (named : found ≡ Some s) (start : State) (starts : start ≡ begun) (status : Status) where
+  same : (t : Shape) → found ≡ Some t → s ≡ t
+  same t k = cc (named, k)
 
--- a run by rules, whatever its command stands for
-pub any_run : {State : Type 0} (r : Rules State) (a : State) (Stands : State → Type 0) (status : Status)
-    (left left' taken taken' : Option (List ℕ)) → IsRun r a Stands status left left' taken taken' →
-    IsRun r a (λ _. Unit {0}) status left left' taken taken'
-any_run r a Stands status left left' taken taken' run =
-    weaker_run r r (as_weak r) a Stands (λ _. Unit {0}) (λ b stands. tt) status left left' taken taken' run
+  pub table_of : (Stands : State → Type 0) (left left' taken taken' : Option (List ℕ)) → IsRun r start Stands status left left' taken taken' →
+      (t : Shape) → found ≡ Some t → IsTable t status left left' taken taken'
+  table_of Stands left left' taken taken' run t k =
+      let weak = weaker_run r r (as_weak r) start Stands (λ _. Unit {0}) (λ b stands. tt) status left left' taken taken' run in
+      subst (λ t. IsTable t status left left' taken taken') (same t k) (is _
+      (subst (λ a. IsRun r a (λ _. Unit {0}) status left left' taken taken') starts weak))
 
--- a run that ends as due restores what `code` wrote
-pub restores : (status : Status) (left taken taken' : Option (List ℕ)) → EndsAsDue replay_rules [] status left taken taken' →
+  pub due_of : IsDetermined r → (left taken taken' : Option (List ℕ)) → (IsDetermined r → EndsAsDue r start status left taken taken') →
+      (t : Shape) → found ≡ Some t → IsDueEnd t status left taken taken'
+  due_of determined left taken taken' due t k =
+      subst (λ t. IsDueEnd t status left taken taken') (same t k) (is _
+      (subst (λ a. EndsAsDue r a status left taken taken') starts (due determined)))
+
+-- a run of `replay` that ends as due restores what `code` wrote
+due_restores : (status : Status) (left taken taken' : Option (List ℕ)) → EndsAsDue replay_rules [] status left taken taken' →
     Restores status left taken taken'
-restores status None taken taken' due = tt
-restores status (Some x) taken taken' due = λ z good limit.
+due_restores status None taken taken' due = tt
+due_restores status (Some x) taken taken' due = λ z good limit.
     let back = restored_whole z x good limit in
     (back.lines, back.reports, back.divided, back.restored, due Done back.reports back.output)
 
--- a run that began in this state
-pub run_from : {State : Type 0} (r : Rules State) (start begun : State) (Stands : State → Type 0) (status : Status)
-    (left left' taken taken' : Option (List ℕ)) → start ≡ begun → IsRun r start Stands status left left' taken taken' →
-    IsRun r begun Stands status left left' taken taken'
-run_from r start begun Stands status left left' taken taken' same run =
-    subst (λ s. IsRun r s Stands status left left' taken taken') same run
+pub restores : (start : List (List ℤ)) → start ≡ [] → (status : Status) (left taken taken' : Option (List ℕ)) →
+    (IsDetermined replay_rules → EndsAsDue replay_rules start status left taken taken') → Restores status left taken taken'
+restores start none status left taken taken' due =
+    due_restores status left taken taken'
+    (subst (λ a. EndsAsDue replay_rules a status left taken taken') none (due replay_is_determined))
 
-pub due_from : {State : Type 0} (r : Rules State) → IsDetermined r →
-    (start begun : State) (status : Status) (left taken taken' : Option (List ℕ)) → start ≡ begun →
-    (IsDetermined r → EndsAsDue r start status left taken taken') → EndsAsDue r begun status left taken taken'
-due_from r determined start begun status left taken taken' same due =
-    subst (λ s. EndsAsDue r s status left taken taken') same (due determined)
-
-pub replay_headline : (Stands : List (List ℤ) → Type 0) (status : Status) (left left' taken taken' : Option (List ℕ)) →
-    IsRun replay_rules [] Stands status left left' taken taken' → IsRun headline_rules [] (λ _. Unit {0}) status left left' taken taken'
-replay_headline Stands status left left' taken taken' run =
-    weaker_run replay_rules headline_rules headline_is_weaker [] Stands (λ _. Unit {0}) (λ b stands. tt) status left left' taken taken' run
+pub replay_headline : (start : List (List ℤ)) → start ≡ [] → (Stands : List (List ℤ) → Type 0) (status : Status)
+    (left left' taken taken' : Option (List ℕ)) → IsRun replay_rules start Stands status left left' taken taken' →
+    IsRun headline_rules [] (λ _. Unit {0}) status left left' taken taken'
+replay_headline start none Stands status left left' taken taken' run =
+    subst (λ a. IsRun headline_rules a (λ _. Unit {0}) status left left' taken taken') none
+    (weaker_run replay_rules headline_rules headline_is_weaker start Stands (λ _. Unit {0}) (λ b stands. tt) status left left' taken taken' run)

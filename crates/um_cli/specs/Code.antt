@@ -1,11 +1,11 @@
 -- What the command `code` answers to the lines of its input (this project's own rule).
-use Rattle.std.specs.Prelude.{ℕ, ◌≡◌, List, [], None}
+use Rattle.std.specs.Prelude.{ℕ, ◌≡◌, List, []}
 use Rattle.um_block.specs.Sent.{IsSentBlock, IsSentAccess, IsSentSync}
 use Rattle.um_text.specs.declared.code.CodeLine.{CodeLine}
 use Rattle.um_text.specs.declared.code.CodeLine.TheVariants.{Skip, Block, Rach, Sch}
 use Rattle.um_text.specs.CodeLines.{code_fault, CodeMeans}
 use Rattle.um_text.specs.BurstTexts.{block_text, access_text, sync_text}
-use Rattle.um_driver.specs.Rules.{Rules}
+use Rattle.um_driver.specs.Rules.{Rules, stateless}
 
 -- the lines of the bursts that carry what a line means
 abbrev pub IsCodeAnswer : CodeLine → List ℕ → Type 0
@@ -23,8 +23,4 @@ AnswersCode line answer = (meaning : CodeLine) × CodeMeans line meaning × IsCo
 
 -- the command has no state, and an input may end anywhere
 abbrev pub code_rules : Rules (Unit {0})
-code_rules = record {
-  fault = λ _ line. code_fault line;
-  end_fault = λ _. None;
-  Step = λ _ line answer _. AnswersCode line answer;
-}
+code_rules = stateless code_fault AnswersCode

@@ -1,10 +1,10 @@
 -- What the command `show` answers to the lines of its input (this project's own rule).
-use Rattle.std.specs.Prelude.{ℕ, ◌≡◌, List, [], None}
+use Rattle.std.specs.Prelude.{ℕ, ◌≡◌, List, []}
 use Rattle.um_text.specs.declared.show.ShowLine.{ShowLine}
 use Rattle.um_text.specs.declared.show.ShowLine.TheVariants.{Skip, Octets, Frame}
 use Rattle.um_text.specs.ShowLines.{show_fault, ShowMeans}
 use Rattle.um_text.specs.FrameTexts.{IsFrameText, octets_text}
-use Rattle.um_driver.specs.Rules.{Rules}
+use Rattle.um_driver.specs.Rules.{Rules, stateless}
 
 -- octets are shown as the frame that they are, or with the reason why they are none; a frame is shown as its octets
 abbrev pub IsShowAnswer : ShowLine → List ℕ → Type 0
@@ -18,8 +18,4 @@ AnswersShow line answer = (meaning : ShowLine) × ShowMeans line meaning × IsSh
 
 -- the command has no state, and an input may end anywhere
 abbrev pub show_rules : Rules (Unit {0})
-show_rules = record {
-  fault = λ _ line. show_fault line;
-  end_fault = λ _. None;
-  Step = λ _ line answer _. AnswersShow line answer;
-}
+show_rules = stateless show_fault AnswersShow

@@ -20,7 +20,7 @@ use crate::words::{Shape, Words};
 use std::alloc::Global;
 use um_block::Radio;
 use um_bursts::BurstCommand;
-use um_driver::{Status, drive};
+use um_driver::{Stateless, Status, drive};
 use um_end::OneEnd;
 use um_io::{Sink, Source};
 use um_margin::Margins;
@@ -90,11 +90,11 @@ pub fn run<S: Source, K: Sink, R: Radio>(
 {
     match words.shape() {
         None => Status::BadWords,
-        Some(Shape::Code) => drive(alloc, &mut Code, input, output),
+        Some(Shape::Code) => drive(alloc, &mut Stateless(Code), input, output),
         Some(Shape::Replay) => drive(alloc, &mut BurstCommand::new(Replay {}), input, output),
-        Some(Shape::Show) => drive(alloc, &mut Show, input, output),
+        Some(Shape::Show) => drive(alloc, &mut Stateless(Show), input, output),
         Some(Shape::Margin) => drive(alloc, &mut BurstCommand::new(Margins {}), input, output),
-        Some(Shape::Repair) => drive(alloc, &mut Repair, input, output),
+        Some(Shape::Repair) => drive(alloc, &mut Stateless(Repair), input, output),
         Some(Shape::Link(tsc, channel)) => run_link(alloc, tsc, channel, input, output, radio),
         Some(Shape::Make(n, tsc)) => run_make(alloc, n, tsc, output, radio),
         Some(Shape::End(side, tsc)) => drive(alloc, &mut OneEnd::new(side, tsc), input, output),

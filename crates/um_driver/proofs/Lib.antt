@@ -10,4 +10,4 @@ pub mod Turns
 pub mod Reaching
 pub mod Settling
 pub mod Weaker
-pub mod Stateless
+pub mod StatelessRules

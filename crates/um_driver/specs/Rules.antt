@@ -12,6 +12,14 @@ pub record Rules (State : Type 0) : Type 1 where
   pub end_fault : State → Option LineFault
   pub Step : State → List ℕ → List ℕ → State → Type 0
 
+-- the rules of a command without a state, whose input may end after any line
+abbrev pub stateless : (List ℕ → Option LineFault) → (List ℕ → List ℕ → Type 0) → Rules (Unit {0})
+stateless fault Answer = record {
+  fault = λ _ line. fault line;
+  end_fault = λ _. None;
+  Step = λ _ line answer _. Answer line answer;
+}
+
 -- a command's rules, and the state in which a run of it begins
 pub record Machine : Type 1 where
   pub State : Type 0

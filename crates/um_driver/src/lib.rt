@@ -5,12 +5,14 @@ mod command;
 mod driver;
 mod gathered;
 mod laws;
+mod stateless;
 mod status;
 mod writing;
 
 pub use command::Command;
 pub use driver::drive;
 pub use laws::{output_exists, output_is_unique};
+pub use stateless::{Answer, Stateless};
 pub use status::Status;
 pub use writing::put_all;
 

@@ -3,6 +3,8 @@ use Rattle.std.proofs.Common.{◌≡◌, ℕ, ◌+◌, ◌*◌, ◌<◌, ◌≤�
 use Rattle.std.specs.Str.{bytes_eq}
 use Rattle.std.specs.Int.Signed.{mag}
 use Rattle.std.specs.Fmt.{decimal, signed_decimal}
+use Rattle.std.specs.List.{join_with_byte}
+use Rattle.hex.specs.Hex.{encode_lower}
 use Rattle.std.proofs.lemmas.Bool.Decides.{nat_tests}
 use Rattle.std.proofs.lemmas.Fmt.{length-decimal-le, length_signed_le}
 use Rattle.std.proofs.lemmas.List.{length-map}
@@ -30,8 +32,11 @@ use Rattle.um_block.specs.declared.received.Received.{Received}
 use Rattle.lapdm_link.specs.Events.{Open, OpenBare, Ask, Deliver, Lose, Rival, End, call_of}
 use Rattle.um_air.specs.Air.{Octets, Block, Reads, Event, Step, Answer, Refuses, Does}
 use Rattle.um_link.specs.Coded.{AreCoded}
-use Rattle.um_script.specs.AnswerLines.{heard, FitsHeard}
-use Rattle.um_script.specs.StepLines.{who_word, link_word, octets_word, heard_text, block_text, arrival_text, notice_text, notices_text, frames_text, answer_text}
+use Rattle.um_lines.specs.Spelled.{octets_word}
+use Rattle.um_script.specs.AnswerWords.{who_word, link_word}
+use Rattle.um_script.specs.AnswerLines as L
+use Rattle.um_script.specs.AnswerLines.{Said, heard, heard_words, notice_words, block_line, arrival_lines, spaced, lines_text, answer_text, FitsHeard}
+use Rattle.um_script.proofs.AnswerLaws.{lines_text_append, join-spaced, told_line}
 use Rattle.um_end.specs.Terminals.{Links, link_in, does, does_nothing, takes, takes_read, step_of, IsAsked, Asks, Hears}
 use Rattle.um_end.specs.EndRuns.{frames_of, IsAnswerText}
 use Rattle.um_end.proofs.Deeds.{by_sapi}
@@ -244,18 +249,17 @@ link_short : (sapi : Sapi) → length (link_word sapi) ≤ 1
 link_short Zero = omega arith
 link_short Three = omega arith
 
-acked_short : (n : ℕ) → n < 2 ^ 64 → length (notice_text (N.Acked n)) ≤ 27
-acked_short n h =
-    omega (arith, length-append (codes " acked ") (decimal n), length-decimal-le 20 n (omega arith) (omega (arith, h)) h)
+acked_short : (n : ℕ) → n < 2 ^ 64 → length (spaced (notice_words (N.Acked n))) ≤ 27
+acked_short n h = omega (arith, length-append (decimal n) [], length-decimal-le 20 n (omega arith) (omega (arith, h)) h)
 
 octets_short : (m : List ℕ) → length m ≤ 251 → length (octets_word m) ≤ 502
 octets_short [] h = omega arith
 octets_short (octet ∷ rest) h = omega (arith, h, length-encode_lower (octet ∷ rest))
 
-notice_short : (notice : Notice) → IsLight notice → length (notice_text notice) ≤ 510
-notice_short (N.Opened m) h = omega (arith, length-append (codes " opened ") (octets_word m), octets_short m h)
-notice_short (N.Got m) h = omega (arith, length-append (codes " got ") (octets_word m), octets_short m h)
-notice_short (N.Unit m) h = omega (arith, length-append (codes " unit ") (octets_word m), octets_short m h)
+notice_short : (notice : Notice) → IsLight notice → length (spaced (notice_words notice)) ≤ 510
+notice_short (N.Opened m) h = omega (arith, length-append (octets_word m) [], octets_short m h)
+notice_short (N.Got m) h = omega (arith, length-append (octets_word m) [], octets_short m h)
+notice_short (N.Unit m) h = omega (arith, length-append (octets_word m) [], octets_short m h)
 notice_short (N.Acked n) h = let d = acked_short n h in omega (arith, d)
 notice_short N.Oversize h = omega arith
 notice_short (N.Closed R.Contention) h = omega arith
@@ -263,14 +267,18 @@ notice_short (N.Closed R.Failed) h = omega arith
 notice_short (N.Closed R.Refused) h = omega arith
 notice_short (N.Closed R.Released) h = omega arith
 
-line_short : (role : Role) (sapi : Sapi) (notice : Notice) (notices : List Notice) →
-    length (notices_text (End role) sapi (notice ∷ notices)) ≤
-    5 + length (notice_text notice) + length (notices_text (End role) sapi notices)
-line_short role sapi notice notices =
-    let all = append_five (who_word (End role)) (link_word sapi) (notice_text notice) (codes "\n") (notices_text (End role) sapi notices) in
-    omega (arith, all, who_three role, link_short sapi)
+-- the lines of what is reported
+abbrev told : Role → Sapi → List Notice → List ℕ
+told role sapi notices = lines_text (map (L.Tells (End role) sapi) notices)
 
-notices_short : (role : Role) (sapi : Sapi) (ns : List Notice) → IsBrief ns → length (notices_text (End role) sapi ns) ≤ 547
+line_short : (role : Role) (sapi : Sapi) (notice : Notice) (notices : List Notice) →
+    length (told role sapi (notice ∷ notices)) ≤ 5 + length (spaced (notice_words notice)) + length (told role sapi notices)
+line_short role sapi notice notices =
+    let rest = told role sapi notices in
+    let all = append_five (who_word (End role)) (link_word sapi) (spaced (notice_words notice)) (codes "\n") rest in
+    omega (arith, all, ap length (told_line [] (End role) sapi notice rest), who_three role, link_short sapi)
+
+notices_short : (role : Role) (sapi : Sapi) (ns : List Notice) → IsBrief ns → length (told role sapi ns) ≤ 547
 notices_short role sapi [] h = omega arith
 notices_short role sapi (n ∷ []) h = omega (arith, line_short role sapi n [], notice_short n h)
 notices_short role sapi (N.Acked k ∷ n ∷ []) h =
@@ -283,36 +291,64 @@ notices_short role sapi (N.Oversize ∷ n ∷ ns) h = absurd h
 notices_short role sapi (N.Closed reason ∷ n ∷ ns) h = absurd h
 
 frames_short : (role : Role) (tsc : ℕ) (frames : List Octets) (blocks : List Block) → AreCoded tsc frames blocks →
-    length (frames_text (End role) frames) ≡ 57 * length frames
+    length (lines_text (map (L.Sends (End role)) frames)) ≡ 57 * length frames
 frames_short role tsc [] [] h = refl
 frames_short role tsc [] (b ∷ bs) h = absurd h
 frames_short role tsc (f ∷ fs) [] h = absurd h
 frames_short role tsc (f ∷ fs) (b ∷ bs) h =
-    let all : length (frames_text (End role) (f ∷ fs)) ≡ _ =
-    append_five (who_word (End role)) (codes " sends ") _ (codes "\n") (frames_text (End role) fs) in
-    omega (arith, all, who_three role, length-encode_lower f, h.0.code.count, frames_short role tsc fs bs h.1)
+    let name = who_word (End role) in
+    let words = codes " sends " ++ encode_lower f in
+    omega (
+      arith,
+      length-append ((name ++ words) ++ codes "\n") (lines_text (map (L.Sends (End role)) fs)),
+      length-append (name ++ words) (codes "\n"),
+      length-append name words,
+      who_three role,
+      length-encode_lower f,
+      h.0.code.count,
+      frames_short role tsc fs bs h.1,
+    )
 
 mag_is : (z : ℤ) → mag z ≤ nat_abs z
 mag_is (pos n) = omega arith
 mag_is (negsuc n) = omega arith
 
-heard_short : (r : Received) → r.tsc ≤ 7 → FitsHeard (heard r) → length (heard_text r) ≤ 60
+heard_short : (r : Received) → r.tsc ≤ 7 → FitsHeard (heard r) → length (spaced (heard_words (heard r))) ≤ 61
 heard_short r tsc h =
     let t = length-decimal-le 1 r.tsc (omega arith) (omega (arith, tsc)) (omega (arith, tsc)) in
     let w = length-decimal-le 20 r.wrong_training (omega arith) (omega (arith, h.train)) h.train in
     let m = length_signed_le 19 r.metric (omega (arith, h.metric, mag_is r.metric)) (omega (arith, h.metric, mag_is r.metric)) in
-    let front = append_five (codes "tsc ") (decimal r.tsc) (codes " train ") (decimal r.wrong_training) (codes " metric ") in
-    let whole = length-append
-    (codes "tsc " ++ decimal r.tsc ++ codes " train " ++ decimal r.wrong_training ++ codes " metric ") (signed_decimal r.metric) in
-    omega (arith, t, w, m, front, whole)
+    let last = signed_decimal r.metric ++ [] in
+    let back = decimal r.wrong_training ++ (codes " metric " ++ last) in
+    omega (
+      arith,
+      t,
+      w,
+      m,
+      length-append (decimal r.tsc) (codes " train " ++ back),
+      length-append (decimal r.wrong_training) (codes " metric " ++ last),
+      length-append (signed_decimal r.metric) [],
+    )
 
 arrival_short : (role : Role) (r : Received) (octets : Octets) → r.accepted ≡ Some octets → length octets ≡ 23 → r.tsc ≤ 7 →
-    FitsHeard (heard r) → length (arrival_text (End role) (Some r)) ≤ 118
+    FitsHeard (heard r) → length (lines_text (arrival_lines (End role) (Some r))) ≤ 118
 arrival_short role r octets is count tsc fits =
-    let whole = length-append (who_word (End role)) (block_text r.accepted r) in
-    let known = ap (λ accepted. length (block_text accepted r)) is in
-    let all : length (block_text (Some octets) r) ≡ _ = append_five (codes " takes ") _ (codes " ") (heard_text r) (codes "\n") in
-    omega (arith, whole, known, all, who_three role, length-encode_lower octets, count, heard_short r tsc fits)
+    let name = who_word (End role) in
+    let words = codes "takes" ∷ encode_lower octets ∷ heard_words (heard r) in
+    let line = join_with_byte 32 (name ∷ words) in
+    omega (
+      arith,
+      ap (λ accepted. length (lines_text (block_line (End role) accepted r ∷ []))) is,
+      length-append (line ++ codes "\n") [],
+      length-append line (codes "\n"),
+      ap length (join-spaced name words),
+      length-append name (spaced words),
+      length-append (encode_lower octets) (spaced (heard_words (heard r))),
+      who_three role,
+      length-encode_lower octets,
+      count,
+      heard_short r tsc fits,
+    )
 
 -- ---- answers
 
@@ -320,13 +356,20 @@ arrival_short role r octets is count tsc fits =
 abbrev pub IsShort : Answer → Type 0
 IsShort answer = length (answer_text answer) + 604 * length (frames_of answer) < 2000
 
+lines_four : (a b c d : List Said) → length (lines_text (a ++ b ++ c ++ d))
+    ≡ length (lines_text a) + length (lines_text b) + length (lines_text c) + length (lines_text d)
+lines_four a b c d =
+    ap length (lines_text_append (a ++ b ++ c) d ∙ ap (λ t. t ++ lines_text d) (lines_text_append (a ++ b) c
+    ∙ ap (λ t. t ++ lines_text c) (lines_text_append a b)))
+    ∙ append_four (lines_text a) (lines_text b) (lines_text c) (lines_text d)
+
 outcome_short : (role : Role) (received : Option Received) (sapi : Sapi) (o : Outcome) (a : Links) (tsc : ℕ) (blocks : List Block) →
-    length o.frames ≤ 2 → IsBrief o.notices → length (arrival_text (End role) received) ≤ 118 →
+    length o.frames ≤ 2 → IsBrief o.notices → length (lines_text (arrival_lines (End role) received)) ≤ 118 →
     AreCoded tsc (map (octets_of Sdcch) o.frames) blocks → IsShort (Does (step_of role received (does sapi o a)))
 outcome_short role received sapi o a tsc blocks few brief arrived coded =
     let frames = map (octets_of Sdcch) o.frames in
-    let all = append_four (arrival_text (End role) received) (notices_text (End role) sapi o.notices) (frames_text (End role) frames)
-    (codes "ok\n") in
+    let all = lines_four (arrival_lines (End role) received) (map (L.Tells (End role) sapi) o.notices) (map (L.Sends (End role)) frames)
+    (L.All ∷ []) in
     omega (
       arith,
       all,

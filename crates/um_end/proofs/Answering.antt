@@ -43,7 +43,7 @@ coded_next tsc os i old mid new b within h sent is =
 -- ---- what stands for a run
 
 -- what holds for the side and the number of bursts held, holds in the run
-pub at_run : (P : Role → ℕ → Type 0) (c : OneEnd) (s : EndRun) (count : ℕ) → StandsFor c s → count ≡ length c.held →
+pub at_run : (P : Role → ℕ → Type 0) (c : OneEnd) (s : EndRun) (count : ℕ) → StandsFor c s → count ≡ length c.held.held →
     P (side_of c.terminal) count →
     P s.role (length s.held)
 at_run P c s count st e h =

@@ -26,7 +26,7 @@ use Rattle.um_air.specs.Air.{Octets, Block, Event, Reads, Answer, Refuses, Does,
 use Rattle.um_air.specs.Sessions.{IsOctetEvent}
 use Rattle.um_air.proofs.Laws.{some_reading, reads-well, octets_small}
 use Rattle.um_link.specs.Coded.{AreCoded}
-use Rattle.um_script.specs.StepLines.{answer_text}
+use Rattle.um_script.specs.AnswerLines.{answer_text}
 use Rattle.um_driver.specs.Rules.{IsDetermined, IsTotal}
 use Rattle.um_driver.specs.Laws.{HasOneOutput}
 use Rattle.um_driver.proofs.OutputExists.{has_one_output}

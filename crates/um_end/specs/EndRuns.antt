@@ -6,7 +6,7 @@ use Rattle.um_text.specs.BurstLines.{unfinished}
 use Rattle.um_text.specs.BurstTexts.{block_text}
 use Rattle.um_air.specs.Air.{Octets, Block, Event, Answer, Refuses, Does, Step}
 use Rattle.um_link.specs.Coded.{AreCoded}
-use Rattle.um_script.specs.StepLines.{answer_text}
+use Rattle.um_script.specs.AnswerLines.{answer_text}
 use Rattle.um_driver.specs.Rules.{Rules}
 use Rattle.um_end.specs.Terminals.{Links, idle_links, Asks, Hears}
 use Rattle.um_end.specs.EndLines.{Meaning, Nothing, Brings, Calls, end_fault, EndMeans}

@@ -1,9 +1,6 @@
 //! The command `end`: one end over recorded bursts and its own calls.
 ghost use Rattle.std.specs.Prelude.{◌≡◌, ◌+◌, ◌*◌, ◌<◌, ◌≤◌, ℕ, [], ◌∷◌, ◌++◌, length, OnOk};
-ghost use Rattle.std.specs.List.{All, flat_map};
-ghost use Rattle.bit_blocks.specs.Bits.{AllBits};
 ghost use Rattle.conv_code.specs.Likelihood.{AllSoft};
-ghost use Rattle.um_text.specs.BurstTexts.{normal_text, block_text};
 ghost use Rattle.um_link.specs.Coded.{AreCoded};
 ghost use Rattle.um_link.specs.Naming.{role_of, step_of, answer_of, written};
 ghost use Rattle.um_link.specs.Standing.{FitsWho};
@@ -12,7 +9,7 @@ ghost use Rattle.um_io.specs.Lines.{IsLine};
 ghost use Rattle.um_io.specs.Reading.{line_limit};
 ghost use Rattle.um_driver.specs.Laws.{HasOneOutput};
 ghost use Rattle.um_driver.specs.Rules.{Answers};
-ghost use Rattle.um_script.specs.StepLines.{answer_text};
+ghost use Rattle.um_script.specs.AnswerLines.{answer_text};
 ghost use Rattle.um_end.specs.EndRuns.{EndRun, idle, end_rules, frames_of, IsAnswerText, AnswersBursts, IsCodedText};
 ghost use Rattle.um_end.specs.Commands.{StandsFor, start_of};
 
@@ -22,7 +19,7 @@ use um_driver::Command;
 use um_lines::{LineFault, Text};
 use um_link::{End, No, Step};
 use um_script::{Room, written_lines};
-use um_text::HeldBursts;
+use um_text::{HeldBursts, push_block};
 
 /// Every list of octets, good or bad and of any length, has one output of the command and one way to end.
 pub fn law_one_output()
@@ -62,8 +59,9 @@ impl OneEnd {
             (after : EndRun) × AnswersBursts s (s.held ++ burst ∷ []) out.new after × StandsFor self.new after }
         ensures few { (s : EndRun) → StandsFor self.old s → length out.new < 2000 }
     {
-        if let Some(block) = self.held.add(burst) {
-            self.terminal.receive_into(&block, &mut self.step);
+        if self.held.add(burst) {
+            self.terminal
+                .receive_into(self.held.block(), &mut self.step);
             write_answer(out, &self.terminal, &Ok(()), &self.step);
         }
     }
@@ -135,18 +133,5 @@ fn push_blocks(out: &mut Text, terminal: &Terminal, frames: &[[u8; 23]])
 {
     for octets in frames {
         push_block(out, &terminal.bursts(octets));
-    }
-}
-
-fn push_block(out: &mut Text, bursts: &[[u8; 148]; 4])
-    requires room { length out.old + 604 ≤ 4096 }
-    requires bits { All AllBits bursts.now }
-    ensures lines { out.new ≡ out.old ++ block_text bursts.now }
-    ensures length { length out.new ≡ length out.old + 604 }
-{
-    for burst in bursts {
-        out.push(b"n ");
-        out.push_digits(burst);
-        out.push(b"\n");
     }
 }

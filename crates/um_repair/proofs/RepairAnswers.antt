@@ -3,7 +3,7 @@ use Rattle.std.proofs.Common.{◌≡◌, ℕ, List, [], refl, sym, ap, ◌∙◌
 use Rattle.fire_repair.proofs.Lemmas.{one_answer, some_answer}
 use Rattle.um_driver.specs.Rules.{IsDetermined}
 use Rattle.um_driver.specs.Laws.{HasOneOutput}
-use Rattle.um_driver.proofs.Stateless.{stateless_is_determined, stateless_has_one_output}
+use Rattle.um_driver.proofs.StatelessRules.{stateless_is_determined, stateless_has_one_output}
 use Rattle.um_repair.specs.declared.parsing.RepairLine.{RepairLine}
 use Rattle.um_repair.specs.declared.parsing.RepairLine.TheVariants.{Skip, Word}
 use Rattle.um_repair.specs.RepairLines.{repair_fault, RepairMeans}

@@ -1,8 +1,8 @@
 -- What the command `repair` answers to the lines of its input (this project's own rule).
-use Rattle.std.specs.Prelude.{ℕ, ◌≡◌, List, [], None}
+use Rattle.std.specs.Prelude.{ℕ, ◌≡◌, List, []}
 use Rattle.fire_repair.specs.Answers.{IsAnswer}
 use Rattle.fire_repair.specs.declared.repairs.RepairAnswer.{RepairAnswer}
-use Rattle.um_driver.specs.Rules.{Rules}
+use Rattle.um_driver.specs.Rules.{Rules, stateless}
 use Rattle.um_repair.specs.declared.parsing.RepairLine.{RepairLine}
 use Rattle.um_repair.specs.declared.parsing.RepairLine.TheVariants.{Skip, Word}
 use Rattle.um_repair.specs.RepairLines.{repair_fault, RepairMeans}
@@ -19,8 +19,4 @@ AnswersRepair line answer = (meaning : RepairLine) × RepairMeans line meaning �
 
 -- the command has no state, and an input may end anywhere
 abbrev pub repair_rules : Rules (Unit {0})
-repair_rules = record {
-  fault = λ _ line. repair_fault line;
-  end_fault = λ _. None;
-  Step = λ _ line answer _. AnswersRepair line answer;
-}
+repair_rules = stateless repair_fault AnswersRepair

@@ -11,7 +11,6 @@ use Rattle.std.proofs.lemmas.List.Splits.{slice_split_at, join_with_byte-slice_s
 use Rattle.std.proofs.lemmas.Str.Parse.{IsNumeralModel, numerals_by_value, tells_all_ascii_digits}
 use Rattle.std.specs.List as L
 use Rattle.hex.specs.Hex.{encode_lower, is_hex_digit}
-use Rattle.bit_blocks.specs.Octets.{octets_of}
 use Rattle.lapdm_window.specs.declared.Sapi.{Sapi}
 use Rattle.lapdm_window.specs.declared.Sapi.TheVariants.{Zero, Three}
 use Rattle.lapdm_window.specs.declared.Reason.{Reason}
@@ -21,109 +20,43 @@ use Rattle.lapdm_window.specs.declared.Notice.TheVariants as N
 use Rattle.lapdm_window.specs.declared.Refused.TheVariants as Q
 use Rattle.lapdm_window.specs.Ends.{Mobile, Network}
 use Rattle.lapdm_link.specs.Events as E
-use Rattle.um_block.specs.declared.received.Received.{Received}
 use Rattle.um_air.specs.Air as A
 use Rattle.um_air.specs.Sessions.{AreOctets}
 use Rattle.um_lines.specs.Fields.{hex_octets}
 use Rattle.um_lines.specs.Words.{IsNoSpace, words}
 use Rattle.um_lines.proofs.SpelledLaws.{encoded}
 use Rattle.um_lines.proofs.WordLists.{words-join}
-use Rattle.um_script.specs.StepLines.{who_word, link_word, refusal_word, closing_word, octets_word, block_text, arrival_text, notice_text, notices_text, frames_text, answer_text}
-use Rattle.um_script.specs.AnswerLines.{Heard, Said, No, Takes, Drops, Tells, Sends, All, block_line, arrival_lines, answer_lines, notice_words, heard_words, said_words, said_text, lines_text, FitsHeard, FitsNotice, FitsLine, FitLines}
+use Rattle.um_lines.specs.Spelled.{octets_word}
+use Rattle.um_script.specs.AnswerWords.{who_word, link_word, refusal_word, closing_word}
+use Rattle.um_script.specs.AnswerLines.{Heard, Said, No, Takes, Drops, Tells, Sends, All, answer_lines, notice_words, heard_words}
+use Rattle.um_script.specs.AnswerLines.{spaced, said_words, said_text, lines_text, answer_text, FitsHeard, FitsNotice, FitsLine, FitLines}
 
--- ---- the text of an answer is that of its lines
+-- ---- how lines are written
 
-lines_text-append : (ls ms : List Said) → lines_text (ls ++ ms) ≡ lines_text ls ++ lines_text ms
-lines_text-append [] ms = refl
-lines_text-append (l ∷ ls) ms = ap (λ t. said_text l ++ t) (lines_text-append ls ms)
+pub lines_text_append : (ls ms : List Said) → lines_text (ls ++ ms) ≡ lines_text ls ++ lines_text ms
+lines_text_append [] ms = refl
+lines_text_append (l ∷ ls) ms = ap (λ t. said_text l ++ t) (lines_text_append ls ms)
     ∙ sym (append_assoc (said_text l) (lines_text ls) (lines_text ms))
 
--- words, each with the octet behind it
-ended : List (List ℕ) → List ℕ
-ended [] = 10 ∷ []
-ended (w ∷ []) = w ++ 10 ∷ []
-ended (w ∷ v ∷ ws) = w ++ 32 ∷ ended (v ∷ ws)
+-- a line is its first word, and the others with a space before each
+pub join-spaced : (w : List ℕ) (ws : List (List ℕ)) → join_with_byte 32 (w ∷ ws) ≡ w ++ spaced ws
+join-spaced w [] = sym (append-nil w)
+join-spaced w (v ∷ ws) = ap (λ t. w ++ 32 ∷ t) (join-spaced v ws)
 
-ended_is : (ws : List (List ℕ)) → join_with_byte 32 ws ++ 10 ∷ [] ≡ ended ws
-unfolding ended
-ended_is [] = refl
-ended_is (w ∷ []) = refl
-ended_is (w ∷ v ∷ ws) = append_assoc w (32 ∷ join_with_byte 32 (v ∷ ws)) (10 ∷ []) ∙ ap (λ t. w ++ 32 ∷ t) (ended_is (v ∷ ws))
+spaced-append : (ws vs : List (List ℕ)) → spaced (ws ++ vs) ≡ spaced ws ++ spaced vs
+spaced-append [] vs = refl
+spaced-append (w ∷ ws) vs = ap (λ t. 32 ∷ w ++ t) (spaced-append ws vs) ∙ sym (append_assoc (32 ∷ w) (spaced ws) (spaced vs))
 
-twelve : (a b c d e f g h i j k l : List ℕ) → a ++ (b ++ c ++ d ++ e ++ f ++ g) ++ (h ++ i ++ j ++ k) ++ l
-    ≡ a ++ (b ++ (c ++ (d ++ (e ++ (f ++ (g ++ (h ++ (i ++ (j ++ (k ++ l))))))))))
-twelve a b c d e f g h i j k l = simp append_assoc
+pub line_spaced : (w : List ℕ) (ws vs : List (List ℕ)) → (w ++ spaced ws) ++ spaced vs ≡ join_with_byte 32 (w ∷ ws ++ vs)
+line_spaced w ws vs =
+    append_assoc w (spaced ws) (spaced vs) ∙ ap (λ t. w ++ t) (sym (spaced-append ws vs)) ∙ sym (join-spaced w (ws ++ vs))
 
-drops_text : (who tsc train metric octets check : List ℕ) →
-    who ++ (codes " drops " ++ (codes "tsc " ++ tsc ++ codes " train " ++ train ++ codes " metric " ++ metric)
-    ++ (codes " data " ++ octets ++ codes " check " ++ check) ++ codes "\n")
-    ≡ join_with_byte 32 (who ∷ codes "drops" ∷ codes "tsc" ∷ tsc ∷ codes "train" ∷ train ∷ codes "metric" ∷ metric ∷
-    codes "data" ∷ octets ∷ codes "check" ∷ check ∷ []) ++ 10 ∷ []
-unfolding ended
-drops_text who tsc train metric octets check =
-    ap (λ t. who ++ t) (twelve (codes " drops ") (codes "tsc ") tsc (codes " train ") train (codes " metric ") metric
-    (codes " data ") octets (codes " check ") check (codes "\n"))
-    ∙ sym (ended_is (who ∷ codes "drops" ∷ codes "tsc" ∷ tsc ∷ codes "train" ∷ train ∷ codes "metric" ∷ metric ∷
-    codes "data" ∷ octets ∷ codes "check" ∷ check ∷ []))
-
-ten : (a b c d e f g h i j : List ℕ) → a ++ b ++ c ++ (d ++ e ++ f ++ g ++ h ++ i) ++ j
-    ≡ a ++ (b ++ (c ++ (d ++ (e ++ (f ++ (g ++ (h ++ (i ++ j))))))))
-ten a b c d e f g h i j = simp append_assoc
-
-takes_text : (who octets tsc train metric : List ℕ) →
-    who ++ (codes " takes " ++ octets ++ codes " " ++ (codes "tsc " ++ tsc ++ codes " train " ++ train ++ codes " metric " ++ metric)
-    ++ codes "\n")
-    ≡ join_with_byte 32 (who ∷ codes "takes" ∷ octets ∷ codes "tsc" ∷ tsc ∷ codes "train" ∷ train ∷ codes "metric" ∷ metric ∷ []) ++ 10 ∷ []
-unfolding ended
-takes_text who octets tsc train metric =
-    ap (λ t. who ++ t) (ten (codes " takes ") octets (codes " ") (codes "tsc ") tsc (codes " train ") train
-    (codes " metric ") metric (codes "\n"))
-    ∙ sym (ended_is (who ∷ codes "takes" ∷ octets ∷ codes "tsc" ∷ tsc ∷ codes "train" ∷ train ∷ codes "metric" ∷ metric ∷ []))
-
-block_is : (who : E.Who) (accepted : Option (List ℕ)) (r : Received) →
-    who_word who ++ block_text accepted r ≡ lines_text (block_line who accepted r ∷ [])
-block_is who (Some octets) r =
-    takes_text (who_word who) (encode_lower octets) (decimal r.tsc) (decimal r.wrong_training) (signed_decimal r.metric)
-    ∙ sym (append-nil (said_text (block_line who (Some octets) r)))
-block_is who None r =
-    drops_text (who_word who) (decimal r.tsc) (decimal r.wrong_training) (signed_decimal r.metric) (encode_lower (octets_of (take 184 r.u)))
-    (encode_lower (octets_of (take 40 (drop 184 r.u)))) ∙ sym (append-nil (said_text (block_line who None r)))
-
-arrival_is : (who : E.Who) (received : Option Received) → arrival_text who received ≡ lines_text (arrival_lines who received)
-arrival_is who None = refl
-arrival_is who (Some r) = block_is who r.accepted r
-
-notice_is : (who : E.Who) (sapi : Sapi) (notice : Notice) (rest : List ℕ) →
-    who_word who ++ link_word sapi ++ notice_text notice ++ codes "\n" ++ rest ≡ said_text (Tells who sapi notice) ++ rest
-notice_is who sapi (N.Opened m) rest = simp append_assoc
-notice_is who sapi (N.Got m) rest = simp append_assoc
-notice_is who sapi (N.Unit m) rest = simp append_assoc
-notice_is who sapi (N.Acked n) rest = simp append_assoc
-notice_is who sapi N.Oversize rest = simp append_assoc
-notice_is who sapi (N.Closed reason) rest = simp append_assoc
-
-notices_are : (who : E.Who) (sapi : Sapi) (notices : List Notice) →
-    notices_text who sapi notices ≡ lines_text (map (Tells who sapi) notices)
-notices_are who sapi [] = refl
-notices_are who sapi (notice ∷ notices) =
-    ap (λ t. who_word who ++ link_word sapi ++ notice_text notice ++ codes "\n" ++ t) (notices_are who sapi notices)
-    ∙ notice_is who sapi notice (lines_text (map (Tells who sapi) notices))
-
-frames_are : (who : E.Who) (frames : List (List ℕ)) → frames_text who frames ≡ lines_text (map (Sends who) frames)
-frames_are who [] = refl
-frames_are who (frame ∷ frames) = rw (frames_are who frames) (simp append_assoc)
-
-pub text_is : (x : A.Answer) → answer_text x ≡ lines_text (answer_lines x)
-text_is (A.Refuses why) = simp (append_assoc, append-nil)
-text_is (A.Does s) =
-    let arrivals : List Said = arrival_lines s.who s.received in
-    let told : List Said = map (Tells s.who s.sapi) s.notices in
-    let sent : List Said = map (Sends s.who) s.frames in
-    let last : List Said = All ∷ [] in
-    rw (arrival_is s.who s.received, notices_are s.who s.sapi s.notices, frames_are s.who s.frames)
-    (sym (lines_text-append (arrivals ++ told ++ sent) last
-    ∙ ap (λ t. t ++ lines_text last) (lines_text-append (arrivals ++ told) sent
-    ∙ ap (λ t. t ++ lines_text sent) (lines_text-append arrivals told))))
+-- what is reported, behind what was written, and before the lines that are left
+pub told_line : (out : List ℕ) (who : E.Who) (sapi : Sapi) (notice : Notice) (rest : List ℕ) →
+    ((((out ++ who_word who) ++ link_word sapi) ++ spaced (notice_words notice)) ++ codes "\n") ++ rest
+    ≡ out ++ said_text (Tells who sapi notice) ++ rest
+told_line out who sapi notice rest =
+    rw (join-spaced (who_word who ++ link_word sapi) (notice_words notice)) (simp append_assoc)
 
 -- ---- no word has a space or a line feed
 
@@ -478,7 +411,7 @@ same_lines (l ∷ ls) (m ∷ ms) h k e =
 
 pub different_lines : (x y : A.Answer) → FitLines (answer_lines x) → FitLines (answer_lines y) →
     answer_text x ≡ answer_text y → answer_lines x ≡ answer_lines y
-different_lines x y h k e = same_lines (answer_lines x) (answer_lines y) h k (sym (text_is x) ∙ e ∙ text_is y)
+different_lines x y h k e = same_lines (answer_lines x) (answer_lines y) h k e
 
 pub same_text : (x y : A.Answer) → answer_lines x ≡ answer_lines y → answer_text x ≡ answer_text y
-same_text x y e = text_is x ∙ ap lines_text e ∙ sym (text_is y)
+same_text x y e = ap lines_text e

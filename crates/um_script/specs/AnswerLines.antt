@@ -1,4 +1,4 @@
--- The lines of an answer, by what they say (this project's own rule).
+-- The lines that answer a line of a script, by what they say (this project's own rule).
 use Rattle.std.specs.Prelude.{ℕ, ℤ, nat_abs, ◌<◌, ◌^◌, List, [], ◌∷◌, ◌++◌, map, take, drop, codes, Option, Some, None}
 use Rattle.std.specs.Fmt.{decimal, signed_decimal}
 use Rattle.std.specs.List.{join_with_byte}
@@ -11,7 +11,8 @@ use Rattle.lapdm_link.specs.Events as E
 use Rattle.um_block.specs.declared.received.Received.{Received}
 use Rattle.um_air.specs.Air as A
 use Rattle.um_air.specs.Sessions.{AreOctets}
-use Rattle.um_script.specs.StepLines.{who_word, link_word, refusal_word, closing_word, octets_word}
+use Rattle.um_lines.specs.Spelled.{octets_word}
+use Rattle.um_script.specs.AnswerWords.{who_word, link_word, refusal_word, closing_word}
 
 -- how a block was heard
 pub record Heard : Type 0 where
@@ -48,6 +49,11 @@ answer_lines (A.Does s) =
 
 -- ---- the text of lines
 
+-- words, each with a space before it: only the writers need this
+abbrev pub spaced : List (List ℕ) → List ℕ
+spaced [] = []
+spaced (word ∷ words) = 32 ∷ word ++ spaced words
+
 -- the words of how a block was heard
 abbrev pub heard_words : Heard → List (List ℕ)
 heard_words h = codes "tsc" ∷ decimal h.tsc ∷ codes "train" ∷ decimal h.train ∷ codes "metric" ∷ signed_decimal h.metric ∷ []
@@ -79,6 +85,10 @@ said_text line = join_with_byte 32 (said_words line) ++ codes "\n"
 abbrev pub lines_text : List Said → List ℕ
 lines_text [] = []
 lines_text (line ∷ lines) = said_text line ++ lines_text lines
+
+-- the lines of an answer: `no REASON`, or what arrived, what is reported, what is sent, and `ok`
+abbrev pub answer_text : A.Answer → List ℕ
+answer_text answer = lines_text (answer_lines answer)
 
 -- ---- octets and numbers as the program has them
 

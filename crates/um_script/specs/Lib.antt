@@ -1,7 +1,7 @@
 pub mod AnswerLines
+pub mod AnswerWords
 pub mod Held
 pub mod Names
 pub mod Naming
 pub mod ScriptLines
 pub mod ScriptReading
-pub mod StepLines

@@ -1,14 +1,16 @@
 //! The lines that answer a line of a script.
-ghost use Rattle.std.specs.Prelude.{◌≡◌, ◌+◌, ◌*◌, ◌-◌, ◌<◌, ◌≤◌, [], ◌++◌, length, map, take, drop, codes, IfOk, OnOk};
+ghost use Rattle.std.specs.Prelude.{◌≡◌, ◌+◌, ◌*◌, ◌-◌, ◌<◌, ◌≤◌, [], ◌∷◌, ◌++◌, length, map, take, drop, codes, IfOk, OnOk};
 ghost use Rattle.hex.specs.Hex.{encode_lower};
 ghost use Rattle.bit_blocks.specs.Octets.{bits_of, octets_of};
 ghost use Rattle.um_air.specs.Air as A;
 ghost use Rattle.um_air.specs.Sessions.{AreOctets};
-ghost use Rattle.lapdm_link.specs.Events as E;
-ghost use Rattle.um_script.specs.AnswerLines.{Tells, Sends, heard, block_line, arrival_lines, answer_lines, lines_text, FitsHeard, FitsNotice, FitsLine, FitLines};
+ghost use Rattle.um_lines.specs.Spelled.{octets_word};
+ghost use Rattle.um_script.specs.AnswerLines.{No as Refusal, Tells, Sends, heard, heard_words, notice_words, block_line, arrival_lines};
+ghost use Rattle.um_script.specs.AnswerLines.{spaced, said_text, lines_text, answer_lines, answer_text};
+ghost use Rattle.um_script.specs.AnswerLines.{FitsHeard, FitsNotice, FitsLine, FitLines};
 ghost use Rattle.um_link.specs.Naming.{answer_of, step_of, who_of, why_of, written};
 ghost use Rattle.um_link.specs.Standing.{FitsWho};
-ghost use Rattle.um_script.specs.StepLines.{who_word, link_word, refusal_word, closing_word, octets_word, heard_text, dropped_text, block_text, arrival_text, notice_text, notices_text, frames_text, answer_text};
+ghost use Rattle.um_script.specs.AnswerWords.{who_word, link_word, refusal_word, closing_word};
 
 use lapdm_window::{Notice, Reason, Sapi};
 use um_block::Received;
@@ -47,7 +49,7 @@ pub fn written_lines(out: &mut Text, done: &Result<(), No>, step: &Step)
 
 fn push_refusal(out: &mut Text, reason: No)
     requires { out.old ≡ [] }
-    ensures text { out.new ≡ codes "no " ++ refusal_word (why_of reason) ++ codes "\n" }
+    ensures text { out.new ≡ said_text (Refusal (why_of reason)) }
     ensures short { length out.new ≤ 20 }
 {
     out.push(b"no ");
@@ -71,7 +73,7 @@ fn refusal(reason: No) -> &'static [u8]
     }
 }
 
-#[tactic(auto, using(crate::proofs::FittingLines::fit_append))]
+#[tactic(auto, using(crate::proofs::FittingLines::fit_append, crate::proofs::AnswerLaws::lines_text_append))]
 fn push_step(out: &mut Text, step: &Step)
     requires { out.old ≡ [] }
     ensures text { out.new ≡ answer_text (answer_of (Ok step.now)) }
@@ -86,15 +88,12 @@ fn push_step(out: &mut Text, step: &Step)
 
 fn push_arrival(out: &mut Text, who: Who, received: &Option<Received>)
     requires { out.old ≡ [] }
-    ensures text { out.new ≡ arrival_text (who_of who) received.now }
+    ensures text { out.new ≡ lines_text (arrival_lines (who_of who) received.now) }
     ensures short { length out.new ≤ 300 }
     ensures fit { FitLines (arrival_lines (who_of who) received.now) }
 {
     match received {
-        Some(r) => {
-            out.push(name(who));
-            push_block(out, r);
-        }
+        Some(r) => push_block(out, who, r),
         None => {}
     }
 }
@@ -111,19 +110,21 @@ fn name(who: Who) -> &'static [u8]
     }
 }
 
-fn push_block(out: &mut Text, r: &Received)
-    requires { length out.old ≤ 5 }
-    ensures text { out.new ≡ out.old ++ block_text r.now.accepted r.now }
+#[tactic(auto, using(crate::proofs::AnswerLaws::line_spaced))]
+fn push_block(out: &mut Text, who: Who, r: &Received)
+    requires { out.old ≡ [] }
+    ensures text { out.new ≡ said_text (block_line (who_of who) r.now.accepted r.now) }
     ensures short { length out.new ≤ 300 }
-    ensures fit { (who : E.Who) → FitsLine (block_line who r.now.accepted r.now) }
+    ensures fit { FitsLine (block_line (who_of who) r.now.accepted r.now) }
 {
+    out.push(name(who));
     match &r.accepted {
         Some(octets) => {
             push_taken(out, octets);
             push_heard(out, r);
         }
         None => {
-            out.push(b" drops ");
+            out.push(b" drops");
             push_heard(out, r);
             push_dropped(out, r);
         }
@@ -134,22 +135,21 @@ fn push_block(out: &mut Text, r: &Received)
 fn push_taken(out: &mut Text, octets: &[u8])
     requires room { length out.old ≤ 5 }
     requires count { length octets.now ≡ 23 }
-    ensures text { out.new ≡ out.old ++ (codes " takes " ++ encode_lower octets.now ++ codes " ") }
-    ensures short { length out.new ≡ length out.old + 54 }
+    ensures text { out.new ≡ out.old ++ spaced (codes "takes" ∷ encode_lower octets.now ∷ []) }
+    ensures short { length out.new ≡ length out.old + 53 }
     ensures fit { AreOctets octets.now }
 {
     out.push(b" takes ");
     out.push_hex(octets);
-    out.push(b" ");
 }
 
 fn push_heard(out: &mut Text, r: &Received)
     requires { length out.old ≤ 60 }
-    ensures text { out.new ≡ out.old ++ heard_text r.now }
+    ensures text { out.new ≡ out.old ++ spaced (heard_words (heard r.now)) }
     ensures short { length out.new ≤ length out.old + 120 }
     ensures fit { FitsHeard (heard r.now) }
 {
-    out.push(b"tsc ");
+    out.push(b" tsc ");
     out.push_decimal(u64::from(r.tsc));
     out.push(b" train ");
     out.push_decimal(u64::from(r.wrong_training));
@@ -159,7 +159,8 @@ fn push_heard(out: &mut Text, r: &Received)
 
 fn push_dropped(out: &mut Text, r: &Received)
     requires { length out.old ≤ 180 }
-    ensures text { out.new ≡ out.old ++ dropped_text r.now.u }
+    ensures text { out.new ≡ out.old ++ spaced (codes "data" ∷ encode_lower (octets_of (take 184 r.now.u))
+        ∷ codes "check" ∷ encode_lower (octets_of (take 40 (drop 184 r.now.u))) ∷ []) }
     ensures short { length out.new ≡ length out.old + 69 }
     ensures data { AreOctets (octets_of (take 184 r.now.u)) }
     ensures check { AreOctets (octets_of (take 40 (drop 184 r.now.u))) }
@@ -170,7 +171,8 @@ fn push_dropped(out: &mut Text, r: &Received)
 fn push_parts(out: &mut Text, octets: &[u8], check: &[u8])
     requires room { length out.old ≤ 180 }
     requires many { length octets.now + length check.now ≡ 28 }
-    ensures text { out.new ≡ out.old ++ (codes " data " ++ encode_lower octets.now ++ codes " check " ++ encode_lower check.now) }
+    ensures text { out.new ≡ out.old
+        ++ spaced (codes "data" ∷ encode_lower octets.now ∷ codes "check" ∷ encode_lower check.now ∷ []) }
     ensures short { length out.new ≡ length out.old + 69 }
 
     // Both are octets, and so what their own bits give.
@@ -184,10 +186,11 @@ fn push_parts(out: &mut Text, octets: &[u8], check: &[u8])
     out.push_hex(check);
 }
 
+#[tactic(auto, using(crate::proofs::AnswerLaws::told_line))]
 fn push_notices(out: &mut Text, who: Who, sapi: Sapi, notices: &[Notice])
     requires room { length out.old ≤ 300 }
     requires few { length notices.now ≤ 3 }
-    ensures text { out.new ≡ out.old ++ notices_text (who_of who) sapi notices.now }
+    ensures text { out.new ≡ out.old ++ lines_text (map (Tells (who_of who) sapi) notices.now) }
     ensures short { length out.new ≤ length out.old + 520 * length notices.now }
     ensures fit { FitLines (map (Tells (who_of who) sapi) notices.now) }
 {
@@ -211,7 +214,7 @@ fn link(sapi: Sapi) -> &'static [u8]
 
 fn push_notice(out: &mut Text, notice: &Notice)
     requires { length out.old ≤ 1400 }
-    ensures text { out.new ≡ out.old ++ notice_text notice.now }
+    ensures text { out.new ≡ out.old ++ spaced (notice_words notice.now) }
     ensures short { length out.new ≤ length out.old + 512 }
     ensures fit { FitsNotice notice.now }
 {
@@ -262,7 +265,7 @@ fn closing(reason: Reason) -> &'static [u8]
 fn push_frames(out: &mut Text, who: Who, frames: &[[u8; 23]])
     requires room { length out.old ≤ 1870 }
     requires few { length frames.now ≤ 2 }
-    ensures text { out.new ≡ out.old ++ frames_text (who_of who) frames.now }
+    ensures text { out.new ≡ out.old ++ lines_text (map (Sends (who_of who)) frames.now) }
     ensures short { length out.new ≤ length out.old + 60 * length frames.now }
     ensures fit { FitLines (map (Sends (who_of who)) frames.now) }
 {
@@ -284,10 +287,8 @@ fn push_sent(out: &mut Text, frame: &[u8])
     out.push(b"\n");
 }
 
-/// Law: the text of an answer is that of its lines; so the same lines have one text, and different lines have different texts, where
-/// octets and numbers are such as the program has them (`fit` of `step_lines`).
+/// Law: the same lines have one text, and different lines have different texts, where octets and numbers are such as the program has them (`fit` of `step_lines`).
 pub fn law_different_lines()
-    ensures text { (x : A.Answer) → answer_text x ≡ lines_text (answer_lines x) }
     ensures same { (x y : A.Answer) → answer_lines x ≡ answer_lines y → answer_text x ≡ answer_text y }
     ensures different { (x y : A.Answer) → FitLines (answer_lines x) → FitLines (answer_lines y) → answer_text x ≡ answer_text y →
         answer_lines x ≡ answer_lines y }

@@ -4,7 +4,6 @@
 
 mod answer;
 mod names;
-mod octets;
 mod places;
 mod room;
 mod script;

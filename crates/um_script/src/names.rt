@@ -1,11 +1,9 @@
 //! The words that name who does something, and what.
-ghost use Rattle.std.specs.Prelude.{◌≡◌, ◌≤◌, ◌∷◌, [], length, IfSome, MatchOption};
+ghost use Rattle.std.specs.Prelude.{◌≡◌};
 ghost use Rattle.std.specs.Str.{bytes_eq};
-ghost use Rattle.um_lines.specs.Words.{words};
 ghost use Rattle.um_script.specs.Names.{actor_said, request_said, act_said};
 
 use lapdm_window::Sapi;
-use um_lines::first_word;
 use um_link::{End, Way};
 
 /// Who a line speaks of.
@@ -95,13 +93,4 @@ pub(crate) fn act_of(word: &[u8]) -> Option<Act>
     } else {
         None
     }
-}
-
-/// The word before the first space, and what stands after that space, which is no longer than the text.
-pub(crate) fn cut(text: &[u8]) -> Option<(&[u8], &[u8])>
-    ensures parts { MatchOption result (words text.now ≡ text.now ∷ []) (λ parts. words text.now ≡ parts.0.now ∷ words parts.1.now) }
-    ensures short { IfSome result (λ parts. length parts.1.now ≤ length text.now) }
-{
-    let (word, rest) = first_word(text)?;
-    Some((word, rest))
 }

@@ -9,7 +9,7 @@ ghost use Rattle.um_lines.specs.Forms.{is_repeated};
 ghost use Rattle.um_script.specs.ScriptReading.{is_above};
 ghost use Rattle.um_script.specs.Held.{words_after, numbers_of, AreDecimals, ArePlaceWords};
 
-use crate::names::cut;
+use um_lines::first_word;
 
 /// How many places a block has.
 const PLACES: u16 = 592;
@@ -18,7 +18,7 @@ const PLACES: u16 = 592;
 fn split_word(text: &[u8]) -> (&[u8], Option<&[u8]>)
     ensures { words text.now ≡ result.0.now ∷ words_after result.1 }
 {
-    match cut(text) {
+    match first_word(text) {
         None => (text, None),
         Some((word, rest)) => (word, Some(rest)),
     }

@@ -8,9 +8,8 @@ ghost use Rattle.um_script.specs.ScriptReading.{octets_read, places_read};
 ghost use Rattle.um_link.specs.Ways.{ArePlaces};
 ghost use Rattle.um_script.specs.Held.{held_octets, held_places};
 
-use crate::octets::{are_octet_digits, are_octets};
 use crate::places::{are_decimals, hold_places, is_some_above, names_twice};
-use um_lines::{LineFault, one_word, write_octets};
+use um_lines::{LineFault, are_octet_digits, are_octets, one_word, write_octets};
 
 /// The octets and places of one line, which lie in the value itself: a line has at most 2,047 octets, and a block 592 places.
 #[derive(Drop)]
@@ -57,7 +56,7 @@ impl Room {
         if !are_octet_digits(word) {
             return Err(LineFault::Digits);
         }
-        if !are_octets(word) {
+        if !are_octets(0, None, word) {
             return Err(LineFault::Length);
         }
         if matches!(word, b"-") {

@@ -13,10 +13,10 @@ ghost use Rattle.um_script.specs.Naming.{meaning_of, reading_of, IsPossibleLine}
 ghost use Rattle.um_script.specs.Names.{end_named, way_named};
 ghost use Rattle.um_link.specs.Possible.{IsPossible};
 
-use crate::names::{Act, Actor, Request, act_of, actor_of, cut, request_of};
+use crate::names::{Act, Actor, Request, act_of, actor_of, request_of};
 use crate::room::Room;
 use lapdm_window::Sapi;
-use um_lines::{LINE_LIMIT, LineFault, is_skipped};
+use um_lines::{LINE_LIMIT, LineFault, first_word, is_skipped};
 use um_link::{Air, Call, End, Event, Way};
 
 /// What a line of a script asks for.
@@ -53,7 +53,7 @@ fn parse_words<'a>(line: &[u8], room: &'a mut Room) -> Result<Event<'a>, LineFau
     ensures read { reading_of result ≡ script_read (words line.now) }
     ensures possible { IfOk result (λ event. IsPossible event) }
 {
-    let Some((name, rest)) = cut(line) else {
+    let Some((name, rest)) = first_word(line) else {
         return Err(LineFault::Word);
     };
     match actor_of(name) {
@@ -74,7 +74,7 @@ fn parse_call<'a>(
     ensures read { reading_of result ≡ call_read (end_named end sapi) (words rest.now) }
     ensures possible { IfOk result (λ event. IsPossible event) }
 {
-    match cut(rest) {
+    match first_word(rest) {
         None => bare_call(end, sapi, request_of(rest)),
         Some((verb, octets)) => octets_call(end, sapi, request_of(verb), octets, room),
     }
@@ -122,7 +122,7 @@ fn parse_air<'a>(way: Way, rest: &[u8], room: &'a mut Room) -> Result<Event<'a>,
     ensures read { reading_of result ≡ air_read (way_named way) (words rest.now) }
     ensures possible { IfOk result (λ event. IsPossible event) }
 {
-    match cut(rest) {
+    match first_word(rest) {
         None => bare_air(way, act_of(rest)),
         Some((verb, places)) => flip(way, act_of(verb), places, room),
     }

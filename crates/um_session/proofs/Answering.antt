@@ -7,7 +7,7 @@ use Rattle.um_lines.specs.Meanings.{HasOneMeaningUnless}
 use Rattle.um_lines.proofs.FormLaws.{one_meaning, one_made}
 use Rattle.um_lines.proofs.OneMeaning.{good_meaning, same_meaning}
 use Rattle.um_script.specs.ScriptLines.{ScriptMeans, event_said}
-use Rattle.um_script.specs.StepLines.{answer_text}
+use Rattle.um_script.specs.AnswerLines.{answer_text}
 use Rattle.um_air.specs.Air.{Event, Answer, AirState, AirRun, start_on}
 use Rattle.um_air.specs.Sessions.{IsOctetEvent}
 use Rattle.um_air.proofs.Laws.{longer_run, one_answer, some_answer}

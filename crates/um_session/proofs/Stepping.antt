@@ -15,7 +15,7 @@ use Rattle.um_link.specs.Standing.{Stands, Follows}
 use Rattle.um_script.specs.declared.script.ScriptLine.{ScriptLine}
 use Rattle.um_script.specs.declared.script.ScriptLine.TheVariants as V
 use Rattle.um_script.specs.ScriptLines.{ScriptMeans}
-use Rattle.um_script.specs.StepLines.{answer_text}
+use Rattle.um_script.specs.AnswerLines.{answer_text}
 use Rattle.um_script.specs.Naming.{meaning_of}
 use Rattle.um_session.specs.Sessions.{Session, with_step, AnswersScript}
 use Rattle.um_session.specs.Courses.{Course, frames_in, arrivals_in, frames_sent, blocks_heard, reports_in}

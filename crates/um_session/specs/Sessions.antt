@@ -4,7 +4,7 @@ use Rattle.lapdm_frame.specs.declared.Channel.{Channel}
 use Rattle.um_lines.specs.Forms.{line_fault, anywhere}
 use Rattle.um_lines.specs.LinkForms.{link_forms}
 use Rattle.um_script.specs.ScriptLines.{ScriptMeans}
-use Rattle.um_script.specs.StepLines.{answer_text}
+use Rattle.um_script.specs.AnswerLines.{answer_text}
 use Rattle.um_air.specs.Air.{Event, Answer, AirState, AirStep, start_on}
 use Rattle.um_driver.specs.Rules.{Rules}
 

@@ -1,10 +1,10 @@
 -- Lines of `replay`: each means one thing or has a reason, and what it means are soft values.
-use Rattle.std.proofs.Common.{◌≡◌, ◌≢◌, [], ◌∷◌, ◌<◌, ℕ, ◌≤◌, false, ◌&&◌, ◌==◌, not, true, ℤ, pos, List, length, replicate, refl, ◌∙◌, arith}
+use Rattle.std.proofs.Common.{◌≡◌, ◌≢◌, [], ◌∷◌, ◌<◌, ℕ, ◌≤◌, false, ◌&&◌, ◌==◌, not, true, ℤ, pos, List, ◌++◌, ◌-◌, length, map, set, take, drop, suc, replicate, refl, ap, ◌∙◌, arith}
 use Rattle.std.specs.Int.{w8, cast_signed}
 use Rattle.std.specs.List.{All}
 use Rattle.std.proofs.lemmas.Bool.Decides.{nat_tests}
 use Rattle.std.proofs.lemmas.Int.{ints}
-use Rattle.std.proofs.lemmas.List.{length-map, length-replicate}
+use Rattle.std.proofs.lemmas.List.{length-map, length-replicate, drop_all, set_split}
 use Rattle.std.proofs.lemmas.List.Elements.{All-nil, All-cons, All-head, All-tail, All-replicate}
 use Rattle.bit_blocks.specs.Octets.{IsOctet, AllOctets}
 use Rattle.bit_blocks.specs.Bits.{AllBits}
@@ -110,3 +110,12 @@ sync_burst held line values means =
 -- a line that means something is no longer than a line may be
 pub short : (held : ℕ) (line : List ℕ) (meaning : BurstLine) → BurstMeans held line meaning → length line ≤ 4096
 short held line meaning means = line_short burst_forms (burst_elsewhere held) burst_line line meaning means
+
+-- four bursts of which the last is this one
+pub fourth : (bursts : List (List ℤ)) (held : ℕ) (burst : List ℤ) → length bursts ≡ 4 → held ≡ 3 → set bursts held burst ≡ take held bursts ++ burst ∷ []
+fourth bursts held burst four last =
+    let none : drop (suc held) bursts ≡ [] = drop_all (suc held) bursts (omega arith) in
+    set_split bursts held burst (omega arith) ∙ ap (λ rest. take held bursts ++ burst ∷ rest) none
+
+pub hard_values : (digits : List ℕ) → AllSoft (softened (map (λ octet. octet - 48) digits))
+hard_values digits = AllSoft-softened (map (λ octet. octet - 48) digits)

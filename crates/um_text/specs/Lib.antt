@@ -2,6 +2,7 @@ pub mod BurstLines
 pub mod BurstTexts
 pub mod CodeLines
 pub mod FrameTexts
+pub mod Held
 pub mod Reports
 pub mod ShowLines
 pub mod ShowReading

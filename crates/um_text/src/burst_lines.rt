@@ -1,8 +1,10 @@
 //! The lines of the command `replay`.
-ghost use Rattle.std.specs.Prelude.{◌≡◌, ◌≤◌, ℕ, List, [], ◌∷◌, ◌++◌, length, IfOk, codes};
+ghost use Rattle.std.specs.Prelude.{◌≡◌, ◌≤◌, ℕ, List, [], ◌∷◌, ◌++◌, length, IsTrue, IfOk, IfSome, codes};
+ghost use Rattle.std.specs.List.{list_all};
 ghost use Rattle.std.specs.Result.{result_err};
 ghost use Rattle.bit_blocks.specs.Bits.{AllBits};
 ghost use Rattle.um_block.specs.Received.{softened};
+ghost use Rattle.um_lines.specs.Fields.{is_bit_digit};
 ghost use Rattle.um_lines.specs.Words.{words};
 ghost use Rattle.um_lines.specs.Meanings.{HasOneMeaningUnless};
 ghost use Rattle.um_text.specs.BurstLines.{burst_fault, BurstMeans, read_burst};
@@ -182,6 +184,19 @@ fn parse_soft_sync(rest: &[u8], held: u8) -> Result<BurstLine, LineFault>
         return Err(LineFault::Length);
     }
     Ok(BurstLine::Sync(soft_values(digits)?))
+}
+
+/// The digits of a line `n DIGITS148`.
+#[inline(always)]
+pub(crate) fn normal_digits(line: &[u8]) -> Option<&[u8]>
+    ensures line { IfSome result (λ digits. line.now ≡ codes "n " ++ digits.now) }
+    ensures each { IfSome result (λ digits. IsTrue (list_all is_bit_digit digits.now)) }
+    ensures many { IfSome result (λ digits. length digits.now ≡ 148) }
+{
+    match line {
+        [b'n', b' ', digits @ ..] if digits.len() == 148 && are_bit_digits(digits) => Some(digits),
+        _ => None,
+    }
 }
 
 /// Each line has one meaning and no other where it has no reason, and none where it has one.

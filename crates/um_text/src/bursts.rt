@@ -24,6 +24,16 @@ pub fn block_lines(out: &mut Text, bursts: &[[u8; 148]; 4])
     ensures lines { out.new ≡ block_text bursts.now }
     ensures few { length out.new < 2000 }
 {
+    push_block(out, bursts);
+}
+
+/// Appends the lines of the four normal bursts of a block.
+pub fn push_block(out: &mut Text, bursts: &[[u8; 148]; 4])
+    requires room { length out.old + 604 ≤ 4096 }
+    requires bits { All AllBits bursts.now }
+    ensures lines { out.new ≡ out.old ++ block_text bursts.now }
+    ensures length { length out.new ≡ length out.old + 604 }
+{
     for burst in bursts {
         push_normal(out, burst);
     }

@@ -2,6 +2,7 @@
 ghost use Rattle.std.specs.Prelude.{◌≡◌, ◌-◌, ◌*◌, ◌==◌, length, map, true, false, IsTrue, MatchResult};
 ghost use Rattle.std.specs.List.{list_all, list_any};
 ghost use Rattle.hex.specs.Hex.{is_hex_digit};
+ghost use Rattle.bit_blocks.specs.SoftValues.{AllSoft};
 ghost use Rattle.um_lines.specs.Fields.{hex_octets, is_bit_digit};
 ghost use Rattle.um_block.specs.Received.{soft_value, softened};
 ghost use Rattle.um_text.specs.SoftOctets.{signed_octets};
@@ -15,10 +16,20 @@ pub(crate) fn hard_values<const N: usize>(digits: &[u8]) -> [i8; N]
     ensures { result ≡ softened (map (λ octet. octet - 48) digits.now) }
 {
     let mut values = [0; N];
+    write_hard(digits, &mut values);
+    values
+}
+
+/// Writes the bits of `N` digits as sure soft values.
+pub(crate) fn write_hard<const N: usize>(digits: &[u8], values: &mut [i8; N])
+    requires each { IsTrue (list_all is_bit_digit digits.now) }
+    requires many { length digits.now ≡ N }
+    ensures value { values.new ≡ softened (map (λ octet. octet - 48) digits.now) }
+    ensures soft { AllSoft values.new }
+{
     for (i, digit) in digits.iter().enumerate() {
         values[i] = hard_value(*digit);
     }
-    values
 }
 
 fn hard_value(digit: u8) -> i8

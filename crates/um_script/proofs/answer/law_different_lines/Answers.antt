@@ -1,8 +1,5 @@
-use Rattle.um_script.proofs.AnswerLaws.{text_is, same_text, different_lines}
+use Rattle.um_script.proofs.AnswerLaws.{same_text, different_lines}
 use Rattle.um_script.proofs.answer.law_different_lines.Goals as goal
-
-pub returns-clause-text : goal.returns-clause-text
-returns-clause-text c = text_is
 
 pub returns-clause-same : goal.returns-clause-same
 returns-clause-same c = same_text

@@ -1,14 +1,14 @@
 use Rattle.std.proofs.Common.{◌≡◌, ◌+◌, ◌*◌, ◌≤◌, ◌++◌, length, map, drop}
 use Rattle.um_link.specs.Naming.{who_of}
-use Rattle.um_script.specs.AnswerLines.{Sends, FitLines}
-use Rattle.um_script.specs.StepLines.{frames_text}
+use Rattle.um_script.specs.AnswerLines.{Sends, lines_text, FitLines}
 use Rattle.um_script.proofs.answer.push_frames.Given as goal
 
 -- what was written, and the lines of the frames that are left, are all
 abbrev pub invariant-loop-frame : goal.invariant-loop-frame
 invariant-loop-frame l =
     record {
-      text : l.out ++ frames_text (who_of l.who) (drop l.frame-index l.frames) ≡ l.fn.out ++ frames_text (who_of l.who) l.frames;
+      text : l.out ++ lines_text (map (Sends (who_of l.who)) (drop l.frame-index l.frames))
+          ≡ l.fn.out ++ lines_text (map (Sends (who_of l.who)) l.frames);
       short : length l.out ≤ length l.fn.out + 60 * l.frame-index;
       fit : FitLines (map (Sends (who_of l.who)) (drop l.frame-index l.frames)) → FitLines (map (Sends (who_of l.who)) l.frames);
     }

@@ -10,4 +10,4 @@ returns-in_default-kind c =
       | in_default-kind-via-then-kind-lt1 w ↦ grind arith
       | in_default-kind-via-else-kind-lt1+else-kind-lt2 w ↦ grind arith
     ] in
-    rw c.in-Some.ensures (sym (other_kind c.args.held c.in-Some.kind.now c.in-Some.rest.now many))
+    rw c.in-Some.ensures.parts (sym (other_kind c.args.held c.in-Some.kind.now c.in-Some.rest.now many))

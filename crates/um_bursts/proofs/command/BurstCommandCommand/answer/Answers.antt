@@ -1,21 +1,18 @@
-use Rattle.std.proofs.Common.{subst}
-use Rattle.um_text.specs.BurstLines.{BurstMeans}
-use Rattle.um_text.proofs.BurstLaws.{normal_burst, access_burst, sync_burst}
+use Rattle.std.proofs.Common.{◌≡◌, ℤ, List, Ok, refl, sym, ◌∙◌, subst}
+use Rattle.um_driver.specs.Rules.{Answers}
+use Rattle.um_bursts.specs.BurstRules.{burst_rules}
+use Rattle.um_bursts.proofs.NextAnswers.{next_answered}
 use Rattle.um_bursts.proofs.command.BurstCommandCommand.answer.Goals as goal
 
-pub hold-requires-clause-soft : goal.hold-requires-clause-soft
-hold-requires-clause-soft g c =
-    let means = c.in_ok-parse_burst.ensures.means in
-    (normal_burst c.count.result c.args.line.now c.in-Normal.burst
-    (subst (BurstMeans c.count.result c.args.line.now) c.in-Normal.is means)).1
-
-pub access-requires-clause-soft : goal.access-requires-clause-soft
-access-requires-clause-soft g c =
-    let means = c.in_ok-parse_burst.ensures.means in
-    (access_burst c.count.result c.args.line.now c.in-Access.bsic c.in-Access.soft
-    (subst (BurstMeans c.count.result c.args.line.now) c.in-Access.is means)).4
-
-pub sync-requires-clause-soft : goal.sync-requires-clause-soft
-sync-requires-clause-soft g c =
-    let means = c.in_ok-parse_burst.ensures.means in
-    (sync_burst c.count.result c.args.line.now c.in-Sync.burst (subst (BurstMeans c.count.result c.args.line.now) c.in-Sync.is means)).2
+pub returns-clause-answered : goal.returns-clause-answered
+returns-clause-answered g c = λ held same.
+    let read = c.in_ok-next in
+    let (meaning, means, brings) = read.ensures.means in
+    let new = c.read_burst_into.new.held in
+    subst (λ (h : List (List ℤ)). Answers (burst_rules g.R.Reports.answers) h c.args.line.now (Ok tt) c.write_answer.new.out (λ after. new.held ≡ after))
+    (c.self.view_is ∙ same) (
+      new.held,
+      sym read.ensures.refused,
+      (meaning, means, next_answered g.R.Reports.answers c.self.inside.held new c.write_answer.new.out meaning _ brings c.write_answer.ensures.answer),
+      refl,
+    )

@@ -1,6 +1,6 @@
 use Rattle.std.proofs.Common.{◌≡◌, ◌-◌, take, map, length}
 use Rattle.um_block.specs.Received.{softened}
-use Rattle.um_text.proofs.soft_digits.hard_values.Given as goal
+use Rattle.um_text.proofs.soft_digits.write_hard.Given as goal
 
 -- the values so far are those of the digits so far
 abbrev pub invariant-loop-i : goal.invariant-loop-i

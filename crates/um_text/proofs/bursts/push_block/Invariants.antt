@@ -1,6 +1,6 @@
 use Rattle.std.proofs.Common.{◌≡◌, ◌+◌, ◌*◌, ◌++◌, length, take}
 use Rattle.um_text.specs.BurstTexts.{block_text}
-use Rattle.um_end.proofs.command.push_block.Given as goal
+use Rattle.um_text.proofs.bursts.push_block.Given as goal
 
 -- the lines of the bursts so far
 abbrev pub invariant-loop-burst : goal.invariant-loop-burst

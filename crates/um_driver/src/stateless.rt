@@ -1,0 +1,49 @@
+//! Commands without a state, whose input may end after any line.
+ghost use Rattle.std.specs.Prelude.{◌≡◌, ℕ, List, [], Option, Some, None, MatchResult};
+ghost use Rattle.um_lines.specs.declared.fault.LineFault.{LineFault as Fault};
+ghost use Rattle.um_driver.specs.Rules.{Answers, stateless};
+
+use crate::command::Command;
+use um_lines::{LineFault, Text};
+
+/// What answers a line by what the line says alone.
+pub trait Answer {
+    /// The first reason of a line, if it has one.
+    ghost fault: { List ℕ → Option Fault };
+
+    /// What may answer a line.
+    ghost answers: { List ℕ → List ℕ → Type 0 };
+
+    /// Answers a line.
+    fn answer(&self, line: &[u8], out: &mut Text) -> Result<(), LineFault>
+        requires empty { out.old ≡ [] }
+        ensures { MatchResult result
+            (λ _. (fault line.now ≡ None) × answers line.now out.new)
+            (λ reason. (fault line.now ≡ Some reason) × (out.new ≡ [])) };
+}
+
+/// The command that answers each line so.
+#[derive(Clone, Copy, Debug)]
+pub struct Stateless<A>(pub A);
+
+impl<A: Answer> Command for Stateless<A> {
+    ghost State = { Unit {0} };
+
+    ghost rules = { stateless A.fault A.answers };
+
+    ghost start = { λ _. tt };
+
+    ghost stands = { λ _ _. Unit {0} };
+
+    ghost Kept = { Unit {0} };
+
+    ghost kept = { λ _. tt };
+
+    fn answer(&mut self, line: &[u8], out: &mut Text) -> Result<(), LineFault> {
+        self.0.answer(line, out)
+    }
+
+    fn finish(&self) -> Option<LineFault> {
+        None
+    }
+}
