@@ -7,9 +7,9 @@
  *   for a sure 1 to 127 for a sure 0, and 0 where nothing is known (its sbit_t); -128 is refused.
  *   A block is 23 octets. In its 184 bits each octet stands from its bit of value 1 on.
  *   No call takes memory, keeps a state between calls, waits or prints; each may be called from any thread, and two threads
- *   may use one um_end only in turns. Pointers are never null, point to as many elements as the type says, aligned as the
+ *   may use one um_end or um_side only in turns. Pointers are never null, point to as many elements as the type says, aligned as the
  *   type asks, and what a call writes overlaps nothing else that it gets. The stack of um_receive_block_among takes some 50 KB.
- *   The state of an end of a link is the caller's, in a um_end.
+ *   The state of an end of a link is the caller's, in a um_end, and that of both links in a um_side.
  *   A call that refuses has written nothing. */
 #ifndef UM_H
 #define UM_H
@@ -255,6 +255,44 @@ uint8_t um_end_idle(const um_end *end, um_effects *effects);
 
 /* Takes a block that came in. */
 uint8_t um_end_take(um_end *end, const uint8_t octets[23], um_effects *effects);
+
+/* Sides: both links of a mobile, or of the network, on one channel: that of SAPI 0 for signalling and that of SAPI 3 for short
+ * messages. A call goes to the end of its SAPI, as a call of um_end does, and the other end stays as it is. Each link has its own T200.
+ *
+ * The answers are those of um_end's calls, and besides: UM_END_NONE where link0 and link3 do not belong together (another SAPI, or two
+ * roles or channels), and UM_END_NO_CALL where the SAPI is neither 0 nor 3. */
+typedef struct um_side {
+	um_end link0; /* the end of the link of SAPI 0 */
+	um_end link3; /* the end of the link of SAPI 3 */
+} um_side;
+
+/* Writes the state of a side before its first call, whatever stood there. False: no such role or channel. */
+bool um_side_new(um_side *side, uint8_t role, uint8_t channel);
+
+/* Asks the network to open the link of SAPI 0, as um_end_open does: a mobile's call. */
+uint8_t um_side_open(um_side *side, const um_message *info, um_effects *effects);
+
+/* Asks the other side to open the link of SAPI 3. */
+uint8_t um_side_open_bare(um_side *side, um_effects *effects);
+
+/* Sends a message of 1 to 251 octets over the open link of this SAPI. */
+uint8_t um_side_send(um_side *side, uint8_t sapi, const um_message *message, um_effects *effects);
+
+/* Sends 1 to 20 octets (18 on SACCH) in one unnumbered frame of this SAPI, in any state and unacknowledged. */
+uint8_t um_side_unit(const um_side *side, uint8_t sapi, const um_message *message, um_effects *effects);
+
+/* Closes the link of this SAPI. What is not acknowledged is given up. */
+uint8_t um_side_close(um_side *side, uint8_t sapi, um_effects *effects);
+
+/* T200 of the link of this SAPI has run out. */
+uint8_t um_side_timer(um_side *side, uint8_t sapi, um_effects *effects);
+
+/* Writes the fill frame, to be sent when there is nothing else to send. */
+uint8_t um_side_idle(const um_side *side, um_effects *effects);
+
+/* Takes a block that came in: it goes to the end of its SAPI, and that SAPI, 0 or 3, is written to *sapi. A frame of another SAPI is
+ * ignored: *sapi is then 0, and the effects are empty. UM_END_NO_FRAME: the octets are no frame. */
+uint8_t um_side_take(um_side *side, const uint8_t octets[23], uint8_t *sapi, um_effects *effects);
 
 #ifdef __cplusplus
 }
