@@ -7,7 +7,7 @@
 -- at most one more than its first, since the window is one frame. So of the two pieces that an arriving I frame may
 -- carry, the last accepted and the next, N(S) tells which, and of the two counts that an N(R) may stand for it tells
 -- whether it is that of the piece that waits; then what lies between, the count of accepted pieces, is that count too.
-use Rattle.lapdm_link.proofs.Words.{arith, ℕ, ◌≤◌, List, [], ◌∷◌, ◌++◌, ◌≡◌, ◌≢◌, refl, sym, ◌∙◌, ap, ◌+◌, ◌%◌, ◌<◌, false, length, take, get_or, length-append, take-append-le, take_more, get_or-append, Content, I, Rr, Rej, Piece}
+use Rattle.lapdm_link.proofs.Words.{arith, ℕ, ◌≤◌, List, [], ◌∷◌, ◌++◌, ◌≡◌, ◌≢◌, refl, sym, ◌∙◌, ap, ◌+◌, ◌%◌, ◌<◌, false, length, take, get_or, length-append, take-append-le, take_more, get_or-append, Bool, Content, I, Rr, Rej, Piece}
 use Rattle.lapdm_link.proofs.Queues.{AllOf}
 
 -- ---- numbers that never fall
@@ -45,6 +45,10 @@ module _ {Tells : ℕ → Content → Type 0} where
   climbs-append [] a (last h) = last h
   climbs-append (d ∷ ds) a (last h) = first h a.0 (climbs-append ds a.1 (last (omega arith)))
   climbs-append ds a (first l t h) = first l t (climbs-append ds a h)
+
+climbs-rr : {Tells : ℕ → Content → Type 0} {low high nr : ℕ} {pf : Bool} {cs : List Content} →
+    ((k : ℕ) → Tells k (Rej nr pf) → Tells k (Rr nr pf)) → Climbs Tells low (Rej nr pf ∷ cs) high → Climbs Tells low (Rr nr pf ∷ cs) high
+climbs-rr says (first l t h) = first l (says _ t) h
 
 -- a frame with an N(R) says that so many pieces are accepted
 abbrev pub CountsIn : ℕ → Content → Type 0
@@ -135,6 +139,13 @@ module _ {ps : List Piece} {a s : ℕ} {qs : List Piece} {there back : List Cont
 
   pub number_gone : {c : Content} → IsDirection ps a s qs there (c ∷ back) → IsDirection ps a s qs there back
   number_gone h = direction (climbs-rest h.acknowledged) h.carried h.window h.within h.in_order
+
+  -- an RR in place of a REJ says the same
+  pub number_as_rr : {nr : ℕ} {pf : Bool} → IsDirection ps a s qs there (Rej nr pf ∷ back) → IsDirection ps a s qs there (Rr nr pf ∷ back)
+  number_as_rr h = direction (climbs-rr (λ k t. t) h.acknowledged) h.carried h.window h.within h.in_order
+
+  pub piece_as_rr : {nr : ℕ} {pf : Bool} → IsDirection ps a s qs (Rej nr pf ∷ there) back → IsDirection ps a s qs (Rr nr pf ∷ there) back
+  piece_as_rr h = direction h.acknowledged (climbs-rr (λ k t. t) h.carried) h.window h.within h.in_order
 
   -- an acknowledgement counts
   pub number_in : (c : Content) (nr : ℕ) → ((k : ℕ) → CountsIn k c → nr ≡ k % 8) → s ≢ a → nr ≡ s % 8 →

@@ -9,6 +9,7 @@ use Rattle.lapdm_link.proofs.Words.{Rivals, answer_lines, nat_tests, n201, Fits,
 use Rattle.lapdm_link.proofs.Words.{keeps-call, IsEnd-start, few-frame, few-call, Ways, with_more, All-push}
 use Rattle.lapdm_link.proofs.Views.{end_of, way, without_first, with_frames, acted, said, ends_do, each_way, each_lost, each_start}
 use Rattle.lapdm_link.proofs.Views.{way_does, way_does-other}
+use Rattle.lapdm_link.proofs.Words.{Room, start_in}
 use Rattle.lapdm_link.proofs.ByKind.{IsPlaced, KnowsBy, by_kind}
 use Rattle.lapdm_link.specs.Ways as W
 use Rattle.lapdm_window.specs.Sides as S
@@ -53,9 +54,10 @@ module _ (E : Sapi → EndState → Type 0) (F : Frame → Type 0) where
       record { on_channel = h.on_channel; ends = h.ends; ways = ways }))
       event known
 
-  pub holds-start : (channel : Channel) → ((r : Role) (s : Sapi) → E s (start r s channel)) → Holds channel (start_on channel)
-  holds-start channel h = (let ways = each_way (λ r. All F (way r (start_on channel))) Mobile (All-nil F) (All-nil F) in
-      record { on_channel = refl; ends = each_start (λ r s e. E s e) channel h; ways = ways })
+  pub holds-start : (room : Room) (channel : Channel) → ((r : Role) (s : Sapi) → E s (start r s channel)) →
+      Holds channel (start_in room channel)
+  holds-start room channel h = (let ways = each_way (λ r. All F (way r (start_in room channel))) Mobile (All-nil F) (All-nil F) in
+      record { on_channel = refl; ends = each_start (λ r s e. E s e) room channel h; ways = ways })
 
 -- an end of this channel and link
 pub record FitsEnd (channel : Channel) (s : Sapi) (e : EndState) : Type 0 where
@@ -99,8 +101,8 @@ fits-step channel w event known h = holds-step (FitsEnd channel) (Fits channel) 
     (keeps-frame f (end_of r s w) (h.ends r s).end (subst (λ (c : Channel). Fits c f) (sym (h.ends r s).on_channel) fits)))
     (λ info ok l. rival_fits channel w info h.on_channel ok) event known tt
 
-pub start-fits : (channel : Channel) → IsFitting channel (start_on channel)
-start-fits channel = holds-start (FitsEnd channel) (Fits channel) channel
+pub start-fits : (room : Room) (channel : Channel) → IsFitting channel (start_in room channel)
+start-fits room channel = holds-start (FitsEnd channel) (Fits channel) room channel
     (λ r s. record { on_channel = refl; on_sapi = refl; end = IsEnd-start r s channel })
 
 -- what holds of all frames on their way holds of those that went out
@@ -154,6 +156,6 @@ small-run channel (event ∷ events) w h fit =
     All-cons (IsSendable channel) (answer event w) (answers events (after event w)) (sendable channel w event (refusal event w) fit')
     (small-run channel events (after event w) (All-tail (IsReadable channel) event events h) fit')
 
-pub small_answers : (channel : Channel) (events : List Event) → All (IsReadable channel) events →
-    All (IsSendable channel) (answers events (start_on channel))
-small_answers channel events h = small-run channel events (start_on channel) h (start-fits channel)
+pub small_answers : (room : Room) (channel : Channel) (events : List Event) → All (IsReadable channel) events →
+    All (IsSendable channel) (answers events (start_in room channel))
+small_answers room channel events h = small-run channel events (start_in room channel) h (start-fits room channel)

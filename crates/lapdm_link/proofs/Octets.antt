@@ -1,5 +1,5 @@
 -- Where messages are octets, so is what every frame on its way carries.
-use Rattle.lapdm_link.proofs.Words.{◌≡◌, sym, ap, subst, ℕ, zero, suc, ◌<◌, Bool, false, List, [], ◌∷◌, length, drop, get_or, Option, Some, None, cons_option, All, inl, inr, filter_map, flat_map, All-nil, All-cons, All-head, All-tail, All-append, All-take, All-drop, Channel, n201, Content, I, Sabm, Ui, Ua, Frame, information, Message, Piece, cut, pieces, Sapi, EndState, Outcome, KeepsWindow, all_pieces, after_frame, Call, Opens, OpensBare, Sends, SendsUnit, refusal_of, after_call, Event, World, start_on, refusal, answer, after, Line, Asked, Rivals, Told, answer_lines, sent_in}
+use Rattle.lapdm_link.proofs.Words.{◌≡◌, sym, ap, subst, ℕ, zero, suc, ◌<◌, Bool, false, List, [], ◌∷◌, length, drop, get_or, Option, Some, None, cons_option, All, inl, inr, filter_map, flat_map, All-nil, All-cons, All-head, All-tail, All-append, All-take, All-drop, Channel, n201, Content, I, Sabm, Ui, Ua, Frame, information, Message, Piece, cut, pieces, Sapi, EndState, Outcome, KeepsWindow, all_pieces, after_frame, Call, Opens, OpensBare, Sends, SendsUnit, refusal_of, after_call, Event, Room, World, start_in, refusal, answer, after, Line, Asked, Rivals, Told, answer_lines, sent_in}
 use Rattle.lapdm_link.proofs.Queues.{AllFrames}
 use Rattle.lapdm_link.proofs.Views.{end_of}
 use Rattle.lapdm_link.proofs.Acting.{Says, IsOpening, OpensBy, Goes, IsDone, remains, ends, closes, begins, opens}
@@ -141,5 +141,6 @@ octets-step w ls event reported known h said = (
       (λ info ok l. l.0) event known said,
 )
 
-pub start-octets : (channel : Channel) → WorldOctets (start_on channel)
-start-octets channel = (channel, holds-start (λ s e. EndOctets e) SaysOctets channel (λ r s. record { kept = none; taken = none_sent }))
+pub start-octets : (room : Room) (channel : Channel) → WorldOctets (start_in room channel)
+start-octets room channel =
+    (channel, holds-start (λ s e. EndOctets e) SaysOctets room channel (λ r s. record { kept = none; taken = none_sent }))

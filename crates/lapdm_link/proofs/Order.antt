@@ -1,5 +1,5 @@
 -- The claims on every session, whatever frames arrive.
-use Rattle.lapdm_link.proofs.Words.{sym, List, [], ◌∷◌, ◌++◌, append_assoc, ◌≡◌, refl, ◌∙◌, ap, arith, ℕ, ◌+◌, ◌≤◌, length, Option, Some, append-nil, All-nil, Channel, IsMessage, Sapi, Notice, Role, EndState, Outcome, KeepsWindow, capped, Call, Closes, after_call, after_frame, IsSameLink, Line, Asked, StandsAfter, Told, call_in, notice_in, answer_lines, lines, sent, acked, IsOfOpenEnd, IsOpenEnd, OrderClaims, Event, Why, other, World, start_on, refusal, answer, after, answers}
+use Rattle.lapdm_link.proofs.Words.{sym, List, [], ◌∷◌, ◌++◌, append_assoc, ◌≡◌, refl, ◌∙◌, ap, arith, ℕ, ◌+◌, ◌≤◌, length, Option, Some, append-nil, All-nil, Channel, IsMessage, Sapi, Notice, Role, EndState, Outcome, KeepsWindow, capped, Call, Closes, after_call, after_frame, IsSameLink, Line, Asked, StandsAfter, Told, call_in, notice_in, answer_lines, lines, sent, acked, IsOfOpenEnd, IsOpenEnd, OrderClaims, Event, Why, other, Room, World, start_in, refusal, answer, after, answers}
 use Rattle.lapdm_window.specs.declared.Notice.TheVariants as N
 use Rattle.lapdm_link.proofs.Told.{Known, known, nothing, MayTell, goes-append, Runs, runs-told, runs-else, IsTold, is_told, at_place, none_beyond}
 use Rattle.lapdm_link.proofs.Taking.{taken-frame}
@@ -108,8 +108,8 @@ in_order-run : (events : List Event) (w : World) (ls : List Line) → AllReporte
 in_order-run [] w ls h = (w, rw append-nil h)
 in_order-run (event ∷ events) w ls h = rw (← append_assoc) (in_order-run events (after event w) _ (in_order-step w ls event h))
 
-pub start-reported : (channel : Channel) → AllReported (start_on channel) []
-start-reported channel = each_start (λ r s e. IsReported r s e []) channel (λ r s. record {
+pub start-reported : (room : Room) (channel : Channel) → AllReported (start_in room channel) []
+start-reported room channel = each_start (λ r s e. IsReported r s e []) room channel (λ r s. record {
   role = refl;
   sapi = refl;
   end = record { messages = All-nil IsMessage; sent = omega arith; behind = omega arith; window = omega arith };
@@ -117,9 +117,10 @@ start-reported channel = each_start (λ r s e. IsReported r s e []) channel (λ 
   told = is_told r s [] nothing refl;
 })
 
-pub order_claims : (channel : Channel) (events : List Event) → OrderClaims (lines events (answers events (start_on channel)))
-order_claims channel events =
-    let run = in_order-run events (start_on channel) [] (start-reported channel) in
+pub order_claims : (room : Room) (channel : Channel) (events : List Event) →
+    OrderClaims (lines events (answers events (start_in room channel)))
+order_claims room channel events =
+    let run = in_order-run events (start_in room channel) [] (start-reported room channel) in
     record {
       acknowledged = λ r s n before place. acknowledged (run.1 r s) n before place;
       opened_once = λ r s. omega (arith, (run.1 r s).told.staged.0);

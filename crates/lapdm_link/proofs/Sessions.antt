@@ -1,5 +1,6 @@
 -- Every harmless session: one event after another.
-use Rattle.lapdm_link.proofs.Words.{◌≡◌, refl, ◌∙◌, ap, arith, ◌+◌, ◌≤◌, true, false, List, [], ◌∷◌, ◌++◌, length, Option, Some, append_assoc, cons_option, append-nil, length-append, filter_map-append, Channel, Content, Frame, Sapi, Zero, Three, Notice, Role, Mobile, Network, start, Call, Event, Why, other, World, start_on, refusal, answer, after, answers, IsHarmlessBy, IsHarmless, IsAsSent, Line, Asked, Rivals, Told, Message, OrderClaims, CountsAgree, is_sapi, answer_lines, Claims, acked, got}
+use Rattle.lapdm_link.specs.Worlds.{rr_for_rej, IsSentOrRr, MayBeRrBy, MayBeRr}
+use Rattle.lapdm_link.proofs.Words.{◌≡◌, refl, sym, subst, ◌∙◌, ap, arith, ℕ, nat_eq, sapi_number, inl, inr, Bool, ◌+◌, ◌≤◌, true, false, List, [], ◌∷◌, ◌++◌, length, Option, Some, append_assoc, cons_option, append-nil, length-append, filter_map-append, Channel, Content, Rr, Rej, Frame, Sapi, Zero, Three, Notice, Role, Mobile, Network, start, Call, Event, Why, other, Room, World, start_in, refusal, answer, after, answers, IsHarmlessBy, IsHarmless, IsAsSent, Line, Asked, Rivals, Told, Message, OrderClaims, CountsAgree, is_sapi, answer_lines, Claims, acked, got}
 use Rattle.lapdm_window.specs.declared.Notice.TheVariants as N
 use Rattle.lapdm_link.specs.Claims as C
 use Rattle.lapdm_link.proofs.Queues.{is_on, content_of, content_on, contents_on, AllOf, IsOf, contents-own, contents-else}
@@ -8,7 +9,7 @@ use Rattle.lapdm_link.proofs.ByKind.{KnowsBy, by_kind}
 use Rattle.lapdm_link.proofs.Taking.{taken-frame}
 use Rattle.lapdm_link.proofs.Asked.{is_called}
 use Rattle.lapdm_link.proofs.Order.{AllStand, stand-append, stands, AllReported, in_order-step, start-reported, order_claims}
-use Rattle.lapdm_link.proofs.Directions.{start-direction}
+use Rattle.lapdm_link.proofs.Directions.{number_as_rr, piece_as_rr, start-direction}
 use Rattle.lapdm_link.proofs.Keeping.{gone}
 use Rattle.lapdm_link.proofs.Links as L
 use Rattle.lapdm_link.proofs.Links.{Side, side, Act, acts_own, acted_by, lines, IsActed, called, took, rival, other_after}
@@ -53,6 +54,18 @@ module _ {r q : Role} {s : Sapi} (x y : Side) {ls : List Line} where
       IsLink r q s x (record y { out = contents_on s (rest fs) }) ls
   rest_gone [] h = h
   rest_gone (f ∷ fs) h = first_gone (content_on s f) (contents_on s fs) h
+
+-- a REJ on its way says what an RR in its place says
+link-rr : {r q : Role} {s : Sapi} (x y : Side) {ls : List Line} (nr : ℕ) (pf : Bool) (cs : List Content) →
+    IsLink r q s x (record y { out = Rej nr pf ∷ cs }) ls → IsLink r q s x (record y { out = Rr nr pf ∷ cs }) ls
+link-rr x y nr pf cs (link c u v o p) =
+    link (record { there = number_as_rr c.there; back = piece_as_rr c.back }) (record { some = u.some }) (record { some = v.some }) o p
+
+first-rr : {r q : Role} {s : Sapi} (x y : Side) {ls : List Line} (c : Content) (cs : List Content) →
+    IsLink r q s x (record y { out = cons_option (content_of c) cs }) ls →
+    IsLink r q s x (record y { out = cons_option (content_of (rr_for_rej c)) cs }) ls
+first-rr x y (Rej nr pf) cs h = link-rr x y nr pf cs h
+first-rr x y c cs h = h
 
 -- ---- both links
 
@@ -158,25 +171,45 @@ lost : (sender : Role) (w : World) (ls : List Line) → AllLinks w ls → AllLin
 lost Mobile w ls h = seen_by Network (without_first Mobile w) ls (λ s. first_lost Network s w ls (h Network s))
 lost Network w ls h = seen_by Mobile (without_first Network w) ls (λ s. first_lost Mobile s w ls (h Mobile s))
 
-as_sent : (o : Option Why) (event : Event) (w : World) → IsHarmlessBy o event w →
-    KnowsBy o (λ sender f. IsAsSent (Some f) (way sender w)) event
+-- the frame that comes is as it was sent, or an RR for a REJ
+came : (r : Role) (s : Sapi) (w : World) (ls : List Line) (f : Frame) (fs : List Frame) → way (other r) w ≡ fs → is_on s f ≡ true →
+    IsSentOrRr (Some f) fs → Links r s w ls →
+    IsLink r (other r) s (side r s w ls)
+    (record (side (other r) s w ls) { out = cons_option (content_of f.content) (contents_on s (rest fs)) }) ls
+came r s w ls f (g ∷ gs) is on (inl same) h =
+    subst (λ (cs : List Content). IsLink r (other r) s (side r s w ls) (record (side (other r) s w ls) { out = cs }) ls)
+    (ap (contents_on s) is ∙ comes-first s f (g ∷ gs) on same) h
+came r s w ls f (g ∷ gs) is on (inr same) h =
+    let x : Side = side r s w ls in
+    let y : Side = side (other r) s w ls in
+    let on' : is_on s g ≡ true = ap (λ (n : ℕ). nat_eq n (sapi_number s)) (ap (λ (k : Frame). k.sapi) (sym same)) ∙ on in
+    let out : y.out ≡ cons_option (content_of g.content) (contents_on s gs) = ap (contents_on s) is ∙ comes-first s g (g ∷ gs) on' refl in
+    let as_sent : IsLink r (other r) s x (record y { out = cons_option (content_of g.content) (contents_on s gs) }) ls =
+    subst (λ (cs : List Content). IsLink r (other r) s x (record y { out = cs }) ls) out h in
+    subst (λ (c : Content). IsLink r (other r) s x (record y { out = cons_option (content_of c) (contents_on s gs) }) ls)
+    (ap (λ (k : Frame). k.content) (sym same)) (first-rr x y g.content (contents_on s gs) as_sent)
+came r s w ls f [] is on sent h = absurd sent
+
+as_sent : (o : Option Why) (event : Event) (w : World) → MayBeRrBy o event w →
+    KnowsBy o (λ sender f. IsSentOrRr (Some f) (way sender w)) event
 as_sent o event w h = grind arith
 
-goes : (w : World) (ls : List Line) (event : Event) → IsHarmlessBy (refusal event w) event w → IsSession w ls →
+goes : (w : World) (ls : List Line) (event : Event) → MayBeRrBy (refusal event w) event w → IsSession w ls →
     Goes ls (after event w) (answer_lines event (answer event w))
 goes w ls event harmless h =
-    by_kind w (Goes ls) (λ sender f. IsAsSent (Some f) (way sender w))
+    by_kind w (Goes ls) (λ sender f. IsSentOrRr (Some f) (way sender w))
     (λ g. (rw append-nil h.links, tt, tt))
     (λ r s call placed ok. (let x = h.reported r s in
     acts ls w (called placed (is_called (end_of r s w) x.end call ok)) x.role x.sapi refl refl (h.links r s) (λ t n. h.links r t)))
     (λ r s f on known. (let x = h.reported r s in
-    acts ls (without_first (other r) w) (took (comes-first s f (way (other r) w) on known) (taken-frame (end_of r s w) x.end f)) x.role
-    x.sapi (left-here r s w ls) (left-there r s w ls) (h.links r s) (λ t n. first_lost r t w ls (h.links r t))))
+    acts ls (without_first (other r) w) (took refl (taken-frame (end_of r s w) x.end f)) x.role
+    x.sapi (left-here r s w ls) (left-there r s w ls) (came r s w ls f (way (other r) w) refl on known (h.links r s))
+    (λ t n. first_lost r t w ls (h.links r t))))
     (λ sender g. (rw append-nil (lost sender w ls h.links), tt, tt))
     (λ info ok. (let x = h.reported Mobile Zero in acts ls w rival x.role x.sapi refl refl (h.links Mobile Zero) (λ t n. h.links Mobile t)))
     event (as_sent (refusal event w) event w harmless)
 
-session-step : (w : World) (ls : List Line) (event : Event) → IsHarmlessBy (refusal event w) event w → IsSession w ls →
+session-step : (w : World) (ls : List Line) (event : Event) → MayBeRrBy (refusal event w) event w → IsSession w ls →
     IsSession (after event w) (ls ++ answer_lines event (answer event w))
 session-step w ls event harmless h =
     let new : List Line = answer_lines event (answer event w) in
@@ -185,7 +218,7 @@ session-step w ls event harmless h =
     let after_got : AllStand IsAfterGot [] (ls ++ new) = stand-append IsAfterGot [] ls new h.after_got g.1 in
     record { reported = reported; links = g.0; after_got = after_got; after_cause = stand-append _ [] ls new h.after_cause g.2 }
 
-session-run : (events : List Event) (w : World) (ls : List Line) → IsHarmless events w → IsSession w ls →
+session-run : (events : List Event) (w : World) (ls : List Line) → MayBeRr events w → IsSession w ls →
     ((z : World) × IsSession z (ls ++ C.lines events (answers events w)))
 session-run [] w ls harmless h = (w, rw append-nil h)
 session-run (event ∷ events) w ls harmless h =
@@ -198,27 +231,27 @@ start-link : (r q : Role) (s : Sapi) (channel : Channel) → IsLink r q s (first
 start-link r q s channel = link (record { there = start-direction; back = start-direction }) (record { some = none })
     (record { some = none }) (tt, tt) (tt, tt)
 
-start-links : (channel : Channel) → AllLinks (start_on channel) []
-start-links channel Mobile Zero = start-link Mobile Network Zero channel
-start-links channel Mobile Three = start-link Mobile Network Three channel
-start-links channel Network Zero = start-link Network Mobile Zero channel
-start-links channel Network Three = start-link Network Mobile Three channel
+start-links : (room : Room) (channel : Channel) → AllLinks (start_in room channel) []
+start-links room channel Mobile Zero = start-link Mobile Network Zero channel
+start-links room channel Mobile Three = start-link Mobile Network Three channel
+start-links room channel Network Zero = start-link Network Mobile Zero channel
+start-links room channel Network Three = start-link Network Mobile Three channel
 
-started : (channel : Channel) → IsSession (start_on channel) []
-started channel = record { reported = start-reported channel; links = start-links channel; after_got = tt; after_cause = tt }
+started : (room : Room) (channel : Channel) → IsSession (start_in room channel) []
+started room channel = record { reported = start-reported room channel; links = start-links room channel; after_got = tt; after_cause = tt }
 
-pub counts : (channel : Channel) (events : List Event) → IsHarmless events (start_on channel) →
-    CountsAgree (C.lines events (answers events (start_on channel)))
-counts channel events harmless r s =
-    let (z, h) = session-run events (start_on channel) [] harmless (started channel) in
+pub counts_with_rr : (room : Room) (channel : Channel) (events : List Event) → MayBeRr events (start_in room channel) →
+    CountsAgree (C.lines events (answers events (start_in room channel)))
+counts_with_rr room channel events harmless r s =
+    let (z, h) = session-run events (start_in room channel) [] harmless (started room channel) in
     acked_most (h.reported r s) (h.reported (other r) s) (carried (h.links r s))
 
-pub claims : (channel : Channel) (events : List Event) → IsHarmless events (start_on channel) →
-    Claims (C.lines events (answers events (start_on channel)))
-claims channel events harmless =
-    let ls : List Line = C.lines events (answers events (start_on channel)) in
-    let in_order : OrderClaims ls = order_claims channel events in
-    let (z, h) = session-run events (start_on channel) [] harmless (started channel) in
+pub claims_with_rr : (room : Room) (channel : Channel) (events : List Event) → MayBeRr events (start_in room channel) →
+    Claims (C.lines events (answers events (start_in room channel)))
+claims_with_rr room channel events harmless =
+    let ls : List Line = C.lines events (answers events (start_in room channel)) in
+    let in_order : OrderClaims ls = order_claims room channel events in
+    let (z, h) = session-run events (start_in room channel) [] harmless (started room channel) in
     record {
       in_order = λ r s. got_in_order (h.reported r s) (h.reported (other r) s) (carried (h.links r s));
       acknowledged = λ r s n before place.
@@ -228,3 +261,19 @@ claims channel events harmless =
       once = in_order.opened_once;
       no_oversize = λ r s. none_oversize (h.reported (other r) s) (h.reported r s) (carried (turned (h.links r s)));
     }
+
+-- as it was sent is one of both
+sent_at_all : (o : Option Why) (event : Event) (w : World) → IsHarmlessBy o event w → MayBeRrBy o event w
+sent_at_all o event w h = grind arith
+
+at_all : (events : List Event) (w : World) → IsHarmless events w → MayBeRr events w
+at_all [] w h = tt
+at_all (event ∷ events) w h = (sent_at_all (refusal event w) event w h.0, at_all events (after event w) h.1)
+
+pub counts : (room : Room) (channel : Channel) (events : List Event) → IsHarmless events (start_in room channel) →
+    CountsAgree (C.lines events (answers events (start_in room channel)))
+counts room channel events harmless = counts_with_rr room channel events (at_all events (start_in room channel) harmless)
+
+pub claims : (room : Room) (channel : Channel) (events : List Event) → IsHarmless events (start_in room channel) →
+    Claims (C.lines events (answers events (start_in room channel)))
+claims room channel events harmless = claims_with_rr room channel events (at_all events (start_in room channel) harmless)

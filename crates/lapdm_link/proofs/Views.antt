@@ -4,6 +4,7 @@ use Rattle.lapdm_link.proofs.Words.{append-nil, filter_map, filter_map-append, C
 use Rattle.lapdm_link.proofs.Words.{Mobile, Network, EndState, Outcome, start, Call, other, end_in, with_end_in, World, start_on, Line}
 use Rattle.lapdm_link.proofs.Words.{Asked, Rivals, Told, is_role, is_sapi, call_in, notice_in, calls, notices}
 use Rattle.lapdm_window.specs.Sides.{SideState, link_in, with_link_in}
+use Rattle.lapdm_link.proofs.Words.{Room, start_in}
 use Rattle.lapdm_link.specs.Ways as W
 
 -- the words on ways, of a whole session
@@ -39,9 +40,9 @@ by_link P s h g s' = grind arith
 pub each_way : (P : Role → Type 0) (r : Role) → P r → P (other r) → (r' : Role) → P r'
 each_way P r h g r' = grind arith
 
-pub each_start : (P : Role → Sapi → EndState → Type 0) (channel : Channel) → ((r : Role) (s : Sapi) → P r s (start r s channel)) →
-    (r : Role) (s : Sapi) → P r s (end_of r s (start_on channel))
-each_start P channel h r s = grind arith
+pub each_start : (P : Role → Sapi → EndState → Type 0) (room : Room) (channel : Channel) →
+    ((r : Role) (s : Sapi) → P r s (start r s channel)) → (r : Role) (s : Sapi) → P r s (end_of r s (start_in room channel))
+each_start P room channel h r s = grind arith
 
 -- so on one side: what holds of an end after what it did, and of the other end, holds of both
 side_does : (P : Sapi → EndState → Type 0) (s : Sapi) (e : EndState) (side : SideState) → P s e →

@@ -33,6 +33,8 @@ pub use Rattle.lapdm_link.specs.Events.{Ask, Deliver, Lose, Rival, rival_frame, 
 pub use Rattle.lapdm_link.specs.Events.{unless, rival_refusal, call_of, Ends, sender_of, taken, Close, Tick}
 pub use Rattle.lapdm_link.specs.Worlds.{World, start_on, next, refusal, after_by, answer_by, answer, after, answers, IsHarmlessBy}
 pub use Rattle.lapdm_link.specs.Worlds.{IsHarmless, IsReadable, IsSendable}
+pub use Rattle.lapdm_link.specs.Events.{Room}
+pub use Rattle.lapdm_link.specs.Worlds.{start_in}
 pub use Rattle.lapdm_window.specs.declared.Refused.{Refused}
 pub use Rattle.lapdm_window.specs.Tables.{after_frame, becomes_closed}
 pub use Rattle.lapdm_frame.specs.Layout.{n201}

@@ -1,5 +1,6 @@
 -- Sessions worked by hand, and for each claim lines that break it.
-use Rattle.lapdm_link.proofs.Words.{◌≡◌, refl, arith, ℕ, false, List, [], ◌∷◌, ◌++◌, replicate, inl, inr, Option, Some, None, Sdcch, I, Frame, Message, Zero, Three, Role, Mobile, Network, Opens, OpensBare, Sends, Closes, Ticks, way, Event, Send, Close, Tick, Open, OpenBare, Ask, Deliver, Lose, Rival, World, start_on, after, answers, IsHarmless, Line, Asked, Rivals, Told, lines, Claims, OrderClaims}
+use Rattle.lapdm_link.proofs.Words.{◌≡◌, refl, arith, ℕ, false, List, [], ◌∷◌, ◌++◌, replicate, inl, inr, Option, Some, None, Sdcch, I, Ui, Frame, Message, zero, suc, Contains, Zero, Three, Role, Mobile, Network, Opens, OpensBare, Sends, SendsUnit, Closes, Ticks, way, Event, Send, Close, Tick, Open, OpenBare, Ask, Deliver, Lose, Rival, World, start_in, start_on, after, answers, IsHarmless, Line, Asked, Rivals, Told, lines, Claims, OrderClaims, IsSubsequence}
+use Rattle.lapdm_link.specs.Events.{SendUnit, boundless}
 use Rattle.lapdm_window.specs.declared.Notice.TheVariants as N
 use Rattle.lapdm_window.specs.declared.Reason.TheVariants as R
 
@@ -98,6 +99,76 @@ forged_breaks h = other_message (h.in_order Mobile Zero).0 (h.in_order Mobile Ze
     other_message : (more : List Message) → (3 ∷ []) ∷ more ≡ (2 ∷ []) ∷ [] → ⊥
     other_message more e = cc e
 
+-- ---- each premise is needed: a frame that is given twice, or before another that was sent before it, on ways with room for all; one
+-- that was on its way before the ends were begun; and ends that were open before
+
+abbrev moved : List Move → World → World
+moved [] w = w
+moved (move ∷ moves) w = moved moves (after (event_of move w) w)
+
+abbrev told_from : World → List Move → List Line
+told_from w moves = let events = played moves w in lines events (answers events w)
+
+abbrev roomy : World
+roomy = start_in boundless Sdcch
+
+abbrev sends_unit : ℕ → Move
+sends_unit octet = Happens (Ask Mobile Zero (SendUnit (octet ∷ [])))
+
+abbrev given : ℕ → Move
+given octet = Happens (Deliver Mobile (Some (record { sapi = 0; cr = false; content = Ui false (octet ∷ []) })))
+
+given_twice : told_from roomy (sends_unit 4 ∷ given 4 ∷ given 4 ∷ []) ≡ Asked Mobile Zero (SendsUnit (4 ∷ [])) ∷ Told Network Zero
+    (N.Unit (4 ∷ [])) ∷ Told Network Zero (N.Unit (4 ∷ [])) ∷ []
+given_twice = refl
+
+given_twice_breaks : Claims (told_from roomy (sends_unit 4 ∷ given 4 ∷ given 4 ∷ [])) → ⊥
+given_twice_breaks h = none (h.units Mobile Zero)
+  where
+    none : IsSubsequence ((4 ∷ []) ∷ (4 ∷ []) ∷ []) ((4 ∷ []) ∷ []) → ⊥
+    none (inl same) = let e : (4 ∷ []) ∷ [] ≡ [] = same.1 in cc e
+    none (inr e) = cc e
+
+out_of_order : told_from roomy (sends_unit 4 ∷ sends_unit 5 ∷ given 5 ∷ given 4 ∷ []) ≡ Asked Mobile Zero (SendsUnit (4 ∷ []))
+    ∷ Asked Mobile Zero (SendsUnit (5 ∷ [])) ∷ Told Network Zero (N.Unit (5 ∷ [])) ∷ Told Network Zero (N.Unit (4 ∷ [])) ∷ []
+out_of_order = refl
+
+out_of_order_breaks : Claims (told_from roomy (sends_unit 4 ∷ sends_unit 5 ∷ given 5 ∷ given 4 ∷ [])) → ⊥
+out_of_order_breaks h = none (h.units Mobile Zero)
+  where
+    none : IsSubsequence ((5 ∷ []) ∷ (4 ∷ []) ∷ []) ((4 ∷ []) ∷ (5 ∷ []) ∷ []) → ⊥
+    none (inl same) = let e : 5 ∷ [] ≡ 4 ∷ [] = same.0 in cc e
+    none (inr (inl same)) = let e : (4 ∷ []) ∷ [] ≡ [] = same.1 in cc e
+    none (inr (inr e)) = cc e
+
+-- the network's UA is on its way from an opening before this one
+abbrev stale : World
+stale = record (start_on Sdcch) { ways = (moved (Happens (Open (1 ∷ [])) ∷ Arrives Mobile ∷ []) (start_on Sdcch)).ways }
+
+stale_answer : told_from stale (Happens (Open (1 ∷ [])) ∷ Arrives Network ∷ []) ≡ Asked Mobile Zero (Opens (1 ∷ [])) ∷ Told Mobile Zero
+    (N.Opened (1 ∷ [])) ∷ []
+stale_answer = refl
+
+stale_answer_breaks : Claims (told_from stale (Happens (Open (1 ∷ [])) ∷ Arrives Network ∷ [])) → ⊥
+stale_answer_breaks h =
+    let cause = h.cause Mobile Zero (1 ∷ []) (Asked Mobile Zero (Opens (1 ∷ [])) ∷ []) ([], refl) in not_told cause.0
+  where
+    not_told : Contains (Asked Mobile Zero (Opens (1 ∷ [])) ∷ []) (Told Network Zero (N.Opened (1 ∷ []))) → ⊥
+    not_told (zero, few, e) = cc e
+    not_told (suc k, few, e) = omega (arith, few)
+
+-- both ends are open already
+abbrev restored : World
+restored = record (start_on Sdcch) { ends = (moved opening (start_on Sdcch)).ends }
+
+open_before : told_from restored (Happens (Ask Mobile Zero (Send (2 ∷ []))) ∷ Arrives Mobile ∷ []) ≡ Asked Mobile Zero (Sends (2 ∷ []))
+    ∷ Told Network Zero (N.Got (2 ∷ [])) ∷ []
+open_before = refl
+
+open_before_breaks : OrderClaims (told_from restored (Happens (Ask Mobile Zero (Send (2 ∷ []))) ∷ Arrives Mobile ∷ [])) → ⊥
+open_before_breaks h =
+    omega (arith, (h.inside Network Zero (N.Got (2 ∷ [])) (Asked Mobile Zero (Sends (2 ∷ [])) ∷ []) tt ([], refl)).opened)
+
 -- ---- lines that break the other claims on delivery
 
 early_acknowledgement : Claims (Told Mobile Zero (N.Acked 1) ∷ []) → ⊥
@@ -114,15 +185,15 @@ opened_alone h = (let cause = h.cause Mobile Zero (1 ∷ []) [] ([], refl) in om
 
 opened_by_nobody : Claims (Told Network Zero (N.Opened (1 ∷ [])) ∷ []) → ⊥
 opened_by_nobody h = elim (h.cause Network Zero (1 ∷ []) [] ([], refl)) [
-      | inl asked ↦ omega (arith, asked.1)
-      | inr rival ↦ omega (arith, rival.1)
-    ]
+  | inl asked ↦ omega (arith, asked.1)
+  | inr rival ↦ omega (arith, rival.1)
+]
 
 opened_unasked : Claims (Told Mobile Three (N.Opened []) ∷ []) → ⊥
 opened_unasked h = elim (h.cause Mobile Three [] [] ([], refl)) [
-      | inl asked ↦ omega (arith, asked.1)
-      | inr own ↦ omega (arith, own.0.1)
-    ]
+  | inl asked ↦ omega (arith, asked.1)
+  | inr own ↦ omega (arith, own.0.1)
+]
 
 opened_twice : Claims (Told Mobile Zero (N.Opened []) ∷ Told Mobile Zero (N.Opened []) ∷ []) → ⊥
 opened_twice h = omega (arith, h.once Mobile Zero)

@@ -85,6 +85,15 @@ abbrev pub closed_in : Notice → Option Notice
 closed_in (N.Closed reason) = Some (N.Closed reason)
 closed_in other = None
 
+-- the lines of one link; another mobile's SABM is one of SAPI 0
+abbrev pub is_of_link : Sapi → Line → Bool
+is_of_link s (Asked role sapi call) = is_sapi s sapi
+is_of_link s (Rivals info) = is_sapi s Zero
+is_of_link s (Told role sapi notice) = is_sapi s sapi
+
+abbrev pub of_link : Sapi → List Line → List Line
+of_link s ls = filter_map (λ l. if is_of_link s l then Some l else None) ls
+
 -- in the order of the lines: the messages that an end took, those that it handed up, and so on
 abbrev pub sent : Role → Sapi → List Line → List Message
 sent r s ls = filter_map sent_in (calls r s ls)

@@ -1,6 +1,6 @@
 -- A session over the air is a session of frames, with the same lines: an event of blocks is an event of the frames that are
 -- read.
-use Rattle.um_air.proofs.Words.{arith, ◌≡◌, refl, sym, ◌∙◌, ap, subst, ℕ, ◌+◌, ◌-◌, ◌<◌, ◌≤◌, List, [], ◌∷◌, ◌++◌, map, length, drop, Option, Some, None, ap₂, IfSome, AllZip, All-head, All-take, All-drop, Channel, header, Frame, information, Fits, IsFrame, octets_of, octets_canonical, same_frame, Role, Received, IsSentBlock, softened, IsReceivedBlock, accepted_octets, Ways, no_ways, way, with_more, count, IsAsSent, Deliver, Ends, Deed, deed, taken, sender_of, Why, refusal_by, World, answer_by, after_by, Line, event_lines, notice_lines, answer_lines, Claims, OrderClaims, CountsAgree, KnowsBy, SaysOctets, AllFit, IsFitting, fits-step, AllReported, in_order-step, start-reported, order_claims, start-fits, claims, counts, Octets, Block, Event, as_read, AirState, Reads, Arrives, AreSent, Answer, Refuses, Does, refusal, AirStep, turned, start_on, AirRun, told, after, IsHarmlessStep, AreOctets, IsKindEvent, lines, IsHarmlessAfter, IsHarmless, IsKind, with_way, AllZip-long}
+use Rattle.um_air.proofs.Words.{arith, ◌≡◌, refl, sym, ◌∙◌, ap, subst, ℕ, ◌+◌, ◌-◌, ◌<◌, ◌≤◌, List, [], ◌∷◌, ◌++◌, map, length, drop, Option, Some, None, ap₂, IfSome, AllZip, All-head, All-take, All-drop, Channel, header, Frame, information, Fits, IsFrame, octets_of, octets_canonical, same_frame, Role, Received, IsSentBlock, softened, IsReceivedBlock, accepted_octets, Ways, no_ways, way, with_more, count, IsAsSent, Deliver, Ends, Deed, deed, taken, sender_of, Why, bounded, refusal_by, World, answer_by, after_by, Line, event_lines, notice_lines, answer_lines, Claims, OrderClaims, CountsAgree, KnowsBy, SaysOctets, AllFit, IsFitting, fits-step, AllReported, in_order-step, start-reported, order_claims, start-fits, claims, counts, Octets, Block, Event, as_read, AirState, Reads, Arrives, AreSent, Answer, Refuses, Does, refusal, AirStep, turned, start_on, AirRun, told, after, IsHarmlessStep, AreOctets, IsKindEvent, lines, IsHarmlessAfter, IsHarmless, IsKind, with_way, AllZip-long}
 use Rattle.lapdm_link.specs as L
 use Rattle.um_air.proofs.Determined.{left, done}
 use Rattle.um_air.proofs.FewTurned.{accepted_as_sent}
@@ -34,7 +34,7 @@ module _ {X Y : Type 0} (R : X → Y → Type 0) where
 -- ---- an air, as the session of the frames on its ways
 
 abbrev pub world_of : AirState → Ways Frame → World
-world_of a fs = record { channel = a.channel; ends = a.ends; ways = fs }
+world_of a fs = record { room = bounded; channel = a.channel; ends = a.ends; ways = fs }
 
 abbrev pub Coded : Channel → ℕ → Ways Frame → Ways Block → Type 0
 Coded channel tsc fs blocks = AreAlike (λ f block. IsSentBlock (octets_of channel f) tsc block) fs blocks
@@ -188,7 +188,7 @@ module _ (a : AirState) (octets : Ways Octets) (h : IsSeenAt a octets) where
 -- ---- a session
 
 abbrev pub start-seen : (tsc : ℕ) (channel : Channel) → IsSeenAt (start_on tsc channel) no_ways
-start-seen tsc channel = (let fit = start-fits channel in let reported = start-reported channel in
+start-seen tsc channel = (let fit = start-fits bounded channel in let reported = start-reported bounded channel in
     record { frames = no_ways; ls = []; blocks = λ r. grind arith; written = λ r. grind arith; fit = fit; reported = reported })
 
 -- a session, as one of frames
@@ -218,16 +218,16 @@ module _ (tsc : ℕ) (channel : Channel) (events : List Event) (answers : List A
   seen = seen-run events answers (start_on tsc channel) b no_ways (start-seen tsc channel) run
 
   pub air_claims : IsHarmless events answers → Claims (lines events answers)
-  air_claims harmless = subst Claims (sym seen.same) (claims channel seen.seen (seen.harmless harmless))
+  air_claims harmless = subst Claims (sym seen.same) (claims bounded channel seen.seen (seen.harmless harmless))
 
   pub air_counts : IsHarmless events answers → CountsAgree (lines events answers)
-  air_counts harmless = subst CountsAgree (sym seen.same) (counts channel seen.seen (seen.harmless harmless))
+  air_counts harmless = subst CountsAgree (sym seen.same) (counts bounded channel seen.seen (seen.harmless harmless))
 
   pub kind_is_harmless : IsKind events → IsHarmless events answers
   kind_is_harmless = seen.kind
 
   pub air_order : OrderClaims (lines events answers)
-  air_order = subst OrderClaims (sym seen.same) (order_claims channel seen.seen)
+  air_order = subst OrderClaims (sym seen.same) (order_claims bounded channel seen.seen)
 
 -- one step more
 pub longer_run : (a : AirState) (events : List Event) (answers : List Answer) (b : AirState) (event : Event) (answer : Answer)

@@ -1,5 +1,5 @@
 -- A block of which at most three bits were turned over is accepted with the octets that were sent.
-use Rattle.um_air.proofs.Words.{◌≡◌, ◌≢◌, refl, sym, ◌∙◌, ap, arith, ℕ, ◌+◌, ◌*◌, ◌/◌, ◌%◌, ◌<◌, ◌≤◌, Bool, true, false, ◌||◌, ◌==◌, if◌then◌else◌, nat_eq, ℤ, pos, negsuc, List, [], ◌∷◌, map, length, get_or, take, drop, All, Some, inl, inr, unsigned_abs, cases_eq, nat_tests, get_or-set_other, get_or_default, get_or-take, get_or-drop, length-take, length-append, get_or-map, map-set_same, wrong_places, burst_of, place_of, burst_place, IsInterleaved, burst_place-lower, burst_place-upper, burst_of-below, halves-at, IsLightlyDamaged-equal, IsSentBlock, soft_value, softened, coded_places, IsReceivedBlock, Received, AreBits, few_spoilt, clean_gathered, coded_block_bits, restored_block, Block, turned_at, turned}
+use Rattle.um_air.proofs.Words.{◌≡◌, ◌≢◌, refl, sym, ◌∙◌, ap, arith, ℕ, ◌+◌, ◌*◌, ◌/◌, ◌%◌, ◌<◌, ◌≤◌, Bool, true, false, ◌||◌, ◌==◌, if◌then◌else◌, nat_eq, ℤ, pos, negsuc, List, [], ◌∷◌, map, length, get_or, take, drop, All, Some, inl, inr, unsigned_abs, cases_eq, nat_tests, get_or-set_other, get_or_default, get_or-take, get_or-drop, length-take, length-append, get_or-map, map-set_same, wrong_places, burst_of, place_of, burst_place, IsInterleaved, burst_place-lower, burst_place-upper, burst_of-below, halves-at, IsLightlyDamaged, IsLightlyDamaged-equal, IsSentBlock, soft_value, softened, coded_places, IsReceivedBlock, Received, AreBits, few_spoilt, clean_gathered, coded_block_bits, restored_block, Block, turned_at, turned}
 use Rattle.um_block.proofs.Lemmas.{listed}
 use Rattle.burst_map.specs.NormalBurst as N
 
@@ -83,6 +83,10 @@ module _ (octets : List ℕ) (tsc : ℕ) (block : Block) (places : List ℕ) (r 
       ∙ soft_at (turned places block) h.soft h.gathered k (omega (arith, l, h.gathered.coded_count)))
       ∙ soft_value-strength (bit_at (turned places block) (burst_place k))
 
+  pub lightly_damaged : IsLightlyDamaged h.soft s.coded_bits
+  lightly_damaged =
+      IsLightlyDamaged-equal h.soft s.coded_bits 127 (omega (arith, h.gathered.coded_count)) (omega arith) strong few_wrong
+
   pub accepted_as_sent : r.accepted ≡ Some octets
-  accepted_as_sent = restored_block (map softened (turned places block)) octets s.coded_bits h.soft r s.code h.gathered
-      (IsLightlyDamaged-equal h.soft s.coded_bits 127 (omega (arith, h.gathered.coded_count)) (omega arith) strong few_wrong) h
+  accepted_as_sent =
+      restored_block (map softened (turned places block)) octets s.coded_bits h.soft r s.code h.gathered lightly_damaged h

@@ -1,5 +1,5 @@
 -- There is an answer to every event, where messages are octets: a session can always go on.
-use Rattle.um_air.proofs.Words.{◌≡◌, refl, sym, subst, arith, ℕ, ◌-◌, ◌<◌, ◌≤◌, List, [], ◌∷◌, length, Option, None, ◌∙◌, ◌/◌, ◌%◌, map, get_or, set, nat_eq, Some, All, inl, inr, IfSome, cases_lt, length-set, length-map, set_past, All-nil, All-cons, All-head, All-tail, All-append, All-replicate, All-set, All-map, Channel, header, n201, Content, Frame, information, goes_on, address, control, length_octet, NumbersFit, Fits, octets_of, octets_canonical, bit_bound, one_reading, information_bound, Sapi, Notice, Role, Received, softened, IsReceivedBlock, some_sent_block, sent_block_bits, some_received_block, accepted_count, Ways, way, no_ways, Deliver, Who, End, Why, deed, Nothing, unless, World, notice_lines, answer_lines, KnowsBy, LineOctets, AllSay, EndOctets, SaysOctets, WorldOctets, octets-step, start-octets, AllFit, deed-fits, deed-holds, Octets, Event, as_read, AirState, start_on, Answer, AirStep, AirRun, Block, Reads, Hears, Arrives, AreSent, Happens, Refuses, Does, refusal, turned_at, turned, AreOctets, IsOctetEvent, after}
+use Rattle.um_air.proofs.Words.{◌≡◌, refl, sym, subst, arith, ℕ, ℤ, ◌-◌, ◌<◌, ◌≤◌, List, [], ◌∷◌, length, Option, None, ◌∙◌, ◌/◌, ◌%◌, map, get_or, set, nat_eq, Some, All, inl, inr, IfSome, cases_lt, length-set, length-map, set_past, All-nil, All-cons, All-head, All-tail, All-append, All-replicate, All-set, All-map, Channel, header, n201, Content, Frame, information, goes_on, address, control, length_octet, NumbersFit, Fits, octets_of, octets_canonical, bit_bound, one_reading, information_bound, Sapi, Notice, Role, Received, softened, IsReceivedBlock, IsSentBlock, some_sent_block, sent_block_bits, some_received_block, accepted_count, Ways, way, no_ways, Deliver, Who, End, Why, deed, Nothing, unless, bounded, World, notice_lines, answer_lines, KnowsBy, LineOctets, AllSay, EndOctets, SaysOctets, WorldOctets, octets-step, start-octets, AllFit, deed-fits, deed-holds, Octets, Event, as_read, AirState, start_on, Answer, AirStep, AirRun, Block, Reads, Hears, Arrives, AreSent, Happens, Refuses, Does, refusal, turned_at, turned, AreOctets, IsOctetEvent, after}
 use Rattle.lapdm_link.specs as L
 use Rattle.um_air.proofs.Determined.{left, done, one_run}
 use Rattle.um_air.proofs.Carrying.{Coded, world_of, refusal-same, known-read, IsSeenAt, seen-step, start-seen}
@@ -39,12 +39,21 @@ turned-whole (p ∷ ps) block h =
       | inr past ↦ subst IsWhole (sym (set_past block (p / 148) new past)) h
     ])
 
-some_report : (places : List ℕ) (block : Block) → IsWhole block → (r : Received) × IsReceivedBlock (map softened (turned places block)) r
-some_report places block h =
-    let bursts : Block = turned places block in
-    let whole : IsWhole bursts = turned-whole places block h in
-    some_received_block (map softened bursts) (length-map bursts softened ∙ whole.0)
-    (All-map (λ burst. length burst ≡ 148) softened bursts (λ k d l. length-map (get_or bursts k d) _ ∙ whole.1 k d l))
+-- and four bursts of 148 soft values
+abbrev IsWholeSoft : List (List ℤ) → Type 0
+IsWholeSoft bursts = (length bursts ≡ 4) × All (λ burst. length burst ≡ 148) bursts
+
+soft-whole : (bursts : Block) → IsWhole bursts → IsWholeSoft (map softened bursts)
+soft-whole bursts whole = (
+  length-map bursts softened ∙ whole.0,
+  All-map (λ burst. length burst ≡ 148) softened bursts (λ k d l. length-map (get_or bursts k d) _ ∙ whole.1 k d l),
+)
+
+pub turned_shape : (octets : List ℕ) (tsc : ℕ) (block : Block) (places : List ℕ) → IsSentBlock octets tsc block →
+    IsWholeSoft (map softened (turned places block))
+turned_shape octets tsc block places sent =
+    let bits = sent_block_bits octets tsc block sent in
+    soft-whole (turned places block) (turned-whole places block (bits.0, λ k d l. (bits.1 k d l).many))
 
 pub some_reading : (channel : Channel) (o : Option Octets) → IfSome o (λ octets. length octets ≡ 23) →
     (f : Option Frame) × Reads channel o f
@@ -59,8 +68,8 @@ some_hearing : (a : AirState) (sender : Role) (places : List ℕ) (fs : List Fra
     (report : Received) × (read : Option Frame) × Hears a sender places report read
 some_hearing a sender places fs [] more sent is none = absurd (cc none)
 some_hearing a sender places (f ∷ fs) (block ∷ others) more sent is none =
-    let bits = sent_block_bits (octets_of a.channel f) a.tsc block sent.0 in
-    let r = some_report places block (bits.0, λ k d l. (bits.1 k d l).many) in
+    let shape = turned_shape (octets_of a.channel f) a.tsc block places sent.0 in
+    let r = some_received_block (map softened (turned places block)) shape.0 shape.1 in
     let read = some_reading a.channel r.0.accepted (accepted_count _ r.0 r.1) in
     (r.0, read.0, record { block = block; others = others; first = is; received = r.1; reads = read.1 })
 some_hearing a sender places fs blocks more sent is none = absurd assumption
@@ -103,7 +112,8 @@ record IsSpoken (a : AirState) : Type 0 where
   known : a.tsc ≤ 7
 
 start-spoken : (tsc : ℕ) (channel : Channel) → tsc ≤ 7 → IsSpoken (start_on tsc channel)
-start-spoken tsc channel known = record { octets = no_ways; at = start-seen tsc channel; small = start-octets channel; known = known }
+start-spoken tsc channel known =
+    record { octets = no_ways; at = start-seen tsc channel; small = start-octets bounded channel; known = known }
 
 module _ (a : AirState) (h : IsSpoken a) (event : Event) (says : IsOctetEvent event) where
   octets-next : (read : Option Frame) → (let e : L.Events.Event = as_read read event in

@@ -1,5 +1,6 @@
 -- The laws of this crate and their lemmas, for the crates above.
 pub use Rattle.um_air.proofs.Carrying.{longer_run, air_claims, air_counts, air_order, kind_is_harmless, reads-well}
 pub use Rattle.um_air.proofs.FewTurned.{accepted_as_sent}
+pub use Rattle.um_air.proofs.Damaged.{damaged_received, turned_damaged}
 pub use Rattle.um_air.proofs.Determined.{one_read, same_step, one_answer, one_run}
 pub use Rattle.um_air.proofs.GoingOn.{some_reading, some_answer, some_run, octets_small}

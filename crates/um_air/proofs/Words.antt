@@ -13,7 +13,7 @@ pub use Rattle.lapdm_frame.specs.declared.Channel.{Channel}
 pub use Rattle.lapdm_frame.specs.Content.{Frame, information, Content, goes_on}
 pub use Rattle.lapdm_window.specs.Ends.{Role}
 pub use Rattle.lapdm_link.specs.Ways.{with_more, Ways, way, IsAsSent, no_ways, count, with_way}
-pub use Rattle.lapdm_link.specs.Events.{Deliver, sender_of, Deed, deed, taken, Ends, Why, End, unless, refusal_by, Who, Nothing}
+pub use Rattle.lapdm_link.specs.Events.{Deliver, sender_of, Deed, deed, taken, Ends, Why, End, unless, bounded, refusal_by, Who, Nothing}
 pub use Rattle.lapdm_frame.specs.Frames.{Fits, IsFrame, octets_of, address, control, length_octet, NumbersFit}
 pub use Rattle.lapdm_link.specs.Worlds.{World, answer_by, after_by}
 pub use Rattle.lapdm_link.specs.Claims.{Line, notice_lines, answer_lines, Claims, OrderClaims, CountsAgree, event_lines}
@@ -32,6 +32,7 @@ pub use Rattle.bit_blocks.specs.SoftValues.{wrong_places}
 pub use Rattle.interleave.specs.Places.{burst_of, place_of, burst_place}
 pub use Rattle.interleave.specs.Bursts.{IsInterleaved}
 pub use Rattle.interleave.proofs.Lemmas.{burst_place-lower, burst_place-upper, burst_of-below, halves-at}
+pub use Rattle.weight_bound.specs.Restoring.{IsLightlyDamaged}
 pub use Rattle.weight_bound.proofs.Lemmas.{IsLightlyDamaged-equal}
 pub use Rattle.um_block.specs.Sent.{IsSentBlock}
 pub use Rattle.lapdm_frame.proofs.Canonical.{octets_canonical}

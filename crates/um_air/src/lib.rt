@@ -2,13 +2,14 @@
 //! contract.
 #![tactic(auto)]
 
-ghost use Rattle.std.specs.Prelude.{◌≡◌, ℕ, ◌<◌, ◌≤◌, List, ◌∷◌, [], ◌++◌, map, length, All, Some};
+ghost use Rattle.std.specs.Prelude.{◌≡◌, ℕ, ℤ, ◌<◌, ◌≤◌, List, ◌∷◌, [], ◌++◌, map, length, All, Some};
 ghost use Rattle.lapdm_frame.specs.declared.Channel.{Channel};
 ghost use Rattle.um_block.specs.Sent.{IsSentBlock};
 ghost use Rattle.um_block.specs.Received.{softened, IsReceivedBlock};
 ghost use Rattle.um_block.specs.declared.received.Received.{Received};
 ghost use Rattle.lapdm_link.specs.Claims.{Claims, OrderClaims, CountsAgree};
 ghost use Rattle.um_air.specs.Air.{Event, Answer, AirState, start_on, AirStep, AirRun, Block, turned};
+ghost use Rattle.um_air.specs.Damage.{AreLightlyDamaged};
 ghost use Rattle.um_air.specs.Sessions.{lines, IsHarmless, IsOctetEvent, IsKind};
 
 /// Law: an event has at most one answer, and leads to one state of the air.
@@ -91,6 +92,15 @@ pub fn law_three_turned()
     ensures { (octets : List ℕ) (tsc : ℕ) (block : Block) (places : List ℕ) (r : Received) →
         IsSentBlock octets tsc block → length places ≤ 3 →
         IsReceivedBlock (map softened (turned places block)) r → r.accepted ≡ Some octets }
+{}
+
+/// Law: bursts that are lightly damaged are received as the block that was sent, and bursts of which at most three bits were turned over
+/// are lightly damaged.
+pub fn law_damaged()
+    ensures received { (octets : List ℕ) (bursts : List (List ℤ)) (r : Received) → AreLightlyDamaged octets bursts →
+        IsReceivedBlock bursts r → r.accepted ≡ Some octets }
+    ensures turned { (octets : List ℕ) (tsc : ℕ) (block : Block) (places : List ℕ) → IsSentBlock octets tsc block →
+        length places ≤ 3 → AreLightlyDamaged octets (map softened (turned places block)) }
 {}
 
 /// Law: where at most three bits of each block are turned over, each block is accepted with the octets that were sent.

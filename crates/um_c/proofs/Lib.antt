@@ -2,5 +2,7 @@ mod Accepting
 mod Calls
 mod Places
 mod Plain
+mod Playing
 mod RepairedOnce
 mod ToldOnce
+mod Opened

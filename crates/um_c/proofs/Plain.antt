@@ -48,7 +48,7 @@ says-bit : (b : Bool) → says (bit b) ≡ b
 says-bit true = refl
 says-bit false = refl
 
-octets-plain : (octets : List ℕ) → octets_in (plain_message octets) ≡ octets
+pub octets-plain : (octets : List ℕ) → octets_in (plain_message octets) ≡ octets
 octets-plain octets = take_at octets (replicate (255 - length octets) 0) (length octets) refl
 
 messages-plain : (k : ℕ) (held : List Message) → length held ≤ k → map octets_in (take (length held) (rooms_for k held)) ≡ held

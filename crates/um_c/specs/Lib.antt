@@ -7,3 +7,5 @@ pub mod States
 pub mod Effects
 pub mod EndCalls
 pub mod SideCalls
+pub mod Joined
+pub mod Opening

@@ -9,9 +9,17 @@ mod bursts;
 mod effects;
 mod ends;
 mod frames;
+mod joined;
 mod layout;
 mod margins;
+mod opening;
 mod repairs;
 mod sides;
 mod soft;
 mod states;
+
+pub use joined::{
+    law_joined_arrival, law_joined_bursts, law_joined_call, law_joined_counts, law_joined_delivery,
+    law_joined_order, law_joined_shown,
+};
+pub use opening::open_link;

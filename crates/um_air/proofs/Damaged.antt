@@ -1,0 +1,25 @@
+-- Bursts that are lightly damaged are received as the block that was sent.
+use Rattle.um_air.proofs.Words.{◌≡◌, ℕ, ℤ, ◌≤◌, List, map, length, Some, IsSentBlock, softened, IsReceivedBlock, Received}
+use Rattle.um_air.proofs.Words.{some_received_block, restored_block, Block, turned}
+use Rattle.um_air.specs.Damage.{AreLightlyDamaged}
+use Rattle.um_air.proofs.FewTurned.{lightly_damaged}
+use Rattle.um_air.proofs.GoingOn.{turned_shape}
+
+pub damaged_received : (octets : List ℕ) (bursts : List (List ℤ)) (r : Received) → AreLightlyDamaged octets bursts →
+    IsReceivedBlock bursts r → r.accepted ≡ Some octets
+damaged_received octets bursts r h is = restored_block bursts octets h.bits h.soft r h.coded h.gathered h.damage is
+
+pub turned_damaged : (octets : List ℕ) (tsc : ℕ) (block : Block) (places : List ℕ) → IsSentBlock octets tsc block → length places ≤ 3 →
+    AreLightlyDamaged octets (map softened (turned places block))
+turned_damaged octets tsc block places sent few =
+    let shape = turned_shape octets tsc block places sent in
+    let (r, is) = some_received_block (map softened (turned places block)) shape.0 shape.1 in
+    record {
+      bits = sent.coded_bits;
+      coded = sent.code;
+      four = shape.0;
+      whole = shape.1;
+      soft = is.soft;
+      gathered = is.gathered;
+      damage = lightly_damaged octets tsc block places r sent few is;
+    }
