@@ -26,3 +26,23 @@ find_library() {
 exports() {
   cc -E -P -Ibindings/c -xc - <<<'#include "um.h"' | grep -oE '\bum_[a-z0-9_]+ *\(' | tr -d ' (' | LC_ALL=C sort -u
 }
+
+# runs WHAT COMMAND..: a part of the check that is named in $check, whose output is shown where it fails. Needs $work and $failed
+runs() {
+  local what=$1
+  shift
+  if "$@" >"$work/log" 2>&1; then
+    grep "^$check:" "$work/log" || echo "$check: $what"
+  else
+    cat "$work/log"
+    echo "$check: $what: failed"
+    failed=1
+  fi
+}
+
+# has TOOL PART
+has() {
+  command -v "$1" >/dev/null && return
+  echo "$check: no $1 here, so $2 is passed over"
+  return 1
+}

@@ -1,20 +1,38 @@
-/* um.h - the signalling link of GSM: blocks, bursts and frames, by a library whose every answer is proved.
+/* um.h - the signalling link of GSM: blocks, bursts and LAPDm frames, by a library whose every answer is proved.
  *
- * Link with libum_c.a, which `rt lib` in crates/um_c leaves in crates/um_c/out. It needs memcpy, memmove and memset alone.
+ * Link with libum.a or libum.so.0, of dist/x86_64-linux or dist/aarch64-linux. `rt lib` in crates/um_c proves and builds the same
+ * archive as out/libum_c.a. The library needs memcpy, memmove and memset alone.
  *
  * Conventions
- *   A bit is an octet, 0 or 1, in the order of sending (libosmocore's ubit_t). A soft value is a signed octet, from -127
+ *   A bit is an octet, 0 or 1, in the order of sending (libosmocore's ubit_t). A soft bit is a signed octet, from -127
  *   for a sure 1 to 127 for a sure 0, and 0 where nothing is known (its sbit_t); -128 is refused.
- *   A block is 23 octets. In its 184 bits each octet stands from its bit of value 1 on.
- *   No call takes memory, keeps a state between calls, waits or prints; each may be called from any thread, and two threads
- *   may use one um_end or um_side only in turns. Pointers are never null, point to as many elements as the type says, aligned as the
- *   type asks, and what a call writes overlaps nothing else that it gets. The stack of um_receive_block_among takes some 50 KB.
- *   The state of an end of a link is the caller's, in a um_end, and that of both links in a um_side.
- *   A call that refuses has written nothing. */
+ *   A block is 23 octets. They are sent least significant bit first.
+ *   No call allocates memory, keeps a state between calls, waits or prints. Each may be called from any thread; two threads
+ *   may use one um_end or um_side only in turns. um_receive_block_among takes 47 KB of stack, each other call less than 10 KB.
+ *   Pointers are not null (gcc and clang warn where they see one), point to as many elements as the type says, and are aligned as the
+ *   type asks. What a call writes does not overlap anything else that it is given. The library cannot test these, and what a
+ *   call does without them is undefined.
+ *   A call that refuses has written nothing.
+ *   The state of an endpoint is the caller's, in a um_end, and that of both links of a channel in a um_side.
+ *   Many blocks are a loop of the caller: a pointer and a count are no type of the language in which the calls are proved.
+ *   Before C23, C does not convert `int8_t soft[4][148]` to a pointer to const rows by itself, and -Wpedantic says so; the cast
+ *   `(const int8_t (*)[148])soft` is then in order. C++ and C23 need none. */
 #ifndef UM_H
 #define UM_H
 #include <stdbool.h>
 #include <stdint.h>
+
+#define UM_VERSION "0.2.0"
+#define UM_VERSION_MAJOR 0
+#define UM_VERSION_MINOR 2
+#define UM_VERSION_PATCH 0
+
+#if defined __GNUC__
+#define UM_NONNULL __attribute__((__nonnull__))
+#else
+#define UM_NONNULL
+#endif
+
 #ifdef __cplusplus
 extern "C" {
 #endif
@@ -22,40 +40,40 @@ extern "C" {
 /* Blocks: SACCH, SDCCH, BCCH, PCH and AGCH have one coding (3GPP TS 45.003, 4.1). */
 
 typedef struct um_block_report {
-	int32_t metric;          /* the likelihood of the word: the soft values, each with the sign of its bit; at most 57912 */
-	uint32_t wrong_training; /* of the 104 training places; a value of 0 counts as wrong */
-	uint32_t wrong_coded;    /* of the 456 coded places, against the word: the bit errors; a value of 0 counts as wrong */
+	int32_t metric;          /* path metric: the soft bits added up, each with the sign of its bit in the word; at most 57912 */
+	uint32_t wrong_training; /* bit errors of the training sequence, of 104; a soft bit of 0 counts as one */
+	uint32_t wrong_coded;    /* bit errors of the coded bits, of 456, against the word; a soft bit of 0 counts as one */
 	uint8_t tsc;             /* the training sequence heard, 0 to 7 */
-	uint8_t accepted;        /* 1 where the parity holds, else 0 */
+	uint8_t accepted;        /* 1 where the CRC holds, else 0 */
 	uint8_t octets[23];      /* the block where it holds, else zeros */
-	uint8_t word[228];       /* the word, a bit an octet: data 184, parity 40, tail 4; um_receive_block's is the most likely one */
+	uint8_t word[228];       /* the word, a bit an octet: data 184, CRC 40, tail 4; um_receive_block's is the most likely one */
 } um_block_report;
 
 /* Writes the four normal bursts of a block with a training sequence 0 to 7.
  * False: tsc is above 7. */
-bool um_send_block(const uint8_t octets[23], uint8_t tsc, uint8_t bursts[4][148]);
+bool um_send_block(const uint8_t octets[23], uint8_t tsc, uint8_t bursts[4][148]) UM_NONNULL;
 
-/* Reports what four normal bursts are received as: of all words the one that fits the soft values best, the first of equals.
- * False: a value is -128. */
-bool um_receive_block(const int8_t bursts[4][148], um_block_report *report);
+/* Reports what four normal bursts are received as: of all words the one of the greatest metric, the first of equals.
+ * False: a soft bit is -128. */
+bool um_receive_block(const int8_t bursts[4][148], um_block_report *report) UM_NONNULL;
 
-/* Reports what four normal bursts are received as where of the `most` words that fit best, 1 to 64, the first whose parity holds is
- * taken: no other word whose parity holds fits better. Where none of them holds the report is that of um_receive_block. Writes the
- * word's place among all words, 1 for the one that fits best. A wrong word holds by chance once in 2^40 that are tried.
- * False: a value is -128, or most is 0 or above 64. */
-bool um_receive_block_among(const int8_t bursts[4][148], uint32_t most, um_block_report *report, uint32_t *rank);
+/* Reports what four normal bursts are received as by list decoding: of the `most` words of the greatest metrics, 1 to 64, in that
+ * order, the first whose CRC holds is taken, and no other word whose CRC holds has a greater metric. Where none of them holds the
+ * report is that of um_receive_block. Writes the word's rank, 1 for the greatest metric. The CRC of a wrong word holds by chance once
+ * in 2^40 words. False: a soft bit is -128, or most is 0 or above 64. */
+bool um_receive_block_among(const int8_t bursts[4][148], uint32_t most, um_block_report *report, uint32_t *rank) UM_NONNULL;
 
 typedef struct um_margin_report {
-	int32_t margin;    /* how much likelier the word is than the next: 0 exactly where some other word fits as well */
+	int32_t margin;    /* by how much the word's metric is above the next word's: 0 exactly where another word has the same */
 	uint8_t word[228]; /* the most likely word, as um_receive_block reports it */
 	uint8_t next[228]; /* the most likely of all others, the first of several */
 } um_margin_report;
 
-/* Reports how sure the word of four bursts is: by how much it fits better than every other. False: a value is -128. */
-bool um_margin_block(const int8_t bursts[4][148], um_margin_report *report);
+/* Reports how sure the word of four bursts is: by how much its metric is above that of every other. False: a soft bit is -128. */
+bool um_margin_block(const int8_t bursts[4][148], um_margin_report *report) UM_NONNULL;
 
 enum um_repaired {
-	UM_HOLDS,     /* the word meets its parity */
+	UM_HOLDS,     /* the word meets its CRC */
 	UM_REPAIRED,  /* it was put right, and the report is written */
 	UM_NO_REPAIR, /* no word of the code is so near */
 	UM_NO_BITS    /* an octet is no bit */
@@ -67,44 +85,44 @@ typedef struct um_repair_report {
 	uint8_t word[224]; /* the word of the code */
 } um_repair_report;
 
-/* Puts a block's word right, data 184 and parity 40, a bit an octet (the first 224 of um_block_report's word), where its wrong
+/* Puts a block's word right, data 184 and CRC 40, a bit an octet (the first 224 of um_block_report's word), where its wrong
  * bits lie within 12 places in a row; at most one word of the code is so near. Answers a um_repaired. */
-uint8_t um_repair(const uint8_t word[224], um_repair_report *report);
+uint8_t um_repair(const uint8_t word[224], um_repair_report *report) UM_NONNULL;
 
 /* Access bursts: RACH (3GPP TS 45.003, 4.6). */
 
 typedef struct um_access_report {
 	int32_t metric;          /* at most 4572 */
-	uint32_t wrong_training; /* of 41 */
-	uint32_t wrong_coded;    /* of 36 */
-	uint8_t accepted;        /* 1 where the parity holds under the base station's code, else 0 */
+	uint32_t wrong_training; /* bit errors of 41 */
+	uint32_t wrong_coded;    /* bit errors of 36 */
+	uint8_t accepted;        /* 1 where the CRC holds under the bsic, else 0 */
 	uint8_t info[8];         /* the data where it holds, a bit an octet, else zeros */
-	uint8_t word[18];        /* data 8, parity 6 with the code added, tail 4 */
+	uint8_t word[18];        /* data 8, CRC 6 with the BSIC added, tail 4 */
 } um_access_report;
 
 /* Writes the access burst of eight bits for the base station whose identity code is bsic, the highest bit first.
  * False: an octet is no bit. */
-bool um_send_access(const uint8_t info[8], const uint8_t bsic[6], uint8_t burst[88]);
+bool um_send_access(const uint8_t info[8], const uint8_t bsic[6], uint8_t burst[88]) UM_NONNULL;
 
-/* Reports what an access burst is received as. False: a value is -128, or an octet of the code is no bit. */
-bool um_receive_access(const int8_t burst[88], const uint8_t bsic[6], um_access_report *report);
+/* Reports what an access burst is received as. False: a soft bit is -128, or an octet of bsic is no bit. */
+bool um_receive_access(const int8_t burst[88], const uint8_t bsic[6], um_access_report *report) UM_NONNULL;
 
 /* Synchronisation bursts: SCH (3GPP TS 45.003, 4.7). */
 
 typedef struct um_sync_report {
 	int32_t metric;          /* at most 9906 */
-	uint32_t wrong_training; /* of 64 */
-	uint32_t wrong_coded;    /* of 78 */
-	uint8_t accepted;        /* 1 where the parity holds, else 0 */
+	uint32_t wrong_training; /* bit errors of 64 */
+	uint32_t wrong_coded;    /* bit errors of 78 */
+	uint8_t accepted;        /* 1 where the CRC holds, else 0 */
 	uint8_t info[25];        /* the data where it holds, a bit an octet, else zeros */
-	uint8_t word[39];        /* data 25, parity 10, tail 4 */
+	uint8_t word[39];        /* data 25, CRC 10, tail 4 */
 } um_sync_report;
 
 /* Writes the synchronisation burst of 25 bits. False: an octet is no bit. */
-bool um_send_sync(const uint8_t info[25], uint8_t burst[148]);
+bool um_send_sync(const uint8_t info[25], uint8_t burst[148]) UM_NONNULL;
 
-/* Reports what a synchronisation burst is received as. False: a value is -128. */
-bool um_receive_sync(const int8_t burst[148], um_sync_report *report);
+/* Reports what a synchronisation burst is received as. False: a soft bit is -128. */
+bool um_receive_sync(const int8_t burst[148], um_sync_report *report) UM_NONNULL;
 
 /* Frames of LAPDm, formats A and B (3GPP TS 44.006). */
 
@@ -134,11 +152,11 @@ typedef struct um_frame {
 } um_frame;
 
 /* Reads the frame of a block on a channel; answers a um_reading. On SACCH two octets of layer 1 come first and are not looked at. */
-uint8_t um_read_frame(const uint8_t octets[23], uint8_t channel, um_frame *frame);
+uint8_t um_read_frame(const uint8_t octets[23], uint8_t channel, um_frame *frame) UM_NONNULL;
 
 /* Writes the one canonical block of a frame: layer 1 octets 00, fill 2b. In bits any number but 0 is a 1; numbers and bits that
  * the kind has not are not looked at. False: the fields say no frame that fits the channel. */
-bool um_write_frame(const um_frame *frame, uint8_t channel, uint8_t octets[23]);
+bool um_write_frame(const um_frame *frame, uint8_t channel, uint8_t octets[23]) UM_NONNULL;
 
 /* Ends: one end of a link of LAPDm in acknowledged mode (3GPP TS 44.006, 5), a mobile's or a network's.
  *
@@ -146,10 +164,12 @@ bool um_write_frame(const um_frame *frame, uint8_t channel, uint8_t octets[23]);
  * gives it each block that comes in, and calls um_end_timer when T200 has run out: T200 starts anew whenever an end sends a SABM,
  * a DISC or an I frame, and stops once nothing awaits an answer (um_end_timer then answers UM_END_NOT_RUNNING).
  *
- * The state is plain numbers and arrays: it may be copied, kept in a file and taken up again, and what a call writes of it is set by
- * what the end holds, with zeros behind each count. Each call tests it, and answers
- * UM_END_NONE, with nothing written, where no end has such a state; whatever state passes stands for an end, and the call does what
- * that end does. Nobody needs to look into a state; what an end has to say is in its effects. */
+ * The state is plain numbers and arrays: it may be copied, kept in a file and taken up again. Each call tests it, and answers
+ * UM_END_NONE, with nothing written, where it is the state of no end; otherwise the call does what that end does. A call writes the
+ * state with zeros after each count. A count of 252 to 255 octets is refused: of a message as too long, of a state as no end's.
+ * Some states pass that no sequence of calls leads to: `retries` above 5, `repeats` above 23 on SDCCH and 5 on SACCH (N200), where
+ * um_end_timer then ends the link, and `rejecting` set before the link is open or after. Nobody needs to look into a state; what
+ * an end has to say is in its effects. */
 
 enum um_role { UM_MOBILE, UM_NETWORK };
 enum um_state { UM_IDLE, UM_OPENING, UM_OPEN, UM_CLOSING, UM_CLOSED };
@@ -222,24 +242,24 @@ enum um_answer {
 };
 
 /* Writes the state of an end before its first call, whatever stood there. False: no such role, SAPI (0 or 3) or channel. */
-bool um_end_new(um_end *end, uint8_t role, uint8_t sapi, uint8_t channel);
+bool um_end_new(um_end *end, uint8_t role, uint8_t sapi, uint8_t channel) UM_NONNULL;
 
 /* Asks the network to open the link of SAPI 0, with 1 to 20 octets of information (18 on SACCH), which tell mobiles apart: a mobile's
  * call. Answers a um_answer, as the other calls do; of several reasons the first in the order of that enum, UM_END_NONE and
  * UM_END_NO_CALL before all. */
-uint8_t um_end_open(um_end *end, const um_message *info, um_effects *effects);
+uint8_t um_end_open(um_end *end, const um_message *info, um_effects *effects) UM_NONNULL;
 
 /* Asks the other end to open the link of SAPI 3. */
-uint8_t um_end_open_bare(um_end *end, um_effects *effects);
+uint8_t um_end_open_bare(um_end *end, um_effects *effects) UM_NONNULL;
 
 /* Sends a message of 1 to 251 octets over the open link, in as many frames as it needs, each after the one before is acknowledged. */
-uint8_t um_end_send(um_end *end, const um_message *message, um_effects *effects);
+uint8_t um_end_send(um_end *end, const um_message *message, um_effects *effects) UM_NONNULL;
 
 /* Sends 1 to 20 octets (18 on SACCH) in one unnumbered frame, in any state and unacknowledged. */
-uint8_t um_end_unit(const um_end *end, const um_message *message, um_effects *effects);
+uint8_t um_end_unit(const um_end *end, const um_message *message, um_effects *effects) UM_NONNULL;
 
 /* Closes the link. What is not acknowledged is given up. */
-uint8_t um_end_close(um_end *end, um_effects *effects);
+uint8_t um_end_close(um_end *end, um_effects *effects) UM_NONNULL;
 
 /* T200 has expired: the frame that awaits an answer is repeated, or the link is given up.
  *
@@ -248,13 +268,13 @@ uint8_t um_end_close(um_end *end, um_effects *effects);
  * waits. Where T200 expires while the answer is on its way, messages stay whole, but from then on each I frame is sent twice and every
  * second answer is a REJ, until the end has nothing left to send; where it always expires too early, links are given up without a loss.
  * bindings/c/examples/event_loop.c keeps T200 for both links of a channel. */
-uint8_t um_end_timer(um_end *end, um_effects *effects);
+uint8_t um_end_timer(um_end *end, um_effects *effects) UM_NONNULL;
 
 /* Writes the fill frame, to be sent when there is nothing else to send. */
-uint8_t um_end_idle(const um_end *end, um_effects *effects);
+uint8_t um_end_idle(const um_end *end, um_effects *effects) UM_NONNULL;
 
 /* Takes a block that came in. */
-uint8_t um_end_take(um_end *end, const uint8_t octets[23], um_effects *effects);
+uint8_t um_end_take(um_end *end, const uint8_t octets[23], um_effects *effects) UM_NONNULL;
 
 /* Sides: both links of a mobile, or of the network, on one channel: that of SAPI 0 for signalling and that of SAPI 3 for short
  * messages. A call goes to the end of its SAPI, as a call of um_end does, and the other end stays as it is. Each link has its own T200.
@@ -267,32 +287,32 @@ typedef struct um_side {
 } um_side;
 
 /* Writes the state of a side before its first call, whatever stood there. False: no such role or channel. */
-bool um_side_new(um_side *side, uint8_t role, uint8_t channel);
+bool um_side_new(um_side *side, uint8_t role, uint8_t channel) UM_NONNULL;
 
 /* Asks the network to open the link of SAPI 0, as um_end_open does: a mobile's call. */
-uint8_t um_side_open(um_side *side, const um_message *info, um_effects *effects);
+uint8_t um_side_open(um_side *side, const um_message *info, um_effects *effects) UM_NONNULL;
 
 /* Asks the other side to open the link of SAPI 3. */
-uint8_t um_side_open_bare(um_side *side, um_effects *effects);
+uint8_t um_side_open_bare(um_side *side, um_effects *effects) UM_NONNULL;
 
 /* Sends a message of 1 to 251 octets over the open link of this SAPI. */
-uint8_t um_side_send(um_side *side, uint8_t sapi, const um_message *message, um_effects *effects);
+uint8_t um_side_send(um_side *side, uint8_t sapi, const um_message *message, um_effects *effects) UM_NONNULL;
 
 /* Sends 1 to 20 octets (18 on SACCH) in one unnumbered frame of this SAPI, in any state and unacknowledged. */
-uint8_t um_side_unit(const um_side *side, uint8_t sapi, const um_message *message, um_effects *effects);
+uint8_t um_side_unit(const um_side *side, uint8_t sapi, const um_message *message, um_effects *effects) UM_NONNULL;
 
 /* Closes the link of this SAPI. What is not acknowledged is given up. */
-uint8_t um_side_close(um_side *side, uint8_t sapi, um_effects *effects);
+uint8_t um_side_close(um_side *side, uint8_t sapi, um_effects *effects) UM_NONNULL;
 
 /* T200 of the link of this SAPI has run out. */
-uint8_t um_side_timer(um_side *side, uint8_t sapi, um_effects *effects);
+uint8_t um_side_timer(um_side *side, uint8_t sapi, um_effects *effects) UM_NONNULL;
 
 /* Writes the fill frame, to be sent when there is nothing else to send. */
-uint8_t um_side_idle(const um_side *side, um_effects *effects);
+uint8_t um_side_idle(const um_side *side, um_effects *effects) UM_NONNULL;
 
 /* Takes a block that came in: it goes to the end of its SAPI, and that SAPI, 0 or 3, is written to *sapi. A frame of another SAPI is
  * ignored: *sapi is then 0, and the effects are empty. UM_END_NO_FRAME: the octets are no frame. */
-uint8_t um_side_take(um_side *side, const uint8_t octets[23], uint8_t *sapi, um_effects *effects);
+uint8_t um_side_take(um_side *side, const uint8_t octets[23], uint8_t *sapi, um_effects *effects) UM_NONNULL;
 
 #ifdef __cplusplus
 }

@@ -1,16 +1,71 @@
-/* um_osmo.h - libosmocoding's xCCH calls over um, by their own names, so that a receiver is tried by changing one include.
- * Bursts are 4 x 116: 57 coded bits, the two stealing flags, 57 coded bits, without tails and training. Define
- * UM_OSMO_OWN_NAMES where libosmocoding's header is included too. */
+/* um_osmo.h - the control channel calls of libosmocoding over um, by their own names: xCCH, RACH of 8 bits and SCH. A program tries
+ * um by including this header in place of <osmocom/coding/gsm0503_coding.h>, and linking libum.a.
+ *
+ * Where libosmocoding's header is installed, this one includes it, so that its types and its other calls are declared. Those calls
+ * stay libosmocoding's: gsm0503_rach_ext_* (RACH of 11 bits), gsm0503_tch_* (traffic) and gsm0503_pdtch_* (packet data). A program
+ * that makes one and does not link -losmocoding gets a link error that names it. Where that header is not installed, this one
+ * defines ubit_t and sbit_t, and those calls are undeclared.
+ *
+ * Bits, return codes and counts are libosmocoding's. A burst of a block is 116 places: 57 coded bits, the two stealing flags, 57
+ * coded bits; an access burst is 36 and a synchronisation burst 78, without tails and training. A soft bit of -128 is read as -127.
+ *
+ * With UM_OSMO_OWN_NAMES defined, only the names um_xcch_encode and so on are there, and gsm0503_* are libosmocoding's. */
 #ifndef UM_OSMO_H
 #define UM_OSMO_H
 #include "um.h"
 #include <string.h>
 
-static inline int um_xcch_encode(uint8_t *bursts, const uint8_t *l2_data)
+#if defined __has_include
+#if __has_include(<osmocom/coding/gsm0503_coding.h>)
+#define UM_OSMO_HAS_HEADER
+#endif
+#endif
+#ifdef UM_OSMO_HAS_HEADER
+#ifdef __cplusplus
+extern "C" {
+#endif
+#include <osmocom/coding/gsm0503_coding.h>
+#ifdef __cplusplus
+}
+#endif
+#else
+typedef uint8_t ubit_t;
+typedef int8_t sbit_t;
+#endif
+
+static inline void um_osmo_soft(int8_t *to, const sbit_t *from, int count)
+{
+	for (int i = 0; i < count; i++)
+		to[i] = from[i] == -128 ? (int8_t)-127 : from[i];
+}
+
+/* The first bit of `bits` is the lowest of `number`, as on the air. */
+static inline void um_osmo_bits(uint8_t *bits, unsigned number, int count)
+{
+	for (int i = 0; i < count; i++)
+		bits[i] = (uint8_t)(number >> i & 1);
+}
+
+static inline unsigned um_osmo_number(const uint8_t *bits, int count)
+{
+	unsigned number = 0;
+	for (int i = 0; i < count; i++)
+		number |= (unsigned)bits[i] << i;
+	return number;
+}
+
+/* The identity code of a base station, highest bit first. */
+static inline void um_osmo_bsic(uint8_t bits[6], uint8_t bsic)
+{
+	for (int i = 0; i < 6; i++)
+		bits[i] = (uint8_t)(bsic >> (5 - i) & 1);
+}
+
+/* Writes the 464 places of a block's four bursts. */
+static inline int um_xcch_encode(ubit_t *bursts, const uint8_t *l2_data)
 {
 	uint8_t whole[4][148];
-	if (!um_send_block(l2_data, 0, whole))
-		return -1;
+	um_send_block(l2_data, 0, whole);
 	for (int i = 0; i < 4; i++) {
 		memcpy(bursts + 116 * i, whole[i] + 3, 58);
 		memcpy(bursts + 116 * i + 58, whole[i] + 87, 58);
@@ -18,29 +73,96 @@ static inline int um_xcch_encode(uint8_t *bursts, const uint8_t *l2_data)
 	return 0;
 }
 
-/* 0 where the parity holds, else -1. The bit errors are those against the most likely word, in both cases; where a value is -128
- * nothing is read, and all count as errors. */
-static inline int um_xcch_decode(uint8_t *l2_data, const int8_t *bursts, int *n_errors, int *n_bits_total)
+/* 0 where the CRC holds, else -1 with l2_data as it was. n_errors counts against the most likely word in both cases. */
+static inline int um_xcch_decode(uint8_t *l2_data, const sbit_t *bursts, int *n_errors, int *n_bits_total)
 {
 	int8_t whole[4][148] = { { 0 } };
 	um_block_report report;
 	for (int i = 0; i < 4; i++) {
-		memcpy(whole[i] + 3, bursts + 116 * i, 58);
-		memcpy(whole[i] + 87, bursts + 116 * i + 58, 58);
+		um_osmo_soft(whole[i] + 3, bursts + 116 * i, 58);
+		um_osmo_soft(whole[i] + 87, bursts + 116 * i + 58, 58);
 	}
-	bool is_read = um_receive_block((const int8_t (*)[148])whole, &report);
+	um_receive_block((const int8_t (*)[148])whole, &report);
 	if (n_errors)
-		*n_errors = is_read ? (int)report.wrong_coded : 456;
+		*n_errors = (int)report.wrong_coded;
 	if (n_bits_total)
 		*n_bits_total = 456;
-	if (!is_read || !report.accepted)
+	if (!report.accepted)
 		return -1;
 	memcpy(l2_data, report.octets, 23);
+	return 0;
+}
+
+/* Writes the 36 places of an access burst of 8 bits. */
+static inline int um_rach_encode(ubit_t *burst, const uint8_t *ra, uint8_t bsic)
+{
+	uint8_t info[8], code[6], whole[88];
+	um_osmo_bits(info, *ra, 8);
+	um_osmo_bsic(code, bsic);
+	um_send_access(info, code, whole);
+	memcpy(burst, whole + 49, 36);
+	return 0;
+}
+
+static inline int um_rach_decode_ber(uint8_t *ra, const sbit_t *burst, uint8_t bsic, int *n_errors, int *n_bits_total)
+{
+	int8_t whole[88] = { 0 };
+	uint8_t code[6];
+	um_access_report report;
+	um_osmo_soft(whole + 49, burst, 36);
+	um_osmo_bsic(code, bsic);
+	um_receive_access(whole, code, &report);
+	if (n_errors)
+		*n_errors = (int)report.wrong_coded;
+	if (n_bits_total)
+		*n_bits_total = 36;
+	if (!report.accepted)
+		return -1;
+	*ra = (uint8_t)um_osmo_number(report.info, 8);
+	return 0;
+}
+
+static inline int um_rach_decode(uint8_t *ra, const sbit_t *burst, uint8_t bsic)
+{
+	return um_rach_decode_ber(ra, burst, bsic, 0, 0);
+}
+
+/* Writes the 78 places of a synchronisation burst of 25 bits: three octets and the lowest bit of a fourth. */
+static inline int um_sch_encode(ubit_t *burst, const uint8_t *sb_info)
+{
+	uint8_t info[25], whole[148];
+	for (int i = 0; i < 3; i++)
+		um_osmo_bits(info + 8 * i, sb_info[i], 8);
+	info[24] = sb_info[3] & 1;
+	um_send_sync(info, whole);
+	memcpy(burst, whole + 3, 39);
+	memcpy(burst + 39, whole + 106, 39);
+	return 0;
+}
+
+/* 0 where the CRC holds, else -1. The other seven bits of sb_info[3] stay as they were. */
+static inline int um_sch_decode(uint8_t *sb_info, const sbit_t *burst)
+{
+	int8_t whole[148] = { 0 };
+	um_sync_report report;
+	um_osmo_soft(whole + 3, burst, 39);
+	um_osmo_soft(whole + 106, burst + 39, 39);
+	um_receive_sync(whole, &report);
+	if (!report.accepted)
+		return -1;
+	for (int i = 0; i < 3; i++)
+		sb_info[i] = (uint8_t)um_osmo_number(report.info + 8 * i, 8);
+	sb_info[3] = (uint8_t)((sb_info[3] & 0xfe) | report.info[24]);
 	return 0;
 }
 
 #ifndef UM_OSMO_OWN_NAMES
 #define gsm0503_xcch_encode um_xcch_encode
 #define gsm0503_xcch_decode um_xcch_decode
+#define gsm0503_rach_encode um_rach_encode
+#define gsm0503_rach_decode um_rach_decode
+#define gsm0503_rach_decode_ber um_rach_decode_ber
+#define gsm0503_sch_encode um_sch_encode
+#define gsm0503_sch_decode um_sch_decode
 #endif
 #endif

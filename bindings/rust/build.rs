@@ -1,10 +1,27 @@
-//! Links libum_c.a: from the folder that UM_LIB names, or from the repository, where `rt lib` leaves it.
+//! Links libum.a: from the folder that UM_LIB names, or from lib/ARCH-linux of this crate, which in the repository is a link to
+//! dist/ARCH-linux and in a packed crate the file itself.
+use std::{env, path::Path, process::exit};
+
 fn main() {
-    let folder = std::env::var("UM_LIB").unwrap_or_else(|_| {
-        let here = std::env::var("CARGO_MANIFEST_DIR").expect("cargo names the crate's folder");
-        format!("{here}/../../crates/um_c/out")
-    });
     println!("cargo:rerun-if-env-changed=UM_LIB");
+    let target = env::var("TARGET").expect("cargo names the target");
+    let system = env::var("CARGO_CFG_TARGET_OS").unwrap_or_default();
+    let folder = env::var("UM_LIB").unwrap_or_else(|_| {
+        // the library needs memcpy, memmove and memset alone, so that one does for every C library of a processor
+        let arch = target.split('-').next().unwrap_or_default();
+        let here = env::var("CARGO_MANIFEST_DIR").expect("cargo names the crate's folder");
+        format!("{here}/lib/{arch}-{system}")
+    });
+    let library = |name: &str| format!("{folder}/lib{name}.a");
+    let Some(name) = ["um", "um_c"].into_iter().find(|name| Path::new(&library(name)).exists()) else {
+        eprintln!(
+            "um: no libum.a for {target} in {folder}.\n\
+             A release has it in dist/x86_64-linux and dist/aarch64-linux. In the repository, `rt lib` in crates/um_c makes it as\n\
+             crates/um_c/out/libum_c.a. UM_LIB names the folder that has it."
+        );
+        exit(1);
+    };
+    println!("cargo:rerun-if-changed={}", library(name));
     println!("cargo:rustc-link-search=native={folder}");
-    println!("cargo:rustc-link-lib=static=um_c");
+    println!("cargo:rustc-link-lib=static={name}");
 }

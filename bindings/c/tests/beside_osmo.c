@@ -1,47 +1,106 @@
-/* 20,000 noisy blocks through um and through libosmocoding: the same bursts, and where both accept the same octets and the same
- * count of bit errors.
+/* Blocks, access and synchronisation bursts through um and through libosmocoding, with noise: the same bits are coded, and where
+ * both accept, the octets are the same, and so is the count of bit errors. A soft bit of 0 is a bit error for both.
  *
- * Where a block has two words that are equally likely the two may differ in what they report; um takes the first in the
- * order of words. Such blocks are few: one in a thousand at most may be accepted by one of the two alone. A soft value of 0
- * counts as an error here and is none there, so no block has one. */
+ * Where two words are equally likely the two may choose differently; um takes the first in the order of words. Such cases are few: one
+ * in a thousand at most may be accepted by one of the two alone. */
 #define UM_OSMO_OWN_NAMES
+#define _DEFAULT_SOURCE
 #include "um_osmo.h"
-#include <osmocom/core/bits.h>
-#include <osmocom/coding/gsm0503_coding.h>
 #include <stdio.h>
 #include <stdlib.h>
 
+#pragma GCC diagnostic ignored "-Wdeprecated-declarations"
+
+struct tally {
+	int coded, both, um_alone, osmo_alone, octets, errors;
+};
+
+static void soften(sbit_t *soft, const ubit_t *bits, int count, int noise)
+{
+	for (int i = 0; i < count; i++) {
+		int value = 0;
+		for (int k = 0; k < 4; k++)
+			value += rand() % (2 * noise + 1) - noise;
+		value = (bits[i] ? -64 : 64) + value / 2;
+		soft[i] = (sbit_t)(value > 127 ? 127 : value < -127 ? -127 : value);
+	}
+}
+
+static void count(struct tally *tally, bool um, bool osmo, bool same_octets, bool same_errors)
+{
+	tally->both += osmo && um;
+	tally->um_alone += um && !osmo;
+	tally->osmo_alone += osmo && !um;
+	tally->octets += osmo && um && !same_octets;
+	tally->errors += osmo && um && !same_errors;
+}
+
+static void one_block(struct tally *tally)
+{
+	uint8_t sent[23], theirs[23], ours[23];
+	ubit_t a[464], b[464];
+	sbit_t soft[464];
+	int their_errors, our_errors, bits;
+	for (int i = 0; i < 23; i++)
+		sent[i] = (uint8_t)rand();
+	gsm0503_xcch_encode(a, sent);
+	um_xcch_encode(b, sent);
+	tally->coded += memcmp(a, b, 464) != 0;
+	soften(soft, a, 464, 20 + rand() % 120);
+	bool osmo = gsm0503_xcch_decode(theirs, soft, &their_errors, &bits) == 0;
+	bool um = um_xcch_decode(ours, soft, &our_errors, &bits) == 0;
+	count(tally, um, osmo, !memcmp(theirs, ours, 23), their_errors == our_errors);
+}
+
+static void one_access(struct tally *tally, uint8_t ra, uint8_t bsic)
+{
+	ubit_t a[36], b[36];
+	sbit_t soft[36];
+	uint8_t theirs = 0, ours = 0;
+	int their_errors, our_errors, bits;
+	gsm0503_rach_encode(a, &ra, bsic);
+	um_rach_encode(b, &ra, bsic);
+	tally->coded += memcmp(a, b, 36) != 0;
+	soften(soft, a, 36, 100);
+	bool osmo = gsm0503_rach_decode_ber(&theirs, soft, bsic, &their_errors, &bits) == 0;
+	bool um = um_rach_decode_ber(&ours, soft, bsic, &our_errors, &bits) == 0;
+	count(tally, um, osmo, theirs == ours, their_errors == our_errors);
+}
+
+static void one_sync(struct tally *tally)
+{
+	uint8_t info[4] = { (uint8_t)rand(), (uint8_t)rand(), (uint8_t)rand(), (uint8_t)(rand() & 1) }, theirs[4] = { 0 }, ours[4] = { 0 };
+	ubit_t a[78], b[78];
+	sbit_t soft[78];
+	gsm0503_sch_encode(a, info);
+	um_sch_encode(b, info);
+	tally->coded += memcmp(a, b, 78) != 0;
+	soften(soft, a, 78, 100);
+	bool osmo = gsm0503_sch_decode(theirs, soft) == 0;
+	bool um = um_sch_decode(ours, soft) == 0;
+	count(tally, um, osmo, !memcmp(theirs, ours, 4), true);
+}
+
+static bool is_bad(const char *what, int number, const struct tally *t)
+{
+	printf("library: %d noisy %s beside libosmocoding: coded otherwise %d, accepted by both %d, by um alone %d, "
+		"by libosmocoding alone %d, with other data %d, with another count of errors %d\n",
+		number, what, t->coded, t->both, t->um_alone, t->osmo_alone, t->octets, t->errors);
+	return t->coded || t->octets || t->errors || t->both < number / 2 || t->um_alone + t->osmo_alone > number / 1000;
+}
+
 int main(void)
 {
-	int coded = 0, octets = 0, errors = 0, both = 0, um_alone = 0, osmo_alone = 0;
-	const int blocks = 20000;
+	struct tally blocks = { 0 }, access = { 0 }, sync = { 0 };
 	srand(1);
-	for (int t = 0; t < blocks; t++) {
-		uint8_t sent[23], theirs[23], ours[23];
-		ubit_t a[464], b[464];
-		sbit_t soft[464];
-		int their_errors, our_errors, bits, noise = 20 + rand() % 120;
-		for (int i = 0; i < 23; i++)
-			sent[i] = (uint8_t)rand();
-		gsm0503_xcch_encode(a, sent);
-		um_xcch_encode(b, sent);
-		coded += memcmp(a, b, 464) != 0;
-		for (int i = 0; i < 464; i++) {
-			int value = 0;
-			for (int k = 0; k < 4; k++)
-				value += rand() % (2 * noise + 1) - noise;
-			value = (a[i] ? -64 : 64) + value / 2;
-			soft[i] = (sbit_t)(value > 127 ? 127 : value < -127 ? -127 : value ? value : 1);
-		}
-		bool osmo = gsm0503_xcch_decode(theirs, soft, &their_errors, &bits) == 0;
-		bool um = um_xcch_decode(ours, soft, &our_errors, &bits) == 0;
-		both += osmo && um;
-		um_alone += um && !osmo;
-		osmo_alone += osmo && !um;
-		octets += osmo && um && memcmp(theirs, ours, 23) != 0;
-		errors += osmo && um && their_errors != our_errors;
-	}
-	printf("library: %d noisy blocks beside libosmocoding: coded otherwise %d, accepted by both %d, by um alone %d, by the other alone %d, with other octets %d, with another count of errors %d\n",
-		blocks, coded, both, um_alone, osmo_alone, octets, errors);
-	return coded || octets || errors || both < blocks / 2 || um_alone + osmo_alone > blocks / 1000;
+	for (int i = 0; i < 20000; i++)
+		one_block(&blocks);
+	for (int i = 0; i < 256 * 64; i++)
+		one_access(&access, (uint8_t)i, (uint8_t)(i >> 8));
+	for (int i = 0; i < 10000; i++)
+		one_sync(&sync);
+	bool bad = is_bad("blocks", 20000, &blocks);
+	bad |= is_bad("access bursts", 256 * 64, &access);
+	bad |= is_bad("synchronisation bursts", 10000, &sync);
+	return bad;
 }

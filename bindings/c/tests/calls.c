@@ -40,9 +40,9 @@ static void soften(const uint8_t *bits, int8_t *soft, int count)
 
 static void blocks(void)
 {
-	/* the network's fill frame: its parity is 2c4e540233 */
+	/* the network's fill frame: its CRC is 2c4e540233 */
 	uint8_t octets[23] = { 0x03, 0x03, 0x01 };
-	static const uint8_t parity[5] = { 0x2c, 0x4e, 0x54, 0x02, 0x33 };
+	static const uint8_t crc[5] = { 0x2c, 0x4e, 0x54, 0x02, 0x33 };
 	ROOM(block_bursts) sent;
 	ROOM(um_block_report) report;
 	int8_t soft[4][148];
@@ -60,8 +60,8 @@ static void blocks(void)
 	check(report.value.metric == 57150 && report.value.wrong_training == 0 && report.value.wrong_coded == 3 && report.value.tsc == 7
 		&& report.value.accepted == 1 && !memcmp(report.value.octets, octets, 23), "the report of three wrong bits");
 	for (int i = 0; i < 224; i++) {
-		uint8_t octet = i < 184 ? octets[i / 8] : parity[(i - 184) / 8];
-		check(report.value.word[i] == (octet >> i % 8 & 1), "the word of the report is the data and the parity");
+		uint8_t octet = i < 184 ? octets[i / 8] : crc[(i - 184) / 8];
+		check(report.value.word[i] == (octet >> i % 8 & 1), "the word of the report is the data and the CRC");
 	}
 	check(!report.value.word[224] && !report.value.word[225] && !report.value.word[226] && !report.value.word[227], "the tail");
 	soft[3][147] = -128;
@@ -124,7 +124,7 @@ static void among(void)
 
 static void repairs(void)
 {
-	/* 23 octets of zeros have a parity of 40 ones */
+	/* 23 octets of zeros have a CRC of 40 ones */
 	uint8_t word[224] = { 0 };
 	ROOM(um_repair_report) report;
 
@@ -177,7 +177,8 @@ static void bursts(void)
 	soft[3] = 0;
 	MARK(sync_report);
 	check(um_receive_sync(soft, &sync_report.value) && AROUND(sync_report) && sync_report.value.accepted == 1
-		&& sync_report.value.metric == 9906 - 127 && sync_report.value.wrong_training == 0 && sync_report.value.wrong_coded == 1 && !memcmp(sync_report.value.info, zeros, 25)
+		&& sync_report.value.metric == 9906 - 127 && sync_report.value.wrong_training == 0 && sync_report.value.wrong_coded == 1
+		&& !memcmp(sync_report.value.info, zeros, 25)
 		&& sync_report.value.word[25] == 1, "the synchronisation burst is received");
 	soft[147] = -128;
 	MARK(sync_report);

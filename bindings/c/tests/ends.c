@@ -1,4 +1,4 @@
-/* Ends of a link through um.h: whole sessions on both channels and both SAPIs, each refusal, and states that no end has. */
+/* Endpoints through um.h: whole sessions on both channels and both SAPIs, each refusal, and states that no end has. */
 #include "um.h"
 #include <stddef.h>
 #include <stdio.h>
@@ -284,7 +284,8 @@ static void spoiled(void)
 	begin(&bare, UM_MOBILE, 3, UM_SDCCH);
 	opened(&mobile, &network, UM_SDCCH);
 	check(um_end_send(&mobile.end, &m, &mobile.told) == UM_END_DONE && mobile.end.held_count == 1 && mobile.end.held[0].count == 41
-		&& mobile.end.vs == 1 && mobile.end.va == 0 && mobile.end.kept.count == 2 && mobile.end.state == UM_OPEN, "a state in the caller's memory");
+		&& mobile.end.vs == 1 && mobile.end.va == 0 && mobile.end.kept.count == 2 && mobile.end.state == UM_OPEN,
+		"a state in the caller's memory");
 	SPOILED(mobile, s.role = 2, "role 2");
 	SPOILED(mobile, s.sapi = 1, "SAPI 1");
 	SPOILED(mobile, s.sapi = 3, "information kept on SAPI 3");
@@ -351,6 +352,6 @@ int main(void)
 	short_messages();
 	spoiled();
 	if (!failed)
-		printf("library: ends of a link from C: sessions on both channels and SAPIs, each refusal, 29 states that no end has\n");
+		printf("library: endpoints from C: sessions on both channels and SAPIs, each refusal, 29 states that no end has\n");
 	return failed;
 }

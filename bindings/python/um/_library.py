@@ -1,0 +1,74 @@
+"""The shared library: where it is, and its calls for ctypes. A pointer is bytes, a ctypes array or an address (`c_void_p`)."""
+import ctypes
+import os
+import platform
+from typing import List
+
+_NAME = "libum.so.0"
+_MAKE = (
+    "\nIt comes with a release, in dist/{arch}-linux, and with the wheel. In the repository, with the Rattle kit on the PATH, make it by"
+    "\n    (cd crates/um_c && rt lib)"
+    "\n    cc -shared -o bindings/python/um/" + _NAME +
+    " -Wl,--whole-archive crates/um_c/out/libum_c.a -Wl,--no-whole-archive"
+    "\nThe environment variable UM_SO names another file."
+)
+
+_POINTER, _U8, _U32, _BOOL = ctypes.c_void_p, ctypes.c_uint8, ctypes.c_uint32, ctypes.c_bool
+_CALLS = {
+    "um_send_block": (_BOOL, (_POINTER, _U8, _POINTER)),
+    "um_receive_block": (_BOOL, (_POINTER, _POINTER)),
+    "um_receive_block_among": (_BOOL, (_POINTER, _U32, _POINTER, _POINTER)),
+    "um_margin_block": (_BOOL, (_POINTER, _POINTER)),
+    "um_repair": (_U8, (_POINTER, _POINTER)),
+    "um_send_access": (_BOOL, (_POINTER, _POINTER, _POINTER)),
+    "um_receive_access": (_BOOL, (_POINTER, _POINTER, _POINTER)),
+    "um_send_sync": (_BOOL, (_POINTER, _POINTER)),
+    "um_receive_sync": (_BOOL, (_POINTER, _POINTER)),
+    "um_read_frame": (_U8, (_POINTER, _U8, _POINTER)),
+    "um_write_frame": (_BOOL, (_POINTER, _U8, _POINTER)),
+    "um_end_new": (_BOOL, (_POINTER, _U8, _U8, _U8)),
+    "um_end_open": (_U8, (_POINTER, _POINTER, _POINTER)),
+    "um_end_open_bare": (_U8, (_POINTER, _POINTER)),
+    "um_end_send": (_U8, (_POINTER, _POINTER, _POINTER)),
+    "um_end_unit": (_U8, (_POINTER, _POINTER, _POINTER)),
+    "um_end_close": (_U8, (_POINTER, _POINTER)),
+    "um_end_timer": (_U8, (_POINTER, _POINTER)),
+    "um_end_idle": (_U8, (_POINTER, _POINTER)),
+    "um_end_take": (_U8, (_POINTER, _POINTER, _POINTER)),
+    "um_side_new": (_BOOL, (_POINTER, _U8, _U8)),
+    "um_side_open": (_U8, (_POINTER, _POINTER, _POINTER)),
+    "um_side_open_bare": (_U8, (_POINTER, _POINTER)),
+    "um_side_send": (_U8, (_POINTER, _U8, _POINTER, _POINTER)),
+    "um_side_unit": (_U8, (_POINTER, _U8, _POINTER, _POINTER)),
+    "um_side_close": (_U8, (_POINTER, _U8, _POINTER)),
+    "um_side_timer": (_U8, (_POINTER, _U8, _POINTER)),
+    "um_side_idle": (_U8, (_POINTER, _POINTER)),
+    "um_side_take": (_U8, (_POINTER, _POINTER, _POINTER, _POINTER)),
+}
+
+
+def _places() -> List[str]:
+    """Where the library may be: in the package, as a wheel has it; in the repository's dist; where the system's loader looks."""
+    if "UM_SO" in os.environ:
+        return [os.environ["UM_SO"]]
+    here = os.path.dirname(os.path.abspath(__file__))
+    dist = os.path.join(here, "..", "..", "..", "dist", f"{platform.machine()}-linux")
+    return [os.path.join(here, _NAME), os.path.normpath(os.path.join(dist, _NAME)), _NAME]
+
+
+def _load() -> ctypes.CDLL:
+    tried = []
+    for place in _places():
+        try:
+            library = ctypes.CDLL(place)
+        except OSError as error:
+            tried.append(f"\n    {place}: {error}")
+            continue
+        for name, (result, arguments) in _CALLS.items():
+            call = getattr(library, name)
+            call.restype, call.argtypes = result, arguments
+        return library
+    raise ImportError("um: no " + _NAME + ". Tried:" + "".join(tried) + _MAKE.format(arch=platform.machine()))
+
+
+lib = _load()

@@ -1,0 +1,179 @@
+"""Arguments as the library takes them. What does not fit raises ValueError or TypeError with the argument's name, what came and what was
+expected."""
+import array
+import ctypes
+import operator
+from typing import Any, Iterable, List, Optional, Union
+
+# What the library reads from: bytes, or memory of the caller's that ctypes has taken without a copy.
+Pointer = Union[bytes, "ctypes.Array[Any]"]
+
+_NO_SOFT = {
+    "float": "um.soft_from_llr makes soft bits of floats",
+    "bits": "um.soft_from_bits makes soft bits of bits; a view as int8 takes octets in two's complement",
+    "int": "clip to -127..127 and convert to int8, as numpy.clip(x, -127, 127).astype(numpy.int8)",
+}
+
+
+def name_of(values: Any) -> str:
+    """What came, in a few words."""
+    shape, dtype = getattr(values, "shape", None), getattr(values, "dtype", None)
+    if dtype is not None and shape:
+        return f"{dtype} array of shape {tuple(shape)}"
+    if isinstance(values, memoryview):
+        return f"memoryview of format {values.format!r} and shape {values.shape}"
+    text = repr(values)
+    return f"{type(values).__name__} {text if len(text) <= 40 else text[:37] + '...'}"
+
+
+def view_of(values: Any) -> Optional[memoryview]:
+    """The memory of an array or another buffer; None of anything else."""
+    try:
+        view = memoryview(values)
+    except (TypeError, ValueError, BufferError):
+        return None
+    return view if view.ndim else None
+
+
+def number(name: str, value: Any, low: int, high: int) -> int:
+    """An integer in a range."""
+    try:
+        whole = operator.index(value)
+    except TypeError:
+        raise TypeError(f"{name}: {name_of(value)}; expected an int from {low} to {high}") from None
+    if not low <= whole <= high:
+        raise ValueError(f"{name}: {whole}; expected {low} to {high}")
+    return whole
+
+
+def choice(name: str, value: Any, names: Iterable[str]) -> int:
+    """The place of a name among names."""
+    names = tuple(names)
+    if value not in names:
+        raise ValueError(f"{name}: {value!r}; expected one of {', '.join(map(repr, names))}")
+    return names.index(value)
+
+
+def octets(name: str, values: Any, count: Optional[int] = None) -> bytes:
+    """Octets, of which there are so many: bytes, a buffer of unsigned octets, or a list of ints."""
+    wanted = "octets" if count is None else f"{count} octets"
+    if isinstance(values, bytes):
+        data = values
+    else:
+        view = view_of(values)
+        if view is not None:
+            if view.format != "B" or view.ndim != 1:
+                raise TypeError(f"{name}: {name_of(values)}; expected {wanted}, in one row of uint8")
+            data = view.tobytes()
+        else:
+            data = _numbers(name, values, "B", f"{wanted}: bytes, or ints from 0 to 255").tobytes()
+    if count is not None and len(data) != count:
+        raise ValueError(f"{name}: {len(data)} octets; expected {count}")
+    return data
+
+
+def bits(name: str, values: Any, count: int) -> bytes:
+    """So many bits, an octet each."""
+    view = view_of(values)
+    if view is not None and view.format in ("?", "b") and view.ndim == 1:
+        values = view.tobytes()
+    data = octets(name, values)
+    if len(data) != count:
+        raise ValueError(f"{name}: {len(data)} bits; expected {count}")
+    if data.translate(None, b"\0\1"):
+        at = next(i for i, bit in enumerate(data) if bit > 1)
+        raise ValueError(f"{name}[{at}]: {data[at]}; expected a bit, 0 or 1")
+    return data
+
+
+def soft(name: str, values: Any, rows: int, places: int) -> Pointer:
+    """Soft bits of so many bursts. int8 memory that can be written to, and bytes, are taken without a copy."""
+    if not isinstance(values, (bytes, bytearray)):
+        view = view_of(values)
+        if view is not None:
+            return _soft_memory(name, values, view, rows, places)
+        values = _soft_rows(name, values, rows, places)
+    data = bytes(values)
+    if len(data) != rows * places:
+        raise ValueError(f"{name}: {len(data)} soft bits; expected {_shape(rows, places)}")
+    if 1 in data and not data.translate(None, b"\0\1"):
+        raise ValueError(f"{name}: each value is 0 or 1, so these are bits; {_NO_SOFT['bits']}")
+    return data
+
+
+def refuse_128(name: str, pointer: Pointer, rows: int, places: int) -> ValueError:
+    """The error for a soft bit of -128, which the library refuses."""
+    at = bytes(pointer).index(0x80)
+    where = f"{name}[{at // places}][{at % places}]" if rows > 1 else f"{name}[{at}]"
+    return ValueError(f"{where}: -128; expected a soft bit from -127 to 127")
+
+
+def no_soft(name: str, values: Any, form: str, wanted: str) -> TypeError:
+    """The error for an array of anything else than int8."""
+    kind = "float" if form in "efdg" else "bits" if form in "?Bc" else "int"
+    return TypeError(f"{name}: {name_of(values)}; expected {wanted} of int8. {_NO_SOFT[kind]}")
+
+
+def _shape(rows: int, places: int) -> str:
+    return f"{rows} x {places}" if rows > 1 else str(places)
+
+
+def _soft_memory(name: str, values: Any, view: memoryview, rows: int, places: int) -> Pointer:
+    if view.format != "b":
+        raise no_soft(name, values, view.format, _shape(rows, places))
+    if view.shape != (rows, places) and view.shape != (rows * places,):
+        raise ValueError(f"{name}: {name_of(values)}; expected {_shape(rows, places)}, or {rows * places} in one row")
+    if view.readonly or not view.c_contiguous:
+        return view.tobytes()
+    return (ctypes.c_int8 * (rows * places)).from_buffer(view)
+
+
+def _soft_rows(name: str, values: Any, rows: int, places: int) -> bytes:
+    wanted = f"{_shape(rows, places)} soft bits: int8 memory, or ints from -127 to 127"
+    if isinstance(values, (str, int, float)) or not hasattr(values, "__iter__"):
+        raise TypeError(f"{name}: {name_of(values)}; expected {wanted}")
+    values = list(values)
+    if not values or isinstance(values[0], (int, float)) or rows == 1:
+        return _numbers(name, values, "b", wanted).tobytes()
+    if len(values) != rows:
+        raise ValueError(f"{name}: {len(values)} bursts; expected {rows}")
+    return b"".join(_soft_row(f"{name}[{i}]", row, places) for i, row in enumerate(values))
+
+
+def _soft_row(name: str, row: Any, places: int) -> bytes:
+    if isinstance(row, (bytes, bytearray)):
+        data = bytes(row)
+    else:
+        view = view_of(row)
+        if view is None:
+            data = _numbers(name, row, "b", f"{places} soft bits, ints from -127 to 127").tobytes()
+        elif view.format != "b":
+            raise no_soft(name, row, view.format, str(places))
+        else:
+            data = view.tobytes()
+    if len(data) != places:
+        raise ValueError(f"{name}: {len(data)} soft bits; expected {places}")
+    return data
+
+
+def _numbers(name: str, values: Any, code: str, wanted: str) -> "array.array[int]":
+    """A row of integers in an array of this type code."""
+    if isinstance(values, (str, int, float)) or not hasattr(values, "__iter__"):
+        raise TypeError(f"{name}: {name_of(values)}; expected {wanted}")
+    numbers: List[Any] = list(values)
+    try:
+        return array.array(code, numbers)
+    except (TypeError, OverflowError):
+        raise _wrong_number(name, numbers, code, wanted) from None
+
+
+def _wrong_number(name: str, numbers: List[Any], code: str, wanted: str) -> Exception:
+    for at, value in enumerate(numbers):
+        try:
+            array.array(code, [value])
+        except OverflowError:
+            return ValueError(f"{name}[{at}]: {value}; expected {wanted}")
+        except TypeError:
+            hint = f". {_NO_SOFT['float']}" if code == "b" and isinstance(value, float) else ""
+            return TypeError(f"{name}[{at}]: {name_of(value)}; expected {wanted}{hint}")
+    raise AssertionError("array.array refused these numbers together, and none alone")

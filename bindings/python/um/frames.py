@@ -1,0 +1,92 @@
+"""Frames of LAPDm, formats A and B (3GPP TS 44.006)."""
+import ctypes
+import enum
+import struct
+from typing import Any, NamedTuple
+
+from ._library import lib
+from ._values import choice, number, octets as octets_of
+
+KINDS = ("i", "rr", "rnr", "rej", "sabm", "dm", "ui", "disc", "ua")
+REFUSALS = ("lpd", "ea", "control", "el", "length", "empty", "more")
+_REASONS = {
+    "lpd": "another link protocol",
+    "ea": "the address goes on in a second octet, as on SACCH the first octet of layer 1 may seem to",
+    "control": "no such control octet",
+    "el": "the length goes on in a second octet",
+    "length": "more information than fits, or than the kind has",
+    "empty": "an I frame without information",
+    "more": "a kind other than I says that more follows",
+}
+_FRAME = struct.Struct("<8B20s")
+
+
+class Channel(enum.IntEnum):
+    """Where a frame stands in its block: on SACCH two octets of layer 1 come first."""
+
+    SDCCH = 0
+    SACCH = 1
+
+
+SDCCH, SACCH = Channel.SDCCH, Channel.SACCH
+
+
+class Frame(NamedTuple):
+    """A frame by its fields. Those that the kind does not have are 0, and `info` is empty."""
+
+    kind: str
+    """One of KINDS."""
+    sapi: int = 0
+    cr: int = 0
+    """Command/response."""
+    pf: int = 0
+    """Poll or final."""
+    ns: int = 0
+    nr: int = 0
+    more: int = 0
+    """M of an I frame."""
+    info: bytes = b""
+    """At most 20 octets on SDCCH, 18 on SACCH."""
+
+
+class NoFrame(ValueError):
+    """The octets are no frame; `reason` is one of REFUSALS."""
+
+    def __init__(self, reason: str):
+        super().__init__(f"octets: no LAPDm frame ({reason}): {_REASONS[reason]}")
+        self.reason = reason
+
+    def __reduce__(self) -> Any:
+        return NoFrame, (self.reason,)
+
+
+def channel_number(channel: Any) -> int:
+    """0 or 1, of a Channel."""
+    if channel not in (0, 1) or isinstance(channel, (bool, float)):
+        raise ValueError(f"channel: {channel!r}; expected um.SDCCH or um.SACCH")
+    return int(channel)
+
+
+def read_frame(octets: Any, channel: int = SDCCH) -> Frame:
+    """The frame of a block of 23 octets; NoFrame, a ValueError, where there is none."""
+    raw = ctypes.create_string_buffer(28)
+    answer = lib.um_read_frame(octets_of("octets", octets, 23), channel_number(channel), raw)
+    if answer:
+        raise NoFrame(REFUSALS[answer - 1])
+    kind, sapi, cr, pf, ns, nr, more, count, info = _FRAME.unpack(raw)
+    return Frame(KINDS[kind], sapi, cr, pf, ns, nr, more, info[:count])
+
+
+def write_frame(frame: Frame, channel: int = SDCCH) -> bytes:
+    """The canonical block of a frame: layer 1 octets 00, fill 2b."""
+    kind, room = choice("frame.kind", frame.kind, KINDS), 18 if channel_number(channel) else 20
+    limits = {"sapi": 7, "cr": 1, "pf": 1, "ns": 7, "nr": 7, "more": 1}
+    fields = [number(f"frame.{name}", getattr(frame, name), 0, most) for name, most in limits.items()]
+    info = octets_of("frame.info", frame.info)
+    if len(info) > room:
+        raise ValueError(f"frame.info: {len(info)} octets; expected at most {room} on {Channel(channel).name}")
+    raw = ctypes.create_string_buffer(23)
+    if not lib.um_write_frame(_FRAME.pack(kind, *fields, len(info), info), channel_number(channel), raw):
+        wanted = "at least 1 octet" if frame.kind == "i" else f"none, since {frame.kind} has no information"
+        raise ValueError(f"frame.info: {len(info)} octets; expected {wanted}")
+    return raw.raw

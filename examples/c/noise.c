@@ -1,0 +1,37 @@
+/* Blocks are coded, sent through noise, and received: by the most likely word, and among the 64 likeliest.
+ *
+ *   cc -Ibindings/c examples/c/noise.c dist/x86_64-linux/libum.a -o noise && ./noise */
+#include "air.h"
+#include "um.h"
+#include <stdio.h>
+#include <string.h>
+
+static void run(int strength)
+{
+	int alone = 0, among = 0, wrong = 0;
+	for (int block = 0; block < 100; block++) {
+		uint8_t octets[23], bursts[4][148];
+		int8_t soft[4][148];
+		um_block_report report;
+		uint32_t rank;
+		for (int i = 0; i < 23; i++)
+			octets[i] = (uint8_t)(air_random() >> 24);
+		um_send_block(octets, 7, bursts);
+		for (int b = 0; b < 4; b++)
+			for (int i = 0; i < 148; i++)
+				soft[b][i] = air_soft(bursts[b][i], strength);
+		um_receive_block((const int8_t (*)[148])soft, &report);
+		alone += report.accepted;
+		um_receive_block_among((const int8_t (*)[148])soft, 64, &report, &rank);
+		among += report.accepted;
+		wrong += report.accepted && memcmp(report.octets, octets, 23) != 0;
+	}
+	printf("noise %d: of 100 blocks %d by the most likely word, %d among 64 words, %d wrong\n", strength, alone, among, wrong);
+}
+
+int main(void)
+{
+	for (int strength = 40; strength <= 55; strength += 5)
+		run(strength);
+	return 0;
+}
