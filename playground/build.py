@@ -1,0 +1,60 @@
+#!/usr/bin/env python3
+"""Makes docs/playground.html of the sources in this folder, bindings/js/um.mjs and the module: one file, which loads nothing.
+
+    playground/build.py [--wasm dist/wasm/um.wasm] [OUT.html]
+
+Each module of JavaScript becomes a function whose answer is what it exports, in the order in which they import one another. This script
+and the module stand in the page by gzip, in base64. Standard library only.
+"""
+import argparse
+import base64
+import gzip
+import pathlib
+import re
+
+HERE = pathlib.Path(__file__).resolve().parent
+MOST = 110_000
+IMPORT = re.compile(r'^import \{([^}]*)\} from "([^"]+)";\n', re.M)
+EXPORT = re.compile(r"^export (?:const|class) ([\w$]+)", re.M)
+
+
+def packed(octets):
+    return base64.b64encode(gzip.compress(octets, 9, mtime=0)).decode()
+
+
+def bundled(path, names):
+    """The modules that a module needs, and it, as JavaScript; `names` holds those that stand already."""
+    if path in names:
+        return ""
+    text = path.read_text(encoding="utf-8")
+    before = "".join(bundled((path.parent / found[1]).resolve(), names) for found in IMPORT.findall(text))
+    names[path] = f"m{len(names)}"
+    body = IMPORT.sub(lambda found: f"const {{{found[1]}}} = {names[(path.parent / found[2]).resolve()]};\n", text)
+    exports = EXPORT.findall(body)
+    body = re.sub(r"^export ", "", body, flags=re.M)
+    if not exports:
+        return f"{before}{body}"
+    return f"{before}const {names[path]} = (() => {{\n{body}return {{ {', '.join(exports)} }};\n}})();\n"
+
+
+def main():
+    asked = argparse.ArgumentParser(description="Makes docs/playground.html.")
+    asked.add_argument("--wasm", type=pathlib.Path, default=HERE.parent / "dist" / "wasm" / "um.wasm")
+    asked.add_argument("out", nargs="?", type=pathlib.Path, default=HERE.parent / "docs" / "playground.html")
+    said = asked.parse_args()
+    page = (HERE / "page.html").read_text(encoding="utf-8")
+    for mark, text in (
+        ("/*STYLE*/", (HERE / "style.css").read_text(encoding="utf-8").strip()),
+        ("/*WASM*/", packed(said.wasm.read_bytes())),
+        ("/*CODE*/", packed(bundled(HERE / "main.mjs", {}).encode())),
+    ):
+        page = page.replace(mark, text)
+    size = len(page.encode())
+    said.out.write_text(page, encoding="utf-8")
+    print(f"{said.out}: {size} octets")
+    if size > MOST:
+        raise SystemExit(f"the page has more than {MOST} octets")
+
+
+if __name__ == "__main__":
+    main()

@@ -1,0 +1,48 @@
+// The fields of a frame, in the views Block and Frame.
+import { KINDS } from "../bindings/js/um.mjs";
+import { h, hex, octetsOf, valueOf } from "./dom.mjs";
+import { has } from "./lines.mjs";
+
+const NUMBERS = [["sapi", "SAPI"], ["ns", "N(S)"], ["nr", "N(R)"]];
+const BITS = [["cr", "C/R"], ["pf", "P/F"], ["more", "M"]];
+
+/** Puts the fields into `host`; `changed(frame)` is told each new frame. */
+export const frameForm = (host, prefix, changed) => {
+  const inputs = {};
+  const field = (name, label, input) => {
+    inputs[name] = input;
+    input.id = `${prefix}-${name}`;
+    host.append(h("label", {}, label, " ", input));
+  };
+  field("kind", "Kind", h("select", {}, ...KINDS.map((kind) => h("option", { value: kind }, kind.toUpperCase()))));
+  for (const [name, label] of NUMBERS) field(name, label, h("select", {}, ...[0, 1, 2, 3, 4, 5, 6, 7].map((n) => h("option", {}, n))));
+  for (const [name, label] of BITS) field(name, label, h("input", { type: "checkbox" }));
+  field("info", "Information", h("input", { class: "mono", size: 44, spellcheck: "false", "aria-describedby": `${prefix}-info-error` }));
+  host.append(h("span", { id: `${prefix}-info-error`, class: "error", role: "alert" }));
+
+  const enable = () => {
+    for (const name of ["ns", "nr", "more", "info"]) inputs[name].disabled = !has(inputs.kind.value, name);
+  };
+  host.addEventListener("input", () => {
+    enable();
+    const kind = inputs.kind.value;
+    const info = has(kind, "info") ? valueOf(inputs.info, octetsOf) : [];
+    if (info === undefined) return;
+    const frame = { kind, info };
+    for (const [name] of NUMBERS) frame[name] = has(kind, name) ? Number(inputs[name].value) : 0;
+    for (const [name] of BITS) frame[name] = has(kind, name) && inputs[name].checked ? 1 : 0;
+    valueOf(inputs.info, () => changed(frame));
+  });
+
+  /** Shows a frame that was read; one that was not leaves the fields as they are. */
+  return (frame) => {
+    host.classList.toggle("stale", Boolean(frame.unread));
+    if (frame.unread) return;
+    inputs.kind.value = frame.kind;
+    for (const [name] of NUMBERS) inputs[name].value = frame[name];
+    for (const [name] of BITS) inputs[name].checked = frame[name] === 1;
+    if (document.activeElement !== inputs.info) inputs.info.value = hex(frame.info);
+    valueOf(inputs.info, () => 0);
+    enable();
+  };
+};
