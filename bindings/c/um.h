@@ -304,7 +304,7 @@ uint8_t um_side_unit(const um_side *side, uint8_t sapi, const um_message *messag
 /* Closes the link of this SAPI. What is not acknowledged is given up. */
 uint8_t um_side_close(um_side *side, uint8_t sapi, um_effects *effects) UM_NONNULL;
 
-/* T200 of the link of this SAPI has run out. */
+/* T200 of the link of this SAPI has expired. */
 uint8_t um_side_timer(um_side *side, uint8_t sapi, um_effects *effects) UM_NONNULL;
 
 /* Writes the fill frame, to be sent when there is nothing else to send. */
