@@ -19,7 +19,7 @@ octets soft h k d lt = let is = h k d lt in (omega (arith, ints, is.0), is.1)
 -- the list that is written is the best from state 0
 best : (c : After-of_state_0) →
     IsBest 0 (c.write_few.new.u ++ c.follow_maps.new.u) c.args.soft.now
-    (lane (worths c.walk_places-walk.result.values.even c.walk_places-walk.result.values.odd) 0)
+    (lane (worths c.walk_places-walk.result.values.even.lanes c.walk_places-walk.result.values.odd.lanes) 0)
 best c =
     let soft = c.args.soft.now in
     let n = length c.args.u.now in
@@ -29,8 +29,8 @@ best c =
     let whole : front ++ rest ≡ soft =
     ap₂ (λ front rest. front ++ rest) (take-take (2 * few) 8 soft (omega arith))
     (take_all _ _ (omega (arith, length-drop (2 * few) soft))) ∙ take-append-drop (2 * few) soft in
-    let after = worths c.fill_maps-values.result.even c.fill_maps-values.result.odd in
-    let values = worths c.walk_places-walk.result.values.even c.walk_places-walk.result.values.odd in
+    let after = worths c.fill_maps-values.result.even.lanes c.fill_maps-values.result.odd.lanes in
+    let values = worths c.walk_places-walk.result.values.even.lanes c.walk_places-walk.result.values.odd.lanes in
     let map = c.walk_places-walk.result.map in
     let maps = c.fill_maps-values.new.maps in
     let walk = c.walk_places-walk.ensures.walk in

@@ -7,7 +7,7 @@ use Rattle.trellis_decode.proofs.backward.closing_values.Given as goal
 -- from place k on only zeros may come
 abbrev pub invariant-loop-k : goal.invariant-loop-k
 invariant-loop-k l = record {
-  best : (s : ℕ) → s < 16 → IsBest s (replicate (4 - l.k) 0) (drop (2 * l.k) l.soft) (lane (worths l.values.even l.values.odd) s);
-  even : AreNarrow l.values.even;
-  odd : AreNarrow l.values.odd;
+  best : (s : ℕ) → s < 16 → IsBest s (replicate (4 - l.k) 0) (drop (2 * l.k) l.soft) (lane (worths l.values.even.lanes l.values.odd.lanes) s);
+  even : AreNarrow l.values.even.lanes;
+  odd : AreNarrow l.values.odd.lanes;
 }

@@ -9,8 +9,8 @@ use Rattle.trellis_decode.proofs.backward.fill_maps.Given as goal
 abbrev pub invariant-loop-group : goal.invariant-loop-group
 invariant-loop-group l = record {
   best : (s : ℕ) → s < 16 →
-      IsBest s (read_maps (drop l.group l.maps) (place s)) (drop (8 * l.group) l.soft) (lane (worths l.values.even l.values.odd) s);
-  low : (s : ℕ) → s < 16 → negsuc 1023 ≤ℤ lane (worths l.values.even l.values.odd) s;
-  even : AreNarrow l.values.even;
-  odd : AreNarrow l.values.odd;
+      IsBest s (read_maps (drop l.group l.maps) (place s)) (drop (8 * l.group) l.soft) (lane (worths l.values.even.lanes l.values.odd.lanes) s);
+  low : (s : ℕ) → s < 16 → negsuc 1023 ≤ℤ lane (worths l.values.even.lanes l.values.odd.lanes) s;
+  even : AreNarrow l.values.even.lanes;
+  odd : AreNarrow l.values.odd.lanes;
 }

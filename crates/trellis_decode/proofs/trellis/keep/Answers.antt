@@ -24,10 +24,10 @@ loop-group-init c =
     let at : last ≡ length rows % 4 + 4 * (length rows / 4 - 1) = omega (arith, c.requires.at_least) in
     let Holds : ℕ →
     Type 0 = λ k. Keeps (drop k rows) (drop k losses) (drop (2 * k) soft)
-    (worths c.closing_values-values.result.even c.closing_values-values.result.odd) in
+    (worths c.closing_values-values.result.even.lanes c.closing_values-values.result.odd.lanes) in
     record {
       keeps = subst Holds at (Keeps-closing (drop last rows) (drop last losses) (drop (2 * last) soft)
-          (worths c.closing_values-values.result.even c.closing_values-values.result.odd)
+          (worths c.closing_values-values.result.even.lanes c.closing_values-values.result.odd.lanes)
           (omega (arith, length-drop last rows, c.requires.at_least))
           (omega (arith, length-drop last losses, c.requires.same, c.requires.at_least))
           (omega (arith, length-drop (2 * last) soft, c.requires.count, c.requires.at_least))

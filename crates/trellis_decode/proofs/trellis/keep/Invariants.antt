@@ -7,7 +7,7 @@ use Rattle.trellis_decode.proofs.trellis.keep.Given as goal
 abbrev pub invariant-loop-group : goal.invariant-loop-group
 invariant-loop-group l = record {
   keeps : Keeps (drop (l.few + 4 * l.group) l.rows) (drop (l.few + 4 * l.group) l.losses) (drop (2 * (l.few + 4 * l.group)) l.soft)
-      (worths l.values.even l.values.odd);
-  even : AreNarrow l.values.even;
-  odd : AreNarrow l.values.odd;
+      (worths l.values.even.lanes l.values.odd.lanes);
+  even : AreNarrow l.values.even.lanes;
+  odd : AreNarrow l.values.odd.lanes;
 }

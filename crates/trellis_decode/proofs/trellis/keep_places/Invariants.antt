@@ -7,7 +7,7 @@ use Rattle.trellis_decode.proofs.trellis.keep_places.Given as goal
 abbrev pub invariant-loop-k : goal.invariant-loop-k
 invariant-loop-k l = record {
   keeps : Keeps (drop (l.first + l.k) l.rows) (drop (l.first + l.k) l.losses) (drop (2 * (l.first + l.k)) l.soft)
-      (worths l.values.even l.values.odd);
-  even : AreNarrow l.values.even;
-  odd : AreNarrow l.values.odd;
+      (worths l.values.even.lanes l.values.odd.lanes);
+  even : AreNarrow l.values.even.lanes;
+  odd : AreNarrow l.values.odd.lanes;
 }

@@ -3,4 +3,4 @@ use Rattle.trellis_decode.proofs.Walks.{IsWalk-none}
 use Rattle.trellis_decode.proofs.maps.Walk.new.Goals as goal
 
 pub returns-clause-walk : goal.returns-clause-walk
-returns-clause-walk c = IsWalk-none (worths c.args.values.even c.args.values.odd)
+returns-clause-walk c = IsWalk-none (worths c.args.values.even.lanes c.args.values.odd.lanes)
