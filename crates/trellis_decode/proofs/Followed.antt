@@ -1,5 +1,6 @@
 -- A map of places, with one more step before it.
-use Rattle.std.proofs.Common.{◌≡◌, ℕ, zero, suc, ◌+◌, ◌<◌, ◌⊎◌, inl, inr, if◌then◌else◌, ℤ, pos, negsuc, List, [], ◌∷◌, ◌++◌, map, length, get_or, refl, ap, sym, ◌∙◌, arith, int_lt, w8, lit≤}
+use Rattle.std.proofs.Common.{◌≡◌, ℕ, zero, suc, ◌+◌, ◌<◌, ◌⊎◌, inl, inr, if◌then◌else◌, ℤ, pos, negsuc, List, [], ◌∷◌, ◌++◌, map, length}
+use Rattle.std.proofs.Common.{get_or, refl, ap, sym, ◌∙◌, arith, int_lt, w8, lit≤}
 use Rattle.std.specs.Int.{cast_signed, cast_unsigned}
 use Rattle.trellis_decode.specs.Trellis.{next}
 use Rattle.trellis_decode.proofs.EdgeLanes.{each}

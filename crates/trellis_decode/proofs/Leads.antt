@@ -1,12 +1,14 @@
 -- What the bit 0 is worth more than the bit 1: its sign is the choice, and its size the loss.
-use Rattle.std.proofs.Common.{◌≡◌, ℕ, true, false, if◌then◌else◌, ℤ, pos, negsuc, ◌+ℤ◌, ◌-ℤ◌, ◌≤ℤ◌, ◌+◌, ◌-◌, ◌<◌, ◌⊎◌, List, ap, sym, ◌∙◌, subst, arith, int_lt, inl, inr, refl}
+use Rattle.std.proofs.Common.{◌≡◌, ℕ, true, false, if◌then◌else◌, ℤ, pos, negsuc, ◌+ℤ◌, ◌-ℤ◌, ◌≤ℤ◌, ◌+◌, ◌-◌, ◌<◌, ◌⊎◌, List, ap, sym, ◌∙◌}
+use Rattle.std.proofs.Common.{subst, arith, int_lt, inl, inr, refl}
 use Rattle.std.proofs.lemmas.Int.{ints, by_lt_z}
 use Rattle.trellis_decode.specs.Lanes.{lane}
 use Rattle.trellis_decode.specs.Trellis.{next, edge, way, Chooses}
 use Rattle.trellis_decode.specs.Turned.{AreClose, AreEdges, AreGaps, AreNear, HasEdges, in_order, raised, turned, worths}
 use Rattle.trellis_decode.specs.Ways.{AreWays}
 use Rattle.trellis_decode.specs.declared.turned_step.Ways.{Ways}
-use Rattle.trellis_decode.proofs.TurnedSteps.{each_state, low_in_order, high_in_order, even_worth, odd_worth, even_worth_high, odd_worth_high, edge-one, edge-high}
+use Rattle.trellis_decode.proofs.TurnedSteps.{each_state, low_in_order, high_in_order, even_worth, odd_worth, even_worth_high}
+use Rattle.trellis_decode.proofs.TurnedSteps.{odd_worth_high, edge-one, edge-high}
 use Rattle.trellis_decode.proofs.TurnedVectors.{fits_between}
 
 -- in one state

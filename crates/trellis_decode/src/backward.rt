@@ -4,7 +4,7 @@
 ghost use Rattle.std.specs.Prelude.{◌≡◌, ℕ, ◌*◌, ◌<◌, ◌≤◌, length, replicate, take};
 ghost use Rattle.trellis_decode.specs.Lanes.{AreOctets, lane};
 ghost use Rattle.trellis_decode.specs.Trellis.{IsBest};
-ghost use Rattle.trellis_decode.specs.Turned.{AreNarrow, place, worths};
+ghost use Rattle.trellis_decode.specs.Turned.{AreNarrow, place, worth};
 ghost use Rattle.trellis_decode.specs.Walks.{AreWithin, IsWalk, read_maps};
 
 use crate::edges::four_edges;
@@ -20,8 +20,8 @@ pub fn fill_maps(soft: &[i8], maps: &mut [[u8; 16]]) -> Values
     requires at_most { length maps.old ≤ 57 }
     requires octets { AreOctets soft.now }
     ensures best { (s : ℕ) → s < 16 →
-        IsBest s (read_maps maps.new (place s)) soft.now (lane (worths result.even.lanes result.odd.lanes) s) }
-    ensures within { AreWithin 58368 (worths result.even.lanes result.odd.lanes) }
+        IsBest s (read_maps maps.new (place s)) soft.now (lane (worth result) s) }
+    ensures within { AreWithin 58368 (worth result) }
     ensures even { AreNarrow result.even.lanes }
     ensures odd { AreNarrow result.odd.lanes }
     ensures at_least { 1 ≤ length maps.new }
@@ -41,7 +41,7 @@ pub fn fill_maps(soft: &[i8], maps: &mut [[u8; 16]]) -> Values
 pub fn closing_values(soft: &[i8]) -> Values
     requires count { length soft.now ≡ 8 }
     requires octets { AreOctets soft.now }
-    ensures best { (s : ℕ) → s < 16 → IsBest s (replicate 4 0) soft.now (lane (worths result.even.lanes result.odd.lanes) s) }
+    ensures best { (s : ℕ) → s < 16 → IsBest s (replicate 4 0) soft.now (lane (worth result) s) }
     ensures even { AreNarrow result.even.lanes }
     ensures odd { AreNarrow result.odd.lanes }
 {
@@ -59,12 +59,12 @@ pub fn walk_places(after: Values, soft: &[i8], places: usize) -> Walk
     requires count { length soft.now ≡ 8 }
     requires few { places ≤ 4 }
     requires octets { AreOctets soft.now }
-    requires within { AreWithin 58368 (worths after.even.lanes after.odd.lanes) }
+    requires within { AreWithin 58368 (worth after) }
     requires even { AreNarrow after.even.lanes }
     requires odd { AreNarrow after.odd.lanes }
-    ensures walk { IsWalk (worths after.even.lanes after.odd.lanes) (worths result.values.even.lanes result.values.odd.lanes) result.map
+    ensures walk { IsWalk (worth after) (worth result.values) result.map
         (take (2 * places) soft.now) }
-    ensures within { AreWithin 59392 (worths result.values.even.lanes result.values.odd.lanes) }
+    ensures within { AreWithin 59392 (worth result.values) }
     ensures even { AreNarrow result.values.even.lanes }
     ensures odd { AreNarrow result.values.odd.lanes }
     ensures count { length result.map ≡ 16 }

@@ -6,7 +6,7 @@
 ghost use Rattle.std.specs.Prelude.{◌≡◌, ℕ, ◌/◌, ◌%◌, ◌^◌, ◌-◌, ◌<◌, List, ℤ, ◌-ℤ◌};
 ghost use Rattle.trellis_decode.specs.Trellis.{Chooses, way};
 ghost use Rattle.trellis_decode.specs.Lanes.{lane};
-ghost use Rattle.trellis_decode.specs.Turned.{AreClose, AreEdges, AreGaps, AreNarrow, HasEdges, HaveRoom, worths};
+ghost use Rattle.trellis_decode.specs.Turned.{AreClose, AreEdges, AreGaps, AreNarrow, HasEdges, HaveRoom, worth};
 
 use crate::turned_lanes::{Eight, Sixteen, by_state, gaps, signs, sizes};
 use crate::turned_step::{Step, Values};
@@ -30,11 +30,11 @@ impl KeptStep {
         requires close { AreClose after.even.lanes after.odd.lanes }
         requires edges { AreEdges edges.lanes }
         ensures each { (pair : List ℤ) → HasEdges edges.lanes pair → (s : ℕ) → s < 16 →
-            Chooses (worths after.even.lanes after.odd.lanes) pair s
-            (lane (worths result.values.even.lanes result.values.odd.lanes) s) (result.row / 2 ^ s % 2) }
+            Chooses (worth after) pair s
+            (lane (worth result.values) s) (result.row / 2 ^ s % 2) }
         ensures losses { (pair : List ℤ) → HasEdges edges.lanes pair → (s : ℕ) → s < 16 → lane result.losses.lanes s ≡
-            way (worths after.even.lanes after.odd.lanes) pair s (result.row / 2 ^ s % 2)
-            -ℤ way (worths after.even.lanes after.odd.lanes) pair s (1 - result.row / 2 ^ s % 2) }
+            way (worth after) pair s (result.row / 2 ^ s % 2)
+            -ℤ way (worth after) pair s (1 - result.row / 2 ^ s % 2) }
         ensures lanes { AreGaps result.losses.lanes }
         ensures even { AreNarrow result.values.even.lanes }
         ensures odd { AreNarrow result.values.odd.lanes }

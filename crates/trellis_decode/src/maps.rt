@@ -4,7 +4,7 @@
 ghost use Rattle.std.specs.Prelude.{◌≡◌, ℕ, ◌+◌, ◌-◌, ◌*◌, ◌<◌, List, [], ◌++◌, ℤ, length, drop, slice_index};
 ghost use Rattle.trellis_decode.specs.Lanes.{AreOctets};
 ghost use Rattle.trellis_decode.specs.Trellis.{next};
-ghost use Rattle.trellis_decode.specs.Turned.{AreEdges, AreNarrow, AreTaken, choices, HasEdges, HaveRoom, place, worths};
+ghost use Rattle.trellis_decode.specs.Turned.{AreEdges, AreNarrow, AreTaken, choices, HasEdges, HaveRoom, place, worth};
 ghost use Rattle.trellis_decode.specs.Walks.{AreWithin, IsWalk, read_maps};
 ghost use Rattle.trellis_decode.specs.Words.{word};
 
@@ -28,7 +28,7 @@ impl Walk {
         requires odd { AreNarrow values.odd.lanes }
         ensures even { result.values.even.lanes ≡ values.even.lanes }
         ensures odd { result.values.odd.lanes ≡ values.odd.lanes }
-        ensures walk { IsWalk (worths values.even.lanes values.odd.lanes) (worths values.even.lanes values.odd.lanes) result.map [] }
+        ensures walk { IsWalk (worth values) (worth values) result.map [] }
         ensures count { length result.map ≡ 16 }
     {
         Walk {
@@ -44,11 +44,11 @@ impl Walk {
         requires count { length self.map ≡ 16 }
         requires edges { AreEdges edges.lanes }
         ensures walk { (pair : List ℤ) → HasEdges edges.lanes pair → (after soft : List ℤ) →
-            IsWalk after (worths self.values.even.lanes self.values.odd.lanes) self.map soft →
-            IsWalk after (worths result.values.even.lanes result.values.odd.lanes) result.map (pair ++ soft) }
+            IsWalk after (worth self.values) self.map soft →
+            IsWalk after (worth result.values) result.map (pair ++ soft) }
         ensures within { (pair : List ℤ) → HasEdges edges.lanes pair → AreOctets pair → (most : ℕ) →
-            AreWithin most (worths self.values.even.lanes self.values.odd.lanes) →
-            AreWithin (most + 256) (worths result.values.even.lanes result.values.odd.lanes) }
+            AreWithin most (worth self.values) →
+            AreWithin (most + 256) (worth result.values) }
         ensures even { AreNarrow result.values.even.lanes }
         ensures odd { AreNarrow result.values.odd.lanes }
         ensures count { length result.map ≡ 16 }

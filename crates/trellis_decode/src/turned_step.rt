@@ -9,7 +9,7 @@ ghost use Rattle.std.specs.Prelude.{◌≡◌, ℕ, ◌<◌, List, ℤ, pos, sli
 ghost use Rattle.trellis_decode.specs.Trellis.{Chooses, way};
 ghost use Rattle.trellis_decode.specs.Lanes.{lane};
 ghost use Rattle.trellis_decode.specs.Ways.{AreWays};
-ghost use Rattle.trellis_decode.specs.Turned.{AreEdges, AreNarrow, AreTaken, choices, HasEdges, HaveRoom, worths};
+ghost use Rattle.trellis_decode.specs.Turned.{AreEdges, AreNarrow, AreTaken, choices, HasEdges, HaveRoom, worth};
 
 use crate::turned_lanes::{
     Eight, Taken, differences, first_in_turns, greater, larger, last_in_turns, sums,
@@ -28,7 +28,7 @@ pub struct Values {
 impl Values {
     /// Before any place: no state is worth more than another.
     pub fn new() -> Values
-        ensures each { (s : ℕ) → s < 16 → lane (worths result.even.lanes result.odd.lanes) s ≡ pos 0 }
+        ensures each { (s : ℕ) → s < 16 → lane (worth result) s ≡ pos 0 }
         ensures even { AreNarrow result.even.lanes }
         ensures odd { AreNarrow result.odd.lanes }
     {
@@ -44,7 +44,7 @@ impl Values {
     /// What the state 0 is worth.
     pub fn of_state_0(self) -> i32
         requires { AreNarrow self.even.lanes }
-        ensures { result ≡ lane (worths self.even.lanes self.odd.lanes) 0 }
+        ensures { result ≡ lane (worth self) 0 }
     {
         i32::from(self.even.lanes.to_array()[0]) + 31_000
     }
@@ -79,8 +79,8 @@ impl Step {
         requires odd { HaveRoom after.odd.lanes }
         requires edges { AreEdges edges.lanes }
         ensures each { (pair : List ℤ) → HasEdges edges.lanes pair → (s : ℕ) → s < 16 →
-            Chooses (worths after.even.lanes after.odd.lanes) pair s
-            (lane (worths result.values.even.lanes result.values.odd.lanes) s)
+            Chooses (worth after) pair s
+            (lane (worth result.values) s)
             (slice_index (choices result.low.lanes result.high.lanes) s) }
         ensures ways { AreWays after.even.lanes after.odd.lanes edges.lanes result.ways }
         ensures low { AreTaken result.low.lanes }
@@ -117,7 +117,7 @@ pub fn closing_step(after: Values, edges: Eight) -> Values
     requires even { HaveRoom after.even.lanes }
     requires edges { AreEdges edges.lanes }
     ensures each { (pair : List ℤ) → HasEdges edges.lanes pair → (s : ℕ) → s < 16 →
-        lane (worths result.even.lanes result.odd.lanes) s ≡ way (worths after.even.lanes after.odd.lanes) pair s 0 }
+        lane (worth result) s ≡ way (worth after) pair s 0 }
     ensures even { AreNarrow result.even.lanes }
     ensures odd { AreNarrow result.odd.lanes }
 {

@@ -3,7 +3,7 @@ use Rattle.std.proofs.lemmas.List.{drop-set, length-drop}
 use Rattle.std.proofs.lemmas.List.Elements.{All-take, All-drop}
 use Rattle.trellis_decode.specs.Kept.{Keeps}
 use Rattle.trellis_decode.specs.Lanes.{IsOctet, lane}
-use Rattle.trellis_decode.specs.Turned.{HasEdges, worths}
+use Rattle.trellis_decode.specs.Turned.{HasEdges, worth}
 use Rattle.trellis_decode.proofs.FourPairs.{AreOctets-pair, pair_at, pair_of_part, pair_and_after}
 use Rattle.trellis_decode.proofs.Kept.{Keeps-more, Keeps-same, Keeps-close, Keeps-even, Keeps-odd}
 use Rattle.trellis_decode.proofs.TurnedVectors.{passed, passed-gaps}
@@ -56,8 +56,8 @@ loop-k-preserved c =
           (ap (λ k. lost ∷ drop k losses) (sym next)
           ∙ sym (drop-set losses j lost (let same = c.loop-k.auto.losses in omega (arith, c.requires.same))))
           (pair_and_after soft (2 * j) (2 * at) next_pair)
-          (Keeps-more (worths c.loop-k.values.even.lanes c.loop-k.values.odd.lanes)
-          (worths c.new-step.result.values.even.lanes c.new-step.result.values.odd.lanes) lost pair (drop (2 * at) soft)
+          (Keeps-more (worth c.loop-k.values)
+          (worth c.new-step.result.values) lost pair (drop (2 * at) soft)
           (drop at rows) (drop at losses) c.new-step.result.row has.count (AreOctets-pair soft (2 * j) c.requires.octets)
           (c.new-step.ensures.each pair has)
           (λ s lt. ap (λ l. lane l s) (passed-gaps c.new-step.result.losses.lanes c.new-step.ensures.lanes)
@@ -72,5 +72,5 @@ returns-clause-keeps c =
     let none : c.args.first + c.loop-k.k ≡ c.args.first = omega arith in
     let Holds : ℕ →
     Type 0 = λ k. Keeps (drop k c.loop-k.rows) (drop k c.loop-k.losses) (drop (2 * k) c.args.soft.now)
-    (worths c.loop-k.values.even.lanes c.loop-k.values.odd.lanes) in
+    (worth c.loop-k.values) in
     subst Holds none c.loop-k.invariant.keeps

@@ -1,14 +1,15 @@
 use Rattle.std.proofs.Common.{◌≡◌, ◌+◌, pos, ◌-ℤ◌, ap, ap₂, sym, ◌∙◌, arith, ℕ, ◌<◌, List, ℤ}
 use Rattle.trellis_decode.specs.Lanes.{lane}
-use Rattle.trellis_decode.specs.Turned.{HasEdges, turned, worths}
+use Rattle.trellis_decode.specs.Turned.{HasEdges, turned, worth, worths}
 use Rattle.trellis_decode.specs.Trellis.{way}
-use Rattle.trellis_decode.proofs.TurnedSteps.{each_state, way_lane, even_worth, low_worth, high_worth, even_worth_high, minus_turned, edge-high}
+use Rattle.trellis_decode.proofs.TurnedSteps.{each_state, way_lane, even_worth, low_worth, high_worth, even_worth_high, minus_turned}
+use Rattle.trellis_decode.proofs.TurnedSteps.{edge-high}
 use Rattle.trellis_decode.proofs.turned_step.closing_step.Goals as goal
 use Rattle.trellis_decode.proofs.turned_step.closing_step.Goals.{After-last_in_turns}
 
 low_way : (c : After-last_in_turns) (pair : List ℤ) → HasEdges c.args.edges.lanes pair → (k : ℕ) → k < 8 →
     lane (worths c.first_in_turns.result.lanes c.last_in_turns.result.lanes) (turned k)
-    ≡ way (worths c.args.after.even.lanes c.args.after.odd.lanes) pair (turned k) 0
+    ≡ way (worth c.args.after) pair (turned k) 0
 low_way c pair has k lt =
     let even = c.args.after.even.lanes in
     ap (λ l. lane l (turned k)) (ap₂ worths c.first_in_turns.ensures.each c.last_in_turns.ensures.each)
@@ -18,7 +19,7 @@ low_way c pair has k lt =
 
 high_way : (c : After-last_in_turns) (pair : List ℤ) → HasEdges c.args.edges.lanes pair → (k : ℕ) → k < 8 →
     lane (worths c.first_in_turns.result.lanes c.last_in_turns.result.lanes) (8 + turned k)
-    ≡ way (worths c.args.after.even.lanes c.args.after.odd.lanes) pair (8 + turned k) 0
+    ≡ way (worth c.args.after) pair (8 + turned k) 0
 high_way c pair has k lt =
     let even = c.args.after.even.lanes in
     let edge = lane c.args.edges.lanes k in
@@ -33,5 +34,5 @@ high_way c pair has k lt =
 pub returns-clause-each : goal.returns-clause-each
 returns-clause-each c pair has = each_state
     (λ s. lane (worths c.first_in_turns.result.lanes c.last_in_turns.result.lanes) s
-    ≡ way (worths c.args.after.even.lanes c.args.after.odd.lanes) pair s 0)
+    ≡ way (worth c.args.after) pair s 0)
     (low_way c pair has) (high_way c pair has)

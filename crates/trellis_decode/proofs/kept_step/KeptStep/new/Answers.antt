@@ -1,6 +1,6 @@
 use Rattle.std.proofs.Common.{get_or}
 use Rattle.trellis_decode.specs.Lanes.{lane}
-use Rattle.trellis_decode.specs.Turned.{choices, worths}
+use Rattle.trellis_decode.specs.Turned.{choices, worth}
 use Rattle.trellis_decode.proofs.Leads.{AreLeads, choice_is, high_near, leads_are, loss_is, low_near}
 use Rattle.trellis_decode.proofs.kept_step.KeptStep.new.Goals as goal
 use Rattle.trellis_decode.proofs.kept_step.KeptStep.new.Goals.{After-by_state-leads}
@@ -29,12 +29,12 @@ sizes-requires c = (leads (goal.at.sizes-requires c).After-by_state-leads).gaps
 
 pub returns-clause-each : goal.returns-clause-each
 returns-clause-each c pair has s lt =
-    choice_is (worths c.args.after.even.lanes c.args.after.odd.lanes) pair s (get_or (choices c.new-step.result.low.lanes c.new-step.result.high.lanes) s 0) _ _
+    choice_is (worth c.args.after) pair s (get_or (choices c.new-step.result.low.lanes c.new-step.result.high.lanes) s 0) _ _
     (lane c.by_state-leads.result.lanes s) (c.new-step.ensures.each pair has s lt)
     ((leads (goal.at.returns-clause-each c).After-by_state-leads).each pair has s lt) (c.signs.ensures s lt)
 
 pub returns-clause-losses : goal.returns-clause-losses
 returns-clause-losses c pair has s lt =
-    loss_is (worths c.args.after.even.lanes c.args.after.odd.lanes) pair s _ _ (lane c.by_state-leads.result.lanes s) _
+    loss_is (worth c.args.after) pair s _ _ (lane c.by_state-leads.result.lanes s) _
     (returns-clause-each c pair has s lt) ((leads (goal.at.returns-clause-losses c).After-by_state-leads).each pair has s lt)
     (c.sizes.ensures.each s lt)

@@ -1,7 +1,7 @@
 use Rattle.std.proofs.Common.{◌≡◌, ℕ, ◌<◌, ℤ, List, get_or}
 use Rattle.trellis_decode.specs.Lanes.{lane}
 use Rattle.trellis_decode.specs.Trellis.{next, Chooses}
-use Rattle.trellis_decode.specs.Turned.{choices, HasEdges, place, worths}
+use Rattle.trellis_decode.specs.Turned.{choices, HasEdges, place, worth}
 use Rattle.trellis_decode.proofs.Walks.{IsWalk-more, AreWithin-more}
 use Rattle.trellis_decode.proofs.maps.Walk.step.Goals as goal
 use Rattle.trellis_decode.proofs.maps.Walk.step.Goals.{After-followed}
@@ -11,8 +11,8 @@ bit : After-followed → ℕ → ℕ
 bit c s = get_or (choices c.new-step.result.low.lanes c.new-step.result.high.lanes) s 0
 
 chosen : (c : After-followed) (pair : List ℤ) → HasEdges c.args.edges.lanes pair → (s : ℕ) → s < 16 →
-    Chooses (worths c.args.self.values.even.lanes c.args.self.values.odd.lanes) pair s
-    (lane (worths c.new-step.result.values.even.lanes c.new-step.result.values.odd.lanes) s) (bit c s)
+    Chooses (worth c.args.self.values) pair s
+    (lane (worth c.new-step.result.values) s) (bit c s)
 unfolding bit
 chosen c pair has = c.new-step.ensures.each pair has
 
@@ -22,12 +22,12 @@ shown c = c.followed.ensures.each
 
 pub returns-clause-walk : goal.returns-clause-walk
 returns-clause-walk c pair has after soft =
-    IsWalk-more after (worths c.args.self.values.even.lanes c.args.self.values.odd.lanes)
-    (worths c.new-step.result.values.even.lanes c.new-step.result.values.odd.lanes)
+    IsWalk-more after (worth c.args.self.values)
+    (worth c.new-step.result.values)
     pair soft c.args.self.map c.followed.result (bit c) has.count (chosen c pair has) (shown c)
 
 pub returns-clause-within : goal.returns-clause-within
 returns-clause-within c pair has octets most =
-    AreWithin-more (worths c.args.self.values.even.lanes c.args.self.values.odd.lanes)
-    (worths c.new-step.result.values.even.lanes c.new-step.result.values.odd.lanes)
+    AreWithin-more (worth c.args.self.values)
+    (worth c.new-step.result.values)
     pair most (bit c) has.count octets (chosen c pair has)

@@ -1,10 +1,11 @@
 use Rattle.std.proofs.Common.{◌≡◌, ◌+◌, pos, ◌-ℤ◌, ap, ap₂, sym, ◌∙◌, subst, arith, ℕ, ◌<◌, List, ℤ, get_or}
 use Rattle.trellis_decode.specs.Trellis.{Chooses}
 use Rattle.trellis_decode.specs.Lanes.{lane}
-use Rattle.trellis_decode.specs.Turned.{choices, HasEdges, taken_bit, turned, worths}
+use Rattle.trellis_decode.specs.Turned.{choices, HasEdges, taken_bit, turned, worth, worths}
 use Rattle.trellis_decode.proofs.TurnedVectors.{AreTaken-each}
 use Rattle.trellis_decode.proofs.TurnedSteps.{each_state, low_choice, high_choice, chosen_lane, stepped, even_worth, odd_worth}
-use Rattle.trellis_decode.proofs.TurnedSteps.{low_worth, high_worth, even_worth_high, odd_worth_high, minus_turned, plus_turned, edge-one, edge-high}
+use Rattle.trellis_decode.proofs.TurnedSteps.{low_worth, high_worth, even_worth_high, odd_worth_high, minus_turned, plus_turned, edge-one}
+use Rattle.trellis_decode.proofs.TurnedSteps.{edge-high}
 use Rattle.trellis_decode.proofs.turned_step.Step.new.Goals as goal
 use Rattle.trellis_decode.proofs.turned_step.Step.new.Goals.{After-greater-2}
 
@@ -14,7 +15,7 @@ stepped_is : (c : After-greater-2) →
 stepped_is c = ap₂ worths c.first_in_turns.ensures.each c.last_in_turns.ensures.each
 
 low_chosen : (c : After-greater-2) (pair : List ℤ) → HasEdges c.args.edges.lanes pair → (k : ℕ) → k < 8 →
-    Chooses (worths c.args.after.even.lanes c.args.after.odd.lanes) pair (turned k)
+    Chooses (worth c.args.after) pair (turned k)
     (lane (worths c.first_in_turns.result.lanes c.last_in_turns.result.lanes) (turned k)) (taken_bit (lane c.greater.result.lanes k))
 low_chosen c pair has k lt =
     let even = c.args.after.even.lanes in
@@ -31,7 +32,7 @@ low_chosen c pair has k lt =
     (c.greater.ensures.each k lt))
 
 high_chosen : (c : After-greater-2) (pair : List ℤ) → HasEdges c.args.edges.lanes pair → (k : ℕ) → k < 8 →
-    Chooses (worths c.args.after.even.lanes c.args.after.odd.lanes) pair (8 + turned k)
+    Chooses (worth c.args.after) pair (8 + turned k)
     (lane (worths c.first_in_turns.result.lanes c.last_in_turns.result.lanes) (8 + turned k)) (taken_bit (lane c.greater-2.result.lanes k))
 high_chosen c pair has k lt =
     let even = c.args.after.even.lanes in
@@ -52,7 +53,7 @@ high_chosen c pair has k lt =
 
 pub returns-clause-each : goal.returns-clause-each
 returns-clause-each c pair has = each_state
-    (λ s. Chooses (worths c.args.after.even.lanes c.args.after.odd.lanes) pair s
+    (λ s. Chooses (worth c.args.after) pair s
     (lane (worths c.first_in_turns.result.lanes c.last_in_turns.result.lanes) s)
     (get_or (choices c.greater.result.lanes c.greater-2.result.lanes) s 0))
     (λ k lt. rw (low_choice c.greater.result.lanes c.greater-2.result.lanes k lt) (low_chosen c pair has k lt))
