@@ -219,7 +219,7 @@ fn larger_lanes(zero: StateLanes, one: StateLanes) -> StateLanes
 
 /// A map with one step more before it, by the better bit in each state.
 #[inline]
-fn followed_lanes(map: u8x16, zero: StateLanes, one: StateLanes) -> u8x16
+pub fn followed_lanes(map: u8x16, zero: StateLanes, one: StateLanes) -> u8x16
     requires map { length map ≡ 16 }
     requires zero { AreSmall zero.lanes }
     requires one { AreSmall one.lanes }

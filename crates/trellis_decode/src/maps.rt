@@ -8,6 +8,7 @@ ghost use Rattle.trellis_decode.specs.Turned.{AreEdges, AreNarrow, AreTaken, cho
 ghost use Rattle.trellis_decode.specs.Walks.{AreWithin, IsWalk, read_maps};
 ghost use Rattle.trellis_decode.specs.Words.{word};
 
+use crate::hard::{StateLanes, followed_lanes};
 use crate::turned_lanes::{Eight, Taken};
 use crate::turned_step::{Step, Values};
 use std::simd::prelude::*;
@@ -72,16 +73,16 @@ fn followed(map: u8x16, low: Taken, high: Taken) -> u8x16
         slice_index result (place s) ≡ slice_index map (place (next s (slice_index (choices low.lanes high.lanes) s))) }
     ensures count { length result ≡ 16 }
 {
-    let taken = low
-        .lanes
-        .shuffle::<16>(
+    let taken = StateLanes {
+        lanes: low.lanes.shuffle::<16>(
             high.lanes,
             [0, 1, 2, 3, 4, 5, 6, 7, 8, 9, 10, 11, 12, 13, 14, 15],
-        )
-        .simd_lt(i8x16::splat(0));
-    let zeros = map.swizzle::<16>([0, 8, 1, 9, 2, 10, 3, 11, 0, 8, 1, 9, 2, 10, 3, 11]);
-    let ones = map.swizzle::<16>([4, 12, 5, 13, 6, 14, 7, 15, 4, 12, 5, 13, 6, 14, 7, 15]);
-    taken.select(ones, zeros)
+        ),
+    };
+    let none = StateLanes {
+        lanes: i8x16::splat(0),
+    };
+    followed_lanes(map, taken, none)
 }
 
 /// The four bits of the state at each place, the oldest first.
