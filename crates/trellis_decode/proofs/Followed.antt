@@ -1,21 +1,35 @@
--- A map of places, with one more step before it.
-use Rattle.std.proofs.Common.{◌≡◌, ℕ, zero, suc, ◌+◌, ◌<◌, ◌⊎◌, inl, inr, if◌then◌else◌, ℤ, pos, negsuc, List, [], ◌∷◌, ◌++◌, map, length, get_or, refl, ap, sym, ◌∙◌, arith, int_lt, w8, lit≤}
+-- The bits that the states take, in one vector of sixteen.
+use Rattle.std.proofs.Common.{◌≡◌, ℕ, zero, suc, ◌+◌, ◌-◌, ◌<◌, ◌⊎◌, inl, inr, if◌then◌else◌, ℤ, pos, negsuc, List, [], ◌∷◌, ◌++◌}
+use Rattle.std.proofs.Common.{map, length, get_or, replicate, refl, ap, ap₂, sym, ◌∙◌, subst, arith, int_lt, w8, FitsSigned}
 use Rattle.std.specs.Int.{cast_signed, cast_unsigned}
-use Rattle.trellis_decode.specs.Trellis.{next}
-use Rattle.trellis_decode.proofs.EdgeLanes.{each}
-use lib.Lanes.{top}
+use Rattle.std.proofs.lemmas.Bool.{cases_lt}
+use Rattle.trellis_decode.specs.Hard.{AreSmall}
 use Rattle.trellis_decode.specs.Lanes.{lane}
-use Rattle.trellis_decode.specs.Turned.{choices, place, AreTaken, taken_bit}
+use Rattle.trellis_decode.specs.Turned.{choices, place, turned, AreTaken, taken_bit}
+use Rattle.trellis_decode.proofs.EdgeLanes.{each}
+use Rattle.trellis_decode.proofs.TurnedSteps.{each_state, low_choice, high_choice}
 
--- one of the first lanes of two vectors of 8-bit numbers, as bits and back
-octet_first : (a : List ℤ) (rest : List ℕ) (k : ℕ) → k < length a →
-    cast_signed w8 (get_or (map (cast_unsigned w8) a ++ rest) k 0) ≡ cast_signed w8 (cast_unsigned w8 (lane a k))
+-- -1 or 0, as bits and back
+kept : (x : ℤ) → (x ≡ negsuc 0) ⊎ (x ≡ pos 0) → cast_signed w8 (cast_unsigned w8 x) ≡ x
+kept x (inl is) = subst (λ x. cast_signed w8 (cast_unsigned w8 x) ≡ x) (sym is) refl
+kept x (inr is) = subst (λ x. cast_signed w8 (cast_unsigned w8 x) ≡ x) (sym is) refl
+
+small : (x : ℤ) → (x ≡ negsuc 0) ⊎ (x ≡ pos 0) → FitsSigned w8 x
+small x (inl is) = subst (FitsSigned w8) (sym is) (record { sfits = omega arith })
+small x (inr is) = subst (FitsSigned w8) (sym is) (record { sfits = omega arith })
+
+bit_taken : (x : ℤ) → (x ≡ negsuc 0) ⊎ (x ≡ pos 0) → (if int_lt x (pos 0) then 1 else 0) ≡ taken_bit x
+bit_taken x (inl is) = subst (λ x. (if int_lt x (pos 0) then 1 else 0) ≡ taken_bit x) (sym is) refl
+bit_taken x (inr is) = subst (λ x. (if int_lt x (pos 0) then 1 else 0) ≡ taken_bit x) (sym is) refl
+
+-- one of the lanes of two vectors
+octet_first : (a : List ℤ) (rest : List ℕ) (k : ℕ) → k < length a → get_or (map (cast_unsigned w8) a ++ rest) k 0 ≡ cast_unsigned w8 (lane a k)
 octet_first [] rest k lt = absurd (omega arith)
 octet_first (x ∷ a) rest zero lt = refl
 octet_first (x ∷ a) rest (suc k) lt = let lt' : k < length a = omega arith in octet_first a rest k lt'
 
-octet_after : (a b : List ℤ) (n k at : ℕ) → length a ≡ n → n + k ≡ at → k < length b →
-    cast_signed w8 (get_or (map (cast_unsigned w8) a ++ map (cast_unsigned w8) b) at 0) ≡ cast_signed w8 (cast_unsigned w8 (lane b k))
+octet_after : (a : List ℤ) (b : List ℤ) (n k at : ℕ) → length a ≡ n → n + k ≡ at → k < length b →
+    get_or (map (cast_unsigned w8) a ++ map (cast_unsigned w8) b) at 0 ≡ cast_unsigned w8 (lane b k)
 octet_after [] [] n k at ha e lt = absurd (omega arith)
 octet_after [] (y ∷ b) n zero zero ha e lt = refl
 octet_after [] (y ∷ b) n zero (suc at) ha e lt = absurd (omega arith)
@@ -29,108 +43,62 @@ octet_after (x ∷ a) b n k (suc at) ha e lt =
     let e' : length a + k ≡ at = omega arith in
     octet_after a b (length a) k at refl e' lt
 
-in_first : (a rest : List ℕ) (k : ℕ) → k < length a → get_or (a ++ rest) k 0 ≡ get_or a k 0
-in_first [] rest k lt = absurd (omega arith)
-in_first (x ∷ a) rest zero lt = refl
-in_first (x ∷ a) rest (suc k) lt = let lt' : k < length a = omega arith in in_first a rest k lt'
+abbrev pub none : List ℤ
+none = replicate 16 (pos 0)
 
--- one lane: the choice between two places of the map
-abbrev picked : ℤ → ℕ → ℕ → ℕ
-picked number taken kept = if top 7 (if int_lt number (pos 0) then 255 else 0) then taken else kept
+none_at : (k : ℕ) → k < 16 → lane none k ≡ pos 0
+none_at = each (λ k. lane none k ≡ pos 0) 16
+    ((((((((((((((((tt, refl), refl), refl), refl), refl), refl), refl), refl), refl), refl), refl), refl), refl), refl), refl), refl)
 
-picked_is : (number y : ℤ) (next_place : ℕ → ℕ) (places : List ℕ) (i j : ℕ) → length places ≡ 16 → i < 16 → j < 16 →
-    number ≡ cast_signed w8 (cast_unsigned w8 y) → (y ≡ negsuc 0) ⊎ (y ≡ pos 0) → next_place 1 ≡ i → next_place 0 ≡ j →
-    picked number (get_or (places ++ places) i 0) (get_or (places ++ places) j 0) ≡ get_or places (next_place (taken_bit y)) 0
-picked_is number y next_place places i j count li lj is (inl one) at_one at_zero =
-    ap (λ n. picked n (get_or (places ++ places) i 0) (get_or (places ++ places) j 0))
-    (is ∙ ap (λ y. cast_signed w8 (cast_unsigned w8 y)) one)
-    ∙ in_first places places i (omega arith)
-    ∙ ap (λ p. get_or places p 0) (sym at_one ∙ ap (λ y. next_place (taken_bit y)) (sym one))
-picked_is number y next_place places i j count li lj is (inr none) at_one at_zero =
-    ap (λ n. picked n (get_or (places ++ places) i 0) (get_or (places ++ places) j 0))
-    (is ∙ ap (λ y. cast_signed w8 (cast_unsigned w8 y)) none)
-    ∙ in_first places places j (omega arith)
-    ∙ ap (λ p. get_or places p 0) (sym at_zero ∙ ap (λ y. next_place (taken_bit y)) (sym none))
+pub AreSmall-none : AreSmall none
+AreSmall-none = record { count = refl; fits = λ k lt. subst (FitsSigned w8) (sym (none_at k lt)) (record { sfits = omega arith }) }
 
-module _ (low high : List ℤ) (places : List ℕ) (hl : AreTaken low) (hh : AreTaken high) (count : length places ≡ 16) where
-  low_picked : (next_place : ℕ → ℕ) (k i j : ℕ) → k < 8 → i < 16 → j < 16 → next_place 1 ≡ i → next_place 0 ≡ j →
-      picked (cast_signed w8 (get_or (map (cast_unsigned w8) low ++ map (cast_unsigned w8) high) k 0)) (get_or (places ++ places) i 0)
-      (get_or (places ++ places) j 0)
-      ≡ get_or places (next_place (taken_bit (lane low k))) 0
-  low_picked next_place k i j lt li lj to_one to_zero =
-      picked_is _ (lane low k) next_place places i j count li lj (octet_first low (map (cast_unsigned w8) high) k (omega (arith, hl.count)))
-      (hl.each k lt) to_one to_zero
+place_low : (k : ℕ) → k < 8 → place (turned k) ≡ k
+place_low = each (λ k. place (turned k) ≡ k) 8 ((((((((tt, refl), refl), refl), refl), refl), refl), refl), refl)
 
-  high_picked : (next_place : ℕ → ℕ) (k at i j : ℕ) → k < 8 → 8 + k ≡ at → i < 16 → j < 16 → next_place 1 ≡ i → next_place 0 ≡ j →
-      picked (cast_signed w8 (get_or (map (cast_unsigned w8) low ++ map (cast_unsigned w8) high) at 0)) (get_or (places ++ places) i 0)
-      (get_or (places ++ places) j 0)
-      ≡ get_or places (next_place (taken_bit (lane high k))) 0
-  high_picked next_place k at i j lt e li lj to_one to_zero =
-      picked_is _ (lane high k) next_place places i j count li lj (octet_after low high 8 k at hl.count e (omega (arith, hh.count)))
-      (hh.each k lt) to_one to_zero
+place_high : (k : ℕ) → k < 8 → place (8 + turned k) ≡ 8 + k
+place_high = each (λ k. place (8 + turned k) ≡ 8 + k) 8 ((((((((tt, refl), refl), refl), refl), refl), refl), refl), refl)
 
-  -- a lane of the map: the choice between two places
-  abbrev lane_at : ℕ → ℕ → ℕ → ℕ
-  lane_at k i j = picked (cast_signed w8 (get_or (map (cast_unsigned w8) low ++ map (cast_unsigned w8) high) k 0))
-      (get_or (places ++ places) i 0) (get_or (places ++ places) j 0)
+module _ (low high : List ℤ) (hl : AreTaken low) (hh : AreTaken high) where
+  abbrev at : ℕ → ℤ
+  at k = cast_signed w8 (get_or (map (cast_unsigned w8) low ++ map (cast_unsigned w8) high) k 0)
 
-  abbrev followed_lanes : List ℕ
-  followed_lanes =
-      lane_at 0 4 0 ∷ lane_at 1 12 8 ∷ lane_at 2 5 1 ∷ lane_at 3 13 9 ∷
-      lane_at 4 6 2 ∷ lane_at 5 14 10 ∷ lane_at 6 7 3 ∷ lane_at 7 15 11 ∷
-      lane_at 8 4 0 ∷ lane_at 9 12 8 ∷ lane_at 10 5 1 ∷ lane_at 11 13 9 ∷
-      lane_at 12 6 2 ∷ lane_at 13 14 10 ∷ lane_at 14 7 3 ∷ lane_at 15 15 11 ∷ []
+  abbrev pub joined : List ℤ
+  joined =
+      at 0 ∷ at 1 ∷ at 2 ∷ at 3 ∷ at 4 ∷ at 5 ∷ at 6 ∷ at 7 ∷ at 8 ∷ at 9 ∷ at 10 ∷ at 11 ∷ at 12 ∷ at 13 ∷ at 14 ∷ at 15 ∷ []
 
-  pub followed_places : (s : ℕ) → s < 16 →
-      get_or followed_lanes (place s) 0 ≡ get_or places (place (next s (get_or (choices low high) s 0))) 0
-  followed_places = each (λ s. get_or followed_lanes (place s) 0 ≡ get_or places (place (next s (get_or (choices low high) s 0))) 0) 16
-      ((
-        (
-          (
-            (
-              (
-                (
-                  (
-                    (
-                      (
-                        (
-                          (
-                            (
-                              (
-                                (
-                                  (
-                                    (
-                                      tt,
-                                      low_picked (λ bit. place (next 0 bit)) 0 4 0 (lit≤ tt) (lit≤ tt) (lit≤ tt) refl refl,
-                                    ),
-                                    low_picked (λ bit. place (next 1 bit)) 4 6 2 (lit≤ tt) (lit≤ tt) (lit≤ tt) refl refl,
-                                  ),
-                                  low_picked (λ bit. place (next 2 bit)) 2 5 1 (lit≤ tt) (lit≤ tt) (lit≤ tt) refl refl,
-                                ),
-                                low_picked (λ bit. place (next 3 bit)) 6 7 3 (lit≤ tt) (lit≤ tt) (lit≤ tt) refl refl,
-                              ),
-                              low_picked (λ bit. place (next 4 bit)) 1 12 8 (lit≤ tt) (lit≤ tt) (lit≤ tt) refl refl,
-                            ),
-                            low_picked (λ bit. place (next 5 bit)) 5 14 10 (lit≤ tt) (lit≤ tt) (lit≤ tt) refl refl,
-                          ),
-                          low_picked (λ bit. place (next 6 bit)) 3 13 9 (lit≤ tt) (lit≤ tt) (lit≤ tt) refl refl,
-                        ),
-                        low_picked (λ bit. place (next 7 bit)) 7 15 11 (lit≤ tt) (lit≤ tt) (lit≤ tt) refl refl,
-                      ),
-                      high_picked (λ bit. place (next 8 bit)) 0 8 4 0 (lit≤ tt) refl (lit≤ tt) (lit≤ tt) refl refl,
-                    ),
-                    high_picked (λ bit. place (next 9 bit)) 4 12 6 2 (lit≤ tt) refl (lit≤ tt) (lit≤ tt) refl refl,
-                  ),
-                  high_picked (λ bit. place (next 10 bit)) 2 10 5 1 (lit≤ tt) refl (lit≤ tt) (lit≤ tt) refl refl,
-                ),
-                high_picked (λ bit. place (next 11 bit)) 6 14 7 3 (lit≤ tt) refl (lit≤ tt) (lit≤ tt) refl refl,
-              ),
-              high_picked (λ bit. place (next 12 bit)) 1 9 12 8 (lit≤ tt) refl (lit≤ tt) (lit≤ tt) refl refl,
-            ),
-            high_picked (λ bit. place (next 13 bit)) 5 13 14 10 (lit≤ tt) refl (lit≤ tt) (lit≤ tt) refl refl,
-          ),
-          high_picked (λ bit. place (next 14 bit)) 3 11 13 9 (lit≤ tt) refl (lit≤ tt) (lit≤ tt) refl refl,
-        ),
-        high_picked (λ bit. place (next 15 bit)) 7 15 15 11 (lit≤ tt) refl (lit≤ tt) (lit≤ tt) refl refl,
-      )
-      )
+  joined_at : (k : ℕ) → k < 16 → lane joined k ≡ at k
+  joined_at = each (λ k. lane joined k ≡ at k) 16
+      ((((((((((((((((tt, refl), refl), refl), refl), refl), refl), refl), refl), refl), refl), refl), refl), refl), refl), refl), refl)
+
+  low_at : (k : ℕ) → k < 8 → lane joined k ≡ lane low k
+  low_at k lt = joined_at k (omega arith)
+      ∙ ap (cast_signed w8) (octet_first low (map (cast_unsigned w8) high) k (omega (arith, hl.count))) ∙ kept (lane low k) (hl.each k lt)
+
+  high_at : (k : ℕ) → k < 8 → lane joined (8 + k) ≡ lane high k
+  high_at k lt = joined_at (8 + k) (omega arith)
+      ∙ ap (cast_signed w8) (octet_after low high 8 k (8 + k) hl.count refl (omega (arith, hh.count))) ∙ kept (lane high k) (hh.each k lt)
+
+  pub AreSmall-joined : AreSmall joined
+  AreSmall-joined = record {
+    count = refl;
+    fits = λ k lt. elim (cases_lt k 8) [
+      | inl below ↦ subst (FitsSigned w8) (sym (low_at k below)) (small (lane low k) (hl.each k below))
+      | inr from ↦
+          let e : 8 + (k - 8) ≡ k = omega arith in
+          let lt' : k - 8 < 8 = omega arith in
+          subst (λ k. FitsSigned w8 (lane joined k)) e
+          (subst (FitsSigned w8) (sym (high_at (k - 8) lt')) (small (lane high (k - 8)) (hh.each (k - 8) lt')))
+    ];
+  }
+
+  -- the bit of each state
+  pub joined_choice : (s : ℕ) → s < 16 → (if int_lt (lane joined (place s)) (lane none (place s)) then 1 else 0) ≡ get_or (choices low high) s 0
+  joined_choice = each_state
+      (λ s. (if int_lt (lane joined (place s)) (lane none (place s)) then 1 else 0) ≡ get_or (choices low high) s 0)
+      (λ k lt. ap (λ p. if int_lt (lane joined p) (lane none p) then 1 else 0) (place_low k lt)
+      ∙ ap₂ (λ x z. if int_lt x z then 1 else 0) (low_at k lt) (none_at k (omega arith)) ∙ bit_taken (lane low k) (hl.each k lt)
+      ∙ sym (low_choice low high k lt))
+      (λ k lt. ap (λ p. if int_lt (lane joined p) (lane none p) then 1 else 0) (place_high k lt)
+      ∙ ap₂ (λ x z. if int_lt x z then 1 else 0) (high_at k lt) (none_at (8 + k) (omega arith)) ∙ bit_taken (lane high k) (hh.each k lt)
+      ∙ sym (high_choice low high k lt))

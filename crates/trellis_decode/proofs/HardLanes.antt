@@ -1,9 +1,12 @@
 -- The operations on vectors of sixteen 8-bit numbers, lane by lane. A lane stands in them as its bits.
-use Rattle.std.proofs.Common.{◌≡◌, ℕ, zero, suc, ◌+◌, ◌-◌, ◌/◌, ◌%◌, ◌^◌, ◌<◌, ◌≤◌, Bool, true, false, if◌then◌else◌, ℤ, pos, negsuc, ◌+ℤ◌, ◌-ℤ◌, ◌≤ℤ◌, List, [], ◌∷◌, ◌++◌, map, length, get_or, replicate, refl, ap, ap₂, sym, ◌∙◌, subst, arith, int_lt, w8, FitsSigned}
+use Rattle.std.proofs.Common.{◌≡◌, ℕ, zero, suc, ◌+◌, ◌-◌, ◌*◌, ◌/◌, ◌%◌, ◌^◌, ◌<◌, ◌≤◌, Bool, true, false, if◌then◌else◌, ℤ, pos, negsuc}
+use Rattle.std.proofs.Common.{◌+ℤ◌, ◌-ℤ◌, ◌≤ℤ◌, List, [], ◌∷◌, ◌++◌, map, length, get_or, replicate, refl, ap, ap₂, sym, ◌∙◌, subst, arith}
+use Rattle.std.proofs.Common.{int_lt, w8, FitsSigned}
 use Rattle.std.specs.Int.{cast_signed, cast_unsigned}
 use Rattle.std.proofs.lemmas.Int.{ints, to_z-of_z, wrapping_add_is, wrapping_sub_is, int_wrap_fits}
 use Rattle.std.proofs.lemmas.List.{length-map, get_or-map, get_or_append_left}
-use Rattle.std.proofs.lemmas.Simd.{mask_l-mod, bit_mask_l}
+use Rattle.std.proofs.lemmas.Simd.{SwzOk, SwzOk-from_below, Each1-from_get_or, swz_l, get_or-swz_l_below, length-swz_l, mask_l-mod}
+use Rattle.std.proofs.lemmas.Simd.{bit_mask_l}
 use lib.Lanes.{zip2, sel_l, mask_l, top}
 use Rattle.trellis_decode.specs.Lanes.{lane}
 use Rattle.trellis_decode.specs.Hard.{AreSmall, AreUnits, HasRoom, one_place, sign, zero_place}
@@ -170,6 +173,21 @@ length-chosen (a ∷ rest) (b ∷ bs) (x ∷ xs) (y ∷ ys) eb ex ey =
     let ey' : length ys ≡ length rest = omega arith in
     ap suc (length-chosen rest bs xs ys eb' ex' ey')
 
+-- the places that the states come to by either bit
+abbrev zero_places : List ℕ
+zero_places = 0 ∷ 8 ∷ 1 ∷ 9 ∷ 2 ∷ 10 ∷ 3 ∷ 11 ∷ 0 ∷ 8 ∷ 1 ∷ 9 ∷ 2 ∷ 10 ∷ 3 ∷ 11 ∷ []
+
+abbrev one_places : List ℕ
+one_places = 4 ∷ 12 ∷ 5 ∷ 13 ∷ 6 ∷ 14 ∷ 7 ∷ 15 ∷ 4 ∷ 12 ∷ 5 ∷ 13 ∷ 6 ∷ 14 ∷ 7 ∷ 15 ∷ []
+
+zero_places-at : (k : ℕ) → k < 16 → get_or zero_places k 0 ≡ zero_place k
+zero_places-at = each (λ k. get_or zero_places k 0 ≡ zero_place k) 16
+    ((((((((((((((((tt, refl), refl), refl), refl), refl), refl), refl), refl), refl), refl), refl), refl), refl), refl), refl), refl)
+
+one_places-at : (k : ℕ) → k < 16 → get_or one_places k 0 ≡ one_place k
+one_places-at = each (λ k. get_or one_places k 0 ≡ one_place k) 16
+    ((((((((((((((((tt, refl), refl), refl), refl), refl), refl), refl), refl), refl), refl), refl), refl), refl), refl), refl), refl)
+
 module _ (zero_ways one_ways : List ℤ) (hz : AreSmall zero_ways) (ho : AreSmall one_ways) where
   abbrev less : ℕ → Bool
   less k = int_lt (lane zero_ways k) (lane one_ways k)
@@ -227,21 +245,36 @@ module _ (zero_ways one_ways : List ℤ) (hz : AreSmall zero_ways) (ho : AreSmal
         ]);
   }
 
-  pub lane-followed : (xs : List ℕ) → length xs ≡ 16 → (k : ℕ) → k < 16 →
-      get_or (sel_l (map (top 7) (zip2 compared (bits zero_ways) (bits one_ways))) (next_one (xs ++ xs)) (next_zero (xs ++ xs))) k 0
-      ≡ get_or xs (if less k then one_place k else zero_place k) 0
-  lane-followed xs count k lt =
-      let zero_in : zero_place k < length xs = omega arith in
-      let one_in : one_place k < length xs = omega arith in
-      picked (next_one (xs ++ xs)) (next_zero (xs ++ xs)) refl refl k lt
-      ∙ ap₂ (λ x y. if less k then x else y)
-      (next_one-at (xs ++ xs) k lt ∙ get_or_append_left xs xs 0 (one_place k) one_in)
-      (next_zero-at (xs ++ xs) k lt ∙ get_or_append_left xs xs 0 (zero_place k) zero_in)
-      ∙ elim (less k) as (λ t. (if t then get_or xs (one_place k) 0 else get_or xs (zero_place k) 0)
-      ≡ get_or xs (if t then one_place k else zero_place k) 0) [
-        | true ↦ refl
-        | false ↦ refl
-      ]
+  -- the places of the states that each state comes to
+  abbrev next_places : List ℕ
+  next_places = sel_l (map (top 7) (zip2 compared (bits zero_ways) (bits one_ways))) one_places zero_places
+
+  next_place : (k : ℕ) → k < 16 → get_or next_places k 0 ≡ (if less k then one_place k else zero_place k)
+  next_place k lt = picked one_places zero_places refl refl k lt
+      ∙ ap₂ (λ x y. if less k then x else y) (one_places-at k lt) (zero_places-at k lt)
+
+  inside : (k : ℕ) (t : Bool) → k < 16 → (if t then one_place k else zero_place k) < 16
+  inside k true lt = omega arith
+  inside k false lt = omega arith
+
+  pub lane-followed : (xs : List ℕ) (k : ℕ) → k < 16 →
+      get_or (swz_l w8 16 xs 0 next_places) k 0 ≡ get_or xs (if less k then one_place k else zero_place k) 0
+  lane-followed xs k lt =
+      let is = next_place k lt in
+      let small = inside k (less k) lt in
+      let first : 16 * ((0 + k) / 16) + get_or next_places k 0 ≡ (if less k then one_place k else zero_place k) = omega arith in
+      get_or-swz_l_below w8 16 xs 0 next_places k (let n = length-picked one_places zero_places refl refl in omega arith) (omega arith)
+      ∙ ap (λ n. get_or xs n 0) first
+
+  pub places_stand : SwzOk w8 16 16 0 next_places
+  places_stand =
+      let n = length-picked one_places zero_places refl refl in
+      SwzOk-from_below w8 16 1 16 0 next_places refl (omega arith) (Each1-from_get_or (λ j. j < 16) next_places 0
+      (λ k lt. let within : k < 16 = omega arith in
+      let is = next_place k within in let small = inside k (less k) within in omega arith))
+
+  pub length-followed : (xs : List ℕ) → length (swz_l w8 16 xs 0 next_places) ≡ 16
+  length-followed xs = length-swz_l w8 16 xs 0 next_places ∙ length-picked one_places zero_places refl refl
 
 -- ---- the signs of eight soft values
 

@@ -1,5 +1,7 @@
 -- A step of the trellis, from lanes of 8 bits.
-use Rattle.std.proofs.Common.{◌≡◌, ℕ, zero, suc, ◌+◌, ◌*◌, ◌<◌, ◌≤◌, Bool, true, false, if◌then◌else◌, ℤ, pos, negsuc, ◌+ℤ◌, ◌-ℤ◌, ◌*ℤ◌, List, [], ◌∷◌, map, get_or, take, drop, length, refl, ap, sym, ◌∙◌, subst, arith, int_lt, replicate, w8, FitsSigned, inl, inr}
+use Rattle.std.proofs.Common.{◌≡◌, ℕ, zero, suc, ◌+◌, ◌*◌, ◌<◌, ◌≤◌, Bool, true, false, if◌then◌else◌, ℤ, pos, negsuc, ◌+ℤ◌, ◌-ℤ◌, ◌*ℤ◌}
+use Rattle.std.proofs.Common.{List, [], ◌∷◌, map, get_or, take, drop, length, refl, ap, sym, ◌∙◌, subst, arith, int_lt, replicate, w8}
+use Rattle.std.proofs.Common.{FitsSigned, inl, inr}
 use Rattle.std.specs.Int.{cast_signed, cast_unsigned}
 use Rattle.std.specs.List.{All}
 use Rattle.std.proofs.lemmas.Int.{ints}

@@ -1,5 +1,6 @@
 -- What a pass backward keeps, one place more at a time, and how far apart the states are.
-use Rattle.std.proofs.Common.{◌≡◌, ℕ, zero, suc, ◌+◌, ◌-◌, ◌*◌, ◌/◌, ◌%◌, ◌^◌, ◌<◌, ◌≤◌, ℤ, pos, negsuc, ◌+ℤ◌, ◌-ℤ◌, ◌≤ℤ◌, List, [], ◌∷◌, ◌++◌, length, take, drop, replicate, refl, ap, ap₂, sym, ◌∙◌, subst, arith, lit≤}
+use Rattle.std.proofs.Common.{◌≡◌, ℕ, zero, suc, ◌+◌, ◌-◌, ◌*◌, ◌/◌, ◌%◌, ◌^◌, ◌<◌, ◌≤◌, ℤ, pos, negsuc, ◌+ℤ◌, ◌-ℤ◌, ◌≤ℤ◌, List, [], ◌∷◌}
+use Rattle.std.proofs.Common.{◌++◌, length, take, drop, replicate, refl, ap, ap₂, sym, ◌∙◌, subst, arith, lit≤}
 use Rattle.std.proofs.lemmas.Int.{ints}
 use Rattle.std.proofs.lemmas.List.{length-append, take-append-drop, length-take, length-drop}
 use Rattle.std.proofs.lemmas.List.Elements.{All-tail, All-take, All-drop, All-append}
@@ -9,7 +10,8 @@ use Rattle.trellis_decode.specs.Lanes.{lane, IsOctet, AreOctets}
 use Rattle.trellis_decode.specs.Trellis.{next, gain, edge, Ends, Loses, Less, Later, read_out, IsBest, IsKept, way, Chooses}
 use Rattle.trellis_decode.specs.Turned.{AreClose, HaveRoom, turned, worths}
 use Rattle.trellis_decode.specs.Walks.{AreWithin}
-use Rattle.trellis_decode.proofs.Paths.{gain-cons, IsBest-more, IsBest-same, IsNotAfter-refl, read_out-zeros, closing_rows, length-read_out, way_reached}
+use Rattle.trellis_decode.proofs.Paths.{gain-cons, IsBest-more, IsBest-same, IsNotAfter-refl, read_out-zeros, closing_rows, length-read_out}
+use Rattle.trellis_decode.proofs.Paths.{way_reached}
 use Rattle.trellis_decode.proofs.TurnedSteps.{even_worth, odd_worth, floor_kept}
 use Rattle.trellis_decode.proofs.Walks.{edge_bound, AreWithin-best, AreWithin-most, HaveRoom-even, HaveRoom-odd}
 

@@ -1,17 +1,15 @@
 -- What the bit 0 is worth more than the bit 1: its sign is the choice, and its size the loss.
-use Rattle.std.proofs.Common.{◌≡◌, ℕ, true, false, if◌then◌else◌, ℤ, pos, negsuc, ◌+ℤ◌, ◌-ℤ◌, ◌≤ℤ◌, ◌+◌, ◌-◌, ◌<◌, ◌⊎◌, List, ap, ap₂, sym, ◌∙◌, subst, arith, int_lt, inl, inr, refl}
+use Rattle.std.proofs.Common.{◌≡◌, ℕ, true, false, if◌then◌else◌, ℤ, pos, negsuc, ◌+ℤ◌, ◌-ℤ◌, ◌≤ℤ◌, ◌+◌, ◌-◌, ◌<◌, ◌⊎◌, List, ap, sym, ◌∙◌}
+use Rattle.std.proofs.Common.{subst, arith, int_lt, inl, inr, refl}
 use Rattle.std.proofs.lemmas.Int.{ints, by_lt_z}
 use Rattle.trellis_decode.specs.Lanes.{lane}
 use Rattle.trellis_decode.specs.Trellis.{next, edge, way, Chooses}
-use Rattle.trellis_decode.specs.Turned.{AreClose, AreEdges, AreGaps, AreNarrow, AreNear, HasEdges, in_order, raised, turned, worths}
+use Rattle.trellis_decode.specs.Turned.{AreClose, AreEdges, AreGaps, AreNear, HasEdges, in_order, raised, turned, worths}
 use Rattle.trellis_decode.specs.Ways.{AreWays}
 use Rattle.trellis_decode.specs.declared.turned_step.Ways.{Ways}
-use Rattle.trellis_decode.proofs.TurnedSteps.{each_state, low_in_order, high_in_order, even_worth, odd_worth, even_worth_high, odd_worth_high, edge-one, edge-high}
-use Rattle.trellis_decode.proofs.TurnedVectors.{passed, passed-lanes, passed-gaps, fits_between}
-
-pub AreNear-passed : (a b : List ℤ) → AreNarrow a → AreNarrow b → AreNear a b → AreNear (passed a) (passed b)
-AreNear-passed a b ha hb near =
-    subst (λ a. AreNear a (passed b)) (sym (passed-lanes a ha)) (subst (AreNear a) (sym (passed-lanes b hb)) near)
+use Rattle.trellis_decode.proofs.TurnedSteps.{each_state, low_in_order, high_in_order, even_worth, odd_worth, even_worth_high}
+use Rattle.trellis_decode.proofs.TurnedSteps.{odd_worth_high, edge-one, edge-high}
+use Rattle.trellis_decode.proofs.TurnedVectors.{fits_between}
 
 -- in one state
 pub lead_is : (after pair : List ℤ) (s : ℕ) (v o e lead : ℤ) → lane after (next s 0) ≡ raised v → lane after (next s 1) ≡ raised o →
@@ -64,10 +62,10 @@ pub record AreLeads (even odd edges leads : List ℤ) : Type 0 where
 
 module _ (even odd edges : List ℤ) (ways : Ways) (is : AreWays even odd edges ways) (close : AreClose even odd)
     (bounded : AreEdges edges) where
-  low_gap : (k : ℕ) → k < 8 → lane ways.low_zero k -ℤ lane ways.low_one k ≡ lane even k -ℤ lane odd k +ℤ lane edges k +ℤ lane edges k
+  low_gap : (k : ℕ) → k < 8 → lane ways.low_zero.lanes k -ℤ lane ways.low_one.lanes k ≡ lane even k -ℤ lane odd k +ℤ lane edges k +ℤ lane edges k
   low_gap k lt = let zero = is.low_zero_lane k lt in let one = is.low_one_lane k lt in omega (arith, ints)
 
-  high_gap : (k : ℕ) → k < 8 → lane ways.high_zero k -ℤ lane ways.high_one k ≡ lane even k -ℤ lane odd k -ℤ lane edges k -ℤ lane edges k
+  high_gap : (k : ℕ) → k < 8 → lane ways.high_zero.lanes k -ℤ lane ways.high_one.lanes k ≡ lane even k -ℤ lane odd k -ℤ lane edges k -ℤ lane edges k
   high_gap k lt = let zero = is.high_zero_lane k lt in let one = is.high_one_lane k lt in omega (arith, ints)
 
   abbrev Fits : ℤ → Type 0
@@ -86,68 +84,55 @@ module _ (even odd edges : List ℤ) (ways : Ways) (is : AreWays even odd edges 
         | inr less ↦ (omega (arith, ints), omega (arith, ints))
       ]
 
-  low_fits : (k : ℕ) → k < 8 → Fits (lane ways.low_zero k -ℤ lane ways.low_one k)
+  low_fits : (k : ℕ) → k < 8 → Fits (lane ways.low_zero.lanes k -ℤ lane ways.low_one.lanes k)
   low_fits k lt = fits k _ lt (inl (low_gap k lt))
 
-  high_fits : (k : ℕ) → k < 8 → Fits (lane ways.high_zero k -ℤ lane ways.high_one k)
+  high_fits : (k : ℕ) → k < 8 → Fits (lane ways.high_zero.lanes k -ℤ lane ways.high_one.lanes k)
   high_fits k lt = fits k _ lt (inr (high_gap k lt))
 
-  pub low_near : AreNear (passed ways.low_zero) (passed ways.low_one)
-  low_near = AreNear-passed ways.low_zero ways.low_one is.low_zero is.low_one
-      (record { fits = λ k lt. let fits = low_fits k lt in fits_between _ (let low = fits.0 in omega (arith, ints)) fits.1 })
+  pub low_near : AreNear ways.low_zero.lanes ways.low_one.lanes
+  low_near = record { fits = λ k lt. let fits = low_fits k lt in fits_between _ (let low = fits.0 in omega (arith, ints)) fits.1 }
 
-  pub high_near : AreNear (passed ways.high_zero) (passed ways.high_one)
-  high_near = AreNear-passed ways.high_zero ways.high_one is.high_zero is.high_one
-      (record { fits = λ k lt. let fits = high_fits k lt in fits_between _ (let low = fits.0 in omega (arith, ints)) fits.1 })
+  pub high_near : AreNear ways.high_zero.lanes ways.high_one.lanes
+  high_near = record { fits = λ k lt. let fits = high_fits k lt in fits_between _ (let low = fits.0 in omega (arith, ints)) fits.1 }
 
-  module _ (low high leads : List ℤ) (narrow_low : AreNarrow low) (narrow_high : AreNarrow high)
-      (low_is : (k : ℕ) → k < 8 → lane low k ≡ lane (passed ways.low_zero) k -ℤ lane (passed ways.low_one) k)
-      (high_is : (k : ℕ) → k < 8 → lane high k ≡ lane (passed ways.high_zero) k -ℤ lane (passed ways.high_one) k)
-      (ordered : leads ≡ in_order (passed low) (passed high)) where
-    low_lane : (k : ℕ) → k < 8 → lane (passed low) k ≡ lane ways.low_zero k -ℤ lane ways.low_one k
-    low_lane k lt = ap (λ l. lane l k) (passed-lanes low narrow_low) ∙ low_is k lt
-        ∙ ap₂ (λ l m. lane l k -ℤ lane m k) (passed-lanes ways.low_zero is.low_zero) (passed-lanes ways.low_one is.low_one)
-
-    high_lane : (k : ℕ) → k < 8 → lane (passed high) k ≡ lane ways.high_zero k -ℤ lane ways.high_one k
-    high_lane k lt = ap (λ l. lane l k) (passed-lanes high narrow_high) ∙ high_is k lt
-        ∙ ap₂ (λ l m. lane l k -ℤ lane m k) (passed-lanes ways.high_zero is.high_zero) (passed-lanes ways.high_one is.high_one)
-
+  module _ (low high leads : List ℤ)
+      (low_lane : (k : ℕ) → k < 8 → lane low k ≡ lane ways.low_zero.lanes k -ℤ lane ways.low_one.lanes k)
+      (high_lane : (k : ℕ) → k < 8 → lane high k ≡ lane ways.high_zero.lanes k -ℤ lane ways.high_one.lanes k)
+      (ordered : leads ≡ in_order low high) where
     leads_fit : AreGaps leads
     leads_fit =
-        let fit = each_state (λ s. Fits (lane (in_order (passed low) (passed high)) s))
-        (λ k lt. subst Fits (sym (low_in_order (passed low) (passed high) k lt ∙ low_lane k lt)) (low_fits k lt))
-        (λ k lt. subst Fits (sym (high_in_order (passed low) (passed high) k lt ∙ high_lane k lt)) (high_fits k lt)) in
+        let fit = each_state (λ s. Fits (lane (in_order low high) s))
+        (λ k lt. subst Fits (sym (low_in_order low high k lt ∙ low_lane k lt)) (low_fits k lt))
+        (λ k lt. subst Fits (sym (high_in_order low high k lt ∙ high_lane k lt)) (high_fits k lt)) in
         subst AreGaps (sym ordered) (record { count = refl; low = λ s lt. (fit s lt).0; high = λ s lt. (fit s lt).1 })
 
-    leads_passed : AreGaps (passed leads)
-    leads_passed = subst AreGaps (sym (passed-gaps leads leads_fit)) leads_fit
-
     low_state : (pair : List ℤ) → HasEdges edges pair → (k : ℕ) → k < 8 →
-        lane (passed low) k ≡ way (worths even odd) pair (turned k) 0 -ℤ way (worths even odd) pair (turned k) 1
+        lane low k ≡ way (worths even odd) pair (turned k) 0 -ℤ way (worths even odd) pair (turned k) 1
     low_state pair has k lt =
         let counted = sym (has.each k lt) in
-        lead_is (worths even odd) pair (turned k) (lane even k) (lane odd k) (lane edges k) (lane (passed low) k)
+        lead_is (worths even odd) pair (turned k) (lane even k) (lane odd k) (lane edges k) (lane low k)
         (even_worth even odd k lt) (odd_worth even odd k lt)
         counted (edge-one pair has.count (turned k) (omega arith) ∙ ap (λ e. pos 0 -ℤ e) counted) (low_lane k lt ∙ low_gap k lt)
 
     high_state : (pair : List ℤ) → HasEdges edges pair → (k : ℕ) → k < 8 →
-        lane (passed high) k ≡ way (worths even odd) pair (8 + turned k) 0 -ℤ way (worths even odd) pair (8 + turned k) 1
+        lane high k ≡ way (worths even odd) pair (8 + turned k) 0 -ℤ way (worths even odd) pair (8 + turned k) 1
     high_state pair has k lt =
         let counted = edge-high pair has.count (turned k) (omega arith) ∙ ap (λ e. pos 0 -ℤ e) (sym (has.each k lt)) in
         let lead = high_lane k lt ∙ high_gap k lt in
-        lead_is (worths even odd) pair (8 + turned k) (lane even k) (lane odd k) (pos 0 -ℤ lane edges k) (lane (passed high) k)
+        lead_is (worths even odd) pair (8 + turned k) (lane even k) (lane odd k) (pos 0 -ℤ lane edges k) (lane high k)
         (even_worth_high even odd k lt) (odd_worth_high even odd k lt)
         counted (edge-one pair has.count (8 + turned k) (omega arith) ∙ ap (λ e. pos 0 -ℤ e) counted) (omega (arith, ints))
 
     each_lead : (pair : List ℤ) → HasEdges edges pair → (s : ℕ) → s < 16 →
-        lane (passed leads) s ≡ way (worths even odd) pair s 0 -ℤ way (worths even odd) pair s 1
+        lane leads s ≡ way (worths even odd) pair s 0 -ℤ way (worths even odd) pair s 1
     each_lead pair has s lt =
-        let Leads : ℕ → Type 0 = λ s. lane (in_order (passed low) (passed high)) s ≡
+        let Leads : ℕ → Type 0 = λ s. lane (in_order low high) s ≡
         way (worths even odd) pair s 0 -ℤ way (worths even odd) pair s 1 in
-        ap (λ l. lane l s) (passed-gaps leads leads_fit ∙ ordered)
+        ap (λ l. lane l s) ordered
         ∙ each_state Leads
-        (λ k lt. low_in_order (passed low) (passed high) k lt ∙ low_state pair has k lt)
-        (λ k lt. high_in_order (passed low) (passed high) k lt ∙ high_state pair has k lt) s lt
+        (λ k lt. low_in_order low high k lt ∙ low_state pair has k lt)
+        (λ k lt. high_in_order low high k lt ∙ high_state pair has k lt) s lt
 
-    pub leads_are : AreLeads even odd edges (passed leads)
-    leads_are = record { gaps = leads_passed; each = each_lead }
+    pub leads_are : AreLeads even odd edges leads
+    leads_are = record { gaps = leads_fit; each = each_lead }

@@ -1,5 +1,6 @@
 -- The best list from a state on, one place more at a time.
-use Rattle.std.proofs.Common.{◌≡◌, ℕ, zero, suc, ◌*◌, ◌/◌, ◌%◌, ◌^◌, ◌<◌, ◌≤◌, inl, inr, ℤ, pos, ◌+ℤ◌, ◌-ℤ◌, List, [], ◌∷◌, ◌++◌, length, get_or, replicate, refl, ap, sym, ◌∙◌, subst, arith}
+use Rattle.std.proofs.Common.{◌≡◌, ℕ, zero, suc, ◌*◌, ◌/◌, ◌%◌, ◌^◌, ◌<◌, ◌≤◌, inl, inr, ℤ, pos, ◌+ℤ◌, ◌-ℤ◌, List, [], ◌∷◌, ◌++◌, length}
+use Rattle.std.proofs.Common.{get_or, replicate, refl, ap, sym, ◌∙◌, subst, arith}
 use Rattle.std.specs.Prelude.{◌<ℤ◌, ◌≤ℤ◌}
 use Rattle.std.proofs.Math.Nat.{zero-div}
 use Rattle.std.proofs.lemmas.Int.{ints, by_lt_z}
@@ -9,7 +10,8 @@ use Rattle.bit_blocks.specs.Bits.{AllBits, IsBit}
 use Rattle.conv_code.specs.Likelihood.{likelihood}
 use Rattle.trellis_decode.proofs.EdgeLanes.{agreement-zero, agreement-one}
 use Rattle.trellis_decode.specs.Lanes.{IsOctet, AreOctets}
-use Rattle.trellis_decode.specs.Trellis.{next, first_bit, second_bit, coded_from, gain, edge, Ends, IsNotAfter, Loses, Less, Later, read_out, IsBest, way, Chooses}
+use Rattle.trellis_decode.specs.Trellis.{next, first_bit, second_bit, coded_from, gain, edge, Ends, IsNotAfter, Loses, Less, Later}
+use Rattle.trellis_decode.specs.Trellis.{read_out, IsBest, way, Chooses}
 
 -- one bit, and then the rest of the list
 pub gain-cons : (state x : ℕ) (u : List ℕ) (pair soft : List ℤ) → length pair ≡ 2 →

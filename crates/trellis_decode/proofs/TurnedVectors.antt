@@ -1,8 +1,9 @@
 -- The operations on vectors of eight 16-bit numbers, lane by lane. A lane stands in them as its bits.
-use Rattle.std.proofs.Common.{◌≡◌, ℕ, zero, suc, ◌+◌, ◌-◌, ◌/◌, ◌%◌, ◌^◌, ◌<◌, ◌≤◌, Bool, true, false, if◌then◌else◌, ℤ, pos, negsuc, ◌+ℤ◌, ◌-ℤ◌, ◌≤ℤ◌, List, [], ◌∷◌, ◌++◌, map, length, get_or, replicate, refl, ap, ap₂, sym, ◌∙◌, subst, arith, int_lt, w8, w16, FitsSigned, ◌⊎◌, inl, inr}
+use Rattle.std.proofs.Common.{◌≡◌, ℕ, zero, suc, ◌+◌, ◌-◌, ◌/◌, ◌%◌, ◌^◌, ◌<◌, ◌≤◌, Bool, true, false, if◌then◌else◌, ℤ, pos, negsuc, ◌+ℤ◌}
+use Rattle.std.proofs.Common.{◌-ℤ◌, ◌≤ℤ◌, List, [], ◌∷◌, ◌++◌, map, length, get_or, replicate, refl, ap, ap₂, sym, ◌∙◌, subst, arith}
+use Rattle.std.proofs.Common.{int_lt, w8, w16, FitsSigned, ◌⊎◌, inl, inr}
 use Rattle.std.specs.Int.{cast_signed, cast_unsigned}
 use Rattle.std.proofs.lemmas.Int.{ints, to_z-of_z, wrapping_add_is, wrapping_sub_is, int_wrap_fits}
-use Rattle.std.proofs.lemmas.List.{length-map}
 use Rattle.std.proofs.lemmas.Simd.{mask_l-lt, mask_l-mod, bit_mask_l}
 use lib.Lanes.{zip2, sel_l, mask_l, top}
 use Rattle.trellis_decode.specs.Lanes.{lane}
@@ -198,12 +199,6 @@ passed-each (x ∷ lanes) fits =
     ap₂ (λ y ys. y ∷ ys) (to_z-of_z w16 x (fits 0 here))
     (passed-each lanes (λ s lt. fits (suc s) (let lt' : suc s < suc (length lanes) = omega arith in lt')))
 
-pub passed-lanes : (lanes : List ℤ) → AreNarrow lanes → passed lanes ≡ lanes
-passed-lanes lanes h = passed-each lanes (λ s lt. h.fits s (omega (arith, h.count)))
-
-pub AreNarrow-passed : (lanes : List ℤ) → AreNarrow lanes → AreNarrow (passed lanes)
-AreNarrow-passed lanes h = subst AreNarrow (sym (passed-lanes lanes h)) h
-
 lane_alone : (b : List ℤ) (k : ℕ) → k < length b → FitsSigned w16 (lane b k) →
     cast_signed w16 (get_or (map (cast_unsigned w16) b) k 0) ≡ lane b k
 lane_alone [] k lt fits = absurd (omega arith)
@@ -302,66 +297,12 @@ lane-taken a b ha hb k lt =
 pub length-taken_lanes : (a b : List ℤ) → AreNarrow a → AreNarrow b → length (taken_lanes 8 a b) ≡ 8
 length-taken_lanes a b ha hb = length-taken a b 8 ha.count hb.count
 
-pub HaveRoom-passed : (a : List ℤ) → HaveRoom a → HaveRoom (passed a)
-HaveRoom-passed a h = subst HaveRoom (sym (passed-lanes a (AreNarrow-modest a h))) h
-
-pub AreEdges-passed : (a : List ℤ) → AreEdges a → AreEdges (passed a)
-AreEdges-passed a h = subst AreEdges (sym (passed-lanes a (AreNarrow-edges a h))) h
-
-module _ (a edges result : List ℤ) (ha : HaveRoom a) (he : AreEdges edges) (h : AreNarrow result) where
-  pub sum_passed : (k : ℕ) → lane result k ≡ lane (passed a) k +ℤ lane (passed edges) k → lane (passed result) k ≡ lane a k +ℤ lane edges k
-  sum_passed k is =
-      ap (λ l. lane l k) (passed-lanes result h) ∙ is
-      ∙ ap₂ (λ l m. lane l k +ℤ lane m k) (passed-lanes a (AreNarrow-modest a ha)) (passed-lanes edges (AreNarrow-edges edges he))
-
-  pub difference_passed : (k : ℕ) → lane result k ≡ lane (passed a) k -ℤ lane (passed edges) k →
-      lane (passed result) k ≡ lane a k -ℤ lane edges k
-  difference_passed k is =
-      ap (λ l. lane l k) (passed-lanes result h) ∙ is
-      ∙ ap₂ (λ l m. lane l k -ℤ lane m k) (passed-lanes a (AreNarrow-modest a ha)) (passed-lanes edges (AreNarrow-edges edges he))
-
--- a vector of 8-bit numbers that is handed back
-abbrev pub passed_octets : List ℤ → List ℤ
-passed_octets lanes = map (cast_signed w8) (map (cast_unsigned w8) lanes)
-
-passed_octet : (lanes : List ℤ) (k : ℕ) → k < length lanes → lane (passed_octets lanes) k ≡ cast_signed w8 (cast_unsigned w8 (lane lanes k))
-passed_octet [] k lt = absurd (omega arith)
-passed_octet (x ∷ lanes) zero lt = refl
-passed_octet (x ∷ lanes) (suc k) lt = let lt' : k < length lanes = omega arith in passed_octet lanes k lt'
-
-kept_octet : (t : Bool) → cast_signed w8 (cast_unsigned w8 (if t then negsuc 0 else pos 0)) ≡ (if t then negsuc 0 else pos 0)
-kept_octet true = refl
-kept_octet false = refl
-
-pub taken_passed : (lanes : List ℤ) (t : Bool) (k : ℕ) → length lanes ≡ 8 → k < 8 →
-    lane lanes k ≡ (if t then negsuc 0 else pos 0) → lane (passed_octets lanes) k ≡ (if t then negsuc 0 else pos 0)
-taken_passed lanes t k count lt is =
-    passed_octet lanes k (omega arith) ∙ ap (λ x. cast_signed w8 (cast_unsigned w8 x)) is ∙ kept_octet t
-
-pub AreTaken-passed : (lanes : List ℤ) (t : ℕ → Bool) → length lanes ≡ 8 →
-    ((k : ℕ) → k < 8 → lane lanes k ≡ (if t k then negsuc 0 else pos 0)) → AreTaken (passed_octets lanes)
-AreTaken-passed lanes t count is = record {
-  count = length-map (map (cast_unsigned w8) lanes) (cast_signed w8) ∙ length-map lanes (cast_unsigned w8) ∙ count;
-  each = λ k lt. one_of (lane (passed_octets lanes) k) (t k) (taken_passed lanes (t k) k count lt (is k lt));
-} where
-  one_of : (x : ℤ) (b : Bool) → x ≡ (if b then negsuc 0 else pos 0) → (x ≡ negsuc 0) ⊎ (x ≡ pos 0)
-  one_of x true is = inl is
-  one_of x false is = inr is
-
-passed_octets-each : (lanes : List ℤ) → ((k : ℕ) → k < length lanes → (lane lanes k ≡ negsuc 0) ⊎ (lane lanes k ≡ pos 0)) →
-    passed_octets lanes ≡ lanes
-passed_octets-each [] is = refl
-passed_octets-each (x ∷ lanes) is =
-    let here : 0 < suc (length lanes) = omega arith in
-    ap₂ (λ y ys. y ∷ ys) (kept x (is 0 here))
-    (passed_octets-each lanes (λ k lt. is (suc k) (let lt' : suc k < suc (length lanes) = omega arith in lt')))
-  where
-    kept : (x : ℤ) → (x ≡ negsuc 0) ⊎ (x ≡ pos 0) → cast_signed w8 (cast_unsigned w8 x) ≡ x
-    kept x (inl is) = subst (λ x. cast_signed w8 (cast_unsigned w8 x) ≡ x) (sym is) refl
-    kept x (inr is) = subst (λ x. cast_signed w8 (cast_unsigned w8 x) ≡ x) (sym is) refl
-
-pub passed_octets-taken : (lanes : List ℤ) → AreTaken lanes → passed_octets lanes ≡ lanes
-passed_octets-taken lanes h = passed_octets-each lanes (λ k lt. h.each k (omega (arith, h.count)))
+pub AreTaken-each : (lanes : List ℤ) (t : ℕ → Bool) → length lanes ≡ 8 →
+    ((k : ℕ) → k < 8 → lane lanes k ≡ (if t k then negsuc 0 else pos 0)) → AreTaken lanes
+AreTaken-each lanes t count is = record { count = count; each = λ k lt. one_of (t k) (is k lt) } where
+  one_of : {x : ℤ} (b : Bool) → x ≡ (if b then negsuc 0 else pos 0) → (x ≡ negsuc 0) ⊎ (x ≡ pos 0)
+  one_of true is = inl is
+  one_of false is = inr is
 
 -- ---- what the lanes of one vector are more than those of another, without sign and by their signs
 

@@ -3,6 +3,7 @@ use Rattle.std.specs.Prelude.{ℕ, ◌≡◌, ◌+◌, ◌*◌, ◌/◌, ◌%◌
 use Rattle.std.specs.Int.{w16}
 use Rattle.trellis_decode.specs.Lanes.{lane}
 use Rattle.trellis_decode.specs.Trellis.{edge}
+use Rattle.trellis_decode.specs.declared.turned_step.Values.{Values}
 
 -- eight numbers of 16 bits
 pub record AreNarrow (lanes : List ℤ) : Type 0 where
@@ -20,6 +21,10 @@ worths even odd =
     raised (lane even 2) ∷ raised (lane odd 2) ∷ raised (lane even 6) ∷ raised (lane odd 6) ∷
     raised (lane even 1) ∷ raised (lane odd 1) ∷ raised (lane even 5) ∷ raised (lane odd 5) ∷
     raised (lane even 3) ∷ raised (lane odd 3) ∷ raised (lane even 7) ∷ raised (lane odd 7) ∷ []
+
+-- the same of both vectors together
+abbrev pub worth : Values → List ℤ
+worth values = worths values.even.lanes values.odd.lanes
 
 -- lanes so far from the ends of 16 bits that an edge may be added or taken away
 pub record HaveRoom (lanes : List ℤ) : Type 0 where

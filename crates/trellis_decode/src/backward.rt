@@ -4,7 +4,7 @@
 ghost use Rattle.std.specs.Prelude.{◌≡◌, ℕ, ◌*◌, ◌<◌, ◌≤◌, length, replicate, take};
 ghost use Rattle.trellis_decode.specs.Lanes.{AreOctets, lane};
 ghost use Rattle.trellis_decode.specs.Trellis.{IsBest};
-ghost use Rattle.trellis_decode.specs.Turned.{AreNarrow, place, worths};
+ghost use Rattle.trellis_decode.specs.Turned.{AreNarrow, place, worth};
 ghost use Rattle.trellis_decode.specs.Walks.{AreWithin, IsWalk, read_maps};
 
 use crate::edges::four_edges;
@@ -20,10 +20,10 @@ pub fn fill_maps(soft: &[i8], maps: &mut [[u8; 16]]) -> Values
     requires at_most { length maps.old ≤ 57 }
     requires octets { AreOctets soft.now }
     ensures best { (s : ℕ) → s < 16 →
-        IsBest s (read_maps maps.new (place s)) soft.now (lane (worths result.even result.odd) s) }
-    ensures within { AreWithin 58368 (worths result.even result.odd) }
-    ensures even { AreNarrow result.even }
-    ensures odd { AreNarrow result.odd }
+        IsBest s (read_maps maps.new (place s)) soft.now (lane (worth result) s) }
+    ensures within { AreWithin 58368 (worth result) }
+    ensures even { AreNarrow result.even.lanes }
+    ensures odd { AreNarrow result.odd.lanes }
     ensures at_least { 1 ≤ length maps.new }
 {
     let last = maps.len() - 1;
@@ -41,9 +41,9 @@ pub fn fill_maps(soft: &[i8], maps: &mut [[u8; 16]]) -> Values
 pub fn closing_values(soft: &[i8]) -> Values
     requires count { length soft.now ≡ 8 }
     requires octets { AreOctets soft.now }
-    ensures best { (s : ℕ) → s < 16 → IsBest s (replicate 4 0) soft.now (lane (worths result.even result.odd) s) }
-    ensures even { AreNarrow result.even }
-    ensures odd { AreNarrow result.odd }
+    ensures best { (s : ℕ) → s < 16 → IsBest s (replicate 4 0) soft.now (lane (worth result) s) }
+    ensures even { AreNarrow result.even.lanes }
+    ensures odd { AreNarrow result.odd.lanes }
 {
     let edges = four_edges(soft);
     let mut values = Values::new();
@@ -59,14 +59,14 @@ pub fn walk_places(after: Values, soft: &[i8], places: usize) -> Walk
     requires count { length soft.now ≡ 8 }
     requires few { places ≤ 4 }
     requires octets { AreOctets soft.now }
-    requires within { AreWithin 58368 (worths after.even after.odd) }
-    requires even { AreNarrow after.even }
-    requires odd { AreNarrow after.odd }
-    ensures walk { IsWalk (worths after.even after.odd) (worths result.values.even result.values.odd) result.map
+    requires within { AreWithin 58368 (worth after) }
+    requires even { AreNarrow after.even.lanes }
+    requires odd { AreNarrow after.odd.lanes }
+    ensures walk { IsWalk (worth after) (worth result.values) result.map
         (take (2 * places) soft.now) }
-    ensures within { AreWithin 59392 (worths result.values.even result.values.odd) }
-    ensures even { AreNarrow result.values.even }
-    ensures odd { AreNarrow result.values.odd }
+    ensures within { AreWithin 59392 (worth result.values) }
+    ensures even { AreNarrow result.values.even.lanes }
+    ensures odd { AreNarrow result.values.odd.lanes }
     ensures count { length result.map ≡ 16 }
 {
     let edges = four_edges(soft);

@@ -4,23 +4,19 @@ ghost use Rattle.std.specs.Prelude.{◌≡◌, ℕ, ◌*◌, ◌<◌, length, sl
 ghost use Rattle.trellis_decode.specs.Lanes.{AreOctets};
 ghost use Rattle.trellis_decode.specs.Turned.{AreEdges, HasEdges};
 
+use crate::turned_lanes::Eight;
 use std::simd::prelude::*;
 
-/// What a bit 0 counts in the states 0 to 7 at one place, a state where its bits turned round stand.
+/// The edges of four places, a pair of soft values for each: what a bit 0 counts in the states 0 to 7, a state where its bits turned
+/// round stand.
 ///
 /// The bit 1 counts the same with the other sign, and so does a state 8 more.
-#[derive(Clone, Copy)]
-pub struct Edges {
-    pub lanes: i16x8,
-}
-
-/// The edges of four places, a pair of soft values for each.
 #[inline]
-pub fn four_edges(soft: &[i8]) -> [Edges; 4]
+pub fn four_edges(soft: &[i8]) -> [Eight; 4]
     requires count { length soft.now ≡ 8 }
     requires octets { AreOctets soft.now }
-    ensures has { (k : ℕ) (d : Edges) → k < 4 → HasEdges (slice_index_or result k d).lanes (take 2 (drop (2 * k) soft.now)) }
-    ensures edges { (k : ℕ) (d : Edges) → k < 4 → AreEdges (slice_index_or result k d).lanes }
+    ensures has { (k : ℕ) (d : Eight) → k < 4 → HasEdges (slice_index_or result k d).lanes (take 2 (drop (2 * k) soft.now)) }
+    ensures edges { (k : ℕ) (d : Eight) → k < 4 → AreEdges (slice_index_or result k d).lanes }
 {
     let values = widened(soft);
     let firsts = values.swizzle::<8>([0, 0, 2, 2, 4, 4, 6, 6]);
@@ -30,16 +26,16 @@ pub fn four_edges(soft: &[i8]) -> [Edges; 4]
     let early = plain.shuffle::<8>(turned, [0, 8, 1, 9, 2, 10, 3, 11]);
     let late = plain.shuffle::<8>(turned, [4, 12, 5, 13, 6, 14, 7, 15]);
     [
-        Edges {
+        Eight {
             lanes: early.swizzle::<8>([0, 1, 0, 1, 2, 3, 2, 3]),
         },
-        Edges {
+        Eight {
             lanes: early.swizzle::<8>([4, 5, 4, 5, 6, 7, 6, 7]),
         },
-        Edges {
+        Eight {
             lanes: late.swizzle::<8>([0, 1, 0, 1, 2, 3, 2, 3]),
         },
-        Edges {
+        Eight {
             lanes: late.swizzle::<8>([4, 5, 4, 5, 6, 7, 6, 7]),
         },
     ]

@@ -219,7 +219,7 @@ fn larger_lanes(zero: StateLanes, one: StateLanes) -> StateLanes
 
 /// A map with one step more before it, by the better bit in each state.
 #[inline]
-fn followed_lanes(map: u8x16, zero: StateLanes, one: StateLanes) -> u8x16
+pub fn followed_lanes(map: u8x16, zero: StateLanes, one: StateLanes) -> u8x16
     requires map { length map ≡ 16 }
     requires zero { AreSmall zero.lanes }
     requires one { AreSmall one.lanes }
@@ -227,9 +227,9 @@ fn followed_lanes(map: u8x16, zero: StateLanes, one: StateLanes) -> u8x16
         slice_index map (if int_lt (lane zero.lanes k) (lane one.lanes k) then one_place k else zero_place k) }
     ensures count { length result ≡ 16 }
 {
-    let zeros = map.swizzle::<16>([0, 8, 1, 9, 2, 10, 3, 11, 0, 8, 1, 9, 2, 10, 3, 11]);
-    let ones = map.swizzle::<16>([4, 12, 5, 13, 6, 14, 7, 15, 4, 12, 5, 13, 6, 14, 7, 15]);
-    one.lanes.simd_gt(zero.lanes).select(ones, zeros)
+    let zeros = u8x16::from_array([0, 8, 1, 9, 2, 10, 3, 11, 0, 8, 1, 9, 2, 10, 3, 11]);
+    let ones = u8x16::from_array([4, 12, 5, 13, 6, 14, 7, 15, 4, 12, 5, 13, 6, 14, 7, 15]);
+    map.swizzle_dyn(one.lanes.simd_gt(zero.lanes).select(ones, zeros))
 }
 
 /// The edges of four places, a pair of hard bits for each.

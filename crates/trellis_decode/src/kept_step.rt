@@ -6,12 +6,10 @@
 ghost use Rattle.std.specs.Prelude.{◌≡◌, ℕ, ◌/◌, ◌%◌, ◌^◌, ◌-◌, ◌<◌, List, ℤ, ◌-ℤ◌};
 ghost use Rattle.trellis_decode.specs.Trellis.{Chooses, way};
 ghost use Rattle.trellis_decode.specs.Lanes.{lane};
-ghost use Rattle.trellis_decode.specs.Turned.{AreClose, AreEdges, AreGaps, AreNarrow, HasEdges, HaveRoom, worths};
+ghost use Rattle.trellis_decode.specs.Turned.{AreClose, AreEdges, AreGaps, AreNarrow, HasEdges, HaveRoom, worth};
 
-use crate::edges::Edges;
-use crate::turned_lanes::{by_state, gaps, signs, sizes};
+use crate::turned_lanes::{Eight, Sixteen, by_state, gaps, signs, sizes};
 use crate::turned_step::{Step, Values};
-use std::simd::prelude::*;
 
 /// A step of the trellis, from a place to the one before it.
 #[derive(Clone, Copy)]
@@ -21,25 +19,25 @@ pub struct KeptStep {
     /// Bit `s` is the first bit of the best list that begins in state `s`.
     pub row: u16,
     /// What the best list that begins in each state is worth more than the best with the other first bit.
-    pub losses: i16x16,
+    pub losses: Sixteen,
 }
 
 impl KeptStep {
     /// The step at a place whose bits count `edges`; `after` is what each state is worth at the next place.
-    pub fn new(after: Values, edges: Edges) -> KeptStep
-        requires even { HaveRoom after.even }
-        requires odd { HaveRoom after.odd }
-        requires close { AreClose after.even after.odd }
+    pub fn new(after: Values, edges: Eight) -> KeptStep
+        requires even { HaveRoom after.even.lanes }
+        requires odd { HaveRoom after.odd.lanes }
+        requires close { AreClose after.even.lanes after.odd.lanes }
         requires edges { AreEdges edges.lanes }
         ensures each { (pair : List ℤ) → HasEdges edges.lanes pair → (s : ℕ) → s < 16 →
-            Chooses (worths after.even after.odd) pair s
-            (lane (worths result.values.even result.values.odd) s) (result.row / 2 ^ s % 2) }
-        ensures losses { (pair : List ℤ) → HasEdges edges.lanes pair → (s : ℕ) → s < 16 → lane result.losses s ≡
-            way (worths after.even after.odd) pair s (result.row / 2 ^ s % 2)
-            -ℤ way (worths after.even after.odd) pair s (1 - result.row / 2 ^ s % 2) }
-        ensures lanes { AreGaps result.losses }
-        ensures even { AreNarrow result.values.even }
-        ensures odd { AreNarrow result.values.odd }
+            Chooses (worth after) pair s
+            (lane (worth result.values) s) (result.row / 2 ^ s % 2) }
+        ensures losses { (pair : List ℤ) → HasEdges edges.lanes pair → (s : ℕ) → s < 16 → lane result.losses.lanes s ≡
+            way (worth after) pair s (result.row / 2 ^ s % 2)
+            -ℤ way (worth after) pair s (1 - result.row / 2 ^ s % 2) }
+        ensures lanes { AreGaps result.losses.lanes }
+        ensures even { AreNarrow result.values.even.lanes }
+        ensures odd { AreNarrow result.values.odd.lanes }
     {
         let step = Step::new(after, edges);
         let low = gaps(step.ways.low_zero, step.ways.low_one);

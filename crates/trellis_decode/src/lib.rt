@@ -40,7 +40,8 @@ pub fn decode(soft: &[i8], u: &mut [u8]) -> i32
     ensures value { result ≡ likelihood soft.now (coded u.new) }
     ensures only { (v : List ℕ) → IsMostLikely soft.now v → v ≡ u.new }
 {
-    if u.len() % 4 == 0 && are_hard(soft) {
+    // Of other soft values the first few tell.
+    if u.len() % 4 == 0 && are_hard(&soft[..8]) && are_hard(soft) {
         return decode_hard(soft, u);
     }
     decode_soft(soft, u)

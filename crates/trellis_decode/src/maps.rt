@@ -4,11 +4,12 @@
 ghost use Rattle.std.specs.Prelude.{◌≡◌, ℕ, ◌+◌, ◌-◌, ◌*◌, ◌<◌, List, [], ◌++◌, ℤ, length, drop, slice_index};
 ghost use Rattle.trellis_decode.specs.Lanes.{AreOctets};
 ghost use Rattle.trellis_decode.specs.Trellis.{next};
-ghost use Rattle.trellis_decode.specs.Turned.{AreEdges, AreNarrow, AreTaken, choices, HasEdges, HaveRoom, place, worths};
+ghost use Rattle.trellis_decode.specs.Turned.{AreEdges, AreNarrow, AreTaken, choices, HasEdges, HaveRoom, place, worth};
 ghost use Rattle.trellis_decode.specs.Walks.{AreWithin, IsWalk, read_maps};
 ghost use Rattle.trellis_decode.specs.Words.{word};
 
-use crate::edges::Edges;
+use crate::hard::{StateLanes, followed_lanes};
+use crate::turned_lanes::{Eight, Taken};
 use crate::turned_step::{Step, Values};
 use std::simd::prelude::*;
 
@@ -24,11 +25,11 @@ pub struct Walk {
 impl Walk {
     /// Over no place yet.
     pub fn new(values: Values) -> Walk
-        requires even { AreNarrow values.even }
-        requires odd { AreNarrow values.odd }
-        ensures even { result.values.even ≡ values.even }
-        ensures odd { result.values.odd ≡ values.odd }
-        ensures walk { IsWalk (worths values.even values.odd) (worths values.even values.odd) result.map [] }
+        requires even { AreNarrow values.even.lanes }
+        requires odd { AreNarrow values.odd.lanes }
+        ensures even { result.values.even.lanes ≡ values.even.lanes }
+        ensures odd { result.values.odd.lanes ≡ values.odd.lanes }
+        ensures walk { IsWalk (worth values) (worth values) result.map [] }
         ensures count { length result.map ≡ 16 }
     {
         Walk {
@@ -38,19 +39,19 @@ impl Walk {
     }
 
     /// Over one place more at the front, whose bits count `edges`.
-    pub fn step(self, edges: Edges) -> Walk
-        requires even { HaveRoom self.values.even }
-        requires odd { HaveRoom self.values.odd }
+    pub fn step(self, edges: Eight) -> Walk
+        requires even { HaveRoom self.values.even.lanes }
+        requires odd { HaveRoom self.values.odd.lanes }
         requires count { length self.map ≡ 16 }
         requires edges { AreEdges edges.lanes }
         ensures walk { (pair : List ℤ) → HasEdges edges.lanes pair → (after soft : List ℤ) →
-            IsWalk after (worths self.values.even self.values.odd) self.map soft →
-            IsWalk after (worths result.values.even result.values.odd) result.map (pair ++ soft) }
+            IsWalk after (worth self.values) self.map soft →
+            IsWalk after (worth result.values) result.map (pair ++ soft) }
         ensures within { (pair : List ℤ) → HasEdges edges.lanes pair → AreOctets pair → (most : ℕ) →
-            AreWithin most (worths self.values.even self.values.odd) →
-            AreWithin (most + 256) (worths result.values.even result.values.odd) }
-        ensures even { AreNarrow result.values.even }
-        ensures odd { AreNarrow result.values.odd }
+            AreWithin most (worth self.values) →
+            AreWithin (most + 256) (worth result.values) }
+        ensures even { AreNarrow result.values.even.lanes }
+        ensures odd { AreNarrow result.values.odd.lanes }
         ensures count { length result.map ≡ 16 }
     {
         let step = Step::new(self.values, edges);
@@ -64,20 +65,24 @@ impl Walk {
 /// A map with one step more before it, by the bit that each state takes in that step.
 ///
 /// The states 0 to 7 come first, each where its bits turned round stand, and then those from 8 on in the same way.
-fn followed(map: u8x16, low: i8x8, high: i8x8) -> u8x16
+fn followed(map: u8x16, low: Taken, high: Taken) -> u8x16
     requires map { length map ≡ 16 }
-    requires low { AreTaken low }
-    requires high { AreTaken high }
+    requires low { AreTaken low.lanes }
+    requires high { AreTaken high.lanes }
     ensures each { (s : ℕ) → s < 16 →
-        slice_index result (place s) ≡ slice_index map (place (next s (slice_index (choices low high) s))) }
+        slice_index result (place s) ≡ slice_index map (place (next s (slice_index (choices low.lanes high.lanes) s))) }
     ensures count { length result ≡ 16 }
 {
-    let taken = low
-        .shuffle::<16>(high, [0, 1, 2, 3, 4, 5, 6, 7, 8, 9, 10, 11, 12, 13, 14, 15])
-        .simd_lt(i8x16::splat(0));
-    let zeros = map.swizzle::<16>([0, 8, 1, 9, 2, 10, 3, 11, 0, 8, 1, 9, 2, 10, 3, 11]);
-    let ones = map.swizzle::<16>([4, 12, 5, 13, 6, 14, 7, 15, 4, 12, 5, 13, 6, 14, 7, 15]);
-    taken.select(ones, zeros)
+    let taken = StateLanes {
+        lanes: low.lanes.shuffle::<16>(
+            high.lanes,
+            [0, 1, 2, 3, 4, 5, 6, 7, 8, 9, 10, 11, 12, 13, 14, 15],
+        ),
+    };
+    let none = StateLanes {
+        lanes: i8x16::splat(0),
+    };
+    followed_lanes(map, taken, none)
 }
 
 /// The four bits of the state at each place, the oldest first.

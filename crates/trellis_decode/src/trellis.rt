@@ -6,7 +6,7 @@ ghost use Rattle.std.specs.List.{All};
 ghost use Rattle.trellis_decode.specs.Kept.{Keeps};
 ghost use Rattle.trellis_decode.specs.Lanes.{AreOctets};
 ghost use Rattle.trellis_decode.specs.Trellis.{IsKept, read_out};
-ghost use Rattle.trellis_decode.specs.Turned.{AreNarrow, worths};
+ghost use Rattle.trellis_decode.specs.Turned.{AreNarrow, worth};
 
 use crate::backward::closing_values;
 use crate::edges::four_edges;
@@ -61,12 +61,12 @@ fn keep_places(
     requires at_most { length rows.old ≤ 228 }
     requires octets { AreOctets soft.now }
     requires keeps { Keeps (drop (first + places) rows.old) (drop (first + places) losses.old) (drop (2 * (first + places)) soft.now)
-        (worths after.even after.odd) }
-    requires even { AreNarrow after.even }
-    requires odd { AreNarrow after.odd }
-    ensures keeps { Keeps (drop first rows.new) (drop first losses.new) (drop (2 * first) soft.now) (worths result.even result.odd) }
-    ensures even { AreNarrow result.even }
-    ensures odd { AreNarrow result.odd }
+        (worth after) }
+    requires even { AreNarrow after.even.lanes }
+    requires odd { AreNarrow after.odd.lanes }
+    ensures keeps { Keeps (drop first rows.new) (drop first losses.new) (drop (2 * first) soft.now) (worth result) }
+    ensures even { AreNarrow result.even.lanes }
+    ensures odd { AreNarrow result.odd.lanes }
 {
     let edges = four_edges(&soft[2 * first..2 * first + 8]);
     let mut values = after;
@@ -74,7 +74,7 @@ fn keep_places(
         let step = KeptStep::new(values, edges[k]);
         values = step.values;
         rows[first + k] = step.row;
-        losses[first + k] = step.losses.to_array();
+        losses[first + k] = step.losses.lanes.to_array();
     }
     values
 }

@@ -1,11 +1,12 @@
-use Rattle.std.proofs.Common.{arith, rules, lit≤, ◌≡◌, ◌*◌, ◌-◌, ◌%◌, ◌++◌, ℕ, ℤ, List, length, take, drop, refl, ap₂, sym, ◌∙◌, w32, FitsSigned}
+use Rattle.std.proofs.Common.{arith, rules, lit≤, ◌≡◌, ◌*◌, ◌-◌, ◌%◌, ◌++◌, ℕ, ℤ, List, length, take, drop, refl, ap₂, sym, ◌∙◌, w32}
+use Rattle.std.proofs.Common.{FitsSigned}
 use Rattle.std.proofs.lemmas.Int.{ints, to_z-of_z}
 use Rattle.std.proofs.lemmas.List.{length-append, length-take, length-drop, take_all, take-take, take-append-drop}
 use Rattle.std.proofs.lemmas.List.Elements.{All-take, All-drop}
 use Rattle.conv_code.specs.Likelihood.{AllSoft}
 use Rattle.trellis_decode.specs.Lanes.{lane, AreOctets, IsOctet}
 use Rattle.trellis_decode.specs.Trellis.{IsBest}
-use Rattle.trellis_decode.specs.Turned.{worths}
+use Rattle.trellis_decode.specs.Turned.{worth}
 use Rattle.trellis_decode.specs.Words.{word}
 use Rattle.trellis_decode.proofs.Lists.{IsMostLikely-best, likelihood-best}
 use Rattle.trellis_decode.proofs.MapLists.{walked, walked_bits, walked_state, list_of_few}
@@ -19,7 +20,7 @@ octets soft h k d lt = let is = h k d lt in (omega (arith, ints, is.0), is.1)
 -- the list that is written is the best from state 0
 best : (c : After-of_state_0) →
     IsBest 0 (c.write_few.new.u ++ c.follow_maps.new.u) c.args.soft.now
-    (lane (worths c.walk_places-walk.result.values.even c.walk_places-walk.result.values.odd) 0)
+    (lane (worth c.walk_places-walk.result.values) 0)
 best c =
     let soft = c.args.soft.now in
     let n = length c.args.u.now in
@@ -29,8 +30,8 @@ best c =
     let whole : front ++ rest ≡ soft =
     ap₂ (λ front rest. front ++ rest) (take-take (2 * few) 8 soft (omega arith))
     (take_all _ _ (omega (arith, length-drop (2 * few) soft))) ∙ take-append-drop (2 * few) soft in
-    let after = worths c.fill_maps-values.result.even c.fill_maps-values.result.odd in
-    let values = worths c.walk_places-walk.result.values.even c.walk_places-walk.result.values.odd in
+    let after = worth c.fill_maps-values.result in
+    let values = worth c.walk_places-walk.result.values in
     let map = c.walk_places-walk.result.map in
     let maps = c.fill_maps-values.new.maps in
     let walk = c.walk_places-walk.ensures.walk in

@@ -3,7 +3,7 @@ use Rattle.std.proofs.lemmas.List.{length-set, take_all, length-take, length-dro
 use Rattle.std.proofs.lemmas.List.Elements.{All-drop}
 use Rattle.trellis_decode.specs.Lanes.{lane, IsOctet}
 use Rattle.trellis_decode.specs.Trellis.{IsBest}
-use Rattle.trellis_decode.specs.Turned.{place, worths}
+use Rattle.trellis_decode.specs.Turned.{place, worth}
 use Rattle.trellis_decode.specs.Walks.{IsWalk, read_maps}
 use Rattle.trellis_decode.proofs.MapLists.{last_map, more_maps}
 use Rattle.trellis_decode.proofs.Paths.{IsBest-same}
@@ -14,7 +14,7 @@ use Rattle.trellis_decode.proofs.backward.fill_maps.Goals.{After-closing_values-
 -- the soft values of the last four places
 closing : (c : After-closing_values-values) (s : ℕ) → s < 16 →
     IsBest s (0 ∷ 0 ∷ 0 ∷ 0 ∷ []) (drop (8 * (length c.args.maps.now - 1)) c.args.soft.now)
-    (lane (worths c.closing_values-values.result.even c.closing_values-values.result.odd) s)
+    (lane (worth c.closing_values-values.result) s)
 closing c s lt =
     let soft = c.args.soft.now in
     let last = length c.args.maps.now - 1 in
@@ -26,7 +26,7 @@ pub loop-group-init : goal.loop-group-init
 loop-group-init c =
     let soft = c.args.soft.now in
     let last = length c.args.maps.now - 1 in
-    let values = worths c.closing_values-values.result.even c.closing_values-values.result.odd in
+    let values = worth c.closing_values-values.result in
     record {
       best = last_map c.args.maps.now (drop (8 * last) soft) values last (omega (arith, c.requires.at_least)) (closing c);
       low = (AreWithin-best values (drop (8 * last) soft) (λ s. 0 ∷ 0 ∷ 0 ∷ 0 ∷ []) (All-drop IsOctet (8 * last) soft c.requires.octets)
@@ -37,7 +37,7 @@ loop-group-init c =
 
 pub walk_places-walk-requires-clause-within : goal.walk_places-walk-requires-clause-within
 walk_places-walk-requires-clause-within c =
-    AreWithin-most (worths c.loop-group.values.even c.loop-group.values.odd) (drop (8 * c.loop-group.group) c.args.soft.now)
+    AreWithin-most (worth c.loop-group.values) (drop (8 * c.loop-group.group) c.args.soft.now)
     (λ s. read_maps (drop c.loop-group.group c.loop-group.maps) (place s))
     (All-drop IsOctet (8 * c.loop-group.group) c.args.soft.now c.requires.octets)
     (omega (arith, length-drop (8 * c.loop-group.group) c.args.soft.now, c.requires.count, c.requires.at_most))
@@ -49,8 +49,8 @@ loop-group-preserved c =
     let maps = c.loop-group.maps in
     let group = c.loop-group.group in
     let before = group - 1 in
-    let after = worths c.loop-group.values.even c.loop-group.values.odd in
-    let values = worths c.walk_places-walk.result.values.even c.walk_places-walk.result.values.odd in
+    let after = worth c.loop-group.values in
+    let values = worth c.walk_places-walk.result.values in
     let map = c.walk_places-walk.result.map in
     let eight : 8 * before + 8 - 8 * before ≡ 8 = omega arith in
     let same : length maps ≡ length c.args.maps.now = c.loop-group.auto.maps ∙ length-set c.args.maps.now (length c.args.maps.now - 1) _ in
@@ -71,11 +71,11 @@ returns-clause-best c =
     let none : c.loop-group.group ≡ 0 = omega arith in
     let Holds : ℕ → Type 0 = λ k. (s : ℕ) → s < 16 →
     IsBest s (read_maps (drop k c.loop-group.maps) (place s)) (drop (8 * k) c.args.soft.now)
-    (lane (worths c.loop-group.values.even c.loop-group.values.odd) s) in
+    (lane (worth c.loop-group.values) s) in
     subst Holds none c.loop-group.invariant.best
 
 pub returns-clause-within : goal.returns-clause-within
 returns-clause-within c =
-    AreWithin-most (worths c.loop-group.values.even c.loop-group.values.odd) c.args.soft.now
+    AreWithin-most (worth c.loop-group.values) c.args.soft.now
     (λ s. read_maps c.loop-group.maps (place s)) c.requires.octets (omega (arith, c.requires.count, c.requires.at_most))
     c.loop-group.invariant.low (returns-clause-best c)

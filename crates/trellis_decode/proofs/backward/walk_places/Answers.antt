@@ -2,7 +2,7 @@ use Rattle.std.proofs.Common.{◌≡◌, ℕ, ◌≤◌, ◌+◌, ◌*◌, ◌-�
 use Rattle.std.proofs.Math.Seq.{take-add}
 use Rattle.std.proofs.lemmas.Int.{ints}
 use Rattle.std.proofs.lemmas.List.{drop-drop}
-use Rattle.trellis_decode.specs.Turned.{AreNarrow, worths}
+use Rattle.trellis_decode.specs.Turned.{AreNarrow, worth, worths}
 use Rattle.trellis_decode.specs.Walks.{AreWithin, IsWalk}
 use Rattle.trellis_decode.proofs.FourPairs.{AreOctets-pair, pair_at}
 use Rattle.trellis_decode.proofs.Walks.{HaveRoom-even, HaveRoom-odd}
@@ -13,12 +13,12 @@ loop-k-init c =
     let none : 0 ≡ 2 * (c.args.places - c.args.places) = omega arith in
     let same = ap₂ worths c.new-walk.ensures.even c.new-walk.ensures.odd in
     record {
-      walk = subst (λ n. IsWalk (worths c.args.after.even c.args.after.odd)
-          (worths c.new-walk.result.values.even c.new-walk.result.values.odd)
+      walk = subst (λ n. IsWalk (worth c.args.after)
+          (worth c.new-walk.result.values)
           c.new-walk.result.map (take n (drop (2 * c.args.places) c.args.soft.now))) none
-          (subst (λ values. IsWalk (worths c.args.after.even c.args.after.odd) values c.new-walk.result.map []) (sym same)
+          (subst (λ values. IsWalk (worth c.args.after) values c.new-walk.result.map []) (sym same)
           c.new-walk.ensures.walk);
-      within = subst (λ most. AreWithin most (worths c.new-walk.result.values.even c.new-walk.result.values.odd)) (omega arith)
+      within = subst (λ most. AreWithin most (worth c.new-walk.result.values)) (omega arith)
           (subst (AreWithin 58368) (sym same) c.requires.within);
       even = subst AreNarrow (sym c.new-walk.ensures.even) c.requires.even;
       odd = subst AreNarrow (sym c.new-walk.ensures.odd) c.requires.odd;
@@ -26,11 +26,11 @@ loop-k-init c =
     }
 
 pub step-walk-requires-clause-even : goal.step-walk-requires-clause-even
-step-walk-requires-clause-even c = HaveRoom-even c.loop-k.walk.values.even c.loop-k.walk.values.odd
+step-walk-requires-clause-even c = HaveRoom-even c.loop-k.walk.values.even.lanes c.loop-k.walk.values.odd.lanes
     (58368 + 256 * (c.args.places - c.loop-k.k)) (omega arith) c.loop-k.invariant.within c.loop-k.invariant.even.count
 
 pub step-walk-requires-clause-odd : goal.step-walk-requires-clause-odd
-step-walk-requires-clause-odd c = HaveRoom-odd c.loop-k.walk.values.even c.loop-k.walk.values.odd
+step-walk-requires-clause-odd c = HaveRoom-odd c.loop-k.walk.values.even.lanes c.loop-k.walk.values.odd.lanes
     (58368 + 256 * (c.args.places - c.loop-k.k)) (omega arith) c.loop-k.invariant.within c.loop-k.invariant.odd.count
 
 pub loop-k-preserved : goal.loop-k-preserved
@@ -47,10 +47,10 @@ loop-k-preserved c =
     ap (λ l. pair ++ take (2 * (c.args.places - k)) l) (sym (drop-drop 2 (2 * (k - 1)) soft ∙ ap (λ n. drop n soft) next))
     ∙ sym (take-add 2 (2 * (c.args.places - k)) (drop (2 * (k - 1)) soft)) ∙ ap (λ n. take n (drop (2 * (k - 1)) soft)) left in
     record {
-      walk = subst (IsWalk (worths c.args.after.even c.args.after.odd)
-          (worths c.step-walk.result.values.even c.step-walk.result.values.odd) c.step-walk.result.map) whole
-          (c.step-walk.ensures.walk pair has (worths c.args.after.even c.args.after.odd) rest c.loop-k.invariant.walk);
-      within = subst (λ most. AreWithin most (worths c.step-walk.result.values.even c.step-walk.result.values.odd)) (omega arith)
+      walk = subst (IsWalk (worth c.args.after)
+          (worth c.step-walk.result.values) c.step-walk.result.map) whole
+          (c.step-walk.ensures.walk pair has (worth c.args.after) rest c.loop-k.invariant.walk);
+      within = subst (λ most. AreWithin most (worth c.step-walk.result.values)) (omega arith)
           (c.step-walk.ensures.within pair has (AreOctets-pair soft (2 * (k - 1)) c.requires.octets) (58368 + 256 * (c.args.places - k))
           c.loop-k.invariant.within);
       even = c.step-walk.ensures.even;
@@ -61,8 +61,8 @@ loop-k-preserved c =
 pub returns-clause-walk : goal.returns-clause-walk
 returns-clause-walk c =
     let none : c.loop-k.k ≡ 0 = omega arith in
-    let Walks : ℕ → ℕ → Type 0 = λ n k. IsWalk (worths c.args.after.even c.args.after.odd)
-    (worths c.loop-k.walk.values.even c.loop-k.walk.values.odd) c.loop-k.walk.map (take n (drop (2 * k) c.args.soft.now)) in
+    let Walks : ℕ → ℕ → Type 0 = λ n k. IsWalk (worth c.args.after)
+    (worth c.loop-k.walk.values) c.loop-k.walk.map (take n (drop (2 * k) c.args.soft.now)) in
     subst (Walks (2 * c.args.places)) none (subst (λ n. Walks n c.loop-k.k) (omega arith) c.loop-k.invariant.walk)
 
 pub returns-clause-within : goal.returns-clause-within

@@ -1,16 +1,16 @@
 use Rattle.std.proofs.Common.{◌≡◌, ℕ, ◌+◌, ◌*◌, ◌≤◌, ◌∷◌, [], List, ℤ, lit≤, length, get_or, take, drop, ap, sym, ◌∙◌, subst}
 use Rattle.trellis_decode.specs.Lanes.{AreOctets}
 use Rattle.trellis_decode.specs.Turned.{AreEdges, HasEdges}
-use Rattle.trellis_decode.specs.declared.edges.Edges.{Edges}
+use Rattle.trellis_decode.specs.declared.turned_lanes.Eight.{Eight}
 use Rattle.trellis_decode.proofs.EdgeLanes.{each}
 use Rattle.trellis_decode.proofs.FourPairs.{edges_at, HasEdges-at, AreEdges-at}
 use Rattle.trellis_decode.proofs.edges.four_edges.Goals as goal
 use Rattle.trellis_decode.proofs.edges.four_edges.Goals.{After-widened-values}
 
-abbrev place : List ℤ → ℕ → Edges
+abbrev place : List ℤ → ℕ → Eight
 place values i = record { lanes = edges_at values i }
 
-abbrev places : List ℤ → List Edges
+abbrev places : List ℤ → List Eight
 places values = place values 0 ∷ place values 2 ∷ place values 4 ∷ place values 6 ∷ []
 
 octets : (c : After-widened-values) → AreOctets c.widened-values.result

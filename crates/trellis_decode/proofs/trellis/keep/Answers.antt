@@ -3,7 +3,7 @@ use Rattle.std.proofs.lemmas.List.{take_all, length-drop}
 use Rattle.std.proofs.lemmas.List.Elements.{All-take, All-drop}
 use Rattle.trellis_decode.specs.Kept.{Keeps}
 use Rattle.trellis_decode.specs.Lanes.{IsOctet}
-use Rattle.trellis_decode.specs.Turned.{worths}
+use Rattle.trellis_decode.specs.Turned.{worth}
 use Rattle.trellis_decode.proofs.Kept.{Keeps-closing}
 use Rattle.trellis_decode.proofs.Paths.{IsBest-same}
 use Rattle.trellis_decode.proofs.trellis.keep.Goals as goal
@@ -24,10 +24,10 @@ loop-group-init c =
     let at : last ≡ length rows % 4 + 4 * (length rows / 4 - 1) = omega (arith, c.requires.at_least) in
     let Holds : ℕ →
     Type 0 = λ k. Keeps (drop k rows) (drop k losses) (drop (2 * k) soft)
-    (worths c.closing_values-values.result.even c.closing_values-values.result.odd) in
+    (worth c.closing_values-values.result) in
     record {
       keeps = subst Holds at (Keeps-closing (drop last rows) (drop last losses) (drop (2 * last) soft)
-          (worths c.closing_values-values.result.even c.closing_values-values.result.odd)
+          (worth c.closing_values-values.result)
           (omega (arith, length-drop last rows, c.requires.at_least))
           (omega (arith, length-drop last losses, c.requires.same, c.requires.at_least))
           (omega (arith, length-drop (2 * last) soft, c.requires.count, c.requires.at_least))

@@ -12,7 +12,7 @@ pub overflow_cast-result : goal.overflow_cast-result
 overflow_cast-result c = Each1-zip2 _ _ _ _ (Each2-all _ (λ a b. fits (int_lt (cast_signed w16 a) (cast_signed w16 b))) _ _)
 
 pub returns-clause-count : goal.returns-clause-count
-returns-clause-count c = length-taken_lanes c.args.a c.args.b c.requires.a_lanes c.requires.b_lanes
+returns-clause-count c = length-taken_lanes c.args.a.lanes c.args.b.lanes c.requires.a_lanes c.requires.b_lanes
 
 pub returns-clause-each : goal.returns-clause-each
-returns-clause-each c = lane-taken c.args.a c.args.b c.requires.a_lanes c.requires.b_lanes
+returns-clause-each c = lane-taken c.args.a.lanes c.args.b.lanes c.requires.a_lanes c.requires.b_lanes

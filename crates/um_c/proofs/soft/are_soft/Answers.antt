@@ -1,4 +1,4 @@
-use Rattle.std.proofs.Common.{◌≡◌, ℕ, ◌+◌, ◌<◌, ◌++◌, ◌∷◌, [], ℤ, pos, List, Bool, true, false, ◌&&◌, IsTrue, take, length, get_or, refl, subst, sym, ◌∙◌, w8, FitsSigned, rules, arith}
+use Rattle.std.proofs.Common.{◌≡◌, ℕ, ◌+◌, ◌<◌, ◌∷◌, [], ℤ, pos, List, Bool, true, false, ◌&&◌, IsTrue, take, length, get_or, refl, subst, sym, ◌∙◌, w8, FitsSigned, rules, arith}
 use Rattle.std.specs.Prelude.{◌↔◌}
 use Rattle.std.proofs.lemmas.Int.{to_z-of_z}
 use Rattle.std.proofs.lemmas.List.{take_all, take_more, get_or-take, length-take}

@@ -1,4 +1,4 @@
-use Rattle.std.proofs.Common.{◌≡◌, take}
+use Rattle.std.proofs.Common.{take}
 use Rattle.std.specs.Prelude.{◌↔◌, IsTrue}
 use Rattle.bit_blocks.specs.SoftValues.{AllSoft}
 use Rattle.um_c.proofs.soft.are_soft.Given as goal
