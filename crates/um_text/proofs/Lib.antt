@@ -1,6 +1,7 @@
 pub mod BurstLaws
 pub mod CodeLaws
 pub mod DigitWords
+pub mod NormalLines
 pub mod OtherBursts
 pub mod ReportLaws
 pub mod ShowLaws

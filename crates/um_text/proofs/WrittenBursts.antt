@@ -1,22 +1,18 @@
 -- The lines of bursts as they are written, and that each means its burst again.
-use Rattle.std.proofs.Common.{◌≡◌, ◌≢◌, ℕ, ◌+◌, ◌-◌, ◌≤◌, ◌==◌, false, true, not, map, Some, None, List, [], ◌∷◌, ◌++◌, length, codes, refl, ap, sym, ◌∙◌, subst, inl, inr, append_assoc, length-append, arith}
-use Rattle.std.specs.List.{All, list_all}
+use Rattle.std.proofs.Common.{◌≡◌, ◌≢◌, ℕ, ◌+◌, ◌≤◌, ◌==◌, false, not, Some, List, [], ◌∷◌, ◌++◌, length, codes, refl, ap, sym, subst, inl, inr, append_assoc, length-append, arith}
+use Rattle.std.specs.List.{All}
 use Rattle.std.proofs.lemmas.Bool.{and_right}
 use Rattle.std.proofs.lemmas.List.{length-map}
-use Rattle.std.proofs.lemmas.List.Elements.{All-from_recursion}
 use Rattle.bit_blocks.specs.Bits.{AllBits}
 use Rattle.um_block.specs.Received.{softened}
-use Rattle.um_lines.specs.Fields.{Fixed, BitDigits, Several, bit_digits, is_bit_digit}
+use Rattle.um_lines.specs.Fields.{Fixed, BitDigits, Several, bit_digits}
 use Rattle.um_lines.specs.BurstForms as F
 use Rattle.um_lines.specs.BurstForms.{burst_forms, burst_elsewhere}
-use Rattle.um_lines.proofs.FieldLaws.{digits_of_bits}
 use Rattle.um_lines.proofs.KnownValues.{Fitting}
-use Rattle.um_lines.proofs.OneMeaning.{no_fault}
 use Rattle.um_lines.proofs.SpelledLaws.{spelled_means, spelled_uncut}
 use Rattle.um_text.specs.declared.burst_lines.BurstLine.TheVariants.{Normal, Access, Sync}
-use Rattle.um_text.specs.BurstLines.{BurstMeans, burst_fault}
+use Rattle.um_text.specs.BurstLines.{BurstMeans}
 use Rattle.um_text.specs.WrittenBursts.{IsWholeLine}
-use Rattle.um_text.proofs.BurstLaws.{one_meaning}
 
 -- the lines without their line feeds
 abbrev pub normal_line : List ℕ → List ℕ
@@ -58,22 +54,6 @@ normal_restored held burst many each =
           (held_normal held) refl (one (codes "n") burst each many) tt short refl,
       refl,
     )
-
--- a line of 148 digits of bits means their bits
-module _ (held : ℕ) (line digits : List ℕ) (is : line ≡ codes "n " ++ digits) (each : list_all is_bit_digit digits ≡ true)
-    (many : length digits ≡ 148) where
-  abbrev bits : List ℕ
-  bits = map (λ octet. octet - 48) digits
-
-  pub hard_means : BurstMeans held line (Normal (softened bits))
-  hard_means =
-      let known = digits_of_bits digits each in
-      subst (λ (l : List ℕ). BurstMeans held l (Normal (softened bits))) (sym (is ∙ ap (λ ds. codes "n " ++ ds) known.1))
-      (normal_restored held bits (length-map digits (λ octet. octet - 48) ∙ many)
-      (All-from_recursion (λ bit. bit ≤ 1) bits known.0))
-
-  pub hard_good : burst_fault held line ≡ None
-  hard_good = no_fault (BurstMeans held line) (burst_fault held line) (one_meaning held line) (Normal (softened bits)) hard_means
 
 pub sync_restored : (burst : List ℕ) → length burst ≡ 148 → AllBits burst → BurstMeans 0 (sync_line burst) (Sync (softened burst))
 sync_restored burst many each =

@@ -1,5 +1,8 @@
 -- The bursts of a block that has not all its four (this project's own rule).
-use Rattle.std.specs.Prelude.{ℤ, ◌≡◌, ◌<◌, Bool, true, false, List, [], ◌∷◌, ◌++◌, length}
+use Rattle.std.specs.Prelude.{ℕ, ℤ, ◌≡◌, ◌==◌, ◌<◌, Bool, true, false, List, [], ◌∷◌, ◌++◌, length, codes}
+use Rattle.std.specs.List.{list_all, list_any}
+use Rattle.hex.specs.Hex.{is_hex_digit}
+use Rattle.um_lines.specs.Fields.{hex_octets}
 use Rattle.bit_blocks.specs.SoftValues.{AllSoft}
 use Rattle.um_text.specs.declared.burst_lines.BurstLine.{BurstLine}
 use Rattle.um_text.specs.declared.burst_lines.BurstLine.TheVariants as B
@@ -32,3 +35,12 @@ abbrev pub BringsSoft : NextBurst → Type 0
 BringsSoft (N.Access bsic soft) = AllSoft soft
 BringsSoft (N.Sync soft) = AllSoft soft
 BringsSoft next = Unit {0}
+
+-- ---- for the bodies
+
+-- the line of a normal burst by its soft values, of which none is -128
+pub record IsSoftLine (line digits : List ℕ) : Type 0 where
+  pub is : line ≡ codes "N " ++ digits
+  pub each : list_all is_hex_digit digits ≡ true
+  pub many : length digits ≡ 296
+  pub within : list_any (λ octet. octet == 128) (hex_octets digits) ≡ false

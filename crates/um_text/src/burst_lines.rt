@@ -4,18 +4,19 @@ ghost use Rattle.std.specs.List.{list_all};
 ghost use Rattle.std.specs.Result.{result_err};
 ghost use Rattle.bit_blocks.specs.Bits.{AllBits};
 ghost use Rattle.um_block.specs.Received.{softened};
-ghost use Rattle.um_lines.specs.Fields.{is_bit_digit};
+ghost use Rattle.um_lines.specs.Fields.{is_bit_digit, hex_octets};
 ghost use Rattle.um_lines.specs.Words.{words};
 ghost use Rattle.um_lines.specs.Meanings.{HasOneMeaningUnless};
 ghost use Rattle.um_text.specs.BurstLines.{burst_fault, BurstMeans, read_burst};
+ghost use Rattle.um_text.specs.Held.{IsSoftLine};
 ghost use Rattle.um_text.specs.BurstTexts.{normal_text, access_text, sync_text};
 ghost use Rattle.um_text.specs.WrittenBursts.{IsWholeLine};
 
-use crate::soft_digits::{hard_values, soft_values};
+use crate::soft_digits::{hard_values, has_lowest, soft_values};
 use bit_blocks::Bits;
 use um_lines::{
     LINE_LIMIT, LineFault, are_bit_digits, are_hex_digits, bits_of, first_word, is_skipped,
-    one_word, two_words,
+    octets_of, one_word, two_words,
 };
 
 /// What a line of the command `replay` brings: soft values, which are positive for a 0 and negative for a 1.
@@ -197,6 +198,22 @@ pub(crate) fn normal_digits(line: &[u8]) -> Option<&[u8]>
         [b'n', b' ', digits @ ..] if digits.len() == 148 && are_bit_digits(digits) => Some(digits),
         _ => None,
     }
+}
+
+/// The octets of a line `N HEX296`, none of which is -128.
+#[inline(always)]
+pub(crate) fn normal_octets(line: &[u8]) -> Option<[u8; 148]>
+    ensures { IfSome result (λ octets. (digits : List ℕ) × IsSoftLine line.now digits × (octets ≡ hex_octets digits)) }
+{
+    let digits = match line {
+        [b'N', b' ', digits @ ..] if digits.len() == 296 && are_hex_digits(digits) => digits,
+        _ => return None,
+    };
+    let octets: [u8; 148] = octets_of(digits);
+    if has_lowest(&octets) {
+        return None;
+    }
+    Some(octets)
 }
 
 /// Each line has one meaning and no other where it has no reason, and none where it has one.

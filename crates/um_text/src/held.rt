@@ -5,12 +5,13 @@ ghost use Rattle.std.specs.Result.{result_err};
 ghost use Rattle.conv_code.specs.Likelihood.{AllSoft};
 ghost use Rattle.um_block.specs.Received.{softened};
 ghost use Rattle.um_lines.specs.Fields.{is_bit_digit};
+ghost use Rattle.um_text.specs.SoftOctets.{signed_octets};
 ghost use Rattle.um_text.specs.declared.burst_lines.BurstLine.{BurstLine as Meaning};
 ghost use Rattle.um_text.specs.BurstLines.{burst_fault, BurstMeans};
 ghost use Rattle.um_text.specs.Held.{Holds, Brings, BringsSoft, next_normal};
 
-use crate::burst_lines::{BurstLine, normal_digits, parse_burst};
-use crate::soft_digits::write_hard;
+use crate::burst_lines::{BurstLine, normal_digits, normal_octets, parse_burst};
+use crate::soft_digits::{write_hard, write_signed};
 use bit_blocks::Bits;
 use std::marker::Model;
 use um_lines::LineFault;
@@ -110,9 +111,25 @@ impl HeldBursts {
             true
         }
     }
+
+    /// Holds the burst of these octets, and says whether it is the fourth of a block.
+    #[tactic(auto, using(crate::proofs::BurstLaws::fourth))]
+    fn add_soft(&mut self, octets: &[u8; 148]) -> bool
+        requires { AllSoft (signed_octets octets.now) }
+        ensures { Holds self.old (signed_octets octets.now) result self.new }
+    {
+        write_signed(octets, &mut self.bursts[self.count as usize]);
+        if self.count < 3 {
+            self.count += 1;
+            false
+        } else {
+            self.count = 0;
+            true
+        }
+    }
 }
 
-/// Reads a line as `parse_burst` does, and writes the hard bits of a normal burst straight to their place.
+/// Reads a line as `parse_burst` does, and writes the soft values of a normal burst straight to their place.
 pub fn read_burst_into(line: &[u8], held: &mut HeldBursts) -> Result<NextBurst, LineFault>
     ensures means { IfOk result (λ next. (meaning : Meaning) × BurstMeans (length held.old.held) line.now meaning
         × Brings held.old meaning next held.new) }
@@ -120,8 +137,11 @@ pub fn read_burst_into(line: &[u8], held: &mut HeldBursts) -> Result<NextBurst, 
     ensures soft { IfOk result BringsSoft }
     ensures kept { OnErr result (held.new.held ≡ held.old.held) }
 {
-    match normal_digits(line) {
-        Some(digits) => Ok(next_normal(held.add_hard(digits))),
+    if let Some(digits) = normal_digits(line) {
+        return Ok(next_normal(held.add_hard(digits)));
+    }
+    match normal_octets(line) {
+        Some(octets) => Ok(next_normal(held.add_soft(&octets))),
         None => read_other_into(line, held),
     }
 }

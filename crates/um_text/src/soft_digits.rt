@@ -51,11 +51,13 @@ pub(crate) fn soft_values<const N: usize>(digits: &[u8]) -> Result<[i8; N], Line
     if has_lowest(&octets) {
         return Err(LineFault::Soft);
     }
-    Ok(signed_values(&octets))
+    let mut values = [0; N];
+    write_signed(&octets, &mut values);
+    Ok(values)
 }
 
 // The octet 80 in hexadecimal is -128.
-fn has_lowest(octets: &[u8]) -> bool
+pub(crate) fn has_lowest(octets: &[u8]) -> bool
     ensures { result ≡ list_any (λ octet. octet == 128) octets.now }
 {
     let mut found = false;
@@ -65,12 +67,10 @@ fn has_lowest(octets: &[u8]) -> bool
     found
 }
 
-fn signed_values<const N: usize>(octets: &[u8; N]) -> [i8; N]
-    ensures { result ≡ signed_octets octets.now }
+pub(crate) fn write_signed<const N: usize>(octets: &[u8; N], values: &mut [i8; N])
+    ensures { values.new ≡ signed_octets octets.now }
 {
-    let mut values = [0; N];
     for (i, octet) in octets.iter().enumerate() {
         values[i] = octet.cast_signed();
     }
-    values
 }

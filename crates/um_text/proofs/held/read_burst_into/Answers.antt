@@ -1,18 +1,38 @@
-use Rattle.std.proofs.Common.{◌-◌, length, map, sym}
-use Rattle.um_block.specs.Received.{softened}
+use Rattle.std.proofs.Common.{ℕ, List, length, sym, subst}
+use Rattle.bit_blocks.specs.SoftValues.{AllSoft}
 use Rattle.um_text.specs.declared.burst_lines.BurstLine.TheVariants.{Normal}
-use Rattle.um_text.proofs.WrittenBursts.{hard_means, hard_good}
+use Rattle.um_text.specs.BurstLines.{BurstMeans}
+use Rattle.um_text.specs.SoftOctets.{signed_octets}
+use Rattle.um_text.proofs.NormalLines.{hard_line, soft_line, soft_within}
 use Rattle.um_text.proofs.held.read_burst_into.Goals as goal
 
 pub returns-in-Some-clause-means : goal.returns-in-Some-clause-means
 returns-in-Some-clause-means c =
-    let found = c.in-Some.ensures in (
-      Normal (softened (map (λ octet. octet - 48) c.in-Some.digits.now)),
-      hard_means (length c.args.held.now.held) c.args.line.now c.in-Some.digits.now found.line found.each found.many,
-      (c.add_hard.result, c.next_normal.ensures, c.add_hard.ensures),
-    )
+    let found = c.in-Some.ensures in
+    let read = hard_line (length c.args.held.now.held) c.args.line.now c.in-Some.digits.now found.line found.each found.many in
+    (_, read.0, (c.add_hard.result, c.next_normal.ensures, c.add_hard.ensures))
 
 pub returns-in-Some-clause-refused : goal.returns-in-Some-clause-refused
 returns-in-Some-clause-refused c =
     let found = c.in-Some.ensures in
-    sym (hard_good (length c.args.held.now.held) c.args.line.now c.in-Some.digits.now found.line found.each found.many)
+    (hard_line (length c.args.held.now.held) c.args.line.now c.in-Some.digits.now found.line found.each found.many).1
+
+pub add_soft-requires : goal.add_soft-requires
+add_soft-requires c =
+    let (digits, found, are) = c.in-Some-normal_octets.ensures in
+    subst (λ (octets : List ℕ). AllSoft (signed_octets octets)) (sym are) (soft_within c.args.line.now digits found)
+
+pub returns-in-Some-normal_octets-clause-means : goal.returns-in-Some-normal_octets-clause-means
+returns-in-Some-normal_octets-clause-means c =
+    let (digits, found, are) = c.in-Some-normal_octets.ensures in
+    let held = length c.args.held.now.held in (
+      Normal (signed_octets c.in-Some-normal_octets.octets),
+      subst (λ (octets : List ℕ). BurstMeans held c.args.line.now (Normal (signed_octets octets))) (sym are)
+          (soft_line held c.args.line.now digits found).0,
+      (c.add_soft.result, c.next_normal-in-Some-normal_octets.ensures, c.add_soft.ensures),
+    )
+
+pub returns-in-Some-normal_octets-clause-refused : goal.returns-in-Some-normal_octets-clause-refused
+returns-in-Some-normal_octets-clause-refused c =
+    let (digits, found, are) = c.in-Some-normal_octets.ensures in
+    (soft_line (length c.args.held.now.held) c.args.line.now digits found).1

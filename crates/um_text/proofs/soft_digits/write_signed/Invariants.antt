@@ -1,6 +1,6 @@
 use Rattle.std.proofs.Common.{◌≡◌, take, length}
 use Rattle.um_text.specs.SoftOctets.{signed_octets}
-use Rattle.um_text.proofs.soft_digits.signed_values.Given as goal
+use Rattle.um_text.proofs.soft_digits.write_signed.Given as goal
 
 -- the values so far are those of the octets so far
 abbrev pub invariant-loop-i : goal.invariant-loop-i
