@@ -8,10 +8,10 @@ use Rattle.um_air.proofs.FewTurned.{accepted_as_sent}
 -- ---- lists that correspond item by item, and ways of such lists
 
 module _ {X Y : Type 0} (R : X → Y → Type 0) where
-  zip-rest : (xs : List X) (ys : List Y) → AllZip R xs ys → AllZip R (drop 1 xs) (drop 1 ys)
+  pub zip-rest : (xs : List X) (ys : List Y) → AllZip R xs ys → AllZip R (drop 1 xs) (drop 1 ys)
   zip-rest xs ys h = grind arith
 
-  zip-append : (xs xs' : List X) (ys ys' : List Y) → AllZip R xs ys → AllZip R xs' ys' → AllZip R (xs ++ xs') (ys ++ ys')
+  pub zip-append : (xs xs' : List X) (ys ys' : List Y) → AllZip R xs ys → AllZip R xs' ys' → AllZip R (xs ++ xs') (ys ++ ys')
   zip-append [] xs' [] ys' h g = g
   zip-append (x ∷ xs) xs' (y ∷ ys) ys' h g = (h.0, zip-append xs xs' ys ys' h.1 g)
   zip-append xs xs' ys ys' h g = absurd assumption
@@ -23,7 +23,7 @@ module _ {X Y : Type 0} (R : X → Y → Type 0) where
       AreAlike (with_way sender x xs) (with_way sender y ys)
   alike-with sender x y xs ys h g r = grind arith
 
-  alike-more : (sender : Role) (x : List X) (y : List Y) (xs : Ways X) (ys : Ways Y) → AreAlike xs ys → AllZip R x y →
+  pub alike-more : (sender : Role) (x : List X) (y : List Y) (xs : Ways X) (ys : Ways Y) → AreAlike xs ys → AllZip R x y →
       AreAlike (with_more sender x xs) (with_more sender y ys)
   alike-more sender x y xs ys h g = alike-with sender _ _ xs ys h (zip-append (way sender xs) x (way sender ys) y (h sender) g)
 
@@ -84,7 +84,7 @@ known-read None a (Deliver sender places) None read h = absurd h
 known-read None a event report read h = (tt, tt)
 
 -- a frame that was sent is read as itself
-read_back : (channel : Channel) (accepted : Option Octets) (read : Option Frame) (fs : List Frame) (os : List Octets) →
+pub read_back : (channel : Channel) (accepted : Option Octets) (read : Option Frame) (fs : List Frame) (os : List Octets) →
     AllZip (λ f o. o ≡ octets_of channel f) fs os → AllFit channel fs → Reads channel accepted read → IsAsSent accepted os →
     IsAsSent read fs
 read_back channel (Some octets) (Some f) (g ∷ gs) (o ∷ os) z fit h s =
@@ -108,7 +108,7 @@ kind_block channel tsc fs os blocks others places report block z sent e few rece
 -- ---- one step
 
 -- the frames that go out are written
-all-written : (channel : Channel) (fs : List Frame) → AllZip (λ f o. o ≡ octets_of channel f) fs (map (octets_of channel) fs)
+pub all-written : (channel : Channel) (fs : List Frame) → AllZip (λ f o. o ≡ octets_of channel f) fs (map (octets_of channel) fs)
 all-written channel [] = tt
 all-written channel (f ∷ fs) = (refl, all-written channel fs)
 

@@ -1,4 +1,5 @@
 -- The laws of this crate and their lemmas, for the crates above.
+pub use Rattle.um_air.proofs.Carrying.{zip-rest, zip-append, AreAlike, alike-more, read_back, all-written}
 pub use Rattle.um_air.proofs.Carrying.{longer_run, air_claims, air_counts, air_order, kind_is_harmless, reads-well}
 pub use Rattle.um_air.proofs.FewTurned.{accepted_as_sent}
 pub use Rattle.um_air.proofs.Damaged.{damaged_received, turned_damaged}

@@ -4,3 +4,4 @@ mod EndLineLaws
 mod Answering
 mod AnswerSizes
 pub mod EndRules
+mod Played

@@ -6,3 +6,4 @@ pub mod Doing
 pub mod EndLines
 pub mod EndRuns
 pub mod Commands
+pub mod TwoEnds
