@@ -2,6 +2,7 @@
 
     cd bindings/python && python3 -m unittest discover tests"""
 import array
+import concurrent.futures
 import copy
 import ctypes
 import doctest
@@ -125,6 +126,11 @@ class Blocks(unittest.TestCase):
         for form in forms:
             self.assertEqual(wanted, um.receive_block(form))
 
+    def test_threads(self):
+        rows = noisy()
+        with concurrent.futures.ThreadPoolExecutor(4) as pool:
+            self.assertEqual({um.receive_block(rows)}, set(pool.map(um.receive_block, [rows] * 100)))
+
     def test_no_copy(self):
         memory = array.array("b", bytes(592))
         self.assertEqual(memory.buffer_info()[0], ctypes.addressof(_values.soft("x", memory, 4, 148)))
@@ -185,6 +191,10 @@ class Refusals(unittest.TestCase):
             self.refused(TypeError, ["bursts", name, "of int8", hint], um.receive_blocks, good[None].astype(form))
             self.refused(TypeError, ["bursts[0]", name, "of int8", hint], um.receive_block, list(good.astype(form)))
         self.refused(TypeError, ["octets: int64 array of shape (23,)", "uint8"], um.send_block, numpy.zeros(23, "i8"), 7)
+        bits = um.send_blocks(numpy.zeros((2, 23), "u1"), 7).astype("i1")
+        self.refused(ValueError, ["bursts", "bits", "soft_from_bits"], um.receive_block, bits[0])
+        self.refused(ValueError, ["bursts", "bits", "soft_from_bits"], um.receive_blocks, bits)
+        self.refused(ValueError, ["bursts", "bits", "soft_from_bits"], um.receive_blocks_among, bits, 64)
         self.refused(ValueError, ["expected n x 4 x 148"], um.receive_blocks, good)
         self.refused(ValueError, ["int8 array of shape (2, 148, 4)", "n x 4 x 148"], um.receive_blocks, numpy.zeros((2, 148, 4), "i1"))
         many = numpy.zeros((5, 4, 148), numpy.int8)

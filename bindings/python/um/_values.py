@@ -96,9 +96,15 @@ def soft(name: str, values: Any, rows: int, places: int) -> Pointer:
     data = bytes(values)
     if len(data) != rows * places:
         raise ValueError(f"{name}: {len(data)} soft bits; expected {_shape(rows, places)}")
+    refuse_bits(name, data)
+    return data
+
+
+def refuse_bits(name: str, pointer: Pointer) -> None:
+    """Refuses soft bits of which each is 0 or 1 and one is 1: they are bits by mistake."""
+    data = bytes(pointer)
     if 1 in data and not data.translate(None, b"\0\1"):
         raise ValueError(f"{name}: each value is 0 or 1, so these are bits; {_NO_SOFT['bits']}")
-    return data
 
 
 def refuse_128(name: str, pointer: Pointer, rows: int, places: int) -> ValueError:
