@@ -136,6 +136,10 @@ class Blocks(unittest.TestCase):
         self.assertEqual(memory.buffer_info()[0], ctypes.addressof(_values.soft("x", memory, 4, 148)))
         flat = bytes(592)
         self.assertIs(flat, _values.soft("x", flat, 4, 148))
+        self.assertIs(flat, _values.soft("x", memoryview(flat).cast("b", (4, 148)), 4, 148))
+        if numpy:
+            for whole in (numpy.zeros((4, 148), numpy.int8), numpy.frombuffer(flat, numpy.int8)):
+                self.assertEqual(whole.ctypes.data, ctypes.addressof(_values.soft("x", whole, 4, 148)))
 
     def test_struct_sizes(self):
         sizes = [blocks._BLOCK, blocks._ACCESS, blocks._SYNC, blocks._MARGIN, blocks._REPAIR, frames._FRAME, ends._NOTICE]
