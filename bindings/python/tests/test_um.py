@@ -388,6 +388,49 @@ class Ends(unittest.TestCase):
         self.assertRaisesRegex(ValueError, "octets: 3 octets; expected 2581", um.End.from_bytes, b"abc")
 
 
+class Sides(unittest.TestCase):
+    def test_both_links(self):
+        for channel in (um.SDCCH, um.SACCH):
+            mobile, network = um.Side("mobile", channel), um.Side("network", channel)
+            asked = {0: mobile.open(b"\1\2"), 3: mobile.open_bare()}
+            for sapi, info in ((3, b""), (0, b"\1\2")):
+                taken, answer = network.take(asked[sapi].frames[0])
+                self.assertEqual((sapi, [("opened", info)]), (taken, answer.notices))
+                self.assertEqual((sapi, ([], [("opened", info)])), mobile.take(answer.frames[0]))
+            up, down = mobile.send(b"up"), network.send(b"down", 3)
+            self.assertRaisesRegex(um.Refused, "not running", mobile.timer, 3)
+            self.assertEqual(0x0F, network.timer(3).frames[0][2 * channel])
+            for sapi, sender, sent, receiver, message in ((0, mobile, up, network, b"up"), (3, network, down, mobile, b"down")):
+                taken, got = receiver.take(sent.frames[0])
+                self.assertEqual((sapi, [("got", message)]), (taken, got.notices))
+                self.assertEqual((sapi, ([], [("acked", 1)])), sender.take(got.frames[0]))
+            taken, got = network.take(mobile.unit(b"u", 3).frames[0])
+            self.assertEqual((3, [("unit", b"u")]), (taken, got.notices))
+            self.assertEqual(23, len(mobile.idle().frames[0]))
+            _, closed = mobile.take(network.close(3).frames[0])
+            self.assertEqual([("closed", "released")], closed.notices)
+            self.assertEqual(("open", "closed"), (mobile.link(0).state, mobile.link(3).state))
+
+    def test_refusals(self):
+        mobile = um.Side("mobile")
+        self.assertRaisesRegex(um.Refused, "no call", um.Side("network").open, b"a")
+        self.assertRaisesRegex(um.Refused, "not open", mobile.send, b"a", 3)
+        self.assertRaisesRegex(um.Refused, r"no frame.*\(ea\)", mobile.take, bytes(23))
+        self.assertRaisesRegex(ValueError, "sapi: 1; expected 0 or 3", mobile.send, b"a", 1)
+        self.assertRaisesRegex(ValueError, "role: 'phone'", um.Side, "phone")
+
+    def test_values(self):
+        mobile = um.Side("mobile")
+        mobile.open(b"a")
+        for other in (copy.copy(mobile), copy.deepcopy(mobile), pickle.loads(pickle.dumps(mobile))):
+            self.assertEqual(mobile, other)
+            other.open_bare()
+            self.assertNotEqual(mobile, other)
+        self.assertEqual("<um.Side mobile, SDCCH, SAPI 0 opening, SAPI 3 idle>", repr(mobile))
+        mixed = mobile.to_bytes()[:2581] + um.Side("network").to_bytes()[2581:]
+        self.assertRaisesRegex(um.Refused, "no end", um.Side.from_bytes, mixed)
+
+
 class Package(unittest.TestCase):
     def test_version(self):
         header = (ROOT / "bindings" / "c" / "um.h").read_text()

@@ -36,14 +36,14 @@ from .blocks import (
     Margin, Repair, Report, margin_block, receive_access, receive_block, receive_block_among, receive_sync, repair, send_access,
     send_block, send_sync,
 )
-from .ends import ANSWERS, NOTICES, REASONS, ROLES, STATES, Effects, End, Notice, Refused
+from .ends import ANSWERS, NOTICES, REASONS, ROLES, STATES, Effects, End, Notice, Refused, Side
 from .frames import KINDS, REFUSALS, SACCH, SDCCH, Channel, Frame, NoFrame, read_frame, write_frame
 from .many import receive_blocks, receive_blocks_among, send_blocks
 from .soft import soft_from_bits, soft_from_llr
 
 __all__ = [
     "ANSWERS", "Channel", "Effects", "End", "Frame", "KINDS", "Margin", "NOTICES", "NoFrame", "Notice", "REASONS", "REFUSALS", "ROLES",
-    "Refused", "Repair", "Report", "SACCH", "SDCCH", "STATES", "__version__", "margin_block", "read_frame", "receive_access",
+    "Refused", "Repair", "Report", "SACCH", "SDCCH", "STATES", "Side", "__version__", "margin_block", "read_frame", "receive_access",
     "receive_block", "receive_block_among", "receive_blocks", "receive_blocks_among", "receive_sync", "repair", "send_access",
     "send_block", "send_blocks", "send_sync", "soft_from_bits", "soft_from_llr", "write_frame",
 ]

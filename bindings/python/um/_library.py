@@ -35,6 +35,15 @@ _CALLS = {
     "um_end_timer": (_U8, (_POINTER, _POINTER)),
     "um_end_idle": (_U8, (_POINTER, _POINTER)),
     "um_end_take": (_U8, (_POINTER, _POINTER, _POINTER)),
+    "um_side_new": (_BOOL, (_POINTER, _U8, _U8)),
+    "um_side_open": (_U8, (_POINTER, _POINTER, _POINTER)),
+    "um_side_open_bare": (_U8, (_POINTER, _POINTER)),
+    "um_side_send": (_U8, (_POINTER, _U8, _POINTER, _POINTER)),
+    "um_side_unit": (_U8, (_POINTER, _U8, _POINTER, _POINTER)),
+    "um_side_close": (_U8, (_POINTER, _U8, _POINTER)),
+    "um_side_timer": (_U8, (_POINTER, _U8, _POINTER)),
+    "um_side_idle": (_U8, (_POINTER, _POINTER)),
+    "um_side_take": (_U8, (_POINTER, _POINTER, _POINTER, _POINTER)),
 }
 
 

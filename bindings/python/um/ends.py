@@ -1,4 +1,5 @@
-"""An endpoint of LAPDm in acknowledged mode (3GPP TS 44.006, 5), as a value without a timer or I/O of its own."""
+"""Endpoints of LAPDm in acknowledged mode (3GPP TS 44.006, 5), as values without a timer or I/O of their own: of one link, and of both
+links of a channel."""
 import ctypes
 import struct
 from typing import Any, List, NamedTuple, Tuple, Union
@@ -19,7 +20,7 @@ _WHY = {
     "empty": "the message has no octets",
     "too long": "send takes at most 251 octets; open and unit take 20, and 18 on SACCH",
     "full": "eight messages are not wholly acknowledged",
-    "no end": "the state is that of no end",
+    "no end": "the state is that of no endpoint",
     "no call": "a mobile opens the link of SAPI 0, by open; either end opens that of SAPI 3, by open_bare",
 }
 
@@ -59,44 +60,37 @@ class Refused(ValueError):
         return Refused, (self.call, self.reason, self.why)
 
 
-class End:
-    """An endpoint: "mobile" or "network", of SAPI 0 (signalling) or 3 (short messages).
-
-    The caller sends the frames that each call gives, gives `take` each block that comes in, and calls `timer` on expiry of T200. An
-    endpoint is a value: copy, deepcopy and pickle copy it, and endpoints that are alike are equal. A call that is refused raises
-    Refused, a ValueError."""
+class _Endpoint:
+    """The state of so many links in the library's memory, and its calls."""
 
     __slots__ = ("_state",)
     __hash__ = None  # type: ignore[assignment]
+    _calls, _links = "", 0
 
-    def __init__(self, role: str, sapi: int = 0, channel: int = SDCCH):
-        self._state = ctypes.create_string_buffer(_END_SIZE)
-        numbers = choice("role", role, ROLES), channel_number(channel)
-        if sapi not in (0, 3) or isinstance(sapi, (bool, float)):
-            raise ValueError(f"sapi: {sapi!r}; expected 0 or 3")
-        lib.um_end_new(self._state, numbers[0], sapi, numbers[1])
+    def __init__(self) -> None:
+        self._state = ctypes.create_string_buffer(_END_SIZE * self._links)
 
     @classmethod
-    def from_bytes(cls, octets: bytes) -> "End":
-        """The end of which `to_bytes` gave these octets; ValueError where they are the state of no end."""
-        data = octets_of("octets", octets, _END_FIELDS)
-        end = cls("mobile")
-        ctypes.memmove(end._state, data, _END_FIELDS)
+    def from_bytes(cls, octets: bytes) -> Any:
+        """The endpoint of which `to_bytes` gave these octets; ValueError where they are the state of none."""
+        data = octets_of("octets", octets, _END_FIELDS * cls._links)
+        end = cls.__new__(cls)
+        _Endpoint.__init__(end)
+        for link in range(cls._links):
+            ctypes.memmove(ctypes.addressof(end._state) + link * _END_SIZE, data[link * _END_FIELDS :], _END_FIELDS)
         end.idle()
         return end
 
     def to_bytes(self) -> bytes:
         """The state, to be kept."""
-        return self._state.raw[:_END_FIELDS]
+        raw = self._state.raw
+        return b"".join(raw[at : at + _END_FIELDS] for at in range(0, len(raw), _END_SIZE))
 
     def __reduce__(self) -> Any:
-        return End.from_bytes, (self.to_bytes(),)
+        return type(self).from_bytes, (self.to_bytes(),)
 
     def __eq__(self, other: object) -> bool:
-        return isinstance(other, End) and self.to_bytes() == other.to_bytes()
-
-    def __repr__(self) -> str:
-        return f"<um.End {self.role}, SAPI {self.sapi}, {self.channel.name}, {self.state}>"
+        return isinstance(other, type(self)) and self.to_bytes() == other.to_bytes()
 
     @property
     def role(self) -> str:
@@ -104,29 +98,23 @@ class End:
         return ROLES[self._numbers()[0]]
 
     @property
-    def sapi(self) -> int:
-        """0 or 3."""
-        return self._numbers()[1]
-
-    @property
     def channel(self) -> Channel:
         """SDCCH or SACCH."""
         return Channel(self._numbers()[2])
 
-    @property
-    def state(self) -> str:
-        """One of STATES."""
-        return STATES[self._numbers()[3]]
+    def idle(self) -> Effects:
+        """The fill frame, to be sent when there is nothing else to send."""
+        return self._call("idle")
 
     def _numbers(self) -> Tuple[int, ...]:
         return _END.unpack_from(self._state)
 
-    def _call(self, name: str, *arguments: bytes) -> Effects:
+    def _call(self, name: str, *arguments: Any) -> Effects:
         raw = ctypes.create_string_buffer(_EFFECTS_SIZE)
-        answer = getattr(lib, f"um_end_{name}")(self._state, *arguments, raw)
+        answer = getattr(lib, self._calls + name)(self._state, *arguments, raw)
         if answer:
             reason = ANSWERS[answer - 1]
-            raise Refused(name, reason, _WHY[reason] if reason in _WHY else self._why_no_frame(*arguments))
+            raise Refused(name, reason, _WHY[reason] if reason in _WHY else self._why_no_frame(arguments[0]))
         return _effects_of(raw.raw)
 
     def _why_no_frame(self, octets: bytes) -> str:
@@ -135,6 +123,34 @@ class End:
         except NoFrame as error:
             return str(error)
         raise AssertionError("the library reads these octets as a frame")
+
+
+class End(_Endpoint):
+    """An endpoint: "mobile" or "network", of SAPI 0 (signalling) or 3 (short messages).
+
+    The caller sends the frames that each call gives, gives `take` each block that comes in, and calls `timer` on expiry of T200. An
+    endpoint is a value: copy, deepcopy and pickle copy it, and endpoints that are alike are equal. A call that is refused raises
+    Refused, a ValueError."""
+
+    __slots__ = ()
+    _calls, _links = "um_end_", 1
+
+    def __init__(self, role: str, sapi: int = 0, channel: int = SDCCH):
+        super().__init__()
+        lib.um_end_new(self._state, choice("role", role, ROLES), _sapi(sapi), channel_number(channel))
+
+    def __repr__(self) -> str:
+        return f"<um.End {self.role}, SAPI {self.sapi}, {self.channel.name}, {self.state}>"
+
+    @property
+    def sapi(self) -> int:
+        """0 or 3."""
+        return self._numbers()[1]
+
+    @property
+    def state(self) -> str:
+        """One of STATES."""
+        return STATES[self._numbers()[3]]
 
     def open(self, info: Any) -> Effects:
         """Asks the network to open the link of SAPI 0, with 1 to 20 octets of information (18 on SACCH): a mobile's call."""
@@ -160,13 +176,68 @@ class End:
         """On expiry of T200: the frame that awaits an answer goes out again, or the link is given up."""
         return self._call("timer")
 
-    def idle(self) -> Effects:
-        """The fill frame, to be sent when there is nothing else to send."""
-        return self._call("idle")
-
     def take(self, octets: Any) -> Effects:
         """Takes a block of 23 octets that came in."""
         return self._call("take", octets_of("octets", octets, 23))
+
+
+class Side(_Endpoint):
+    """The endpoints of both links of a channel, SAPI 0 and SAPI 3, of a "mobile" or the "network".
+
+    A call goes to the endpoint of its SAPI, as a call of End does, and the other one stays as it is. Each link has its own T200."""
+
+    __slots__ = ()
+    _calls, _links = "um_side_", 2
+
+    def __init__(self, role: str, channel: int = SDCCH):
+        super().__init__()
+        lib.um_side_new(self._state, choice("role", role, ROLES), channel_number(channel))
+
+    def __repr__(self) -> str:
+        return f"<um.Side {self.role}, {self.channel.name}, SAPI 0 {self.link(0).state}, SAPI 3 {self.link(3).state}>"
+
+    def link(self, sapi: int) -> End:
+        """The endpoint of a SAPI, as a copy."""
+        octets = self.to_bytes()
+        link: End = End.from_bytes(octets[_END_FIELDS:] if _sapi(sapi) else octets[:_END_FIELDS])
+        return link
+
+    def open(self, info: Any) -> Effects:
+        """Asks the network to open the link of SAPI 0, with 1 to 20 octets of information (18 on SACCH): a mobile's call."""
+        return self._call("open", _message("info", info))
+
+    def open_bare(self) -> Effects:
+        """Asks the other side to open the link of SAPI 3."""
+        return self._call("open_bare")
+
+    def send(self, message: Any, sapi: int = 0) -> Effects:
+        """Sends a message of 1 to 251 octets over the link of a SAPI."""
+        return self._call("send", _sapi(sapi), _message("message", message))
+
+    def unit(self, message: Any, sapi: int = 0) -> Effects:
+        """Sends 1 to 20 octets (18 on SACCH) in one unnumbered frame of a SAPI, in any state and unacknowledged."""
+        return self._call("unit", _sapi(sapi), _message("message", message))
+
+    def close(self, sapi: int = 0) -> Effects:
+        """Closes the link of a SAPI. What is not acknowledged is given up."""
+        return self._call("close", _sapi(sapi))
+
+    def timer(self, sapi: int = 0) -> Effects:
+        """On expiry of T200 of the link of a SAPI."""
+        return self._call("timer", _sapi(sapi))
+
+    def take(self, octets: Any) -> Tuple[int, Effects]:
+        """Takes a block of 23 octets that came in; the SAPI of the endpoint to which it went, and the effects. A frame of another SAPI
+        than 0 and 3 is ignored: the SAPI is then 0, and the effects are empty."""
+        sapi = ctypes.c_uint8()
+        effects = self._call("take", octets_of("octets", octets, 23), ctypes.byref(sapi))
+        return sapi.value, effects
+
+
+def _sapi(sapi: Any) -> int:
+    if sapi not in (0, 3) or isinstance(sapi, (bool, float)):
+        raise ValueError(f"sapi: {sapi!r}; expected 0 or 3")
+    return int(sapi)
 
 
 def _message(name: str, values: Any) -> bytes:

@@ -1,6 +1,6 @@
 //! The calls beside the vectors of the repository, which libosmocoding made, and what each refuses.
 use std::error::Error;
-use um::{Body, Channel, End, Frame, Invalid, NoFrame, Notice, Reason, Refused, Repair, Sapi};
+use um::{Body, Channel, End, Frame, Invalid, NoFrame, Notice, Reason, Refused, Repair, Sapi, Side};
 
 fn digits<const N: usize>(text: &str) -> [u8; N] {
     let bits: Vec<u8> = text.bytes().map(|digit| digit - b'0').collect();
@@ -127,6 +127,38 @@ fn session() -> Result<(), Box<dyn Error>> {
     let released = network.take(&mobile.close()?.frames()[0])?;
     assert_eq!(released.notices().next(), Some(Notice::Closed(Reason::Released)));
     assert_eq!(mobile.take(&released.frames()[0])?.notices().next(), Some(Notice::Closed(Reason::Released)));
+    Ok(())
+}
+
+#[test]
+fn both_links() -> Result<(), Box<dyn Error>> {
+    let (mut mobile, mut network) = (Side::mobile(Channel::Sdcch), Side::network(Channel::Sdcch));
+    assert_eq!(network.open(&[1]), Err(Refused::NoCall));
+    let (asked0, asked3) = (mobile.open(&[1, 2])?, mobile.open_bare()?);
+    for (wanted, asked, info) in [(Sapi::ShortMessages, asked3, &[][..]), (Sapi::Signalling, asked0, &[1, 2])] {
+        let (sapi, answer) = network.take(&asked.frames()[0])?;
+        assert_eq!((sapi, answer.notices().next()), (wanted, Some(Notice::Opened(info))));
+        let (sapi, opened) = mobile.take(&answer.frames()[0])?;
+        assert_eq!((sapi, opened.notices().next()), (wanted, Some(Notice::Opened(info))));
+    }
+    let up = mobile.send(Sapi::Signalling, b"up")?;
+    network.send(Sapi::ShortMessages, b"down")?;
+    assert_eq!(mobile.timer(Sapi::ShortMessages), Err(Refused::NotRunning));
+    let (sapi, got) = mobile.take(&network.timer(Sapi::ShortMessages)?.frames()[0])?;
+    assert_eq!((sapi, got.notices().next()), (Sapi::ShortMessages, Some(Notice::Got(b"down"))));
+    let (sapi, acked) = network.take(&got.frames()[0])?;
+    assert_eq!((sapi, acked.notices().next()), (Sapi::ShortMessages, Some(Notice::Acked(1))));
+    let (sapi, got) = network.take(&up.frames()[0])?;
+    assert_eq!((sapi, got.notices().next()), (Sapi::Signalling, Some(Notice::Got(b"up"))));
+    let (sapi, unit) = network.take(&mobile.unit(Sapi::ShortMessages, b"u")?.frames()[0])?;
+    assert_eq!((sapi, unit.notices().next()), (Sapi::ShortMessages, Some(Notice::Unit(b"u"))));
+    assert_eq!(network.take(&mobile.idle()?.frames()[0])?.1.frames().len(), 0);
+    let before = *mobile.link(Sapi::Signalling);
+    let (_, closed) = mobile.take(&network.close(Sapi::ShortMessages)?.frames()[0])?;
+    assert_eq!(closed.notices().next(), Some(Notice::Closed(Reason::Released)));
+    assert_eq!(mobile.send(Sapi::ShortMessages, b"x"), Err(Refused::NotOpen));
+    assert_eq!(mobile.take(&[0; 23]), Err(Refused::NoFrame));
+    assert_eq!(before, *mobile.link(Sapi::Signalling));
     Ok(())
 }
 

@@ -1,0 +1,96 @@
+//! Both links of a mobile or of the network on one channel.
+//!
+//! ```
+//! use um::{Channel, Notice, Sapi, Side};
+//!
+//! let (mut mobile, mut network) = (Side::mobile(Channel::Sdcch), Side::network(Channel::Sdcch));
+//! let asked = mobile.open_bare().unwrap();
+//! let (sapi, answered) = network.take(&asked.frames()[0]).unwrap();
+//! assert_eq!((sapi, answered.notices().next()), (Sapi::ShortMessages, Some(Notice::Opened(&[]))));
+//! ```
+
+use crate::ends::{told, Message};
+use crate::{Channel, Effects, End, Refused, Sapi};
+
+/// The endpoints of both links of a channel. A call goes to the endpoint of its SAPI, as a call of [`End`] does, and the other one stays
+/// as it is. Each link has its own T200. It is a value: a copy goes its own way.
+#[repr(C)]
+#[derive(Clone, Copy, Debug, PartialEq, Eq)]
+pub struct Side {
+    link0: End,
+    link3: End,
+}
+
+unsafe extern "C" {
+    fn um_side_open(side: &mut Side, info: &Message, effects: &mut Effects) -> u8;
+    fn um_side_open_bare(side: &mut Side, effects: &mut Effects) -> u8;
+    fn um_side_send(side: &mut Side, sapi: u8, message: &Message, effects: &mut Effects) -> u8;
+    fn um_side_unit(side: &Side, sapi: u8, message: &Message, effects: &mut Effects) -> u8;
+    fn um_side_close(side: &mut Side, sapi: u8, effects: &mut Effects) -> u8;
+    fn um_side_timer(side: &mut Side, sapi: u8, effects: &mut Effects) -> u8;
+    fn um_side_idle(side: &Side, effects: &mut Effects) -> u8;
+    fn um_side_take(side: &mut Side, octets: &[u8; 23], sapi: &mut u8, effects: &mut Effects) -> u8;
+}
+
+impl Side {
+    /// A mobile's, before its first call.
+    pub fn mobile(channel: Channel) -> Side {
+        Side { link0: End::mobile(Sapi::Signalling, channel), link3: End::mobile(Sapi::ShortMessages, channel) }
+    }
+
+    /// The network's, before its first call.
+    pub fn network(channel: Channel) -> Side {
+        Side { link0: End::network(Sapi::Signalling, channel), link3: End::network(Sapi::ShortMessages, channel) }
+    }
+
+    /// The endpoint of a SAPI.
+    pub fn link(&self, sapi: Sapi) -> &End {
+        match sapi {
+            Sapi::Signalling => &self.link0,
+            Sapi::ShortMessages => &self.link3,
+        }
+    }
+
+    /// Asks the network to open the link of SAPI 0, with 1 to 20 octets of information (18 on SACCH): a mobile's call.
+    pub fn open(&mut self, info: &[u8]) -> Result<Effects, Refused> {
+        told(|effects| unsafe { um_side_open(self, &Message::new(info), effects) })
+    }
+
+    /// Asks the other side to open the link of SAPI 3.
+    pub fn open_bare(&mut self) -> Result<Effects, Refused> {
+        told(|effects| unsafe { um_side_open_bare(self, effects) })
+    }
+
+    /// Sends a message of 1 to 251 octets over the link of a SAPI.
+    pub fn send(&mut self, sapi: Sapi, message: &[u8]) -> Result<Effects, Refused> {
+        told(|effects| unsafe { um_side_send(self, sapi as u8, &Message::new(message), effects) })
+    }
+
+    /// Sends 1 to 20 octets (18 on SACCH) in one unnumbered frame of a SAPI, in any state and unacknowledged.
+    pub fn unit(&self, sapi: Sapi, message: &[u8]) -> Result<Effects, Refused> {
+        told(|effects| unsafe { um_side_unit(self, sapi as u8, &Message::new(message), effects) })
+    }
+
+    /// Closes the link of a SAPI. What is not acknowledged is given up.
+    pub fn close(&mut self, sapi: Sapi) -> Result<Effects, Refused> {
+        told(|effects| unsafe { um_side_close(self, sapi as u8, effects) })
+    }
+
+    /// On expiry of T200 of the link of a SAPI.
+    pub fn timer(&mut self, sapi: Sapi) -> Result<Effects, Refused> {
+        told(|effects| unsafe { um_side_timer(self, sapi as u8, effects) })
+    }
+
+    /// The fill frame, which is sent when there is nothing else to send.
+    pub fn idle(&self) -> Result<Effects, Refused> {
+        told(|effects| unsafe { um_side_idle(self, effects) })
+    }
+
+    /// Takes a block that came in: the SAPI of the endpoint to which it went, and the effects. A frame of another SAPI than 0 and 3 is
+    /// ignored: the effects are then empty.
+    pub fn take(&mut self, octets: &[u8; 23]) -> Result<(Sapi, Effects), Refused> {
+        let mut sapi = 0;
+        let effects = told(|effects| unsafe { um_side_take(self, octets, &mut sapi, effects) })?;
+        Ok((if sapi == 3 { Sapi::ShortMessages } else { Sapi::Signalling }, effects))
+    }
+}
