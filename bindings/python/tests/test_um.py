@@ -397,26 +397,26 @@ class Sides(unittest.TestCase):
                 taken, answer = network.take(asked[sapi].frames[0])
                 self.assertEqual((sapi, [("opened", info)]), (taken, answer.notices))
                 self.assertEqual((sapi, ([], [("opened", info)])), mobile.take(answer.frames[0]))
-            up, down = mobile.send(b"up"), network.send(b"down", 3)
+            up, down = mobile.send(0, b"up"), network.send(3, b"down")
             self.assertRaisesRegex(um.Refused, "not running", mobile.timer, 3)
             self.assertEqual(0x0F, network.timer(3).frames[0][2 * channel])
             for sapi, sender, sent, receiver, message in ((0, mobile, up, network, b"up"), (3, network, down, mobile, b"down")):
                 taken, got = receiver.take(sent.frames[0])
                 self.assertEqual((sapi, [("got", message)]), (taken, got.notices))
                 self.assertEqual((sapi, ([], [("acked", 1)])), sender.take(got.frames[0]))
-            taken, got = network.take(mobile.unit(b"u", 3).frames[0])
+            taken, got = network.take(mobile.unit(3, b"u").frames[0])
             self.assertEqual((3, [("unit", b"u")]), (taken, got.notices))
             self.assertEqual(23, len(mobile.idle().frames[0]))
             _, closed = mobile.take(network.close(3).frames[0])
             self.assertEqual([("closed", "released")], closed.notices)
-            self.assertEqual(("open", "closed"), (mobile.link(0).state, mobile.link(3).state))
+            self.assertEqual(("open", "closed"), (mobile.end(0).state, mobile.end(3).state))
 
     def test_refusals(self):
         mobile = um.Side("mobile")
         self.assertRaisesRegex(um.Refused, "no call", um.Side("network").open, b"a")
-        self.assertRaisesRegex(um.Refused, "not open", mobile.send, b"a", 3)
+        self.assertRaisesRegex(um.Refused, "not open", mobile.send, 3, b"a")
         self.assertRaisesRegex(um.Refused, r"no frame.*\(ea\)", mobile.take, bytes(23))
-        self.assertRaisesRegex(ValueError, "sapi: 1; expected 0 or 3", mobile.send, b"a", 1)
+        self.assertRaisesRegex(ValueError, "sapi: 1; expected 0 or 3", mobile.send, 1, b"a")
         self.assertRaisesRegex(ValueError, "role: 'phone'", um.Side, "phone")
 
     def test_values(self):
