@@ -8,12 +8,12 @@
  *   for a sure 1 to 127 for a sure 0, and 0 where nothing is known (its sbit_t); -128 is refused.
  *   A block is 23 octets. They are sent least significant bit first.
  *   No call allocates memory, keeps a state between calls, waits or prints. Each may be called from any thread; two threads
- *   may use one um_end only in turns. um_receive_block_among takes 47 KB of stack, each other call less than 10 KB.
+ *   may use one um_end or um_side only in turns. um_receive_block_among takes 47 KB of stack, each other call less than 10 KB.
  *   Pointers are not null (gcc and clang warn where they see one), point to as many elements as the type says, and are aligned as the
  *   type asks. What a call writes does not overlap anything else that it is given. The library cannot test these, and what a
  *   call does without them is undefined.
  *   A call that refuses has written nothing.
- *   The state of an endpoint is the caller's, in a um_end.
+ *   The state of an endpoint is the caller's, in a um_end, and that of both links of a channel in a um_side.
  *   Many blocks are a loop of the caller: a pointer and a count are no type of the language in which the calls are proved.
  *   Before C23, C does not convert `int8_t soft[4][148]` to a pointer to const rows by itself, and -Wpedantic says so; the cast
  *   `(const int8_t (*)[148])soft` is then in order. C++ and C23 need none. */
@@ -275,6 +275,44 @@ uint8_t um_end_idle(const um_end *end, um_effects *effects) UM_NONNULL;
 
 /* Takes a block that came in. */
 uint8_t um_end_take(um_end *end, const uint8_t octets[23], um_effects *effects) UM_NONNULL;
+
+/* Sides: both links of a mobile, or of the network, on one channel: that of SAPI 0 for signalling and that of SAPI 3 for short
+ * messages. A call goes to the end of its SAPI, as a call of um_end does, and the other end stays as it is. Each link has its own T200.
+ *
+ * The answers are those of um_end's calls, and besides: UM_END_NONE where link0 and link3 do not belong together (another SAPI, or two
+ * roles or channels), and UM_END_NO_CALL where the SAPI is neither 0 nor 3. */
+typedef struct um_side {
+	um_end link0; /* the end of the link of SAPI 0 */
+	um_end link3; /* the end of the link of SAPI 3 */
+} um_side;
+
+/* Writes the state of a side before its first call, whatever stood there. False: no such role or channel. */
+bool um_side_new(um_side *side, uint8_t role, uint8_t channel) UM_NONNULL;
+
+/* Asks the network to open the link of SAPI 0, as um_end_open does: a mobile's call. */
+uint8_t um_side_open(um_side *side, const um_message *info, um_effects *effects) UM_NONNULL;
+
+/* Asks the other side to open the link of SAPI 3. */
+uint8_t um_side_open_bare(um_side *side, um_effects *effects) UM_NONNULL;
+
+/* Sends a message of 1 to 251 octets over the open link of this SAPI. */
+uint8_t um_side_send(um_side *side, uint8_t sapi, const um_message *message, um_effects *effects) UM_NONNULL;
+
+/* Sends 1 to 20 octets (18 on SACCH) in one unnumbered frame of this SAPI, in any state and unacknowledged. */
+uint8_t um_side_unit(const um_side *side, uint8_t sapi, const um_message *message, um_effects *effects) UM_NONNULL;
+
+/* Closes the link of this SAPI. What is not acknowledged is given up. */
+uint8_t um_side_close(um_side *side, uint8_t sapi, um_effects *effects) UM_NONNULL;
+
+/* T200 of the link of this SAPI has expired. */
+uint8_t um_side_timer(um_side *side, uint8_t sapi, um_effects *effects) UM_NONNULL;
+
+/* Writes the fill frame, to be sent when there is nothing else to send. */
+uint8_t um_side_idle(const um_side *side, um_effects *effects) UM_NONNULL;
+
+/* Takes a block that came in: it goes to the end of its SAPI, and that SAPI, 0 or 3, is written to *sapi. A frame of another SAPI is
+ * ignored: *sapi is then 0, and the effects are empty. UM_END_NO_FRAME: the octets are no frame. */
+uint8_t um_side_take(um_side *side, const uint8_t octets[23], uint8_t *sapi, um_effects *effects) UM_NONNULL;
 
 #ifdef __cplusplus
 }

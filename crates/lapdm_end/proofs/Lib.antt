@@ -3,3 +3,4 @@ pub mod Giving
 pub mod Moves
 mod PartsOfEnds
 mod Pasts
+pub mod SideDeeds

@@ -3,5 +3,5 @@ pub mod Windows
 pub mod Standing
 pub mod Following
 pub mod Replies
-pub mod Units
 pub mod Parts
+pub mod Sides

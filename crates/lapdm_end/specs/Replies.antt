@@ -1,26 +1,27 @@
--- For the bodies of the tables: what an end does with a frame that leaves its window as it is.
-use Rattle.std.specs.Prelude.{◌≡◌, ◌≤◌, ◌&&◌, if◌then◌else◌, [], length}
-use Rattle.std.specs.Str.{bytes_eq}
-use Rattle.lapdm_frame.specs.Layout.{n201}
+-- For the bodies of the tables: what an end does with a frame.
+use Rattle.std.specs.Prelude.{◌≡◌, ◌≤◌, [], length}
+use Rattle.lapdm_frame.specs.Layout.{n201, most_information}
+use Rattle.segmenting.specs.Pieces.{Message}
 use Rattle.lapdm_window.specs.declared.Sapi.TheVariants.{Three}
 use Rattle.lapdm_window.specs.declared.State.TheVariants as S
-use Rattle.lapdm_window.specs.declared.Reason.TheVariants as R
-use Rattle.segmenting.specs.Pieces.{Message}
-use Rattle.lapdm_window.specs.Ends.{EndState, Outcome, stays, ◌then◌}
-use Rattle.lapdm_window.specs.Tables.{says_dm, says_ua, becomes_open, becomes_closed, opened_by, other_ua, answers_sabm}
+use Rattle.lapdm_window.specs.Tables as T
 use Rattle.lapdm_end.specs.declared.ends.End.{End}
 use Rattle.lapdm_end.specs.Standing.{channel_of, sapi_of, state_of}
 use Rattle.lapdm_end.specs.declared.replies.Reply.{Reply}
-use Rattle.lapdm_end.specs.declared.replies.Reply.TheVariants.{Nothing, Dm, Ua, OpenedBy, Opened, Closed, Released}
+use Rattle.lapdm_end.specs.declared.replies.Reply.TheVariants as C
 
-abbrev pub outcome_of : Reply → EndState → Outcome
-outcome_of Nothing e = stays e
-outcome_of Dm e = says_dm e
-outcome_of (Ua info) e = says_ua info.now e
-outcome_of (OpenedBy info) e = opened_by info.now e
-outcome_of (Opened info) e = becomes_open info.now e
-outcome_of (Closed reason) e = becomes_closed reason e
-outcome_of Released e = becomes_closed R.Released e then says_ua []
+abbrev pub reply_of : Reply → T.Reply
+reply_of C.Nothing = T.Nothing
+reply_of C.Dm = T.SaysDm
+reply_of (C.Ua info) = T.SaysUa info.now
+reply_of (C.OpenedBy info) = T.IsOpenedBy info.now
+reply_of (C.Opened info) = T.IsOpen info.now
+reply_of (C.Closed reason) = T.IsClosed reason
+reply_of C.Released = T.IsReleased
+reply_of (C.Unit info) = T.TakesUnit info.now
+reply_of (C.I ns nr p more info) = T.TakesI ns nr p (info.now, more)
+reply_of (C.Rr nr poll) = T.TakesRr nr poll
+reply_of (C.Rej nr poll) = T.TakesRej nr poll
 
 -- the information that opens an end fits in its frame, and on SAPI 3 there is none
 pub record MayBeOpenedBy (m : End) (info : Message) : Type 0 where
@@ -28,16 +29,14 @@ pub record MayBeOpenedBy (m : End) (info : Message) : Type 0 where
   pub fits : length info ≤ n201 (channel_of m)
   pub bare : sapi_of m ≡ Three → info ≡ []
 
--- the link is opened where it was not, and information fits in its frame
+-- the link is opened where it was not, a window is used in Open, and numbers and information fit in a frame
 abbrev pub IsReady : End → Reply → Type 0
-IsReady m (Ua info) = length info.now ≤ n201 (channel_of m)
-IsReady m (OpenedBy info) = MayBeOpenedBy m info.now
-IsReady m (Opened info) = (state_of m ≡ S.Opening) × (length info.now ≤ n201 (channel_of m))
+IsReady m (C.Ua info) = length info.now ≤ n201 (channel_of m)
+IsReady m (C.OpenedBy info) = MayBeOpenedBy m info.now
+IsReady m (C.Opened info) = (state_of m ≡ S.Opening) × (length info.now ≤ n201 (channel_of m))
+IsReady m (C.Unit info) = length info.now ≤ most_information
+IsReady m (C.I ns nr p more info) =
+    (state_of m ≡ S.Open) × (ns ≤ 7) × (nr ≤ 7) × (1 ≤ length info.now) × (length info.now ≤ n201 (channel_of m))
+IsReady m (C.Rr nr poll) = (state_of m ≡ S.Open) × (nr ≤ 7)
+IsReady m (C.Rej nr poll) = (state_of m ≡ S.Open) × (nr ≤ 7)
 IsReady m other = Unit {0}
-
--- two rows of the tables
-abbrev pub ua_in_opening : Message → EndState → Outcome
-ua_in_opening info e = if bytes_eq info e.kept then becomes_open info e else other_ua e.sapi e
-
-abbrev pub sabm_in_open : Message → EndState → Outcome
-sabm_in_open info e = if answers_sabm e.sapi e.role && bytes_eq info e.kept then says_ua info e else stays e

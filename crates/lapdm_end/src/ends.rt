@@ -1,4 +1,4 @@
-//! The calls of an end, which write what they do into the caller's room. A call that is refused leaves all as it was.
+//! One end, and what it does at each call. A refused call changes nothing.
 
 ghost use Rattle.std.specs.Prelude.{◌≡◌, ◌≤◌, length};
 ghost use Rattle.lapdm_frame.specs.Layout.{n201};
@@ -28,7 +28,8 @@ impl End {
     ghost use Rattle.lapdm_frame.specs.Frames.{octets_of};
     ghost use Rattle.lapdm_window.specs.declared.State.TheVariants as S;
     ghost use Rattle.lapdm_window.specs.Ends.{EndState, start};
-    ghost use Rattle.lapdm_window.specs.Calls.{first_of, frame_refusals, after_call, begins, sabm, disc, ticks, Opens, OpensBare, Sends, SendsUnit, Closes, Ticks, Idles};
+    ghost use Rattle.lapdm_window.specs.Calls.{first_of, frame_refusals, after_call, begins, sabm, disc, ticks, Opens, OpensBare, Sends};
+    ghost use Rattle.lapdm_window.specs.Calls.{SendsUnit, Closes, Ticks, Idles};
     ghost use Rattle.lapdm_window.specs.Tables.{becomes_closed};
     ghost use Rattle.lapdm_end.specs.Links.{role_of};
     ghost use Rattle.lapdm_end.specs.Standing.{Stands, channel_of, sapi_of, state_of};
@@ -67,7 +68,7 @@ impl End {
     }
 
     /// Asks the other end to open the link, with this information.
-    pub fn open_into(&mut self, info: &[u8], effects: &mut Effects) -> Result<(), Refused>
+    pub(crate) fn open_into(&mut self, info: &[u8], effects: &mut Effects) -> Result<(), Refused>
         requires { sapi_of self.old ≡ Sapi.Zero }
         ensures refusal { IsRefusedAs (Opens info.now) self.old result }
         ensures follows { OnOk result
@@ -88,7 +89,7 @@ impl End {
     }
 
     /// Asks the other end to open the link, with no information.
-    pub fn open_bare_into(&mut self, effects: &mut Effects) -> Result<(), Refused>
+    pub(crate) fn open_bare_into(&mut self, effects: &mut Effects) -> Result<(), Refused>
         requires { sapi_of self.old ≡ Sapi.Three }
         ensures refusal { IsRefusedAs OpensBare self.old result }
         ensures follows { OnOk result
@@ -106,7 +107,7 @@ impl End {
     }
 
     /// Sends a message over the link.
-    pub fn send_into(&mut self, message: &[u8], effects: &mut Effects) -> Result<(), Refused>
+    pub(crate) fn send_into(&mut self, message: &[u8], effects: &mut Effects) -> Result<(), Refused>
         ensures refusal { IsRefusedAs (Sends message.now) self.old result }
         ensures follows { OnOk result
             (Follows (after_call (Sends message.now)) self.old effects.new self.new) }
@@ -127,7 +128,7 @@ impl End {
     }
 
     /// Sends a message in one unnumbered frame, outside the link.
-    pub fn unit_into(&mut self, message: &[u8], effects: &mut Effects) -> Result<(), Refused>
+    pub(crate) fn unit_into(&mut self, message: &[u8], effects: &mut Effects) -> Result<(), Refused>
         ensures refusal { IsRefusedAs (SendsUnit message.now) self.old result }
         ensures follows { OnOk result
             (Follows (after_call (SendsUnit message.now)) self.old effects.new self.new) }
@@ -146,7 +147,7 @@ impl End {
     }
 
     /// Closes the link. What is not acknowledged is given up.
-    pub fn close_into(&mut self, effects: &mut Effects) -> Result<(), Refused>
+    pub(crate) fn close_into(&mut self, effects: &mut Effects) -> Result<(), Refused>
         ensures refusal { IsRefusedAs Closes self.old result }
         ensures follows { OnOk result
             (Follows (after_call Closes) self.old effects.new self.new) }
@@ -165,7 +166,7 @@ impl End {
     }
 
     /// The timer T200 has run out.
-    pub fn timer_into(&mut self, effects: &mut Effects) -> Result<(), Refused>
+    pub(crate) fn timer_into(&mut self, effects: &mut Effects) -> Result<(), Refused>
         ensures refusal { IsRefusedAs Ticks self.old result }
         ensures follows { OnOk result
             (Follows (after_call Ticks) self.old effects.new self.new) }
@@ -188,7 +189,7 @@ impl End {
         }
     }
 
-    /// The fill frame, which is sent when there is nothing else to send.
+    /// The fill frame, which is sent when there is nothing else to send. Overwrites `effects`.
     pub fn idle_into(&self, effects: &mut Effects)
         ensures { Follows (after_call Idles) self.now effects.new self.now }
     {

@@ -8,10 +8,12 @@ mod link;
 mod open;
 mod parts;
 mod replies;
+mod sides;
 mod taking;
 
 pub use ends::End;
 pub use parts::EndParts;
+pub use sides::Side;
 
 /// Which end of a link.
 #[derive(Clone, Copy, PartialEq, Eq, Debug)]

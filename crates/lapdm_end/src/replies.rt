@@ -1,17 +1,18 @@
-//! What an end does with a frame that leaves its window as it is.
+//! What an end does with a frame, by its state.
 
-ghost use Rattle.std.specs.Prelude.{◌≡◌};
+ghost use Rattle.std.specs.Prelude.{◌≡◌, ◌≤◌, length};
+ghost use Rattle.lapdm_frame.specs.Layout.{most_information};
 ghost use Rattle.lapdm_frame.specs.Content.{content_of};
 ghost use Rattle.lapdm_frame.specs.Frames.{InformationFits};
 ghost use Rattle.lapdm_window.specs.Ends.{EndState};
-ghost use Rattle.lapdm_window.specs.Tables.{is_taken, is_poll, dm_to_poll};
+ghost use Rattle.lapdm_window.specs.Tables.{is_taken, is_poll, dm_to_poll, unit_reply};
 ghost use Rattle.lapdm_end.specs.declared.ends.End.{End as LinkEnd};
-ghost use Rattle.lapdm_end.specs.Replies.{outcome_of, IsReady};
+ghost use Rattle.lapdm_end.specs.Replies.{reply_of, IsReady};
 
 use crate::Role;
 use crate::ends::End;
 use lapdm_frame::Body;
-use lapdm_window::{Reason, Sapi};
+use lapdm_window::{Reason, Sapi, State};
 
 /// What an end does.
 #[derive(Clone, Copy, PartialEq, Eq, Debug)]
@@ -26,6 +27,22 @@ pub(crate) enum Reply<'a> {
     Closed(Reason),
     // The other end closes the link: it is answered by UA.
     Released,
+    Unit(&'a [u8]),
+    I {
+        ns: u8,
+        nr: u8,
+        p: bool,
+        more: bool,
+        info: &'a [u8],
+    },
+    Rr {
+        nr: u8,
+        poll: bool,
+    },
+    Rej {
+        nr: u8,
+        poll: bool,
+    },
 }
 
 // Whether a kind is taken at all, as a command or as a response.
@@ -40,35 +57,43 @@ pub(crate) fn is_taken(command: bool, body: &Body<'_>) -> bool
     }
 }
 
-pub(crate) fn is_poll(command: bool, body: &Body<'_>) -> bool
+fn is_poll(command: bool, body: &Body<'_>) -> bool
     ensures { result ≡ is_poll command (content_of body.now) }
 {
     match *body {
         Body::I { p, .. } => command && p,
         Body::Rr { pf, .. } | Body::Rej { pf, .. } => command && pf,
-        Body::Rnr { .. }
-        | Body::Sabm { .. }
-        | Body::Dm { .. }
-        | Body::Ui { .. }
-        | Body::Disc { .. }
-        | Body::Ua { .. } => false,
+        _ => false,
     }
 }
 
 fn dm_if<'a>(poll: bool) -> Reply<'a>
-    ensures reply { (e : EndState) → dm_to_poll poll e ≡ outcome_of result e }
+    ensures reply { reply_of result ≡ dm_to_poll poll }
     ensures ready { (m : LinkEnd) → IsReady m result }
 {
     if poll { Reply::Dm } else { Reply::Nothing }
 }
 
+// A unit with information is reported.
+fn unit<'a>(info: &'a [u8]) -> Reply<'a>
+    requires information { length info.now ≤ most_information }
+    ensures reply { reply_of result ≡ unit_reply info.now }
+    ensures ready { (m : LinkEnd) → IsReady m result }
+{
+    if info.is_empty() {
+        Reply::Nothing
+    } else {
+        Reply::Unit(info)
+    }
+}
+
 impl End {
-    ghost use Rattle.std.specs.Prelude.{◌≤◌, length};
     ghost use Rattle.std.specs.Str.{bytes_eq};
     ghost use Rattle.lapdm_frame.specs.Layout.{n201};
     ghost use Rattle.lapdm_window.specs.declared.State.TheVariants as S;
-    ghost use Rattle.lapdm_window.specs.Tables.{sabm_in_idle, in_idle, sabm_in_opening, in_opening, in_closing, in_closed};
-    ghost use Rattle.lapdm_end.specs.Replies.{sabm_in_open, ua_in_opening};
+    ghost use Rattle.lapdm_frame.specs.Frames.{NumbersFit};
+    ghost use Rattle.lapdm_window.specs.Tables.{sabm_in_idle, in_idle, sabm_in_opening, ua_in_opening, in_opening, sabm_in_open, in_open};
+    ghost use Rattle.lapdm_window.specs.Tables.{in_closing, in_closed, in_state, reply};
     ghost use Rattle.lapdm_end.specs.Standing.{Stands, channel_of, state_of};
 
     // Whether this is the information of the SABM, whole.
@@ -82,7 +107,7 @@ impl End {
         requires idle { state_of self.now ≡ S.Idle }
         requires information { length info.now ≤ n201 (channel_of self.now) }
         ensures reply { (e : EndState) → Stands self.now e
-            → sabm_in_idle e.sapi e.role info.now e ≡ outcome_of result e }
+            → reply_of result ≡ sabm_in_idle e.sapi e.role info.now }
         ensures ready { IsReady self.now result }
     {
         match (self.link.sapi, self.link.role) {
@@ -104,30 +129,24 @@ impl End {
         }
     }
 
-    pub(crate) fn in_idle<'a>(&self, poll: bool, body: &Body<'a>) -> Reply<'a>
+    fn in_idle<'a>(&self, poll: bool, body: &Body<'a>) -> Reply<'a>
         requires idle { state_of self.now ≡ S.Idle }
         requires information { InformationFits (channel_of self.now) (content_of body.now) }
         ensures reply { (e : EndState) → Stands self.now e
-            → in_idle poll (content_of body.now) e ≡ outcome_of result e }
+            → reply_of result ≡ in_idle poll (content_of body.now) e }
         ensures ready { IsReady self.now result }
     {
         match *body {
             Body::Sabm { info, .. } => self.to_sabm_in_idle(info),
             Body::Disc { .. } => Reply::Dm,
-            Body::I { .. }
-            | Body::Rr { .. }
-            | Body::Rnr { .. }
-            | Body::Rej { .. }
-            | Body::Dm { .. }
-            | Body::Ui { .. }
-            | Body::Ua { .. } => dm_if(poll),
+            _ => dm_if(poll),
         }
     }
 
     fn to_sabm_in_opening<'a>(&self, info: &'a [u8]) -> Reply<'a>
         requires information { length info.now ≤ n201 (channel_of self.now) }
         ensures reply { (e : EndState) → Stands self.now e
-            → sabm_in_opening e.sapi info.now e ≡ outcome_of result e }
+            → reply_of result ≡ sabm_in_opening e.sapi info.now }
         ensures ready { IsReady self.now result }
     {
         match self.link.sapi {
@@ -147,7 +166,7 @@ impl End {
         requires opening { state_of self.now ≡ S.Opening }
         requires information { length info.now ≤ n201 (channel_of self.now) }
         ensures reply { (e : EndState) → Stands self.now e
-            → ua_in_opening info.now e ≡ outcome_of result e }
+            → reply_of result ≡ ua_in_opening info.now e }
         ensures ready { IsReady self.now result }
     {
         if self.is_kept(info) {
@@ -159,11 +178,11 @@ impl End {
         }
     }
 
-    pub(crate) fn in_opening<'a>(&self, body: &Body<'a>) -> Reply<'a>
+    fn in_opening<'a>(&self, body: &Body<'a>) -> Reply<'a>
         requires opening { state_of self.now ≡ S.Opening }
         requires information { InformationFits (channel_of self.now) (content_of body.now) }
         ensures reply { (e : EndState) → Stands self.now e
-            → in_opening (content_of body.now) e ≡ outcome_of result e }
+            → reply_of result ≡ in_opening (content_of body.now) e }
         ensures ready { IsReady self.now result }
     {
         match *body {
@@ -171,20 +190,14 @@ impl End {
             Body::Ua { f: true, info } => self.to_ua_in_opening(info),
             Body::Dm { f: true } => Reply::Closed(Reason::Refused),
             Body::Disc { .. } => Reply::Dm,
-            Body::Ua { f: false, .. }
-            | Body::Dm { f: false }
-            | Body::I { .. }
-            | Body::Rr { .. }
-            | Body::Rnr { .. }
-            | Body::Rej { .. }
-            | Body::Ui { .. } => Reply::Nothing,
+            _ => Reply::Nothing,
         }
     }
 
-    pub(crate) fn to_sabm_in_open<'a>(&self, info: &'a [u8]) -> Reply<'a>
+    fn to_sabm_in_open<'a>(&self, info: &'a [u8]) -> Reply<'a>
         requires information { length info.now ≤ n201 (channel_of self.now) }
         ensures reply { (e : EndState) → Stands self.now e
-            → sabm_in_open info.now e ≡ outcome_of result e }
+            → reply_of result ≡ sabm_in_open info.now e }
         ensures ready { IsReady self.now result }
     {
         if let (Sapi::Zero, Role::Mobile) = (self.link.sapi, self.link.role) {
@@ -197,8 +210,45 @@ impl End {
         }
     }
 
-    pub(crate) fn in_closing<'a>(&self, body: &Body<'a>) -> Reply<'a>
-        ensures reply { (e : EndState) → in_closing (content_of body.now) e ≡ outcome_of result e }
+    fn in_open<'a>(&self, command: bool, body: &Body<'a>) -> Reply<'a>
+        requires open { state_of self.now ≡ S.Open }
+        requires numbers { NumbersFit (content_of body.now) }
+        requires information { InformationFits (channel_of self.now) (content_of body.now) }
+        ensures reply { (e : EndState) → Stands self.now e
+            → reply_of result ≡ in_open command (content_of body.now) e }
+        ensures ready { IsReady self.now result }
+    {
+        match *body {
+            Body::I {
+                ns,
+                nr,
+                p,
+                more,
+                info,
+            } => Reply::I {
+                ns,
+                nr,
+                p,
+                more,
+                info,
+            },
+            Body::Rr { nr, pf } => Reply::Rr {
+                nr,
+                poll: command && pf,
+            },
+            Body::Rej { nr, pf } => Reply::Rej {
+                nr,
+                poll: command && pf,
+            },
+            Body::Sabm { info, .. } => self.to_sabm_in_open(info),
+            Body::Disc { .. } => Reply::Released,
+            Body::Dm { .. } => Reply::Closed(Reason::Failed),
+            _ => Reply::Nothing,
+        }
+    }
+
+    fn in_closing<'a>(&self, body: &Body<'a>) -> Reply<'a>
+        ensures reply { reply_of result ≡ in_closing (content_of body.now) }
         ensures ready { IsReady self.now result }
     {
         match *body {
@@ -211,31 +261,47 @@ impl End {
             }
             Body::Dm { f: true } => Reply::Closed(Reason::Released),
             Body::Disc { .. } => Reply::Ua(&[]),
-            Body::Ua { f: false, .. }
-            | Body::Dm { f: false }
-            | Body::I { .. }
-            | Body::Rr { .. }
-            | Body::Rnr { .. }
-            | Body::Rej { .. }
-            | Body::Sabm { .. }
-            | Body::Ui { .. } => Reply::Nothing,
+            _ => Reply::Nothing,
         }
     }
 
-    pub(crate) fn in_closed<'a>(&self, poll: bool, body: &Body<'a>) -> Reply<'a>
-        ensures reply { (e : EndState)
-            → in_closed poll (content_of body.now) e ≡ outcome_of result e }
+    fn in_closed<'a>(&self, poll: bool, body: &Body<'a>) -> Reply<'a>
+        ensures reply { reply_of result ≡ in_closed poll (content_of body.now) }
         ensures ready { IsReady self.now result }
     {
         match *body {
             Body::Sabm { .. } | Body::Disc { .. } => Reply::Dm,
-            Body::I { .. }
-            | Body::Rr { .. }
-            | Body::Rnr { .. }
-            | Body::Rej { .. }
-            | Body::Dm { .. }
-            | Body::Ui { .. }
-            | Body::Ua { .. } => dm_if(poll),
+            _ => dm_if(poll),
         }
+    }
+
+    fn in_state<'a>(&self, command: bool, body: &Body<'a>) -> Reply<'a>
+        requires numbers { NumbersFit (content_of body.now) }
+        requires information { InformationFits (channel_of self.now) (content_of body.now) }
+        ensures reply { (e : EndState) → Stands self.now e
+            → reply_of result ≡ in_state e.state command (content_of body.now) e }
+        ensures ready { IsReady self.now result }
+    {
+        match self.state {
+            State::Idle => self.in_idle(is_poll(command, body), body),
+            State::Opening => self.in_opening(body),
+            State::Open => self.in_open(command, body),
+            State::Closing => self.in_closing(body),
+            State::Closed => self.in_closed(is_poll(command, body), body),
+        }
+    }
+
+    /// What the end does with a frame of its SAPI, of a kind that is taken.
+    pub(crate) fn reply<'a>(&self, command: bool, body: &Body<'a>) -> Reply<'a>
+        requires numbers { NumbersFit (content_of body.now) }
+        requires information { InformationFits (channel_of self.now) (content_of body.now) }
+        ensures reply { (e : EndState) → Stands self.now e
+            → reply_of result ≡ reply command (content_of body.now) e }
+        ensures ready { IsReady self.now result }
+    {
+        if let Body::Ui { info, .. } = *body {
+            return unit(info);
+        }
+        self.in_state(command, body)
     }
 }

@@ -1,40 +1,25 @@
 //! The frames that an end takes.
 
 ghost use Rattle.std.specs.Prelude.{◌≡◌, ◌≤◌, [], ◌∷◌, ◌++◌, length};
-ghost use Rattle.lapdm_frame.specs.Layout.{n201, most_information};
+ghost use Rattle.lapdm_frame.specs.Layout.{n201};
 ghost use Rattle.lapdm_frame.specs.Content.{content_of, frame_of};
 ghost use Rattle.lapdm_frame.specs.Frames.{NumbersFit, InformationFits, Fits, octets_of};
 ghost use Rattle.lapdm_window.specs.declared.State.TheVariants as S;
 ghost use Rattle.lapdm_window.specs.Ends.{EndState, response};
-ghost use Rattle.lapdm_window.specs.Tables.{becomes_open, becomes_closed, opened_by, in_open, in_state, after_content, after_frame};
-ghost use Rattle.lapdm_end.specs.Units.{unit_notices};
+ghost use Rattle.lapdm_window.specs.Tables.{IsReleased, IsOpenedBy, becomes_open, becomes_closed, outcome_of, after_frame};
 
 use crate::ends::End;
-use crate::replies::{Reply, is_poll, is_taken};
+use crate::replies::{Reply, is_taken};
 use lapdm_frame::{Body, FrameView};
 use lapdm_window::{Effects, Message, Notice, Reason, State};
 use segmenting::Piece;
 
-// A unit with information is reported.
-fn take_unit(info: &[u8], effects: &mut Effects)
-    requires information { length info.now ≤ most_information }
-    requires no_notices { effects.old.notices ≡ [] }
-    ensures frames { effects.new.frames ≡ effects.old.frames }
-    ensures notices { effects.new.notices ≡ effects.old.notices ++ unit_notices info.now }
-{
-    if info.is_empty() {
-        return;
-    }
-    effects.notices.push(Notice::Unit(Message::new(info)));
-}
-
 impl End {
-    ghost use Rattle.lapdm_end.specs.declared.replies.Reply.TheVariants.{Released};
-    ghost use Rattle.lapdm_end.specs.Replies.{outcome_of, IsReady, MayBeOpenedBy};
+    ghost use Rattle.lapdm_end.specs.Replies.{reply_of, IsReady, MayBeOpenedBy};
     ghost use Rattle.lapdm_end.specs.Standing.{Stands, channel_of, sapi_of, state_of};
     ghost use Rattle.lapdm_end.specs.Following.{Follows, Obeys};
 
-    /// Takes a frame that came in. What stood in `effects` is gone.
+    /// Takes a frame that came in. Overwrites `effects`.
     pub fn take_into(&mut self, frame: &FrameView<'_>, effects: &mut Effects)
         requires { Fits (channel_of self.old) (frame_of frame.now) }
         ensures follows { Follows (after_frame (frame_of frame.now)) self.old effects.new self.new }
@@ -46,103 +31,15 @@ impl End {
         if frame.sapi != self.link.sapi_number() || !is_taken(command, &frame.body) {
             return;
         }
-        self.take_content(command, &frame.body, effects);
-    }
-
-    fn take_content(&mut self, command: bool, body: &Body<'_>, effects: &mut Effects)
-        requires numbers { NumbersFit (content_of body.now) }
-        requires information { InformationFits (channel_of self.old) (content_of body.now) }
-        requires no_frames { effects.old.frames ≡ [] }
-        requires no_notices { effects.old.notices ≡ [] }
-        ensures follows { Obeys (after_content command (content_of body.now)) self.old self.new
-            effects.old effects.new }
-        ensures sapi { sapi_of self.new ≡ sapi_of self.old }
-        ensures channel { channel_of self.new ≡ channel_of self.old }
-    {
-        if let Body::Ui { info, .. } = *body {
-            take_unit(info, effects);
-            return;
-        }
-        self.take_in_state(command, body, effects);
-    }
-
-    fn take_in_state(&mut self, command: bool, body: &Body<'_>, effects: &mut Effects)
-        requires numbers { NumbersFit (content_of body.now) }
-        requires information { InformationFits (channel_of self.old) (content_of body.now) }
-        requires no_frames { effects.old.frames ≡ [] }
-        requires no_notices { effects.old.notices ≡ [] }
-        ensures follows { Obeys (λ e. in_state e.state command (content_of body.now) e)
-            self.old self.new effects.old effects.new }
-        ensures sapi { sapi_of self.new ≡ sapi_of self.old }
-        ensures channel { channel_of self.new ≡ channel_of self.old }
-    {
-        match self.state {
-            State::Idle => {
-                let reply = self.in_idle(is_poll(command, body), body);
-                self.carry_out(reply, effects);
-            }
-            State::Opening => {
-                let reply = self.in_opening(body);
-                self.carry_out(reply, effects);
-            }
-            State::Open => self.take_in_open(command, body, effects),
-            State::Closing => {
-                let reply = self.in_closing(body);
-                self.carry_out(reply, effects);
-            }
-            State::Closed => {
-                let reply = self.in_closed(is_poll(command, body), body);
-                self.carry_out(reply, effects);
-            }
-        }
-    }
-
-    fn take_in_open(&mut self, command: bool, body: &Body<'_>, effects: &mut Effects)
-        requires open { state_of self.old ≡ S.Open }
-        requires numbers { NumbersFit (content_of body.now) }
-        requires information { InformationFits (channel_of self.old) (content_of body.now) }
-        requires no_frames { effects.old.frames ≡ [] }
-        requires no_notices { effects.old.notices ≡ [] }
-        ensures follows { Obeys (in_open command (content_of body.now)) self.old self.new
-            effects.old effects.new }
-        ensures sapi { sapi_of self.new ≡ sapi_of self.old }
-        ensures channel { channel_of self.new ≡ channel_of self.old }
-    {
-        match *body {
-            Body::I {
-                ns,
-                nr,
-                p,
-                more,
-                info,
-            } => {
-                let piece = Piece { octets: info, more };
-                self.link
-                    .take_i(ns, nr, p, piece, &mut self.window, effects);
-            }
-            Body::Rr { nr, .. } => {
-                let poll = is_poll(command, body);
-                self.link.take_rr(nr, poll, &mut self.window, effects);
-            }
-            Body::Rej { nr, .. } => {
-                let poll = is_poll(command, body);
-                self.link.take_rej(nr, poll, &mut self.window, effects);
-            }
-            Body::Sabm { info, .. } => {
-                let reply = self.to_sabm_in_open(info);
-                self.carry_out(reply, effects);
-            }
-            Body::Disc { .. } => self.carry_out(Reply::Released, effects),
-            Body::Dm { .. } => self.carry_out(Reply::Closed(Reason::Failed), effects),
-            Body::Rnr { .. } | Body::Ui { .. } | Body::Ua { .. } => {}
-        }
+        let reply = self.reply(command, &frame.body);
+        self.carry_out(reply, effects);
     }
 
     fn carry_out(&mut self, reply: Reply<'_>, effects: &mut Effects)
         requires ready { IsReady self.old reply }
         requires no_frames { effects.old.frames ≡ [] }
         requires no_notices { effects.old.notices ≡ [] }
-        ensures follows { Obeys (outcome_of reply.entry) self.old self.new effects.old effects.new }
+        ensures follows { Obeys (outcome_of (reply_of reply.entry)) self.old self.new effects.old effects.new }
         ensures sapi { sapi_of self.new ≡ sapi_of self.old }
         ensures channel { channel_of self.new ≡ channel_of self.old }
     {
@@ -154,6 +51,20 @@ impl End {
             Reply::Opened(info) => self.go_open(info, effects),
             Reply::Closed(reason) => self.end_with(reason, effects),
             Reply::Released => self.be_released(effects),
+            Reply::Unit(info) => effects.notices.push(Notice::Unit(Message::new(info))),
+            Reply::I {
+                ns,
+                nr,
+                p,
+                more,
+                info,
+            } => {
+                let piece = Piece { octets: info, more };
+                self.link
+                    .take_i(ns, nr, p, piece, &mut self.window, effects);
+            }
+            Reply::Rr { nr, poll } => self.link.take_rr(nr, poll, &mut self.window, effects),
+            Reply::Rej { nr, poll } => self.link.take_rej(nr, poll, &mut self.window, effects),
         }
     }
 
@@ -175,7 +86,7 @@ impl End {
         requires may { MayBeOpenedBy self.old info.now }
         requires no_frames { effects.old.frames ≡ [] }
         requires no_notices { effects.old.notices ≡ [] }
-        ensures follows { Obeys (opened_by info.now) self.old self.new effects.old effects.new }
+        ensures follows { Obeys (outcome_of (IsOpenedBy info.now)) self.old self.new effects.old effects.new }
         ensures sapi { sapi_of self.new ≡ sapi_of self.old }
         ensures channel { channel_of self.new ≡ channel_of self.old }
     {
@@ -213,7 +124,7 @@ impl End {
     fn be_released(&mut self, effects: &mut Effects)
         requires no_frames { effects.old.frames ≡ [] }
         requires no_notices { effects.old.notices ≡ [] }
-        ensures follows { Obeys (outcome_of Released) self.old self.new effects.old effects.new }
+        ensures follows { Obeys (outcome_of IsReleased) self.old self.new effects.old effects.new }
         ensures sapi { sapi_of self.new ≡ sapi_of self.old }
         ensures channel { channel_of self.new ≡ channel_of self.old }
     {

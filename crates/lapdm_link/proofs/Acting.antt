@@ -1,16 +1,16 @@
 -- What an end does at a call that is not refused, or at a frame: what it tells and sends, what becomes of its link, and that
 -- both directions are kept.
-use Rattle.lapdm_link.proofs.Words.{◌≡◌, refl, sym, ◌∙◌, ap, subst, ℕ, ◌≤◌, List, [], ◌∷◌, ◌++◌, length, Option, Some, None, inl, ◌⊎◌, filter_map, cons_option, append-nil, Content, I, Rr, Rej, Sabm, Ui, Ua, Frame, Message, Piece, false, Sapi, Zero, Three, State, Idle, Opening, Closing, Closed, Notice, Role, Network, EndState, Outcome, KeepsWindow, all_pieces, IsSameLink, Call, Opens, OpensBare, SendsUnit, Idles, sent_in, unit_sent_in, unit_got_in, opened_in}
+use Rattle.lapdm_link.proofs.Words.{HasBegun, MayOpen, ◌≡◌, refl, sym, ◌∙◌, ap, subst, ℕ, ◌≤◌, List, [], ◌∷◌, ◌++◌, length, Option, Some}
+use Rattle.lapdm_link.proofs.Words.{None, inl, ◌⊎◌, filter_map, cons_option, append-nil, Content, I, Rr, Rej, Sabm, Ui, Ua, Frame, Message}
+use Rattle.lapdm_link.proofs.Words.{Piece, false, State, Idle, Opening, Closing, Closed, Notice, EndState}
+use Rattle.lapdm_link.proofs.Words.{Outcome, KeepsWindow, all_pieces, IsSameLink, Call, Opens, OpensBare, SendsUnit, Idles, sent_in}
+use Rattle.lapdm_link.proofs.Words.{unit_sent_in, unit_got_in, opened_in}
 use Rattle.lapdm_window.specs.declared.State.TheVariants.{Open}
 use Rattle.lapdm_window.specs.declared.Notice.TheVariants as N
 use Rattle.lapdm_link.proofs.Queues.{content_of, contents, IsPlain, AllFrames, AllOf, of-as, frames-as, frames-say}
 use Rattle.lapdm_link.proofs.Told.{Known, known, asked, Tells}
 use Rattle.lapdm_link.proofs.Telling.{SaysWell, IsOfOpen, InOpen}
 use Rattle.lapdm_link.proofs.Keeping.{Way, IsBoth, Both, sends_plain, moved, gone}
-
--- the end asked for the link or has it
-abbrev HasBegun : EndState → Type 0
-HasBegun x = (x.state ≡ Opening) ⊎ ((x.state ≡ Open) ⊎ (x.state ≡ Closing))
 
 -- what an end sends at a call, or at none, which leaves it in this state: a UA has the information of the open link, or
 -- none, once it began
@@ -29,12 +29,6 @@ abbrev pub IsOpening : Option Call → Message → Type 0
 IsOpening (Some (Opens info)) k = (k ≡ info) × (1 ≤ length k)
 IsOpening (Some OpensBare) k = k ≡ []
 IsOpening other k = ⊥
-
--- an end that a SABM may open
-abbrev pub MayOpen : Sapi → Role → Message → Type 0
-MayOpen Zero Network (i ∷ is) = Unit {0}
-MayOpen Three r [] = Unit {0}
-MayOpen s r info = ⊥
 
 abbrev pub OpensBy : Content → EndState → Message → Type 0
 OpensBy (Sabm p i) x info = (i ≡ info) × (x.state ≡ Idle) × MayOpen x.sapi x.role info

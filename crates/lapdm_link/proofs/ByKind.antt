@@ -1,6 +1,12 @@
 -- Each event is refused, or is of one of five kinds.
-use Rattle.lapdm_link.proofs.Words.{arith, ◌≡◌, refl, sym, ap, subst, Bool, true, false, List, [], ◌∷◌, map, nat_eq, Option, Some, None, if◌then◌else◌, append-nil, Frame, Message, Sapi, Zero, Three, Refused, Role, Mobile, Network, sapi_number, Call, Opens, OpensBare, refusal_of, after_call, after_frame, Request, Event, Open, OpenBare, Ask, Deliver, Lose, Rival, other, rival_frame, Deed, does, does_nothing, deed, End, Why, AirFull, because, unless, rival_refusal, call_of, World, next, refusal, after_by, answer_by, answer, after, Line, Asked, Rivals, Told, notice_lines, answer_lines}
+use Rattle.lapdm_link.proofs.Words.{arith, ◌≡◌, refl, sym, ap, subst, Bool, true, List, [], ◌∷◌, map, nat_eq, Option, Some, None}
+use Rattle.lapdm_link.proofs.Words.{append-nil, Frame, Message, Sapi, Zero, Three, Refused, Role, Mobile, Network}
+use Rattle.lapdm_link.proofs.Words.{sapi_number, Call, Opens, OpensBare, refusal_of, after_call, after_frame, Request, Event, Open}
+use Rattle.lapdm_link.proofs.Words.{OpenBare, Ask, Deliver, Lose, Rival, other, rival_frame, deed, End, Why, by_side, side_in, by_sapi}
+use Rattle.lapdm_link.proofs.Words.{AirFull, because, unless, rival_refusal, call_of, World, next, refusal, after_by, answer_by, answer}
+use Rattle.lapdm_link.proofs.Words.{after, Line, Asked, Rivals, Told, notice_lines, answer_lines}
 use Rattle.lapdm_link.proofs.Views.{end_of, without_first, with_frames, acted}
+use Rattle.lapdm_window.specs.Sides as S
 
 -- a mobile alone opens the link of SAPI 0, and by some information; that of SAPI 3 is opened bare
 abbrev pub IsPlaced : Role → Sapi → Call → Type 0
@@ -45,13 +51,18 @@ module _ (w : World) (P : World → List Line → Type 0) (Known : Role → Fram
     quietly : (sender r : Role) → P (with_frames r [] (without_first sender w)) []
     quietly sender r = subst (λ (z : World). P z []) (sym (none_sent r (without_first sender w))) (lost sender)
 
-    taken_by : (r : Role) (f : Frame) → Known (other r) f → (zero three : Bool) → nat_eq f.sapi 0 ≡ zero → nat_eq f.sapi 3 ≡ three →
-        (let d : Deed = (if zero then does r Zero (after_frame f (end_of r Zero w)) w.ends else
-        (if three then does r Three (after_frame f (end_of r Three w)) w.ends else does_nothing (End r) w.ends)) in P
-        (next d (without_first (other r) w)) (notice_lines d.who d.sapi d.notices))
-    taken_by r f known true three on e = taken r Zero f on known
-    taken_by r f known false true e on = taken r Three f on known
-    taken_by r f known false false e e' = quietly (other r) r
+    -- a side does this with what arrives
+    abbrev Arrives : Role → S.Deed → Type 0
+    Arrives r d = P (next (by_side r d w.ends) (without_first (other r) w)) (notice_lines (End r) d.sapi d.notices)
+
+    none_taken : (r : Role) → Arrives r (S.does_nothing (side_in r w.ends))
+    none_taken Mobile = quietly Network Mobile
+    none_taken Network = quietly Mobile Network
+
+    taken_by : (r : Role) (f : Frame) → Known (other r) f → Arrives r (S.takes f (side_in r w.ends))
+    taken_by r f known =
+        by_sapi f (side_in r w.ends) (Arrives r) (λ zero. taken r Zero f (ap (λ n. nat_eq n 0) zero) known)
+        (λ three. taken r Three f (ap (λ n. nat_eq n 3) three) known) (λ e e'. none_taken r)
 
     pub by_kind : (event : Event) → KnowsBy (refusal event w) Known event → P (after event w) (answer_lines event (answer event w))
     by_kind (Open info) known = either _ (Open info) known (λ e k. called Mobile Zero (Opens info) (refl, refl) (no_refusal _ _ e))
@@ -59,9 +70,10 @@ module _ (w : World) (P : World → List Line → Type 0) (Known : Role → Fram
     by_kind (Ask r s request) known =
         either _ (Ask r s request) known (λ e k. called r s (call_of request) (placed-request r s request) (no_refusal _ _ e))
     by_kind (Deliver Mobile (Some f)) known =
-        either _ (Deliver Mobile (Some f)) known (λ e k. taken_by Network f k (nat_eq f.sapi 0) (nat_eq f.sapi 3) refl refl)
+        either _ (Deliver Mobile (Some f)) known (λ e k. taken_by Network f k)
     by_kind (Deliver Network (Some f)) known =
-        either _ (Deliver Network (Some f)) known (λ e k. taken_by Mobile f k (nat_eq f.sapi 0) (nat_eq f.sapi 3) refl refl)
-    by_kind (Deliver sender None) known = either _ (Deliver sender None) known (λ e k. quietly sender (other sender))
+        either _ (Deliver Network (Some f)) known (λ e k. taken_by Mobile f k)
+    by_kind (Deliver Mobile None) known = either _ (Deliver Mobile None) known (λ e k. none_taken Network)
+    by_kind (Deliver Network None) known = either _ (Deliver Network None) known (λ e k. none_taken Mobile)
     by_kind (Lose sender) known = either _ (Lose sender) known (λ e k. quietly sender Mobile)
     by_kind (Rival info) known = either _ (Rival info) known (λ e k. rival info (no_refusal _ _ e))

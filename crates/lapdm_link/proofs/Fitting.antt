@@ -1,8 +1,17 @@
 -- Every frame on its way can be written.
-use Rattle.lapdm_link.proofs.Words.{◌≡◌, sym, subst, List, [], ◌∷◌, ◌++◌, None, All, refl, ◌∙◌, ap, arith, false, nat_eq, nat_lt, length, ◌≤◌, Bool, true, if◌then◌else◌, Option, Some, All-nil, All-cons, All-head, All-tail, All-append, All-drop, drop-append_seam, Channel, Frame, Message, Sapi, Role, Mobile, Network, EndState, Outcome, start, IsEnd, Call, refusal_of, after_call, HasCall, after_frame, Event, other, rival_frame, rival_refusal, Deliver, Ends, end_in, sender_of, Deed, does, does_nothing, deed, End, taken, Why, World, start_on, refusal, answer, after, answer_by, after_by, answers, IsReadable, IsSendable, Line, Rivals, answer_lines, nat_tests, n201, Fits, Zero, Three, passes, plain_fits, Keeps, keeps-frame, keeps-call, IsEnd-start, few-frame, few-call, Ways, with_more, All-push}
-use Rattle.lapdm_link.proofs.Views.{end_of, way, without_first, with_frames, acted, said, ends_do, each_way, each_lost, each_start, way_does, way_does-other}
+use Rattle.lapdm_link.proofs.Words.{◌≡◌, sym, subst, List, [], ◌∷◌, ◌++◌, None, All, refl, ◌∙◌, ap, arith, false, nat_eq, nat_lt, length}
+use Rattle.lapdm_link.proofs.Words.{◌≤◌, Option, Some, All-nil, All-cons, All-head, All-tail, All-append}
+use Rattle.lapdm_link.proofs.Words.{All-drop, drop-append_seam, Channel, Frame, Message, Sapi, Role, Mobile, Network, EndState, Outcome}
+use Rattle.lapdm_link.proofs.Words.{start, IsEnd, Call, refusal_of, after_call, HasCall, after_frame, Event, other, rival_frame}
+use Rattle.lapdm_link.proofs.Words.{rival_refusal, Deliver, Ends, end_in, sender_of, Deed, by_side, side_in, by_sapi, deed, taken, Why}
+use Rattle.lapdm_link.proofs.Words.{World, start_on, refusal, answer, after, answer_by, after_by, answers, IsReadable, IsSendable, Line}
+use Rattle.lapdm_link.proofs.Words.{Rivals, answer_lines, nat_tests, n201, Fits, Zero, Three, passes, plain_fits, Keeps, keeps-frame}
+use Rattle.lapdm_link.proofs.Words.{keeps-call, IsEnd-start, few-frame, few-call, Ways, with_more, All-push}
+use Rattle.lapdm_link.proofs.Views.{end_of, way, without_first, with_frames, acted, said, ends_do, each_way, each_lost, each_start}
+use Rattle.lapdm_link.proofs.Views.{way_does, way_does-other}
 use Rattle.lapdm_link.proofs.ByKind.{IsPlaced, KnowsBy, by_kind}
 use Rattle.lapdm_link.specs.Ways as W
+use Rattle.lapdm_window.specs.Sides as S
 use Rattle.lapdm_window.specs.declared.Refused.TheVariants as No
 
 -- ---- what holds of each end and of each frame on its way, step by step
@@ -117,15 +126,13 @@ deed-fits channel w event known h none =
 abbrev IsFew : Deed → Type 0
 IsFew d = (length d.frames ≤ 2) × (length d.notices ≤ 2)
 
-few-takes : (r : Role) (f : Frame) (es : Ends) (zero three : Bool) →
-    IsFew (if zero then does r Zero (after_frame f (end_in r Zero es)) es else
-    (if three then does r Three (after_frame f (end_in r Three es)) es else does_nothing (End r) es))
-few-takes r f es true three = (let h = few-frame f (end_in r Zero es) in (h.frames, h.notices))
-few-takes r f es false true = (let h = few-frame f (end_in r Three es) in (h.frames, h.notices))
-few-takes r f es false false = (omega arith, omega arith)
+few-takes : (r : Role) (f : Frame) (es : Ends) → IsFew (by_side r (S.takes f (side_in r es)) es)
+few-takes r f es =
+    by_sapi f (side_in r es) (λ d. IsFew (by_side r d es)) (λ zero. (let h = few-frame f (end_in r Zero es) in (h.frames, h.notices)))
+    (λ three. (let h = few-frame f (end_in r Three es) in (h.frames, h.notices))) (λ e e'. (omega arith, omega arith))
 
 few-deed : (event : Event) (es : Ends) → IsFew (deed event es)
-few-deed (Deliver sender (Some f)) es = few-takes (other sender) f es (nat_eq f.sapi 0) (nat_eq f.sapi 3)
+few-deed (Deliver sender (Some f)) es = few-takes (other sender) f es
 few-deed event es = grind (arith, few-call)
 
 sendable : (channel : Channel) (w : World) (event : Event) (o : Option Why) → IsFitting channel (after_by o event w) →

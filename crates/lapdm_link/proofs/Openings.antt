@@ -1,12 +1,15 @@
 -- Each opening has its cause before it: what was asked or told before a SABM or UA went out, and before an end came into
 -- its state.
-use Rattle.lapdm_link.proofs.Words.{◌≡◌, refl, ap, arith, ◌≤◌, List, [], ◌∷◌, ◌++◌, map, length, inl, inr, Option, Some, None, ◌⊎◌, Contains, cons_option, filter_map, Contains-append_left, Contains-push, append_assoc, false, Content, Sabm, Ua, Ui, Message, Sapi, Zero, Three, State, Notice, Role, Mobile, Network, EndState, Outcome, Call, Opens, OpensBare, other, Line, Asked, Rivals, Told, HasCause, opened_in}
+use Rattle.lapdm_link.proofs.Words.{MayOpen, ◌≡◌, refl, ap, arith, ◌≤◌, List, [], ◌∷◌, ◌++◌, map, length, inl, inr, Option, Some, None, ◌⊎◌}
+use Rattle.lapdm_link.proofs.Words.{Contains, cons_option, filter_map, Contains-append_left, Contains-push, append_assoc, false, Content}
+use Rattle.lapdm_link.proofs.Words.{Sabm, Ua, Ui, Message, Sapi, Zero, Three, State, Notice, Role, Mobile, Network, EndState, Outcome, Call}
+use Rattle.lapdm_link.proofs.Words.{Opens, OpensBare, other, Line, Asked, Rivals, Told, HasCause, opened_in}
 use Rattle.lapdm_window.specs.declared.State.TheVariants as S
 use Rattle.lapdm_window.specs.declared.Notice.TheVariants as N
 use Rattle.lapdm_link.proofs.Queues.{content_of, contents, AllOf, of-append, of-as, frames-say}
 use Rattle.lapdm_link.proofs.ByKind.{IsPlaced}
 use Rattle.lapdm_link.proofs.Order.{AllStand}
-use Rattle.lapdm_link.proofs.Acting.{Says, MayOpen, OpensBy, IsOpening, Goes, IsDone, remains, ends, closes, begins, opens}
+use Rattle.lapdm_link.proofs.Acting.{Says, OpensBy, IsOpening, Goes, IsDone, remains, ends, closes, begins, opens}
 use Rattle.lapdm_link.proofs.Links.{Side, Act, lines, IsActed, called, took, rival, after, other_after}
 
 -- by what call an end may be asked to open its link with this information: on SAPI 0 the mobile with some, on SAPI 3

@@ -1,5 +1,9 @@
 -- What an end does at any frame.
-use Rattle.lapdm_link.proofs.Words.{◌≡◌, refl, sym, ap, arith, ◌≤◌, Bool, true, false, ◌&&◌, if◌then◌else◌, List, [], ◌∷◌, Some, None, inl, inr, bytes_eq, append-nil, bytes_eq-Decides, Content, I, Rr, Rej, Sabm, Dm, Ui, Disc, Ua, Frame, Message, Sapi, Zero, Three, State, Idle, Opening, Closing, Closed, Reason, Notice, Role, Mobile, Network, EndState, Outcome, KeepsWindow, stays, ◌then◌, vr, is_command, is_poll, says_ua, becomes_open, sabm_in_idle, dm_to_poll, in_idle, other_ua, sabm_in_opening, in_opening, answers_sabm, in_open, in_closing, in_closed, in_state, after_content, after_frame}
+use Rattle.lapdm_link.proofs.Words.{◌≡◌, refl, sym, ap, subst, arith, ◌≤◌, List, [], ◌∷◌, Some, None, inl, inr, append-nil, Content, I, Rr}
+use Rattle.lapdm_link.proofs.Words.{Rej, Ui, Frame, Message, State, Closed, Reason, Notice, EndState, Outcome, KeepsWindow, vr, takes_i}
+use Rattle.lapdm_link.proofs.Words.{takes_rr, takes_rej, after_frame, HasBegun, IsReplyTo, cause_of}
+use Rattle.lapdm_window.specs.Tables.{Reply, Nothing, SaysDm, SaysUa, IsOpenedBy, IsOpen, IsClosed, IsReleased, TakesUnit, TakesI, TakesRr}
+use Rattle.lapdm_window.specs.Tables.{TakesRej, outcome_of, reply_to}
 use Rattle.lapdm_window.specs.declared.State.TheVariants.{Open}
 use Rattle.lapdm_window.specs.declared.Notice.TheVariants as N
 use Rattle.lapdm_link.proofs.Queues.{content_of, AllFrames, frames-say}
@@ -38,85 +42,39 @@ module _ (x : EndState) (w : KeepsWindow x) where
       IsTaken c x (record { after = record x { state = Open; kept = k }; frames = fs; notices = N.Opened info ∷ [] })
   opened k info fs not_yet e h cause = becomes Open k fs _ h (not_yet, refl) (opens refl refl e cause) (inl refl)
 
-  -- the tables
-  taken-sabm_in_idle : (p : Bool) (s : Sapi) (r : Role) (info : Message) → x.state ≡ Idle → x.sapi ≡ s → x.role ≡ r →
-      IsTaken (Sabm p info) x (sabm_in_idle s r info x)
-  taken-sabm_in_idle p Zero Mobile info e a b = quietly _ (inl refl, (tt, tt), tt)
-  taken-sabm_in_idle p Zero Network [] e a b = quietly _ tt
-  taken-sabm_in_idle p Zero Network (i ∷ is) e a b =
-      opened (i ∷ is) (i ∷ is) _ (ap stage_of e) refl (inl refl, (tt, inl (refl, refl)), tt) (refl, e, rw (a, b) tt)
-  taken-sabm_in_idle p Three r [] e a b = opened [] [] _ (ap stage_of e) refl (inl refl, (tt, inl (refl, refl)), tt) (refl, e, rw a tt)
-  taken-sabm_in_idle p Three r (i ∷ is) e a b = quietly _ tt
+  began : HasBegun x → stage_of x.state ≤ 2
+  began (inl e) = rw e (omega arith)
+  began (inr (inl e)) = rw e (omega arith)
+  began (inr (inr e)) = rw e (omega arith)
 
-  taken-dm_to_poll : (poll : Bool) (c : Content) → IsTaken c x (dm_to_poll poll x)
-  taken-dm_to_poll true c = quietly _ (inl refl, (tt, tt), tt)
-  taken-dm_to_poll false c = quietly _ tt
-
-  taken-in_idle : (poll : Bool) (c : Content) → x.state ≡ Idle → IsTaken c x (in_idle poll c x)
-  taken-in_idle poll (Sabm p info) e = taken-sabm_in_idle p x.sapi x.role info e refl refl
-  taken-in_idle poll (Disc p) e = quietly _ (inl refl, (tt, tt), tt)
-  taken-in_idle poll other e = taken-dm_to_poll poll other
-
-  taken-sabm_in_opening : (p : Bool) (s : Sapi) (info : Message) → x.state ≡ Opening → IsTaken (Sabm p info) x (sabm_in_opening s info x)
-  taken-sabm_in_opening p Three [] e = quietly _ (inl refl, (tt, inr (refl, inl e)), tt)
-  taken-sabm_in_opening p s info e = quietly _ tt
-
-  taken-ua_in_opening : (s : Sapi) (same : Bool) (info : Message) → x.state ≡ Opening → bytes_eq info x.kept ≡ same →
-      IsTaken (Ua true info) x (if same then becomes_open info x else other_ua s x)
-  taken-ua_in_opening s true info e same =
-      let as_kept : info ≡ x.kept = (bytes_eq-Decides info x.kept).0 same in
-      opened x.kept info [] (ap stage_of e) (sym as_kept) tt (refl, e, as_kept)
-  taken-ua_in_opening Zero false info e same = over [] (rw e (omega arith)) tt
-  taken-ua_in_opening Three false info e same = quietly _ tt
-
-  taken-in_opening : (c : Content) → x.state ≡ Opening → IsTaken c x (in_opening c x)
-  taken-in_opening (Sabm p info) e = taken-sabm_in_opening p x.sapi info e
-  taken-in_opening (Ua true info) e = taken-ua_in_opening x.sapi (bytes_eq info x.kept) info e refl
-  taken-in_opening (Dm true) e = over [] (rw e (omega arith)) tt
-  taken-in_opening (Disc p) e = quietly _ (inl refl, (tt, tt), tt)
-  taken-in_opening other e = quietly _ tt
-
-  taken-ua_if : (p : Bool) (answers same : Bool) (info : Message) → x.state ≡ Open → bytes_eq info x.kept ≡ same →
-      IsTaken (Sabm p info) x (if answers && same then says_ua info x else stays x)
-  taken-ua_if p true true info e same = quietly _ (inl refl, (tt, inl (e, sym ((bytes_eq-Decides info x.kept).0 same))), tt)
-  taken-ua_if p answers same info e h = quietly _ tt
-
-  taken-in_open : (cmd : Bool) (c : Content) → x.state ≡ Open → IsTaken c x (in_open cmd c x)
-  taken-in_open cmd (I ns nr p more info) e =
-      rule (I ns nr p more info) refl (in-takes_i (I ns nr p more info) nr ns p (info, more) (λ k e. e) (λ y k e. e) x e w)
-  taken-in_open cmd (Rr nr pf) e = rule (Rr nr pf) refl (in-takes_rr (Rr nr pf) nr (vr x) (λ k e. e) (cmd && pf) x e w)
-  taken-in_open cmd (Rej nr pf) e = rule (Rej nr pf) refl (in-takes_rej (Rej nr pf) nr (vr x) (λ k e. e) (cmd && pf) x e w)
-  taken-in_open cmd (Sabm p info) e = taken-ua_if p (answers_sabm x.sapi x.role) (bytes_eq info x.kept) info e refl
-  taken-in_open cmd (Disc p) e = over _ (rw e (omega arith)) (inl refl, (tt, inr (refl, inr (inl e))), tt)
-  taken-in_open cmd (Dm f) e = over [] (rw e (omega arith)) tt
-  taken-in_open cmd other e = quietly _ tt
-
-  taken-in_closing : (c : Content) → x.state ≡ Closing → IsTaken c x (in_closing c x)
-  taken-in_closing (Ua true []) e = over [] (rw e (omega arith)) tt
-  taken-in_closing (Dm true) e = over [] (rw e (omega arith)) tt
-  taken-in_closing (Disc p) e = quietly _ (inl refl, (tt, inr (refl, inr (inr e))), tt)
-  taken-in_closing other e = quietly _ tt
-
-  taken-in_closed : (poll : Bool) (c : Content) → IsTaken c x (in_closed poll c x)
-  taken-in_closed poll (Sabm p info) = quietly _ (inl refl, (tt, tt), tt)
-  taken-in_closed poll (Disc p) = quietly _ (inl refl, (tt, tt), tt)
-  taken-in_closed poll other = taken-dm_to_poll poll other
-
-  taken-in_state : (s : State) (cmd : Bool) (c : Content) → x.state ≡ s → IsTaken c x (in_state s cmd c x)
-  taken-in_state Idle cmd c e = taken-in_idle (is_poll cmd c) c e
-  taken-in_state Opening cmd c e = taken-in_opening c e
-  taken-in_state Open cmd c e = taken-in_open cmd c e
-  taken-in_state Closing cmd c e = taken-in_closing c e
-  taken-in_state Closed cmd c e = taken-in_closed (is_poll cmd c) c
-
-  taken-content : (cmd : Bool) (c : Content) → IsTaken c x (after_content cmd c x)
-  taken-content cmd (Ui p []) = quietly _ tt
-  taken-content cmd (Ui p (i ∷ is)) = becomes x.state x.kept [] _ tt (tt, refl) (remains refl refl refl) (inr refl)
-  taken-content cmd other = taken-in_state x.state cmd other refl
-
-  taken-if : (b cmd : Bool) (c : Content) → IsTaken c x (if b then after_content cmd c x else stays x)
-  taken-if true cmd c = taken-content cmd c
-  taken-if false cmd c = quietly _ tt
+  taken-reply : (r : Reply) (c : Content) → IsReplyTo c x r → IsTaken c x (outcome_of r x)
+  taken-reply Nothing c cause = quietly _ tt
+  taken-reply SaysDm c cause = quietly _ (inl refl, (tt, tt), tt)
+  taken-reply (SaysUa info) c cause = quietly _ (inl refl, (tt, cause), tt)
+  taken-reply (IsOpenedBy info) c cause =
+      opened info info _ (ap stage_of cause.2) refl (inl refl, (tt, inl (refl, refl)), tt)
+      (subst (λ d. OpensBy d x info) (sym cause.1) (refl, cause.2, cause.3))
+  taken-reply (IsOpen info) c cause =
+      opened x.kept info [] (ap stage_of cause.1) (sym cause.2) tt
+      (subst (λ d. OpensBy d x info) (sym cause.0) (refl, cause.1, cause.2))
+  taken-reply (IsClosed reason) c cause = over [] (began cause) tt
+  taken-reply IsReleased c cause = over _ (rw cause (omega arith)) (inl refl, (tt, inr (refl, inr (inl cause))), tt)
+  taken-reply (TakesUnit []) c cause = absurd (omega (arith, cause.2))
+  taken-reply (TakesUnit (i ∷ is)) c cause =
+      subst (λ d. IsTaken d x (outcome_of (TakesUnit (i ∷ is)) x)) (sym cause.1)
+      (becomes x.state x.kept [] _ tt (tt, refl) (remains refl refl refl) (inr refl))
+  taken-reply (TakesI ns nr p piece) c cause =
+      let i : Content = I ns nr p piece.1 piece.0 in
+      subst (λ d. IsTaken d x (takes_i ns nr p piece x)) (sym cause.0)
+      (rule i refl (in-takes_i i nr ns p piece (λ k e. e) (λ y k e. e) x cause.1 w))
+  taken-reply (TakesRr nr poll) c cause =
+      let rr : Content = Rr nr cause.0 in
+      subst (λ d. IsTaken d x (takes_rr nr poll x)) (sym cause.1)
+      (rule rr refl (in-takes_rr rr nr (vr x) (λ k e. e) poll x cause.2 w))
+  taken-reply (TakesRej nr poll) c cause =
+      let rej : Content = Rej nr cause.0 in
+      subst (λ d. IsTaken d x (takes_rej nr poll x)) (sym cause.1)
+      (rule rej refl (in-takes_rej rej nr (vr x) (λ k e. e) poll x cause.2 w))
 
   pub taken-frame : (f : Frame) → IsTaken f.content x (after_frame f x)
-  taken-frame f = taken-if _ (is_command x f) f.content
+  taken-frame f = taken-reply (reply_to f x) f.content (cause_of x f)

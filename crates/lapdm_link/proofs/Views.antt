@@ -1,5 +1,9 @@
 -- Parts of a world after one of them changed, and of lines after more of them.
-use Rattle.lapdm_link.proofs.Words.{arith, Some, ◌≡◌, refl, Bool, true, false, ◌&&◌, List, [], ◌∷◌, ◌++◌, map, drop, Option, None, append-nil, filter_map, filter_map-append, Channel, Frame, Message, Sapi, Notice, Role, EndState, Outcome, start, Call, other, end_in, with_end_in, World, start_on, Line, Asked, Rivals, Told, is_role, is_sapi, call_in, notice_in, calls, notices}
+use Rattle.lapdm_link.proofs.Words.{arith, Some, ◌≡◌, refl, Bool, true, false, ◌&&◌, List, [], ◌∷◌, ◌++◌, map, drop, Option, None}
+use Rattle.lapdm_link.proofs.Words.{append-nil, filter_map, filter_map-append, Channel, Frame, Message, Sapi, Zero, Three, Notice, Role}
+use Rattle.lapdm_link.proofs.Words.{Mobile, Network, EndState, Outcome, start, Call, other, end_in, with_end_in, World, start_on, Line}
+use Rattle.lapdm_link.proofs.Words.{Asked, Rivals, Told, is_role, is_sapi, call_in, notice_in, calls, notices}
+use Rattle.lapdm_window.specs.Sides.{SideState, link_in, with_link_in}
 use Rattle.lapdm_link.specs.Ways as W
 
 -- the words on ways, of a whole session
@@ -39,11 +43,22 @@ pub each_start : (P : Role → Sapi → EndState → Type 0) (channel : Channel)
     (r : Role) (s : Sapi) → P r s (end_of r s (start_on channel))
 each_start P channel h r s = grind arith
 
+-- so on one side: what holds of an end after what it did, and of the other end, holds of both
+side_does : (P : Sapi → EndState → Type 0) (s : Sapi) (e : EndState) (side : SideState) → P s e →
+    ((s' : Sapi) → is_sapi s' s ≡ false → P s' (link_in s' side)) → (s' : Sapi) → P s' (link_in s' (with_link_in s e side))
+side_does P Zero e side h g Zero = h
+side_does P Zero e side h g Three = g Three refl
+side_does P Three e side h g Zero = g Zero refl
+side_does P Three e side h g Three = h
+
 -- after what an end did: what holds of its state then, and of each other end, holds of all
 pub ends_do : (P : Role → Sapi → EndState → Type 0) (r : Role) (s : Sapi) (o : Outcome) (w : World) → P r s o.after →
     ((r' : Role) (s' : Sapi) → is_end r' s' r s ≡ false → P r' s' (end_of r' s' w)) → (r' : Role) (s' : Sapi) →
     P r' s' (end_of r' s' (acted r s o w))
-ends_do P r s o w h g r' s' = grind arith
+ends_do P Mobile s o w h g Mobile s' = side_does (P Mobile) s o.after w.ends.mobile h (g Mobile) s'
+ends_do P Mobile s o w h g Network s' = g Network s' refl
+ends_do P Network s o w h g Mobile s' = g Mobile s' refl
+ends_do P Network s o w h g Network s' = side_does (P Network) s o.after w.ends.network h (g Network) s'
 
 pub way_does : (r : Role) (s : Sapi) (o : Outcome) (w : World) → way r (acted r s o w) ≡ way r w ++ o.frames
 way_does r s o w = grind arith

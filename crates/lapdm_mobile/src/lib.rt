@@ -2,7 +2,6 @@
 //! and 3. No call takes memory.
 #![tactic(auto)]
 
-mod into;
 mod mobile;
 
 pub use mobile::Mobile;

@@ -14,9 +14,7 @@ ghost use Rattle.lapdm_end.specs.Following.{Follows, IsRefusedAs};
 
 use lapdm_end::{End, Role};
 use lapdm_frame::{Channel, FrameView};
-use lapdm_window::{Effects, Refused, Sapi, State};
-
-mod parts;
+use lapdm_window::{Call, Effects, Refused, Sapi, State};
 
 /// The mobile's end of a link. A refused call changes nothing.
 #[derive(Debug, Drop)]
@@ -80,7 +78,7 @@ impl Mobile {
         ensures sapi { sapi_of (end_of self.new) ≡ sapi_of (end_of self.old) }
         ensures channel { channel_of (end_of self.new) ≡ channel_of (end_of self.old) }
     {
-        self.end.open(info)
+        self.end.call_returning(&Call::Open(info))
     }
 
     /// Asks the network to open the link, with no information.
@@ -94,7 +92,7 @@ impl Mobile {
         ensures sapi { sapi_of (end_of self.new) ≡ sapi_of (end_of self.old) }
         ensures channel { channel_of (end_of self.new) ≡ channel_of (end_of self.old) }
     {
-        self.end.open_bare()
+        self.end.call_returning(&Call::OpenBare)
     }
 
     /// Sends a message over the link.
@@ -107,7 +105,7 @@ impl Mobile {
         ensures sapi { sapi_of (end_of self.new) ≡ sapi_of (end_of self.old) }
         ensures channel { channel_of (end_of self.new) ≡ channel_of (end_of self.old) }
     {
-        self.end.send(message)
+        self.end.call_returning(&Call::Send(message))
     }
 
     /// Sends a message in one unnumbered frame, outside the link.
@@ -120,7 +118,7 @@ impl Mobile {
         ensures sapi { sapi_of (end_of self.new) ≡ sapi_of (end_of self.old) }
         ensures channel { channel_of (end_of self.new) ≡ channel_of (end_of self.old) }
     {
-        self.end.unit(message)
+        self.end.call_returning(&Call::Unit(message))
     }
 
     /// Closes the link. What is not acknowledged is given up.
@@ -132,7 +130,7 @@ impl Mobile {
         ensures sapi { sapi_of (end_of self.new) ≡ sapi_of (end_of self.old) }
         ensures channel { channel_of (end_of self.new) ≡ channel_of (end_of self.old) }
     {
-        self.end.close()
+        self.end.call_returning(&Call::Close)
     }
 
     /// The timer T200 has run out.
@@ -144,7 +142,7 @@ impl Mobile {
         ensures sapi { sapi_of (end_of self.new) ≡ sapi_of (end_of self.old) }
         ensures channel { channel_of (end_of self.new) ≡ channel_of (end_of self.old) }
     {
-        self.end.timer()
+        self.end.call_returning(&Call::Timer)
     }
 
     /// The fill frame, which is sent when there is nothing else to send.

@@ -2,7 +2,6 @@
 //! and 3. No call takes memory.
 #![tactic(auto)]
 
-mod into;
 mod network;
 
 pub use network::Network;

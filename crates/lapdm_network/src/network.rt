@@ -14,9 +14,7 @@ ghost use Rattle.lapdm_end.specs.Following.{Follows, IsRefusedAs};
 
 use lapdm_end::{End, Role};
 use lapdm_frame::{Channel, FrameView};
-use lapdm_window::{Effects, Refused, Sapi, State};
-
-mod parts;
+use lapdm_window::{Call, Effects, Refused, Sapi, State};
 
 /// The network's end of a link. A refused call changes nothing.
 #[derive(Debug, Drop)]
@@ -80,7 +78,7 @@ impl Network {
         ensures sapi { sapi_of (end_of self.new) ≡ sapi_of (end_of self.old) }
         ensures channel { channel_of (end_of self.new) ≡ channel_of (end_of self.old) }
     {
-        self.end.open_bare()
+        self.end.call_returning(&Call::OpenBare)
     }
 
     /// Sends a message over the link.
@@ -93,7 +91,7 @@ impl Network {
         ensures sapi { sapi_of (end_of self.new) ≡ sapi_of (end_of self.old) }
         ensures channel { channel_of (end_of self.new) ≡ channel_of (end_of self.old) }
     {
-        self.end.send(message)
+        self.end.call_returning(&Call::Send(message))
     }
 
     /// Sends a message in one unnumbered frame, outside the link.
@@ -106,7 +104,7 @@ impl Network {
         ensures sapi { sapi_of (end_of self.new) ≡ sapi_of (end_of self.old) }
         ensures channel { channel_of (end_of self.new) ≡ channel_of (end_of self.old) }
     {
-        self.end.unit(message)
+        self.end.call_returning(&Call::Unit(message))
     }
 
     /// Closes the link. What is not acknowledged is given up.
@@ -118,7 +116,7 @@ impl Network {
         ensures sapi { sapi_of (end_of self.new) ≡ sapi_of (end_of self.old) }
         ensures channel { channel_of (end_of self.new) ≡ channel_of (end_of self.old) }
     {
-        self.end.close()
+        self.end.call_returning(&Call::Close)
     }
 
     /// The timer T200 has run out.
@@ -130,7 +128,7 @@ impl Network {
         ensures sapi { sapi_of (end_of self.new) ≡ sapi_of (end_of self.old) }
         ensures channel { channel_of (end_of self.new) ≡ channel_of (end_of self.old) }
     {
-        self.end.timer()
+        self.end.call_returning(&Call::Timer)
     }
 
     /// The fill frame, which is sent when there is nothing else to send.

@@ -1,23 +1,23 @@
 -- A step gives at most two frames and two notices, and hands up what the accepted pieces gained.
-use Rattle.std.proofs.Common.{◌≡◌, refl, sym, ◌∙◌, ap, arith, ℕ, ◌+◌, ◌≤◌, Bool, true, false, ◌&&◌, if◌then◌else◌, nat_eq, nat_lt, [], ◌∷◌, ◌++◌, length}
+use Rattle.std.proofs.Common.{◌≡◌, refl, sym, ◌∙◌, ap, arith, ℕ, ◌+◌, ◌≤◌, Bool, true, false, if◌then◌else◌, nat_eq, nat_lt, [], ◌∷◌, ◌++◌}
+use Rattle.std.proofs.Common.{length}
 use Rattle.std.specs.List.{filter_map}
-use Rattle.std.specs.Str.{bytes_eq}
 use Rattle.std.proofs.lemmas.List.{length-append, append-nil}
-use Rattle.lapdm_frame.specs.Content.{Content, I, Rr, Rej, Sabm, Dm, Ui, Disc, Ua, Frame}
+use Rattle.lapdm_frame.specs.Content.{Frame}
 use Rattle.segmenting.specs.declared.joiner.Joined.{Joined}
 use Rattle.segmenting.specs.declared.joiner.Joined.TheVariants as J
 use Rattle.segmenting.specs.Pieces.{Message, Piece}
 use Rattle.segmenting.specs.Joining.{messages, open_part, answer_to, handed_up_at}
 use Rattle.segmenting.proofs.Lemmas.{messages-push}
-use Rattle.lapdm_window.specs.declared.Sapi.{Sapi}
-use Rattle.lapdm_window.specs.declared.Sapi.TheVariants.{Zero, Three}
 use Rattle.lapdm_window.specs.declared.State.{State}
 use Rattle.lapdm_window.specs.declared.State.TheVariants as S
 use Rattle.lapdm_window.specs.declared.Notice.{Notice}
-use Rattle.lapdm_window.specs.Ends.{Role, Mobile, Network, EndState, Outcome, stays, sends_frame, reports, ◌then◌, next_piece, n200, vr}
-use Rattle.lapdm_window.specs.Rules.{has_next, sends_piece, sends_next, acknowledges, reports_acked, counts, notices_of, accepts, says_rr, answers_piece, reject_is_due, rejects, takes_i, answers_poll, takes_rr, sends_again, takes_rej}
+use Rattle.lapdm_window.specs.Ends.{EndState, Outcome, stays, sends_frame, reports, ◌then◌, next_piece, n200, vr}
+use Rattle.lapdm_window.specs.Rules.{has_next, sends_piece, sends_next, acknowledges, reports_acked, counts, notices_of, accepts, says_rr}
+use Rattle.lapdm_window.specs.Rules.{answers_piece, reject_is_due, rejects, takes_i, answers_poll, takes_rr, sends_again, takes_rej}
 use Rattle.lapdm_window.specs.Calls.{Call, Opens, OpensBare, Sends, SendsUnit, Closes, Ticks, Idles, after_call, with_taken}
-use Rattle.lapdm_window.specs.Tables.{is_command, is_poll, says_dm, says_ua, becomes_open, becomes_closed, opened_by, sabm_in_idle, dm_to_poll, other_ua, sabm_in_opening, answers_sabm, in_state, after_content, after_frame}
+use Rattle.lapdm_window.specs.Tables.{Reply, Nothing, SaysDm, SaysUa, IsOpenedBy, IsOpen, IsClosed, IsReleased, TakesUnit, TakesI, TakesRr}
+use Rattle.lapdm_window.specs.Tables.{TakesRej, says_ua, becomes_open, becomes_closed, outcome_of, reply_to, after_frame}
 use Rattle.lapdm_window.specs.Steps.{got_in}
 use Rattle.lapdm_window.proofs.Thens.{HandsUp, then-hands_up}
 
@@ -138,70 +138,25 @@ one_notice : (x : EndState) (note : Notice) (e : EndState) → e.accepted ≡ x.
     AtMost 2 2 x (reports note e)
 one_notice x note e same none = more 0 1 2 2 _ (omega arith) (omega arith) (a_notice 0 x note e same none)
 
-opened : (info : Message) (e : EndState) → AtMost 2 2 e (opened_by info e)
-opened info e = more 1 1 2 2 _ (omega arith) (omega arith)
+few-reply : (r : Reply) (e : EndState) → AtMost 2 2 e (outcome_of r e)
+few-reply Nothing e = nothing 2 2 e
+few-reply SaysDm e = one_frame e _ e refl
+few-reply (SaysUa info) e = one_frame e _ e refl
+few-reply (IsOpenedBy info) e =
+    more 1 1 2 2 _ (omega arith) (omega arith)
     (both 0 1 1 0 (becomes_open info (record e { kept = info })) (says_ua info) (a_notice 0 e _ _ refl refl) (a_frame 0 _ _ _ refl))
-
-few-sabm_in_idle : (s : Sapi) (r : Role) (info : Message) (e : EndState) → AtMost 2 2 e (sabm_in_idle s r info e)
-few-sabm_in_idle Zero Mobile info e = one_frame e _ e refl
-few-sabm_in_idle Zero Network [] e = nothing 2 2 e
-few-sabm_in_idle Zero Network (x ∷ xs) e = opened (x ∷ xs) e
-few-sabm_in_idle Three r [] e = opened [] e
-few-sabm_in_idle Three r (x ∷ xs) e = nothing 2 2 e
-
-few-dm : (b : Bool) (e : EndState) → AtMost 2 2 e (dm_to_poll b e)
-few-dm b e = by_test 2 2 b (says_dm e) (stays e) (one_frame e _ e refl) (nothing 2 2 e)
-
-few-other_ua : (s : Sapi) (e : EndState) → AtMost 2 2 e (other_ua s e)
-few-other_ua Zero e = one_notice e _ _ refl refl
-few-other_ua Three e = nothing 2 2 e
-
-few-sabm_in_opening : (s : Sapi) (info : Message) (e : EndState) → AtMost 2 2 e (sabm_in_opening s info e)
-few-sabm_in_opening Zero info e = nothing 2 2 e
-few-sabm_in_opening Three [] e = one_frame e _ e refl
-few-sabm_in_opening Three (x ∷ xs) e = nothing 2 2 e
-
-few-state : (t : State) (b : Bool) (c : Content) (e : EndState) → AtMost 2 2 e (in_state t b c e)
-few-state S.Idle b (Sabm p info) e = few-sabm_in_idle e.sapi e.role info e
-few-state S.Idle b (Disc p) e = one_frame e _ e refl
-few-state S.Idle b other e = few-dm (is_poll b other) e
-few-state S.Opening b (Sabm p info) e = few-sabm_in_opening e.sapi info e
-few-state S.Opening b (Ua true info) e =
-    by_test 2 2 (bytes_eq info e.kept) (becomes_open info e) (other_ua e.sapi e) (one_notice e _ _ refl refl) (few-other_ua e.sapi e)
-few-state S.Opening b (Ua false info) e = nothing 2 2 e
-few-state S.Opening b (Dm true) e = one_notice e _ _ refl refl
-few-state S.Opening b (Dm false) e = nothing 2 2 e
-few-state S.Opening b (Disc p) e = one_frame e _ e refl
-few-state S.Opening b other e = nothing 2 2 e
-few-state S.Open b (I ns nr p more info) e = few-i ns nr p (info, more) e
-few-state S.Open b (Rr nr pf) e = few-rr nr (b && pf) e
-few-state S.Open b (Rej nr pf) e = few-rej nr (b && pf) e
-few-state S.Open b (Sabm p info) e =
-    by_test 2 2 (answers_sabm e.sapi e.role && bytes_eq info e.kept) (says_ua info e) (stays e) (one_frame e _ e refl) (nothing 2 2 e)
-few-state S.Open b (Disc p) e =
-    more 1 1 2 2 _ (omega arith) (omega arith) (both 0 1 1 0 (becomes_closed _ e) (says_ua []) (a_notice 0 e _ _ refl refl)
-    (a_frame 0 _ _ _ refl))
-few-state S.Open b (Dm f) e = one_notice e _ _ refl refl
-few-state S.Open b other e = nothing 2 2 e
-few-state S.Closing b (Ua true []) e = one_notice e _ _ refl refl
-few-state S.Closing b (Ua true (x ∷ xs)) e = nothing 2 2 e
-few-state S.Closing b (Ua false info) e = nothing 2 2 e
-few-state S.Closing b (Dm true) e = one_notice e _ _ refl refl
-few-state S.Closing b (Dm false) e = nothing 2 2 e
-few-state S.Closing b (Disc p) e = one_frame e _ e refl
-few-state S.Closing b other e = nothing 2 2 e
-few-state S.Closed b (Sabm p info) e = one_frame e _ e refl
-few-state S.Closed b (Disc p) e = one_frame e _ e refl
-few-state S.Closed b other e = few-dm (is_poll b other) e
-
-few-content : (b : Bool) (c : Content) (e : EndState) → AtMost 2 2 e (after_content b c e)
-few-content b (Ui p []) e = nothing 2 2 e
-few-content b (Ui p (x ∷ xs)) e = one_notice e _ e refl refl
-few-content b other e = few-state e.state b other e
+few-reply (IsOpen info) e = one_notice e _ _ refl refl
+few-reply (IsClosed reason) e = one_notice e _ _ refl refl
+few-reply IsReleased e =
+    more 1 1 2 2 _ (omega arith) (omega arith)
+    (both 0 1 1 0 (becomes_closed _ e) (says_ua []) (a_notice 0 e _ _ refl refl) (a_frame 0 _ _ _ refl))
+few-reply (TakesUnit info) e = one_notice e _ e refl refl
+few-reply (TakesI ns nr p piece) e = few-i ns nr p piece e
+few-reply (TakesRr nr poll) e = few-rr nr poll e
+few-reply (TakesRej nr poll) e = few-rej nr poll e
 
 pub few-frame : (f : Frame) (e : EndState) → AtMost 2 2 e (after_frame f e)
-few-frame f e = by_test 2 2 _ (after_content (is_command e f) f.content e) (stays e) (few-content (is_command e f) f.content e)
-    (nothing 2 2 e)
+few-frame f e = few-reply (reply_to f e) e
 
 pub few-call : (call : Call) (e : EndState) → AtMost 2 2 e (after_call call e)
 few-call (Opens info) e = one_frame e _ _ refl

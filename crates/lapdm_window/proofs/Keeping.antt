@@ -1,13 +1,13 @@
 -- After each call and each frame an end is an end, and each frame that it sends fits its channel.
-use Rattle.std.proofs.Common.{◌≡◌, refl, sym, ◌∙◌, ap, subst, arith, ℕ, ◌+◌, ◌%◌, ◌<◌, ◌≤◌, Bool, true, false, not, ◌&&◌, if◌then◌else◌, nat_eq, nat_lt, List, [], ◌∷◌, length, None, All}
+use Rattle.std.proofs.Common.{◌≡◌, refl, sym, ◌∙◌, ap, subst, arith, inl, inr, ◌⊎◌, ℕ, ◌+◌, ◌%◌, ◌<◌, ◌≤◌, Bool, true, false, not}
+use Rattle.std.proofs.Common.{if◌then◌else◌, nat_eq, nat_lt, List, [], ◌∷◌, length, None, All}
 use Rattle.std.specs.List.{flat_map}
-use Rattle.std.specs.Str.{bytes_eq}
 use Rattle.std.proofs.lemmas.Bool.{false≢true}
 use Rattle.std.proofs.lemmas.Bool.Decides.{nat_tests}
 use Rattle.std.proofs.lemmas.List.Elements.{All-nil, All-cons, All-head, All-tail, All-append, All-get_or}
 use Rattle.lapdm_frame.specs.declared.Channel.{Channel}
 use Rattle.lapdm_frame.specs.Layout.{n201}
-use Rattle.lapdm_frame.specs.Content.{Content, I, Rr, Rnr, Rej, Sabm, Dm, Ui, Disc, Ua, Frame}
+use Rattle.lapdm_frame.specs.Content.{Content, Rej, Dm, Ua, Frame}
 use Rattle.lapdm_frame.specs.Frames.{NumbersFit, InformationFits, Fits}
 use Rattle.segmenting.specs.Pieces.{Message, Piece, IsMessage, AreCut, pieces}
 use Rattle.segmenting.proofs.Lemmas.{are_pieces, room_of}
@@ -18,10 +18,16 @@ use Rattle.lapdm_window.specs.declared.State.TheVariants as S
 use Rattle.lapdm_window.specs.declared.Reason.TheVariants as R
 use Rattle.lapdm_window.specs.declared.Notice.{Notice}
 use Rattle.lapdm_window.specs.declared.Refused.TheVariants as No
-use Rattle.lapdm_window.specs.Ends.{Role, Mobile, Network, EndState, Outcome, KeepsWindow, IsUnopened, IsEnd, start, all_pieces, next_piece, waits, awaits, awaits_in, stays, sends_frame, ◌then◌, response, sapi_number, vr, n200}
-use Rattle.lapdm_window.specs.Rules.{is_open, waiting_frame, has_next, with_next, sends_piece, sends_next, acknowledges, reports_acked, counts, accepts, says_rr, answers_piece, with_reject, reject_is_due, rejects, takes_i, answers_poll, sends_again}
-use Rattle.lapdm_window.specs.Tables.{is_command, is_poll, says_ua, becomes_open, becomes_closed, opened_by, sabm_in_idle, dm_to_poll, other_ua, sabm_in_opening, answers_sabm, in_open, in_state, after_content, after_frame}
-use Rattle.lapdm_window.specs.Calls.{Call, Opens, OpensBare, Sends, SendsUnit, Closes, Ticks, Idles, HasCall, is_idle, first_of, frame_refusals, put_refusals, refusal_of, with_taken, repeated, after_call}
+use Rattle.lapdm_window.specs.Ends.{Role, Network, EndState, Outcome, KeepsWindow, IsUnopened, IsEnd, start, all_pieces, next_piece, waits}
+use Rattle.lapdm_window.specs.Ends.{awaits, awaits_in, stays, sends_frame, ◌then◌, response, sapi_number, vr, n200}
+use Rattle.lapdm_window.specs.Rules.{is_open, waiting_frame, has_next, with_next, sends_piece, sends_next, acknowledges, reports_acked}
+use Rattle.lapdm_window.specs.Rules.{counts, accepts, says_rr, answers_piece, with_reject, reject_is_due, rejects, takes_i, answers_poll}
+use Rattle.lapdm_window.specs.Rules.{sends_again}
+use Rattle.lapdm_window.specs.Tables.{Reply, Nothing, SaysDm, SaysUa, IsOpenedBy, IsOpen, IsClosed, IsReleased, TakesUnit, TakesI, TakesRr}
+use Rattle.lapdm_window.specs.Tables.{TakesRej, becomes_closed, outcome_of, reply_to, after_frame}
+use Rattle.lapdm_window.specs.Calls.{Call, Opens, OpensBare, Sends, SendsUnit, Closes, Ticks, Idles, HasCall, is_idle, first_of}
+use Rattle.lapdm_window.specs.Calls.{frame_refusals, put_refusals, refusal_of, with_taken, repeated, after_call}
+use Rattle.lapdm_window.proofs.Causes.{HasBegun, MayOpen, IsReplyTo, cause_of}
 use Rattle.lapdm_window.proofs.FirstPieces.{HasSize}
 use Rattle.lapdm_window.proofs.Moves.{KeepsWindow-taken, KeepsWindow-acked}
 use Rattle.lapdm_window.proofs.Refusing.{passes, not_false, is_message, is_idle-is, is_open-is}
@@ -272,95 +278,40 @@ passed : (x : EndState) (s : State) (fs : List Frame) (ns : List Notice) → IsE
     Keeps x (record { after = record x { state = s }; frames = fs; notices = ns })
 passed x s fs ns h later fit = moved x s x.kept x.retries fs ns h h.kept h.bare (λ u. absurd (later u)) fit
 
-opened : (info : Message) (x : EndState) → IsEnd x → length info ≤ n201 x.channel → (x.sapi ≡ Three → info ≡ []) →
-    Keeps x (opened_by info x)
-opened info x h fits bare = moved x S.Open info x.retries _ _ h fits bare (λ u. absurd u) (ua_fits x info fits)
-
 zero_is_not_three : Zero ≡ Three → ⊥
 zero_is_not_three h = cc h
 
-keeps-sabm_in_idle : (s : Sapi) (r : Role) (info : Message) (x : EndState) → x.sapi ≡ s → IsEnd x → length info ≤ n201 x.channel →
-    Keeps x (sabm_in_idle s r info x)
-keeps-sabm_in_idle Zero Mobile info x e h fits = quiet x _ _ h (dm_fits x)
-keeps-sabm_in_idle Zero Network [] x e h fits = quiet x _ _ h (none x)
-keeps-sabm_in_idle Zero Network (i ∷ is) x e h fits =
-    opened (i ∷ is) x h fits (λ three. absurd (zero_is_not_three (sym e ∙ three)))
-keeps-sabm_in_idle Three r [] x e h fits = opened [] x h fits (λ three. refl)
-keeps-sabm_in_idle Three r (i ∷ is) x e h fits = quiet x _ _ h (none x)
+-- a SABM that opens the link of SAPI 3 has no information
+bare_by : (s : Sapi) (r : Role) (info : Message) → MayOpen s r info → s ≡ Three → info ≡ []
+bare_by Zero Network (i ∷ is) may three = absurd (zero_is_not_three three)
+bare_by Three r [] may three = refl
+bare_by s r info may three = absurd may
 
-keeps-dm : (poll : Bool) (x : EndState) → IsEnd x → Keeps x (dm_to_poll poll x)
-keeps-dm true x h = quiet x _ _ h (dm_fits x)
-keeps-dm false x h = quiet x _ _ h (none x)
+-- a UA has the information that is kept, or none
+ua_short : (info : Message) (x : EndState) → IsEnd x → ((x.state ≡ S.Open) × (x.kept ≡ info)) ⊎ ((info ≡ []) × HasBegun x) →
+    length info ≤ n201 x.channel
+ua_short info x h (inl kept) = omega (arith, h.kept, ap length kept.1)
+ua_short info x h (inr bare) = omega (arith, ap length bare.0)
 
-keeps-other_ua : (s : Sapi) (x : EndState) → IsEnd x → Keeps x (other_ua s x)
-keeps-other_ua Zero x h = passed x S.Closed _ _ h (λ u. u) (none x)
-keeps-other_ua Three x h = quiet x _ _ h (none x)
-
-keeps-ua_in_opening : (same : Bool) (info : Message) (x : EndState) → IsEnd x →
-    Keeps x (if same then becomes_open info x else other_ua x.sapi x)
-keeps-ua_in_opening true info x h = passed x S.Open _ _ h (λ u. u) (none x)
-keeps-ua_in_opening false info x h = keeps-other_ua x.sapi x h
-
-keeps-sabm_in_opening : (s : Sapi) (info : Message) (x : EndState) → IsEnd x → Keeps x (sabm_in_opening s info x)
-keeps-sabm_in_opening Zero info x h = quiet x _ _ h (none x)
-keeps-sabm_in_opening Three [] x h = quiet x _ _ h (ua_fits x [] (omega arith))
-keeps-sabm_in_opening Three (i ∷ is) x h = quiet x _ _ h (none x)
-
-keeps-ua_if : (b : Bool) (info : Message) (x : EndState) → IsEnd x → length info ≤ n201 x.channel →
-    Keeps x (if b then says_ua info x else stays x)
-keeps-ua_if true info x h fits = quiet x _ _ h (ua_fits x info fits)
-keeps-ua_if false info x h fits = quiet x _ _ h (none x)
-
-keeps-in_open : (b : Bool) (c : Content) (x : EndState) → x.state ≡ S.Open → IsEnd x → InformationFits x.channel c →
-    Keeps x (in_open b c x)
-keeps-in_open b (I ns nr p more info) x e h fits = keeps-runs x _ e h (runs-takes_i ns nr p (info, more) x h.window)
-keeps-in_open b (Rr nr pf) x e h fits =
-    keeps-runs x _ e h (runs-counted nr (answers_poll (b && pf)) sends_next (runs-answers_poll (b && pf)) runs-sends_next x h.window)
-keeps-in_open b (Rej nr pf) x e h fits =
-    keeps-runs x _ e h (runs-counted nr (answers_poll (b && pf)) sends_again (runs-answers_poll (b && pf)) runs-sends_again x h.window)
-keeps-in_open b (Sabm p info) x e h fits = keeps-ua_if (answers_sabm x.sapi x.role && bytes_eq info x.kept) info x h fits
-keeps-in_open b (Disc p) x e h fits = passed x S.Closed _ _ h (λ u. u) (ua_fits x [] (omega arith))
-keeps-in_open b (Dm f) x e h fits = passed x S.Closed _ _ h (λ u. u) (none x)
-keeps-in_open b (Rnr nr pf) x e h fits = quiet x _ _ h (none x)
-keeps-in_open b (Ui p info) x e h fits = quiet x _ _ h (none x)
-keeps-in_open b (Ua f info) x e h fits = quiet x _ _ h (none x)
-
-keeps-state : (t : State) (b : Bool) (c : Content) (x : EndState) → x.state ≡ t → IsEnd x → InformationFits x.channel c →
-    Keeps x (in_state t b c x)
-keeps-state S.Idle b (Sabm p info) x e h fits = keeps-sabm_in_idle x.sapi x.role info x refl h fits
-keeps-state S.Idle b (Disc p) x e h fits = quiet x _ _ h (dm_fits x)
-keeps-state S.Idle b other x e h fits = keeps-dm (is_poll b other) x h
-keeps-state S.Opening b (Sabm p info) x e h fits = keeps-sabm_in_opening x.sapi info x h
-keeps-state S.Opening b (Ua true info) x e h fits = keeps-ua_in_opening (bytes_eq info x.kept) info x h
-keeps-state S.Opening b (Ua false info) x e h fits = quiet x _ _ h (none x)
-keeps-state S.Opening b (Dm true) x e h fits = passed x S.Closed _ _ h (λ u. u) (none x)
-keeps-state S.Opening b (Dm false) x e h fits = quiet x _ _ h (none x)
-keeps-state S.Opening b (Disc p) x e h fits = quiet x _ _ h (dm_fits x)
-keeps-state S.Opening b other x e h fits = quiet x _ _ h (none x)
-keeps-state S.Open b c x e h fits = keeps-in_open b c x e h fits
-keeps-state S.Closing b (Ua true []) x e h fits = passed x S.Closed _ _ h (λ u. u) (none x)
-keeps-state S.Closing b (Ua true (i ∷ is)) x e h fits = quiet x _ _ h (none x)
-keeps-state S.Closing b (Ua false info) x e h fits = quiet x _ _ h (none x)
-keeps-state S.Closing b (Dm true) x e h fits = passed x S.Closed _ _ h (λ u. u) (none x)
-keeps-state S.Closing b (Dm false) x e h fits = quiet x _ _ h (none x)
-keeps-state S.Closing b (Disc p) x e h fits = quiet x _ _ h (ua_fits x [] (omega arith))
-keeps-state S.Closing b other x e h fits = quiet x _ _ h (none x)
-keeps-state S.Closed b (Sabm p info) x e h fits = quiet x _ _ h (dm_fits x)
-keeps-state S.Closed b (Disc p) x e h fits = quiet x _ _ h (dm_fits x)
-keeps-state S.Closed b other x e h fits = keeps-dm (is_poll b other) x h
-
-keeps-content : (b : Bool) (c : Content) (x : EndState) → IsEnd x → InformationFits x.channel c → Keeps x (after_content b c x)
-keeps-content b (Ui p []) x h fits = quiet x _ _ h (none x)
-keeps-content b (Ui p (i ∷ is)) x h fits = quiet x _ _ h (none x)
-keeps-content b other x h fits = keeps-state x.state b other x refl h fits
-
-keeps-if : (b cmd : Bool) (c : Content) (x : EndState) → IsEnd x → InformationFits x.channel c →
-    Keeps x (if b then after_content cmd c x else stays x)
-keeps-if true cmd c x h fits = keeps-content cmd c x h fits
-keeps-if false cmd c x h fits = quiet x _ _ h (none x)
+keeps-reply : (r : Reply) (c : Content) (x : EndState) → IsReplyTo c x r → IsEnd x → InformationFits x.channel c → Keeps x (outcome_of r x)
+keeps-reply Nothing c x cause h fits = quiet x _ _ h (none x)
+keeps-reply SaysDm c x cause h fits = quiet x _ _ h (dm_fits x)
+keeps-reply (SaysUa info) c x cause h fits = quiet x _ _ h (ua_fits x info (ua_short info x h cause))
+keeps-reply (IsOpenedBy info) c x cause h fits =
+    let short : length info ≤ n201 x.channel = subst (InformationFits x.channel) cause.1 fits in
+    moved x S.Open info x.retries _ _ h short (bare_by x.sapi x.role info cause.3) (λ u. absurd u) (ua_fits x info short)
+keeps-reply (IsOpen info) c x cause h fits = passed x S.Open _ _ h (λ u. u) (none x)
+keeps-reply (IsClosed reason) c x cause h fits = passed x S.Closed _ _ h (λ u. u) (none x)
+keeps-reply IsReleased c x cause h fits = passed x S.Closed _ _ h (λ u. u) (ua_fits x [] (omega arith))
+keeps-reply (TakesUnit info) c x cause h fits = quiet x _ _ h (none x)
+keeps-reply (TakesI ns nr p piece) c x cause h fits = keeps-runs x _ cause.1 h (runs-takes_i ns nr p piece x h.window)
+keeps-reply (TakesRr nr poll) c x cause h fits =
+    keeps-runs x _ cause.2 h (runs-counted nr (answers_poll poll) sends_next (runs-answers_poll poll) runs-sends_next x h.window)
+keeps-reply (TakesRej nr poll) c x cause h fits =
+    keeps-runs x _ cause.2 h (runs-counted nr (answers_poll poll) sends_again (runs-answers_poll poll) runs-sends_again x h.window)
 
 pub keeps-frame : (f : Frame) (x : EndState) → IsEnd x → Fits x.channel f → Keeps x (after_frame f x)
-keeps-frame f x h fits = keeps-if _ (is_command x f) f.content x h fits.information
+keeps-frame f x h fits = keeps-reply (reply_to f x) f.content x (cause_of x f) h fits.information
 
 -- ---- the calls
 

@@ -1,3 +1,4 @@
+mod Causes
 mod Counting
 mod Few
 mod FirstPieces
@@ -11,5 +12,6 @@ mod Pasts
 mod Refusing
 mod Rows
 mod Sessions
+mod SidesBySapi
 mod Stepping
 mod Thens

@@ -1,8 +1,12 @@
 -- The calls of an end, and why each is refused.
-use Rattle.std.specs.Prelude.{◌≡◌, ◌+◌, Bool, true, false, not, if◌then◌else◌, nat_eq, nat_lt, nat_le, List, [], ◌∷◌, ◌++◌, length, Option, Some, None}
+use Rattle.std.specs.Prelude.{◌≡◌, ◌+◌, Bool, true, false, not, if◌then◌else◌, nat_eq, nat_lt, nat_le, List, [], ◌∷◌, ◌++◌, length, Option}
+use Rattle.std.specs.Prelude.{Some, None}
 use Rattle.lapdm_frame.specs.Layout.{n201}
 use Rattle.lapdm_frame.specs.Content.{Sabm, Ui, Disc, Frame, fill}
 use Rattle.segmenting.specs.Pieces.{Message, longest}
+use Rattle.lapdm_window.specs.declared.Call.{Call as Asked}
+use Rattle.lapdm_window.specs.declared.Call.TheVariants as A
+use Rattle.lapdm_window.specs.declared.Sapi.{Sapi}
 use Rattle.lapdm_window.specs.declared.Sapi.TheVariants.{Zero, Three}
 use Rattle.lapdm_window.specs.declared.State.{State}
 use Rattle.lapdm_window.specs.declared.State.TheVariants.{Idle, Opening, Closing}
@@ -25,11 +29,29 @@ pub data Call : Type 0 where
   Ticks : Call
   Idles : Call
 
+abbrev pub call_of : Asked → Call
+call_of (A.Open info) = Opens info.now
+call_of A.OpenBare = OpensBare
+call_of (A.Send m) = Sends m.now
+call_of (A.Unit m) = SendsUnit m.now
+call_of A.Close = Closes
+call_of A.Timer = Ticks
+call_of A.Idle = Idles
+
 -- the calls that an end has: the link of SAPI 0 is opened by some information, that of SAPI 3 by none
+abbrev pub IsOfSapi : Sapi → Call → Type 0
+IsOfSapi sapi (Opens info) = sapi ≡ Zero
+IsOfSapi sapi OpensBare = sapi ≡ Three
+IsOfSapi sapi other = Unit {0}
+
 abbrev pub HasCall : EndState → Call → Type 0
-HasCall e (Opens info) = e.sapi ≡ Zero
-HasCall e OpensBare = e.sapi ≡ Three
-HasCall e other = Unit {0}
+HasCall e call = IsOfSapi e.sapi call
+
+-- the calls that leave the end as it is
+abbrev pub IsUnnumbered : Call → Type 0
+IsUnnumbered (SendsUnit m) = Unit {0}
+IsUnnumbered Idles = Unit {0}
+IsUnnumbered other = ⊥
 
 abbrev pub is_idle : State → Bool
 is_idle Idle = true

@@ -7,3 +7,4 @@ pub mod Steps
 pub mod Answers
 pub mod Standing
 pub mod Parts
+pub mod Sides

@@ -1,11 +1,11 @@
 -- The tables of the frames that an end takes, by its state (GSM 04.06, section 5.4). A kind that a table
 -- does not name is ignored; that, and what a table has beside the sections named at it, is this project's
 -- own rule.
-use Rattle.std.specs.Prelude.{Bool, true, false, not, ◌&&◌, if◌then◌else◌, nat_eq, [], ◌∷◌}
+use Rattle.std.specs.Prelude.{ℕ, Bool, true, false, not, ◌&&◌, if◌then◌else◌, nat_eq, [], ◌∷◌}
 use Rattle.std.specs.Bool.{beq}
 use Rattle.std.specs.Str.{bytes_eq}
 use Rattle.lapdm_frame.specs.Content.{Content, I, Rr, Rnr, Rej, Sabm, Dm, Ui, Disc, Ua, Frame}
-use Rattle.segmenting.specs.Pieces.{Message}
+use Rattle.segmenting.specs.Pieces.{Message, Piece}
 use Rattle.lapdm_window.specs.declared.Sapi.{Sapi}
 use Rattle.lapdm_window.specs.declared.Sapi.TheVariants.{Zero, Three}
 use Rattle.lapdm_window.specs.declared.State.{State}
@@ -13,7 +13,8 @@ use Rattle.lapdm_window.specs.declared.State.TheVariants.{Idle, Opening, Open, C
 use Rattle.lapdm_window.specs.declared.Reason.{Reason}
 use Rattle.lapdm_window.specs.declared.Reason.TheVariants as R
 use Rattle.lapdm_window.specs.declared.Notice.TheVariants as N
-use Rattle.lapdm_window.specs.Ends.{Role, Mobile, Network, EndState, Outcome, stays, sends_frame, reports, ◌then◌, command_cr, sapi_number, response}
+use Rattle.lapdm_window.specs.Ends.{Role, Mobile, Network, EndState, Outcome, stays, sends_frame, reports, ◌then◌, command_cr, sapi_number}
+use Rattle.lapdm_window.specs.Ends.{response}
 use Rattle.lapdm_window.specs.Rules.{takes_i, takes_rr, takes_rej}
 
 -- whether the other end sent the frame as a command
@@ -39,10 +40,26 @@ is_poll is_command (Rr nr pf) = is_command && pf
 is_poll is_command (Rej nr pf) = is_command && pf
 is_poll is_command other = false
 
--- every DM and UA has F = 1
-abbrev pub says_dm : EndState → Outcome
-says_dm e = sends_frame (response e (Dm true)) e
+-- what an end does with a frame
+pub data Reply : Type 0 where
+  Nothing : Reply
+  SaysDm : Reply
+  SaysUa : (info : Message) → Reply
+  -- the other end opens the link, and is answered by UA
+  IsOpenedBy : (info : Message) → Reply
+  -- the link that this end asked for is open
+  IsOpen : (info : Message) → Reply
+  IsClosed : (reason : Reason) → Reply
+  -- the other end closes the link, and is answered by UA
+  IsReleased : Reply
+  -- a unit is reported
+  TakesUnit : (info : Message) → Reply
+  -- the rules of the window
+  TakesI : (ns nr : ℕ) (p : Bool) (piece : Piece) → Reply
+  TakesRr : (nr : ℕ) (poll : Bool) → Reply
+  TakesRej : (nr : ℕ) (poll : Bool) → Reply
 
+-- every DM and UA has F = 1
 abbrev pub says_ua : Message → EndState → Outcome
 says_ua info e = sends_frame (response e (Ua true info)) e
 
@@ -52,43 +69,57 @@ becomes_open info e = reports (N.Opened info) (record e { state = Open })
 abbrev pub becomes_closed : Reason → EndState → Outcome
 becomes_closed reason e = reports (N.Closed reason) (record e { state = Closed })
 
--- Idle: a SABM of the other end opens the link where it may (section 5.4.1.2), and its information is kept
-abbrev pub opened_by : Message → EndState → Outcome
-opened_by info e = becomes_open info (record e { kept = info }) then says_ua info
+-- the information of a SABM that opens the link is kept
+abbrev pub outcome_of : Reply → EndState → Outcome
+outcome_of Nothing e = stays e
+outcome_of SaysDm e = sends_frame (response e (Dm true)) e
+outcome_of (SaysUa info) e = says_ua info e
+outcome_of (IsOpenedBy info) e = becomes_open info (record e { kept = info }) then says_ua info
+outcome_of (IsOpen info) e = becomes_open info e
+outcome_of (IsClosed reason) e = becomes_closed reason e
+outcome_of IsReleased e = becomes_closed R.Released e then says_ua []
+outcome_of (TakesUnit info) e = reports (N.Unit info) e
+outcome_of (TakesI ns nr p piece) e = takes_i ns nr p piece e
+outcome_of (TakesRr nr poll) e = takes_rr nr poll e
+outcome_of (TakesRej nr poll) e = takes_rej nr poll e
 
-abbrev pub sabm_in_idle : Sapi → Role → Message → EndState → Outcome
-sabm_in_idle Zero Mobile info e = says_dm e
-sabm_in_idle Zero Network [] e = stays e
-sabm_in_idle Zero Network (x ∷ xs) e = opened_by (x ∷ xs) e
-sabm_in_idle Three role [] e = opened_by [] e
-sabm_in_idle Three role (x ∷ xs) e = stays e
+-- Idle: a SABM of the other end opens the link where it may (section 5.4.1.2)
+abbrev pub sabm_in_idle : Sapi → Role → Message → Reply
+sabm_in_idle Zero Mobile info = SaysDm
+sabm_in_idle Zero Network [] = Nothing
+sabm_in_idle Zero Network (x ∷ xs) = IsOpenedBy (x ∷ xs)
+sabm_in_idle Three role [] = IsOpenedBy []
+sabm_in_idle Three role (x ∷ xs) = Nothing
 
 -- a poll, and a DISC, is answered by DM (section 5.4.5)
-abbrev pub dm_to_poll : Bool → EndState → Outcome
-dm_to_poll poll e = if poll then says_dm e else stays e
+abbrev pub dm_to_poll : Bool → Reply
+dm_to_poll poll = if poll then SaysDm else Nothing
 
-abbrev pub in_idle : Bool → Content → EndState → Outcome
-in_idle poll (Sabm p info) e = sabm_in_idle e.sapi e.role info e
-in_idle poll (Disc p) e = says_dm e
-in_idle poll other e = dm_to_poll poll e
+abbrev pub in_idle : Bool → Content → EndState → Reply
+in_idle poll (Sabm p info) e = sabm_in_idle e.sapi e.role info
+in_idle poll (Disc p) e = SaysDm
+in_idle poll other e = dm_to_poll poll
 
 -- Opening: a UA opens the link, and a DM refuses it (section 5.4.1.2); on SAPI 0 a UA with other information
 -- than that of the SABM answers another mobile (contention resolution, section 5.4.1.4)
-abbrev pub other_ua : Sapi → EndState → Outcome
-other_ua Zero e = becomes_closed R.Contention e
-other_ua Three e = stays e
+abbrev pub other_ua : Sapi → Reply
+other_ua Zero = IsClosed R.Contention
+other_ua Three = Nothing
 
-abbrev pub sabm_in_opening : Sapi → Message → EndState → Outcome
-sabm_in_opening Zero info e = stays e
-sabm_in_opening Three [] e = says_ua [] e
-sabm_in_opening Three (x ∷ xs) e = stays e
+abbrev pub ua_in_opening : Message → EndState → Reply
+ua_in_opening info e = if bytes_eq info e.kept then IsOpen info else other_ua e.sapi
 
-abbrev pub in_opening : Content → EndState → Outcome
-in_opening (Sabm p info) e = sabm_in_opening e.sapi info e
-in_opening (Ua true info) e = if bytes_eq info e.kept then becomes_open info e else other_ua e.sapi e
-in_opening (Dm true) e = becomes_closed R.Refused e
-in_opening (Disc p) e = says_dm e
-in_opening other e = stays e
+abbrev pub sabm_in_opening : Sapi → Message → Reply
+sabm_in_opening Zero info = Nothing
+sabm_in_opening Three [] = SaysUa []
+sabm_in_opening Three (x ∷ xs) = Nothing
+
+abbrev pub in_opening : Content → EndState → Reply
+in_opening (Sabm p info) e = sabm_in_opening e.sapi info
+in_opening (Ua true info) e = ua_in_opening info e
+in_opening (Dm true) e = IsClosed R.Refused
+in_opening (Disc p) e = SaysDm
+in_opening other e = Nothing
 
 -- Open: the SABM that opened the link is answered again, except by a mobile on SAPI 0, which sent it; a DISC
 -- ends the link (section 5.4.4.2), and so does a DM
@@ -96,46 +127,53 @@ abbrev pub answers_sabm : Sapi → Role → Bool
 answers_sabm Zero Mobile = false
 answers_sabm sapi role = true
 
-abbrev pub in_open : Bool → Content → EndState → Outcome
-in_open is_command (I ns nr p more info) e = takes_i ns nr p (info, more) e
-in_open is_command (Rr nr pf) e = takes_rr nr (is_command && pf) e
-in_open is_command (Rej nr pf) e = takes_rej nr (is_command && pf) e
-in_open is_command (Sabm p info) e =
-    if answers_sabm e.sapi e.role && bytes_eq info e.kept then says_ua info e else stays e
-in_open is_command (Disc p) e = becomes_closed R.Released e then says_ua []
-in_open is_command (Dm f) e = becomes_closed R.Failed e
-in_open is_command other e = stays e
+abbrev pub sabm_in_open : Message → EndState → Reply
+sabm_in_open info e = if answers_sabm e.sapi e.role && bytes_eq info e.kept then SaysUa info else Nothing
+
+abbrev pub in_open : Bool → Content → EndState → Reply
+in_open is_command (I ns nr p more info) e = TakesI ns nr p (info, more)
+in_open is_command (Rr nr pf) e = TakesRr nr (is_command && pf)
+in_open is_command (Rej nr pf) e = TakesRej nr (is_command && pf)
+in_open is_command (Sabm p info) e = sabm_in_open info e
+in_open is_command (Disc p) e = IsReleased
+in_open is_command (Dm f) e = IsClosed R.Failed
+in_open is_command other e = Nothing
 
 -- Closing: the link has ended at a UA or a DM (section 5.4.4.2)
-abbrev pub in_closing : Content → EndState → Outcome
-in_closing (Ua true []) e = becomes_closed R.Released e
-in_closing (Dm true) e = becomes_closed R.Released e
-in_closing (Disc p) e = says_ua [] e
-in_closing other e = stays e
+abbrev pub in_closing : Content → Reply
+in_closing (Ua true []) = IsClosed R.Released
+in_closing (Dm true) = IsClosed R.Released
+in_closing (Disc p) = SaysUa []
+in_closing other = Nothing
 
 -- Closed, which is final
-abbrev pub in_closed : Bool → Content → EndState → Outcome
-in_closed poll (Sabm p info) e = says_dm e
-in_closed poll (Disc p) e = says_dm e
-in_closed poll other e = dm_to_poll poll e
+abbrev pub in_closed : Bool → Content → Reply
+in_closed poll (Sabm p info) = SaysDm
+in_closed poll (Disc p) = SaysDm
+in_closed poll other = dm_to_poll poll
 
-abbrev pub in_state : State → Bool → Content → EndState → Outcome
+abbrev pub in_state : State → Bool → Content → EndState → Reply
 in_state Idle is_command content e = in_idle (is_poll is_command content) content e
 in_state Opening is_command content e = in_opening content e
 in_state Open is_command content e = in_open is_command content e
-in_state Closing is_command content e = in_closing content e
-in_state Closed is_command content e = in_closed (is_poll is_command content) content e
+in_state Closing is_command content e = in_closing content
+in_state Closed is_command content e = in_closed (is_poll is_command content) content
 
 -- a UI with information is reported in every state
-abbrev pub after_content : Bool → Content → EndState → Outcome
-after_content is_command (Ui p []) e = stays e
-after_content is_command (Ui p (x ∷ xs)) e = reports (N.Unit (x ∷ xs)) e
-after_content is_command content e = in_state e.state is_command content e
+abbrev pub unit_reply : Message → Reply
+unit_reply [] = Nothing
+unit_reply (x ∷ xs) = TakesUnit (x ∷ xs)
 
--- what an end does with a frame; one of another SAPI, and a command or response that should be the other,
--- is ignored
-abbrev pub after_frame : Frame → EndState → Outcome
-after_frame f e =
+abbrev pub reply : Bool → Content → EndState → Reply
+reply is_command (Ui p info) e = unit_reply info
+reply is_command content e = in_state e.state is_command content e
+
+-- a frame of another SAPI, and a command or response that should be the other, is ignored
+abbrev pub reply_to : Frame → EndState → Reply
+reply_to f e =
     if nat_eq f.sapi (sapi_number e.sapi) && is_taken (is_command e f) f.content
-    then after_content (is_command e f) f.content e
-    else stays e
+    then reply (is_command e f) f.content e
+    else Nothing
+
+abbrev pub after_frame : Frame → EndState → Outcome
+after_frame f e = outcome_of (reply_to f e) e

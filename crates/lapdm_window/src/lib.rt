@@ -93,6 +93,25 @@ impl Default for Notice {
     }
 }
 
+/// What an end may be asked.
+#[derive(Clone, Copy, Drop)]
+pub enum Call<'a> {
+    /// Open the link of SAPI 0, with this information.
+    Open(&'a [u8]),
+    /// Open the link of SAPI 3, with no information.
+    OpenBare,
+    /// Send a message of 1 to 251 octets, acknowledged.
+    Send(&'a [u8]),
+    /// Send a message in one unnumbered frame, outside the link.
+    Unit(&'a [u8]),
+    /// Close the link. What is not acknowledged is given up.
+    Close,
+    /// The timer T200 has run out.
+    Timer,
+    /// Send the fill frame; it is of SAPI 0 whatever the link.
+    Idle,
+}
+
 /// Why a call is refused. The first reason that applies, in the order that the call names, is given.
 #[derive(Clone, Copy, PartialEq, Eq, Debug)]
 pub enum Refused {

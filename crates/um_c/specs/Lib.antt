@@ -6,3 +6,4 @@ pub mod RepairReports
 pub mod States
 pub mod Effects
 pub mod EndCalls
+pub mod SideCalls

@@ -1,25 +1,27 @@
 //! One end of a link, whose state is the caller's.
 //!
 //! The room for what a call does is made before the end is: the compiler then fills it with zeros once.
-ghost use Rattle.std.specs.Prelude.{◌≡◌, OnOk, IfErr, IsTrue};
+ghost use Rattle.std.specs.Prelude.{◌≡◌, false, OnOk, IfErr, IsTrue};
 ghost use Rattle.segmenting.specs.Rooms.{octets_in};
-ghost use Rattle.lapdm_window.specs.Calls.{Opens, OpensBare, Sends, SendsUnit, Closes, Ticks, Idles};
+ghost use Rattle.lapdm_window.specs.Ends.{EndState};
+ghost use Rattle.lapdm_end.specs.Standing.{Stands, sapi_of as link_sapi};
+ghost use Rattle.lapdm_window.specs.Calls.{call_of, IsOfSapi, IsUnnumbered, Opens, OpensBare, Sends, SendsUnit, Closes, Ticks, Idles};
 ghost use Rattle.lapdm_end.specs.Parts.{values_of};
 ghost use Rattle.um_c.specs.States.{plain_end, IsPlain};
 ghost use Rattle.um_c.specs.Effects.{plain_effects};
-ghost use Rattle.um_c.specs.EndCalls.{refused_number, IsCalledAs, IsGivenAs, IsBegunAs};
+ghost use Rattle.um_c.specs.EndCalls.{refused_number, MayAsk, IsCalledAs, IsGivenAs, IsBegunAs};
 
 use crate::effects::{PlainEffects, write_effects};
 use crate::frames::channel_of;
 use crate::states::{PlainEnd, read_end, role_of, sapi_of, write_end};
 use lapdm_end::{End, Role};
 use lapdm_frame::{Channel, read_on};
-use lapdm_window::{Effects, Refused, Sapi};
+use lapdm_window::{Call, Effects, Refused, Sapi};
 use segmenting::PlainMessage;
 
-const NO_END: u8 = 7;
+pub(crate) const NO_END: u8 = 7;
 
-const NO_CALL: u8 = 8;
+pub(crate) const NO_CALL: u8 = 8;
 
 const NO_FRAME: u8 = 9;
 
@@ -27,6 +29,7 @@ const NO_FRAME: u8 = 9;
 #[unsafe(no_mangle)]
 pub extern "C" fn um_end_new(end: &mut PlainEnd, role: u8, sapi: u8, channel: u8) -> bool
     ensures begun { IsBegunAs role sapi channel result end.old end.new }
+    ensures numbers { IsTrue result → (end.new.role ≡ role) × (end.new.sapi ≡ sapi) × (end.new.channel ≡ channel) }
     ensures plain { IsTrue result → IsPlain end.new }
 {
     let Some(role) = role_of(role) else {
@@ -52,22 +55,7 @@ pub extern "C" fn um_end_open(
     ensures called { IsCalledAs (Opens (octets_in info.now)) result end.old end.new effects.old effects.new }
     ensures plain { result ≡ 0 → IsPlain end.new }
 {
-    let mut told = Effects::new();
-    let mut held = any_end();
-    if !read_end(end, &mut held) {
-        return NO_END;
-    }
-    match held.role() {
-        Role::Network => return NO_CALL,
-        Role::Mobile => {}
-    }
-    match held.sapi() {
-        Sapi::Three => NO_CALL,
-        Sapi::Zero => {
-            let answer = held.open_into(info.octets(), &mut told);
-            carry_out(answer, &told, &held, end, effects)
-        }
-    }
+    ask(end, &Call::Open(info.octets()), effects)
 }
 
 /// Asks the other end to open the link of SAPI 3, with no information.
@@ -76,18 +64,7 @@ pub extern "C" fn um_end_open_bare(end: &mut PlainEnd, effects: &mut PlainEffect
     ensures called { IsCalledAs OpensBare result end.old end.new effects.old effects.new }
     ensures plain { result ≡ 0 → IsPlain end.new }
 {
-    let mut told = Effects::new();
-    let mut held = any_end();
-    if !read_end(end, &mut held) {
-        return NO_END;
-    }
-    match held.sapi() {
-        Sapi::Zero => NO_CALL,
-        Sapi::Three => {
-            let answer = held.open_bare_into(&mut told);
-            carry_out(answer, &told, &held, end, effects)
-        }
-    }
+    ask(end, &Call::OpenBare, effects)
 }
 
 /// Sends a message over the link.
@@ -100,13 +77,7 @@ pub extern "C" fn um_end_send(
     ensures called { IsCalledAs (Sends (octets_in message.now)) result end.old end.new effects.old effects.new }
     ensures plain { result ≡ 0 → IsPlain end.new }
 {
-    let mut told = Effects::new();
-    let mut held = any_end();
-    if !read_end(end, &mut held) {
-        return NO_END;
-    }
-    let answer = held.send_into(message.octets(), &mut told);
-    carry_out(answer, &told, &held, end, effects)
+    ask(end, &Call::Send(message.octets()), effects)
 }
 
 /// Sends a message in one unnumbered frame, outside the link.
@@ -118,13 +89,7 @@ pub extern "C" fn um_end_unit(
 ) -> u8
     ensures { IsCalledAs (SendsUnit (octets_in message.now)) result end.now end.now effects.old effects.new }
 {
-    let mut told = Effects::new();
-    let mut held = any_end();
-    if !read_end(end, &mut held) {
-        return NO_END;
-    }
-    let answer = held.unit_into(message.octets(), &mut told);
-    tell(answer, &told, effects)
+    ask_only(end, &Call::Unit(message.octets()), effects)
 }
 
 /// Closes the link. What is not acknowledged is given up.
@@ -133,13 +98,7 @@ pub extern "C" fn um_end_close(end: &mut PlainEnd, effects: &mut PlainEffects) -
     ensures called { IsCalledAs Closes result end.old end.new effects.old effects.new }
     ensures plain { result ≡ 0 → IsPlain end.new }
 {
-    let mut told = Effects::new();
-    let mut held = any_end();
-    if !read_end(end, &mut held) {
-        return NO_END;
-    }
-    let answer = held.close_into(&mut told);
-    carry_out(answer, &told, &held, end, effects)
+    ask(end, &Call::Close, effects)
 }
 
 /// The timer T200 has run out.
@@ -148,13 +107,7 @@ pub extern "C" fn um_end_timer(end: &mut PlainEnd, effects: &mut PlainEffects) -
     ensures called { IsCalledAs Ticks result end.old end.new effects.old effects.new }
     ensures plain { result ≡ 0 → IsPlain end.new }
 {
-    let mut told = Effects::new();
-    let mut held = any_end();
-    if !read_end(end, &mut held) {
-        return NO_END;
-    }
-    let answer = held.timer_into(&mut told);
-    carry_out(answer, &told, &held, end, effects)
+    ask(end, &Call::Timer, effects)
 }
 
 /// The fill frame, which is sent when there is nothing else to send.
@@ -191,6 +144,64 @@ pub extern "C" fn um_end_take(
         Ok(frame) => held.take_into(&frame, &mut told),
     }
     carry_out(Ok(()), &told, &held, end, effects)
+}
+
+/// Asks an end.
+#[inline(always)]
+pub(crate) fn ask(end: &mut PlainEnd, call: &Call<'_>, effects: &mut PlainEffects) -> u8
+    ensures called { IsCalledAs (call_of call.now) result end.old end.new effects.old effects.new }
+    ensures plain { result ≡ 0 → IsPlain end.new }
+{
+    let mut told = Effects::new();
+    let mut held = any_end();
+    if !read_end(end, &mut held) {
+        return NO_END;
+    }
+    if !may_ask(&held, call) {
+        return NO_CALL;
+    }
+    let answer = held.call(call, &mut told);
+    carry_out(answer, &told, &held, end, effects)
+}
+
+/// Asks an end what leaves it as it is.
+#[inline(always)]
+pub(crate) fn ask_only(end: &PlainEnd, call: &Call<'_>, effects: &mut PlainEffects) -> u8
+    requires { IsUnnumbered (call_of call.now) }
+    ensures { IsCalledAs (call_of call.now) result end.now end.now effects.old effects.new }
+{
+    let mut told = Effects::new();
+    let mut held = any_end();
+    if !read_end(end, &mut held) {
+        return NO_END;
+    }
+    let answer = held.call(call, &mut told);
+    tell(answer, &told, effects)
+}
+
+/// Whether the end may be asked so.
+fn may_ask(end: &End, call: &Call<'_>) -> bool
+    ensures sapi { IsTrue result → IsOfSapi (link_sapi end.now) (call_of call.now) }
+    ensures may { IsTrue result → (e : EndState) → Stands end.now e → MayAsk e (call_of call.now) }
+    ensures never { result ≡ false → (e : EndState) → Stands end.now e
+        → MayAsk e (call_of call.now) → ⊥ }
+{
+    match *call {
+        Call::Open(_) => match (end.sapi(), end.role()) {
+            (Sapi::Zero, Role::Mobile) => true,
+            (Sapi::Zero, Role::Network) => false,
+            (Sapi::Three, _) => false,
+        },
+        Call::OpenBare => match end.sapi() {
+            Sapi::Zero => false,
+            Sapi::Three => true,
+        },
+        Call::Send(_) => true,
+        Call::Unit(_) => true,
+        Call::Close => true,
+        Call::Timer => true,
+        Call::Idle => true,
+    }
 }
 
 /// An end to be restored.

@@ -7,6 +7,7 @@ use crate::effects::{PlainEffects, PlainNotice};
 use crate::frames::PlainFrame;
 use crate::margins::MarginReport;
 use crate::repairs::RepairReport;
+use crate::sides::PlainSide;
 use crate::states::PlainEnd;
 use segmenting::PlainMessage;
 
@@ -25,6 +26,8 @@ const UM_FRAME: [u8; 28] = [0; size_of::<PlainFrame>()];
 const UM_MESSAGE: [u8; 256] = [0; size_of::<PlainMessage>()];
 
 const UM_END: [u8; 2584] = [0; size_of::<PlainEnd>()];
+
+const UM_SIDE: [u8; 5168] = [0; size_of::<PlainSide>()];
 
 const UM_NOTICE: [u8; 272] = [0; size_of::<PlainNotice>()];
 

@@ -12,5 +12,6 @@ mod frames;
 mod layout;
 mod margins;
 mod repairs;
+mod sides;
 mod soft;
 mod states;

@@ -23,8 +23,8 @@ use Rattle.lapdm_window.specs.declared.Reason.TheVariants as R
 use Rattle.lapdm_window.specs.Ends.{Role, Mobile, Network, EndState, Outcome, stays, ◌then◌, next_piece, n200, vr}
 use Rattle.lapdm_window.specs.Rules.{has_next, sends_piece, sends_next, acknowledges, reports_acked, counts, notices_of, accepts, says_rr, answers_piece, reject_is_due, rejects, takes_i, answers_poll, takes_rr, sends_again, takes_rej}
 use Rattle.lapdm_window.specs.Calls.{Call, Opens, OpensBare, Sends, SendsUnit, Closes, Ticks, Idles, after_call, with_taken}
-use Rattle.lapdm_window.specs.Tables.{is_command, is_poll, says_dm, says_ua, becomes_open, becomes_closed, sabm_in_idle, dm_to_poll, other_ua, sabm_in_opening, answers_sabm, in_state, after_content, after_frame}
-use Rattle.lapdm_window.proofs.Lemmas.{few-frame, few-call}
+use Rattle.lapdm_window.specs.Tables.{Reply, Nothing, SaysDm, SaysUa, IsOpenedBy, IsOpen, IsClosed, IsReleased, TakesUnit, TakesI, TakesRr, TakesRej, becomes_closed, outcome_of, reply_to, after_frame}
+use Rattle.lapdm_window.proofs.Lemmas.{IsReplyTo, cause_of, by_sapi, few-frame, few-call}
 use Rattle.um_lines.proofs.SpelledLaws.{length-encode_lower}
 use Rattle.um_block.specs.declared.received.Received.{Received}
 use Rattle.lapdm_link.specs.Events.{Open, OpenBare, Ask, Deliver, Lose, Rival, End, call_of}
@@ -32,9 +32,8 @@ use Rattle.um_air.specs.Air.{Octets, Block, Reads, Event, Step, Answer, Refuses,
 use Rattle.um_link.specs.Coded.{AreCoded}
 use Rattle.um_script.specs.AnswerLines.{heard, FitsHeard}
 use Rattle.um_script.specs.StepLines.{who_word, link_word, octets_word, heard_text, block_text, arrival_text, notice_text, notices_text, frames_text, answer_text}
-use Rattle.um_end.specs.Terminals.{Links, link_in, does, does_nothing, takes, takes_read, step_of, IsAsked, Asks, Hears}
+use Rattle.um_end.specs.Terminals.{SideState, link_in, does, does_nothing, takes, takes_read, step_of, IsAsked, Asks, Hears}
 use Rattle.um_end.specs.EndRuns.{frames_of, IsAnswerText}
-use Rattle.um_end.proofs.Deeds.{by_sapi}
 
 -- ---- what a step reports
 
@@ -159,65 +158,27 @@ brief-rej nr b e = counted nr (answers_poll b) sends_again e (polled b) again
 
 -- ---- the tables
 
-brief-sabm_in_idle : (s : Sapi) (r : Role) (info : Message) (e : EndState) → length info ≤ 251 → IsBrief (sabm_in_idle s r info e).notices
-brief-sabm_in_idle Zero Mobile info e h = tt
-brief-sabm_in_idle Zero Network [] e h = tt
-brief-sabm_in_idle Zero Network (x ∷ xs) e h = h
-brief-sabm_in_idle Three r [] e h = h
-brief-sabm_in_idle Three r (x ∷ xs) e h = tt
+-- the information of a frame that a reply repeats
+short : (c d : Content) → c ≡ d → length (information c) ≤ 251 → length (information d) ≤ 251
+short c d is h = subst (λ (x : Content). length (information x) ≤ 251) is h
 
-brief-dm : (b : Bool) (e : EndState) → IsBrief (dm_to_poll b e).notices
-brief-dm b e = by_test IsBrief b (says_dm e) (stays e) tt tt
-
-brief-other_ua : (s : Sapi) (e : EndState) → IsBrief (other_ua s e).notices
-brief-other_ua Zero e = tt
-brief-other_ua Three e = tt
-
-brief-sabm_in_opening : (s : Sapi) (info : Message) (e : EndState) → IsBrief (sabm_in_opening s info e).notices
-brief-sabm_in_opening Zero info e = tt
-brief-sabm_in_opening Three [] e = tt
-brief-sabm_in_opening Three (x ∷ xs) e = tt
-
-brief-state : (t : State) (b : Bool) (c : Content) (e : EndState) → length (information c) ≤ 251 → IsBrief (in_state t b c e).notices
-brief-state S.Idle b (Sabm p info) e h = brief-sabm_in_idle e.sapi e.role info e h
-brief-state S.Idle b (Disc p) e h = tt
-brief-state S.Idle b other e h = brief-dm (is_poll b other) e
-brief-state S.Opening b (Sabm p info) e h = brief-sabm_in_opening e.sapi info e
-brief-state S.Opening b (Ua true info) e h =
-    by_test IsBrief (bytes_eq info e.kept) (becomes_open info e) (other_ua e.sapi e) h (brief-other_ua e.sapi e)
-brief-state S.Opening b (Ua false info) e h = tt
-brief-state S.Opening b (Dm true) e h = tt
-brief-state S.Opening b (Dm false) e h = tt
-brief-state S.Opening b (Disc p) e h = tt
-brief-state S.Opening b other e h = tt
-brief-state S.Open b (I ns nr p more info) e h = brief-i ns nr p (info, more) e
-brief-state S.Open b (Rr nr pf) e h = brief-rr nr (b && pf) e
-brief-state S.Open b (Rej nr pf) e h = brief-rej nr (b && pf) e
-brief-state S.Open b (Sabm p info) e h =
-    by_test IsBrief (answers_sabm e.sapi e.role && bytes_eq info e.kept) (says_ua info e) (stays e) tt tt
-brief-state S.Open b (Disc p) e h = tt
-brief-state S.Open b (Dm f) e h = tt
-brief-state S.Open b other e h = tt
-brief-state S.Closing b (Ua true []) e h = tt
-brief-state S.Closing b (Ua true (x ∷ xs)) e h = tt
-brief-state S.Closing b (Ua false info) e h = tt
-brief-state S.Closing b (Dm true) e h = tt
-brief-state S.Closing b (Dm false) e h = tt
-brief-state S.Closing b (Disc p) e h = tt
-brief-state S.Closing b other e h = tt
-brief-state S.Closed b (Sabm p info) e h = tt
-brief-state S.Closed b (Disc p) e h = tt
-brief-state S.Closed b other e h = brief-dm (is_poll b other) e
-
-brief-content : (b : Bool) (c : Content) (e : EndState) → length (information c) ≤ 251 → IsBrief (after_content b c e).notices
-brief-content b (Ui p []) e h = tt
-brief-content b (Ui p (x ∷ xs)) e h = h
-brief-content b other e h = brief-state e.state b other e h
+brief-reply : (r : Reply) (c : Content) (e : EndState) → IsReplyTo c e r → length (information c) ≤ 251 →
+    IsBrief (outcome_of r e).notices
+brief-reply Nothing c e cause h = tt
+brief-reply SaysDm c e cause h = tt
+brief-reply (SaysUa info) c e cause h = tt
+brief-reply (IsOpenedBy info) c e cause h = short c _ cause.1 h
+brief-reply (IsOpen info) c e cause h = short c _ cause.0 h
+brief-reply (IsClosed reason) c e cause h = tt
+brief-reply IsReleased c e cause h = tt
+brief-reply (TakesUnit info) c e cause h = short c _ cause.1 h
+brief-reply (TakesI ns nr p piece) c e cause h = brief-i ns nr p piece e
+brief-reply (TakesRr nr poll) c e cause h = brief-rr nr poll e
+brief-reply (TakesRej nr poll) c e cause h = brief-rej nr poll e
 
 -- a step at a frame, and one at a call, reports at most one message, behind that another is acknowledged
 pub brief-frame : (f : Frame) (e : EndState) → length (information f.content) ≤ 251 → IsBrief (after_frame f e).notices
-brief-frame f e h = by_test IsBrief _ (after_content (is_command e f) f.content e) (stays e)
-    (brief-content (is_command e f) f.content e h) tt
+brief-frame f e h = brief-reply (reply_to f e) f.content e (cause_of e f) h
 
 pub brief-call : (call : Call) (e : EndState) → IsBrief (after_call call e).notices
 brief-call (Opens info) e = tt
@@ -320,7 +281,7 @@ arrival_short role r octets is count tsc fits =
 abbrev pub IsShort : Answer → Type 0
 IsShort answer = length (answer_text answer) + 604 * length (frames_of answer) < 2000
 
-outcome_short : (role : Role) (received : Option Received) (sapi : Sapi) (o : Outcome) (a : Links) (tsc : ℕ) (blocks : List Block) →
+outcome_short : (role : Role) (received : Option Received) (sapi : Sapi) (o : Outcome) (a : SideState) (tsc : ℕ) (blocks : List Block) →
     length o.frames ≤ 2 → IsBrief o.notices → length (arrival_text (End role) received) ≤ 118 →
     AreCoded tsc (map (octets_of Sdcch) o.frames) blocks → IsShort (Does (step_of role received (does sapi o a)))
 outcome_short role received sapi o a tsc blocks few brief arrived coded =
@@ -337,7 +298,7 @@ outcome_short role received sapi o a tsc blocks few brief arrived coded =
       length-map o.frames (octets_of Sdcch),
     )
 
-asked_short : (role : Role) (a : Links) (sapi : Sapi) (call : Call) (b : Links) (answer : Answer) (tsc : ℕ) (blocks : List Block) →
+asked_short : (role : Role) (a : SideState) (sapi : Sapi) (call : Call) (b : SideState) (answer : Answer) (tsc : ℕ) (blocks : List Block) →
     IsAsked role a sapi call b answer → AreCoded tsc (frames_of answer) blocks → length (answer_text answer) < 2000 → IsShort answer
 asked_short role a sapi call b (Refuses why) tsc blocks h coded lines = omega (arith, lines)
 asked_short role a sapi call b (Does step) tsc blocks h coded lines =
@@ -347,7 +308,7 @@ asked_short role a sapi call b (Does step) tsc blocks h coded lines =
     (omega arith)) coded
 
 -- the answer to a call
-pub call_short : (role : Role) (a : Links) (event : Event) (b : Links) (answer : Answer) (tsc : ℕ) (text : List ℕ) →
+pub call_short : (role : Role) (a : SideState) (event : Event) (b : SideState) (answer : Answer) (tsc : ℕ) (text : List ℕ) →
     Asks role a event b answer → IsAnswerText tsc answer text → length (answer_text answer) < 2000 → IsShort answer
 call_short role a event b answer tsc text h t lines = by_event event h
   where
@@ -365,16 +326,9 @@ unsent step none lines = let n = ap (λ fs. length fs) none in omega (arith, n, 
 
 has_room : (c : Content) → InformationFits Sdcch c → length (information c) ≤ 251
 has_room (I ns nr p more info) h = omega (arith, h.1)
-has_room (Rr nr pf) h = omega arith
-has_room (Rnr nr pf) h = omega arith
-has_room (Rej nr pf) h = omega arith
-has_room (Sabm p info) h = omega (arith, h)
-has_room (Dm f) h = omega arith
-has_room (Ui p info) h = omega (arith, h)
-has_room (Disc p) h = omega arith
-has_room (Ua f info) h = omega (arith, h)
+has_room other h = omega (arith, h)
 
-taken_short : (role : Role) (a : Links) (r : Received) (f : Frame) (octets : Octets) (tsc : ℕ) (blocks : List Block) →
+taken_short : (role : Role) (a : SideState) (r : Received) (f : Frame) (octets : Octets) (tsc : ℕ) (blocks : List Block) →
     r.accepted ≡ Some octets →
     IsFrame Sdcch f octets → r.tsc ≤ 7 → FitsHeard (heard r) → AreCoded tsc (step_of role (Some r) (takes f a)).frames blocks →
     length (answer_text (Does (step_of role (Some r) (takes f a)))) < 2000 → IsShort (Does (step_of role (Some r) (takes f a)))
@@ -390,7 +344,7 @@ taken_short role a r f octets tsc blocks is frame known fits =
     (λ p q coded lines. unsent (step_of role (Some r) (does_nothing a)) refl lines)
 
 -- the answer to a block
-pub block_short : (role : Role) (a : Links) (bursts : List (List ℤ)) (b : Links) (step : Step) (tsc : ℕ) (text : List ℕ) →
+pub block_short : (role : Role) (a : SideState) (bursts : List (List ℤ)) (b : SideState) (step : Step) (tsc : ℕ) (text : List ℕ) →
     Hears role a bursts b step → ((r : Received) → step.received ≡ Some r → FitsHeard (heard r)) → IsAnswerText tsc (Does step) text →
     length (answer_text (Does step)) < 2000 → IsShort (Does step)
 block_short role a bursts b step tsc text h fits t lines = by_read h.read h.report.accepted h.reads refl h.step_is

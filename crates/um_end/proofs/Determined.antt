@@ -12,7 +12,7 @@ use Rattle.um_air.specs.Air.{Event, Reads, Step, Answer, Refuses, Does}
 use Rattle.um_air.proofs.Laws.{one_read}
 use Rattle.lapdm_window.specs.Calls.{Opens, OpensBare}
 use Rattle.lapdm_window.specs.declared.Sapi.TheVariants.{Zero, Three}
-use Rattle.um_end.specs.Terminals.{Links, takes_read, step_of, IsAsked, Asks, Hears}
+use Rattle.um_end.specs.Terminals.{SideState, takes_read, step_of, IsAsked, Asks, Hears}
 
 why_or : Option Why → Why
 why_or (Some why) = why
@@ -25,14 +25,15 @@ same_why v w e = ap why_or e
 not_both : (o : Option Why) (why : Why) → o ≡ Some why → o ≡ None → ⊥
 not_both o why h g = cc (h, g)
 
-one_asked : (role : Role) (a : Links) (sapi : Sapi) (call : Call) (b c : Links) (x y : Answer) → IsAsked role a sapi call b x →
+one_asked : (role : Role) (a : SideState) (sapi : Sapi) (call : Call) (b c : SideState) (x y : Answer) → IsAsked role a sapi call b x →
     IsAsked role a sapi call c y → (b ≡ c) × (x ≡ y)
 one_asked role a sapi call b c (Refuses v) (Refuses w) h k = (h.1 ∙ sym k.1, ap Refuses (same_why v w (sym h.0 ∙ k.0)))
 one_asked role a sapi call b c (Refuses v) (Does t) h k = absurd (not_both _ v h.0 k.0)
 one_asked role a sapi call b c (Does s) (Refuses w) h k = absurd (not_both _ w k.0 h.0)
 one_asked role a sapi call b c (Does s) (Does t) h k = (h.1 ∙ sym k.1, ap Does (h.2 ∙ sym k.2))
 
-pub one_asking : (role : Role) (a : Links) (event : Event) (b c : Links) (x y : Answer) → Asks role a event b x → Asks role a event c y →
+pub one_asking : (role : Role) (a : SideState) (event : Event) (b c : SideState) (x y : Answer) → Asks role a event b x →
+    Asks role a event c y →
     (b ≡ c) × (x ≡ y)
 one_asking role a (Open info) b c x y h k = one_asked role a Zero (Opens info) b c x y h k
 one_asking role a (OpenBare other) b c x y h k = one_asked role a Three OpensBare b c x y h k
@@ -41,7 +42,7 @@ one_asking role a (Deliver sender places) b c x y h k = absurd h
 one_asking role a (Lose sender) b c x y h k = absurd h
 one_asking role a (Rival info) b c x y h k = absurd h
 
-pub one_hearing : (role : Role) (a : Links) (bursts : List (List ℤ)) (b c : Links) (s t : Step) → Hears role a bursts b s →
+pub one_hearing : (role : Role) (a : SideState) (bursts : List (List ℤ)) (b c : SideState) (s t : Step) → Hears role a bursts b s →
     Hears role a bursts c t → (b ≡ c) × (s ≡ t)
 one_hearing role a bursts b c s t h k =
     let report : h.report ≡ k.report = one_received_block bursts h.report k.report h.received k.received in

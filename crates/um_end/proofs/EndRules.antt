@@ -15,7 +15,7 @@ use Rattle.lapdm_window.specs.declared.Refused.{Refused}
 use Rattle.lapdm_window.specs.Ends.{Role, EndState, Outcome, IsEnd, start}
 use Rattle.lapdm_window.specs.Calls.{Call, Opens, OpensBare, HasCall, refusal_of, after_call}
 use Rattle.lapdm_window.specs.Tables.{after_frame}
-use Rattle.lapdm_window.proofs.Lemmas.{Keeps, keeps-call, keeps-frame, IsEnd-start}
+use Rattle.lapdm_window.proofs.Lemmas.{by_sapi, Keeps, keeps-call, keeps-frame, IsEnd-start}
 use Rattle.lapdm_link.proofs.Lemmas.{AreOctets, CallOctets, EndOctets, SaysOctets, AllSay, OutcomeOctets, call-octets, frame-octets}
 use Rattle.lapdm_link.specs.Events.{Request, Send, SendUnit, Close, Tick, Idle, Open, OpenBare, Ask, Deliver, Lose, Rival, because, Because, call_of}
 use Rattle.um_block.proofs.Lemmas.{one_sent_block, some_sent_block, some_received_block, accepted_count, accepted_octets}
@@ -31,11 +31,10 @@ use Rattle.um_driver.specs.Rules.{IsDetermined, IsTotal}
 use Rattle.um_driver.specs.Laws.{HasOneOutput}
 use Rattle.um_driver.proofs.OutputExists.{has_one_output}
 use Rattle.um_driver.proofs.RunLemmas.{Runs-keep}
-use Rattle.um_end.specs.Terminals.{Links, link_in, with_link_in, Deed, does, does_nothing, asks, takes_read, step_of, IsAsked, IsCallOf, Asks}
+use Rattle.um_end.specs.Terminals.{SideState, link_in, with_link_in, Deed, does, does_nothing, asks, takes_read, step_of, IsAsked, IsCallOf, Asks}
 use Rattle.um_end.specs.EndLines.{Meaning, Nothing, Brings, Calls, end_fault, EndMeans}
 use Rattle.um_end.specs.EndRuns.{EndRun, idle, frames_of, IsAnswerText, Arrived, AnswersBursts, Asked, AnswersMeaning, AnswersLine, end_rules}
 use Rattle.um_end.proofs.Determined.{one_asking, one_hearing}
-use Rattle.um_end.proofs.Deeds.{by_sapi}
 use Rattle.um_end.proofs.EndLineLaws.{end_one_meaning, burst_is_soft, call_is_own}
 
 -- ---- one answer
@@ -59,7 +58,7 @@ same_arrival : (s : EndRun) (bursts : List (List ℤ)) (y y' : List ℕ) (b b' :
 same_arrival s bursts y y' b b' h k =
     let same = one_hearing s.role s.links bursts h.links k.links h.step k.step h.heard k.heard in (
       same_text s.tsc (Does k.step) y y' (subst (λ (x : Step). IsAnswerText s.tsc (Does x) y) same.1 h.text_is) k.text_is,
-      h.after_is ∙ ap (λ (x : Links). let r : EndRun = record s { links = x; held = [] } in r) same.0 ∙ sym k.after_is,
+      h.after_is ∙ ap (λ (x : SideState). let r : EndRun = record s { links = x; held = [] } in r) same.0 ∙ sym k.after_is,
     )
 
 same_bursts : (s : EndRun) (bursts : List (List ℤ)) (y y' : List ℕ) (b b' : EndRun) → AnswersBursts s bursts y b →
@@ -74,7 +73,7 @@ same_asked : (s : EndRun) (event : Event) (y y' : List ℕ) (b b' : EndRun) → 
 same_asked s event y y' b b' h k =
     let same = one_asking s.role s.links event h.links k.links h.answer k.answer h.asked k.asked in (
       same_text s.tsc k.answer y y' (subst (λ (x : Answer). IsAnswerText s.tsc x y) same.1 h.text_is) k.text_is,
-      h.after_is ∙ ap (λ (x : Links). let r : EndRun = record s { links = x } in r) same.0 ∙ sym k.after_is,
+      h.after_is ∙ ap (λ (x : SideState). let r : EndRun = record s { links = x } in r) same.0 ∙ sym k.after_is,
     )
 
 same_answer : (s : EndRun) (m : Meaning) (y y' : List ℕ) (b b' : EndRun) → AnswersMeaning s m y b → AnswersMeaning s m y' b' →
@@ -98,15 +97,15 @@ record IsFit (sapi : Sapi) (e : EndState) : Type 0 where
   pub channel : e.channel ≡ Sdcch
   pub octets : EndOctets e
 
-record AreFit (a : Links) : Type 0 where
+record AreFit (a : SideState) : Type 0 where
   pub link0 : IsFit Zero a.link0
   pub link3 : IsFit Three a.link3
 
-fit_in : (sapi : Sapi) (a : Links) → AreFit a → IsFit sapi (link_in sapi a)
+fit_in : (sapi : Sapi) (a : SideState) → AreFit a → IsFit sapi (link_in sapi a)
 fit_in Zero a h = h.link0
 fit_in Three a h = h.link3
 
-fit_with : (sapi : Sapi) (e : EndState) (a : Links) → AreFit a → IsFit sapi e → AreFit (with_link_in sapi e a)
+fit_with : (sapi : Sapi) (e : EndState) (a : SideState) → AreFit a → IsFit sapi e → AreFit (with_link_in sapi e a)
 fit_with Zero e a h fit = record { link0 = fit; link3 = h.link3 }
 fit_with Three e a h fit = record { link0 = h.link0; link3 = fit }
 
@@ -116,7 +115,7 @@ record IsFitDeed (d : Deed) : Type 0 where
   pub frames : All (Fits Sdcch) d.frames
   pub said : AllSay d.frames
 
-fit_deed : (sapi : Sapi) (o : Outcome) (a : Links) → AreFit a → Keeps (link_in sapi a) o → OutcomeOctets o → IsFitDeed (does sapi o a)
+fit_deed : (sapi : Sapi) (o : Outcome) (a : SideState) → AreFit a → Keeps (link_in sapi a) o → OutcomeOctets o → IsFitDeed (does sapi o a)
 fit_deed sapi o a h keeps octets =
     let fit = fit_in sapi a h in
     record {
@@ -130,14 +129,14 @@ fit_deed sapi o a h keeps octets =
       said = octets.frames;
     }
 
-fit_call : (sapi : Sapi) (call : Call) (a : Links) → CallOctets call → HasCall (link_in sapi a) call → AreFit a →
+fit_call : (sapi : Sapi) (call : Call) (a : SideState) → CallOctets call → HasCall (link_in sapi a) call → AreFit a →
     refusal_of call (link_in sapi a) ≡ None → IsFitDeed (asks sapi call a)
 fit_call sapi call a octets has h ok =
     let fit = fit_in sapi a h in
     fit_deed sapi (after_call call (link_in sapi a)) a h (keeps-call call (link_in sapi a) fit.end has ok)
     (call-octets call (link_in sapi a) octets ok fit.end.window fit.octets)
 
-fit_frame : (sapi : Sapi) (f : Frame) (a : Links) → Fits Sdcch f → AreOctets (information f.content) → AreFit a →
+fit_frame : (sapi : Sapi) (f : Frame) (a : SideState) → Fits Sdcch f → AreOctets (information f.content) → AreFit a →
     IsFitDeed (does sapi (after_frame f (link_in sapi a)) a)
 fit_frame sapi f a fits octets h =
     let fit = fit_in sapi a h in
@@ -145,10 +144,10 @@ fit_frame sapi f a fits octets h =
     (keeps-frame f (link_in sapi a) fit.end (subst (λ (c : Channel). Fits c f) (sym fit.channel) fits))
     (frame-octets f (link_in sapi a) octets fit.end.window fit.octets)
 
-fit_nothing : (a : Links) → AreFit a → IsFitDeed (does_nothing a)
+fit_nothing : (a : SideState) → AreFit a → IsFitDeed (does_nothing a)
 fit_nothing a h = record { after = h; frames = All-nil (Fits Sdcch); said = All-nil SaysOctets }
 
-fit_read : (a : Links) (accepted : Option Octets) (read : Option Frame) → IfSome accepted AreOctets → Reads Sdcch accepted read → AreFit a →
+fit_read : (a : SideState) (accepted : Option Octets) (read : Option Frame) → IfSome accepted AreOctets → Reads Sdcch accepted read → AreFit a →
     IsFitDeed (takes_read read a)
 fit_read a accepted None octets reads h = fit_nothing a h
 fit_read a accepted (Some f) octets reads h =
@@ -183,7 +182,7 @@ record IsKept (role : Role) (tsc : ℕ) (s : EndRun) : Type 0 where
 -- ---- some answer to a call
 
 record SomeAnswer (s : EndRun) (event : Event) : Type 0 where
-  pub links : Links
+  pub links : SideState
   pub answer : Answer
   pub asked : Asks s.role s.links event links answer
   pub text : List ℕ
@@ -191,7 +190,7 @@ record SomeAnswer (s : EndRun) (event : Event) : Type 0 where
 
 asked_by : (s : EndRun) (sapi : Sapi) (call : Call) (o : Option Refused) → refusal_of call (link_in sapi s.links) ≡ o → s.tsc ≤ 7 →
     CallOctets call → HasCall (link_in sapi s.links) call → AreFit s.links →
-    (b : Links) × (answer : Answer) × IsAsked s.role s.links sapi call b answer × ((y : List ℕ) × IsAnswerText s.tsc answer y)
+    (b : SideState) × (answer : Answer) × IsAsked s.role s.links sapi call b answer × ((y : List ℕ) × IsAnswerText s.tsc answer y)
 asked_by s sapi call (Some why) is known octets has h = (
   s.links,
   Refuses (Because why),
@@ -204,7 +203,7 @@ asked_by s sapi call None is known octets has h =
     (d.after, Does (step_of s.role None d), (ap because is, refl, refl), text)
 
 some_asked : (s : EndRun) (sapi : Sapi) (call : Call) → s.tsc ≤ 7 → CallOctets call → HasCall (link_in sapi s.links) call → AreFit s.links →
-    (b : Links) × (answer : Answer) × IsAsked s.role s.links sapi call b answer × ((y : List ℕ) × IsAnswerText s.tsc answer y)
+    (b : SideState) × (answer : Answer) × IsAsked s.role s.links sapi call b answer × ((y : List ℕ) × IsAnswerText s.tsc answer y)
 some_asked s sapi call known octets has h = asked_by s sapi call (refusal_of call (link_in sapi s.links)) refl known octets has h
 
 -- a request of octets is a call of octets
@@ -318,7 +317,7 @@ idle_kept role tsc = record {
   each = All-nil (λ (burst : List ℤ). length burst ≡ 148);
 }
 
-asked_fit : (role : Role) (a : Links) (sapi : Sapi) (call : Call) (b : Links) (answer : Answer) → CallOctets call →
+asked_fit : (role : Role) (a : SideState) (sapi : Sapi) (call : Call) (b : SideState) (answer : Answer) → CallOctets call →
     HasCall (link_in sapi a) call → AreFit a → IsAsked role a sapi call b answer → AreFit b
 asked_fit role a sapi call b (Refuses why) octets has h asked = subst AreFit (sym asked.1) h
 asked_fit role a sapi call b (Does step) octets has h asked =
@@ -328,7 +327,7 @@ asked_fit role a sapi call b (Does step) octets has h asked =
     not_because None e = refl
     not_because (Some why) e = absurd (cc e)
 
-asking_fit : (role : Role) (a : Links) (event : Event) (b : Links) (answer : Answer) → IsOctetEvent event → AreFit a →
+asking_fit : (role : Role) (a : SideState) (event : Event) (b : SideState) (answer : Answer) → IsOctetEvent event → AreFit a →
     Asks role a event b answer → AreFit b
 asking_fit role a (Open info) b answer octets h asked = asked_fit role a Zero (Opens info) b answer octets h.link0.sapi_is h asked
 asking_fit role a (OpenBare other) b answer octets h asked = asked_fit role a Three OpensBare b answer tt h.link3.sapi_is h asked

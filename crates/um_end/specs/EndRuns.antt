@@ -8,19 +8,20 @@ use Rattle.um_air.specs.Air.{Octets, Block, Event, Answer, Refuses, Does, Step}
 use Rattle.um_link.specs.Coded.{AreCoded}
 use Rattle.um_script.specs.StepLines.{answer_text}
 use Rattle.um_driver.specs.Rules.{Rules}
-use Rattle.um_end.specs.Terminals.{Links, idle_links, Asks, Hears}
+use Rattle.lapdm_frame.specs.declared.Channel.TheVariants.{Sdcch}
+use Rattle.um_end.specs.Terminals.{SideState, idle_side, Asks, Hears}
 use Rattle.um_end.specs.EndLines.{Meaning, Nothing, Brings, Calls, end_fault, EndMeans}
 
 -- a side and the training sequence of its blocks; its links; and the bursts of an unfinished block, in their order
 pub record EndRun : Type 0 where
   pub role : Role
   pub tsc : ℕ
-  pub links : Links
+  pub links : SideState
   pub held : List (List ℤ)
 
 -- nothing has happened yet
 abbrev pub idle : Role → ℕ → EndRun
-idle role tsc = record { role = role; tsc = tsc; links = idle_links role; held = [] }
+idle role tsc = record { role = role; tsc = tsc; links = idle_side role Sdcch; held = [] }
 
 abbrev pub frames_of : Answer → List Octets
 frames_of (Refuses why) = []
@@ -40,7 +41,7 @@ pub record IsCodedText (tsc : ℕ) (frames : List Octets) (old new : List ℕ) :
 
 -- what these bursts, of which the last has just come, are answered with: fewer than four wait for more, and four arrive as a block
 pub record Arrived (s : EndRun) (bursts : List (List ℤ)) (text : List ℕ) (after : EndRun) : Type 0 where
-  pub links : Links
+  pub links : SideState
   pub step : Step
   pub heard : Hears s.role s.links bursts links step
   pub text_is : IsAnswerText s.tsc (Does step) text
@@ -52,7 +53,7 @@ AnswersBursts s bursts text after =
 
 -- what came of a call
 pub record Asked (s : EndRun) (event : Event) (text : List ℕ) (after : EndRun) : Type 0 where
-  pub links : Links
+  pub links : SideState
   pub answer : Answer
   pub asked : Asks s.role s.links event links answer
   pub text_is : IsAnswerText s.tsc answer text

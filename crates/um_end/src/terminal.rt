@@ -1,25 +1,20 @@
 //! Both links of one side, over bursts.
-ghost use Rattle.std.specs.Prelude.{◌≡◌, ◌≤◌, ℕ, List, Some, None, [], IfOk, OnOk, OnErr, IsSome};
+ghost use Rattle.std.specs.Prelude.{◌≡◌, ◌≤◌, ℕ, List, Some, None, IfOk, OnOk, OnErr, IsSome};
 ghost use Rattle.std.specs.List.{All};
 ghost use Rattle.bit_blocks.specs.Bits.{AllBits};
 ghost use Rattle.conv_code.specs.Likelihood.{AllSoft};
 ghost use Rattle.um_block.specs.Sent.{IsSentBlock};
 ghost use Rattle.lapdm_frame.specs.declared.Channel.TheVariants.{Sdcch};
-ghost use Rattle.lapdm_frame.specs.Content.{frame_of};
-ghost use Rattle.lapdm_frame.specs.Frames.{Fits};
-ghost use Rattle.lapdm_end.specs.Following.{IsRefusedAs};
-ghost use Rattle.lapdm_end.specs.Standing.{channel_of, sapi_of};
-ghost use Rattle.lapdm_window.specs.declared.Sapi.TheVariants as S;
+ghost use Rattle.lapdm_end.specs.Sides.{channel_of};
 ghost use Rattle.lapdm_link.specs.Events as E;
 ghost use Rattle.um_link.specs.Naming.{role_of, event_of, who_of, step_of, written};
 ghost use Rattle.um_block.specs.declared.received.Received.{Received};
 ghost use Rattle.um_script.specs.AnswerLines.{heard, FitsHeard};
-ghost use Rattle.um_end.specs.Asking.{IsCall, sapi_in, call_in};
 
-use crate::asking::{ask_event, link_asked};
-use lapdm_end::{End as LinkEnd, Role};
-use lapdm_frame::{Channel, FrameView, read};
-use lapdm_window::{Effects, Refused, Sapi};
+use crate::asking::{call_asked, link_asked};
+use lapdm_end::{Role, Side};
+use lapdm_frame::{Channel, read};
+use lapdm_window::{Effects, Sapi};
 use um_block::{Received, receive_block, send_block};
 use um_link::{End, Event, No, Step, Who};
 
@@ -28,24 +23,20 @@ use um_link::{End, Event, No, Step, Who};
 pub struct Terminal {
     pub(crate) side: End,
     tsc: u8,
-    link0: LinkEnd,
-    link3: LinkEnd,
+    links: Side,
     ghost known: { tsc ≤ 7 },
-    ghost channel0: { channel_of link0 ≡ Sdcch },
-    ghost channel3: { channel_of link3 ≡ Sdcch },
-    ghost sapi0: { sapi_of link0 ≡ S.Zero },
-    ghost sapi3: { sapi_of link3 ≡ S.Three },
+    ghost channel: { channel_of links ≡ Sdcch },
 }
 
 impl Terminal {
-    ghost use Rattle.um_end.specs.Terminals.{idle_links, IsCallOf, asks, takes};
+    ghost use Rattle.um_end.specs.Terminals.{idle_side, IsCallOf};
     ghost use Rattle.um_end.specs.Standing.{Stands, FollowsCall, IsOnlyAnswer, FollowsBursts, IsOnlyStep, IsSameSide, side_of};
-    ghost use Rattle.um_end.specs.Doing.{link_of, Follows, Hears};
+    ghost use Rattle.um_end.specs.Doing.{Hears};
 
     /// Both links in Idle, with a training sequence 0 to 7.
     pub fn new(side: End, tsc: u8) -> Terminal
         requires { tsc ≤ 7 }
-        ensures stands { Stands result (idle_links (role_of side)) }
+        ensures stands { Stands result (idle_side (role_of side) Sdcch) }
         ensures side { result.side ≡ side }
         ensures tsc { result.tsc ≡ tsc }
     {
@@ -56,8 +47,7 @@ impl Terminal {
         Terminal {
             side,
             tsc,
-            link0: LinkEnd::new_on(role, Sapi::Zero, Channel::Sdcch),
-            link3: LinkEnd::new_on(role, Sapi::Three, Channel::Sdcch),
+            links: Side::new_on(role, Channel::Sdcch),
         }
     }
 
@@ -91,7 +81,8 @@ impl Terminal {
         ensures same { IsSameSide self.old self.new }
     {
         let sapi = link_asked(event);
-        match self.ask_link(sapi, event, &mut step.effects) {
+        let call = call_asked(event);
+        match self.links.call(sapi, &call, &mut step.effects) {
             Ok(()) => {
                 step.received = None;
                 self.sign(sapi, step);
@@ -142,26 +133,6 @@ impl Terminal {
         send_block(octets, self.tsc)
     }
 
-    fn ask_link(
-        &mut self,
-        sapi: Sapi,
-        event: &Event<'_>,
-        effects: &mut Effects,
-    ) -> Result<(), Refused>
-        requires call { IsCall (event_of event.now) }
-        requires sapi { sapi ≡ sapi_in (event_of event.now) }
-        ensures refusal { IsRefusedAs (call_in (event_of event.now)) (link_of sapi self.old) result }
-        ensures follows { OnOk result (Follows (asks sapi (call_in (event_of event.now))) self.old sapi effects.new self.new) }
-        ensures refused { OnErr result (self.new ≡ self.old) }
-        ensures kept { OnErr result (effects.new ≡ effects.old) }
-        ensures same { IsSameSide self.old self.new }
-    {
-        match sapi {
-            Sapi::Zero => ask_event(&mut self.link0, event, effects),
-            Sapi::Three => ask_event(&mut self.link3, event, effects),
-        }
-    }
-
     /// The frame that accepted octets are, if they are one, is taken.
     fn hear(&mut self, accepted: &Option<[u8; 23]>, effects: &mut Effects) -> Sapi
         ensures hears { Hears accepted.now self.old result effects.new self.new }
@@ -169,26 +140,8 @@ impl Terminal {
     {
         if let Some(octets) = accepted {
             if let Ok(frame) = read(octets) {
-                return self.take(&frame, effects);
+                return self.links.take(&frame, effects);
             }
-        }
-        effects.clear();
-        Sapi::Zero
-    }
-
-    /// The link of the frame's SAPI takes it.
-    fn take(&mut self, frame: &FrameView<'_>, effects: &mut Effects) -> Sapi
-        requires fits { Fits Sdcch (frame_of frame.now) }
-        ensures follows { Follows (takes (frame_of frame.now)) self.old result effects.new self.new }
-        ensures same { IsSameSide self.old self.new }
-    {
-        if frame.sapi == 0 {
-            self.link0.take_into(frame, effects);
-            return Sapi::Zero;
-        }
-        if frame.sapi == 3 {
-            self.link3.take_into(frame, effects);
-            return Sapi::Three;
         }
         effects.clear();
         Sapi::Zero

@@ -1,28 +1,22 @@
--- A frame that is read is taken.
-use Rattle.std.proofs.Common.{◌≡◌, ◌≢◌, refl, sym, subst, arith, Option, Some}
+-- A frame that is read is taken, and nothing is done where none is read.
+use Rattle.std.proofs.Common.{◌≡◌, refl, sym, subst, [], Option, Some, None}
 use Rattle.lapdm_frame.specs.declared.Channel.{Channel}
 use Rattle.lapdm_frame.specs.Content.{Frame}
 use Rattle.lapdm_frame.specs.Readings.{IsOnlyFrame}
 use Rattle.lapdm_window.specs.declared.Sapi.{Sapi}
-use Rattle.lapdm_window.specs.declared.Sapi.TheVariants.{Zero, Three}
+use Rattle.lapdm_window.specs.declared.Sapi.TheVariants.{Zero}
 use Rattle.lapdm_window.specs.declared.effects.Effects.{Effects}
-use Rattle.lapdm_window.specs.Ends.{Role}
+use Rattle.lapdm_window.specs.Ends.{Role, Mobile, Network}
 use Rattle.lapdm_link.specs.Events as E
 use Rattle.um_air.specs.Air.{Octets, Reads}
 use Rattle.um_link.specs.declared.ends.Ends.{Ends}
 use Rattle.um_link.specs.FourEnds as F
 use Rattle.um_link.specs.Hearing.{Hears}
-use Rattle.um_link.proofs.BySapi.{by_sapi}
-
-pub link_three : (role : Role) (f : Frame) (es : E.Ends) → f.sapi ≡ 3 → Three ≡ (E.takes role f es).sapi
-link_three role f es h = by_sapi role f es (λ d. Three ≡ d.sapi) (λ q. absurd (omega (arith, q, h))) (λ q. refl) (λ q r. absurd (r h))
-
-pub link_zero : (role : Role) (f : Frame) (es : E.Ends) → f.sapi ≢ 3 → Zero ≡ (E.takes role f es).sapi
-link_zero role f es h = by_sapi role f es (λ d. Zero ≡ d.sapi) (λ q. refl) (λ q. absurd (h q)) (λ q r. refl)
 
 pub read_taken : (role : Role) (channel : Channel) (octets : Octets) (accepted : Option Octets) (f : Frame) (old new : Ends)
     (effects : Effects) (link : Sapi) → accepted ≡ Some octets → IsOnlyFrame channel f octets → channel ≡ F.ends_channel old →
-    F.Follows (F.ends_channel old) (E.takes role f) old effects new → ((es : E.Ends) → link ≡ (E.takes role f es).sapi) →
+    F.Follows (F.ends_channel old) (E.takes_read role (Some f)) old effects new →
+    ((es : E.Ends) → F.Stands old es → link ≡ (E.takes_read role (Some f) es).sapi) →
     Hears role channel accepted old link effects new
 read_taken role channel octets accepted f old new effects link is only on follows sapi es st =
     let g = follows es st in
@@ -30,6 +24,13 @@ read_taken role channel octets accepted f old new effects link is only on follow
       read = Some f;
       reads = subst (λ (o : Option Octets). Reads channel o (Some f)) (sym is) only.frame;
       stands = g.0;
-      does = subst (λ (c : Channel). F.Does effects c (E.takes role f es)) (sym on) g.1;
-      sapi = sapi es;
+      does = subst (λ (c : Channel). F.Does effects c (E.takes_read role (Some f) es)) (sym on) g.1;
+      sapi = sapi es st;
     }
+
+pub none_taken : (role : Role) (channel : Channel) (accepted : Option Octets) (old : Ends) (effects : Effects) →
+    Reads channel accepted None → effects.frames ≡ [] → effects.notices ≡ [] → Hears role channel accepted old Zero effects old
+none_taken Mobile channel accepted old effects reads frames notices es st =
+    record { read = None; reads = reads; stands = st; does = record { frames = frames; notices = notices }; sapi = refl }
+none_taken Network channel accepted old effects reads frames notices es st =
+    record { read = None; reads = reads; stands = st; does = record { frames = frames; notices = notices }; sapi = refl }

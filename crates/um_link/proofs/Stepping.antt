@@ -1,5 +1,6 @@
 -- From what the calls do to a step of the definition.
-use Rattle.std.proofs.Common.{◌≡◌, refl, sym, ◌∙◌, ap, subst, ℕ, Bool, true, false, List, [], ◌∷◌, ◌++◌, length, drop, map, Option, Some, None, arith, ◌≤◌, nat_eq, nat_lt, Result}
+use Rattle.std.proofs.Common.{◌≡◌, refl, sym, ◌∙◌, ap, subst, ℕ, Bool, true, false, List, [], ◌∷◌, ◌++◌, length, drop, map, Option, Some}
+use Rattle.std.proofs.Common.{None, arith, ◌≤◌, nat_eq, nat_lt, Result}
 use Rattle.std.proofs.lemmas.Bool.{false≢true}
 use Rattle.std.proofs.lemmas.Bool.Decides.{nat_tests}
 use Rattle.um_link.proofs.Adding.{adds-none}
@@ -32,8 +33,7 @@ use Rattle.um_link.specs.FourEnds as F
 use Rattle.um_link.specs.declared.links.Links.{Links}
 use Rattle.um_link.specs.Hearing.{Hears}
 use Rattle.um_link.specs.Hearing as H
-use Rattle.um_link.proofs.BySapi.{by_sapi}
-use Rattle.um_link.specs.Standing.{IsSound, Stands, blocks_from}
+use Rattle.um_link.specs.Standing.{IsAskedBy, IsSound, Stands, blocks_from}
 use Rattle.um_link.specs.Moves.{Sends, IsSameBut, ReceivesFrom, LosesFrom}
 use Rattle.um_link.specs.Ways.{Receives}
 
@@ -184,6 +184,29 @@ pub asked-because : (role : Role) (sapi : Sapi) (call : Call) (w : Links) (refus
 asked-because role sapi call w refused h n a st =
     unless-false _ E.AirFull _ (on-way E.is_full false role w a st h) ∙ ap E.because (sym (n a.ends st.ends))
 
+-- an event that asks an end
+module _ (role : Role) (sapi : Sapi) (call : Call) where
+  pub asked-deed : (event : A.Event) → IsAskedBy event role sapi call → (es : E.Ends) →
+      E.deed (as_read None event) es ≡ E.asks role sapi call es
+  asked-deed (E.Open info) (a, b, c) es = rw (a, b, c) refl
+  asked-deed (E.OpenBare end) (a, b, c) es = rw (a, b, c) refl
+  asked-deed (E.Ask end link request) (a, b, c) es = rw (a, b, c) refl
+  asked-deed other h es = absurd h
+
+  pub asked-refusal : (event : A.Event) → IsAskedBy event role sapi call → (a : AirState) →
+      refusal event a ≡ E.asked_refusal (count a.ways) role sapi call a.ends
+  asked-refusal (E.Open info) (x, y, z) a = rw (x, y, z) refl
+  asked-refusal (E.OpenBare end) (x, y, z) a = rw (x, y, z) refl
+  asked-refusal (E.Ask end link request) (x, y, z) a = rw (x, y, z) refl
+  asked-refusal other h a = absurd h
+
+  pub asked-plain : (event : A.Event) → IsAskedBy event role sapi call → (a : AirState) →
+      Arrives a event None None × (taken event a.ways ≡ a.ways)
+  asked-plain (E.Open info) h a = (tt, refl)
+  asked-plain (E.OpenBare end) h a = (tt, refl)
+  asked-plain (E.Ask end link request) h a = (tt, refl)
+  asked-plain other h a = absurd h
+
 -- a refused event
 pub stays : (event : A.Event) (why : E.Why) (w : Links) → ((a : AirState) → Stands w a → refusal event a ≡ Some why) → (a : AirState) →
     Stands w a → (b : AirState) × Stands w b × AirStep a event b (A.Refuses why)
@@ -270,10 +293,6 @@ lost sender w m effects h some no_frames no_notices a st =
     (sends-none m effects no_frames) tt refl refl refl in
     (f.0, f.1, (unless-false _ E.Nothing None (on-way E.is_empty false sender w a st some), f.2))
 
-who-takes : (role : Role) (read : Option Frame) (es : E.Ends) → E.End role ≡ (E.takes_read role read es).who
-who-takes role None es = refl
-who-takes role (Some f) es = by_sapi role f es (λ d. E.End role ≡ d.who) (λ q. refl) (λ q. refl) (λ q r. refl)
-
 arrived-at : (sender : Role) (places : List ℕ) (w m w' : Links) (ends' : Ends) (report : Received) (sapi : Sapi) (effects : Effects)
     (step : A.Step) → Receives places (blocks_from sender w) report (blocks_from sender m) → IsSameBut sender w m →
     Hears (E.other sender) m.channel report.accepted m.ends sapi effects ends' → E.is_empty (length (blocks_from sender w)) ≡ false →
@@ -305,7 +324,7 @@ arrived-at sender places w m w' ends' report sapi effects step h same hears some
       reads = subst
           (λ (c : Channel). Reads c report.accepted t.read) i.channel t.reads;
     })
-    refl (who-takes (E.other sender) t.read a.ends) t.sapi in (
+    refl refl t.sapi in (
       f.0,
       f.1,
       (

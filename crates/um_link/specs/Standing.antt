@@ -2,7 +2,10 @@
 use Rattle.std.specs.Prelude.{◌≡◌, ◌≤◌, ℕ, List, length, Option, Some, None, Result, Ok, Err, []}
 use Rattle.lapdm_window.specs.Ends.{Role, Mobile, Network}
 use Rattle.um_block.specs.declared.received.Received.{Received}
-use Rattle.lapdm_link.specs.Events.{Who, End, Other, Nobody}
+use Rattle.lapdm_window.specs.declared.Sapi.{Sapi}
+use Rattle.lapdm_window.specs.declared.Sapi.TheVariants.{Zero, Three}
+use Rattle.lapdm_window.specs.Calls.{Call, Opens, OpensBare}
+use Rattle.lapdm_link.specs.Events.{Open, OpenBare, Ask, call_of, Who, End, Other, Nobody}
 use Rattle.um_air.specs.Air as A
 use Rattle.um_air.specs.Air.{Block, AirState, AirStep}
 use Rattle.um_link.specs.FourEnds as F
@@ -37,6 +40,13 @@ pub record IsSound (w : Links) : Type 0 where
 -- its next state
 abbrev pub Follows : A.Event → Links → Result Step No → Links → Type 0
 Follows event old result new = (a : AirState) → Stands old a → (b : AirState) × Stands new b × AirStep a event b (answer_of result)
+
+-- the event asks this end of a link so
+abbrev pub IsAskedBy : A.Event → Role → Sapi → Call → Type 0
+IsAskedBy (Open info) role sapi call = (role ≡ Mobile) × (sapi ≡ Zero) × (call ≡ Opens info)
+IsAskedBy (OpenBare asked) role sapi call = (role ≡ asked) × (sapi ≡ Three) × (call ≡ OpensBare)
+IsAskedBy (Ask asked link request) role sapi call = (role ≡ asked) × (sapi ≡ link) × (call ≡ call_of request)
+IsAskedBy event role sapi call = ⊥
 
 -- and no other answer is
 abbrev pub IsOnlyAnswer : A.Event → Links → Result Step No → Type 0

@@ -2,9 +2,12 @@
 
 ghost use Rattle.std.specs.Prelude.{◌≡◌, None, []};
 ghost use Rattle.lapdm_window.specs.declared.Sapi.TheVariants as S;
+ghost use Rattle.lapdm_window.specs.declared.Sapi.{Sapi as AnySapi};
+ghost use Rattle.lapdm_window.specs.Calls.{call_of, IsOfSapi};
 ghost use Rattle.lapdm_link.specs.Events as E;
+ghost use Rattle.um_link.specs.Naming.{request_of};
 
-use lapdm_window::{Effects, Sapi};
+use lapdm_window::{Call as EndCall, Effects, Sapi};
 use um_block::Received;
 
 /// Which way blocks go: up to the network, or down to the mobile.
@@ -33,6 +36,22 @@ pub enum Call<'a> {
     Timer,
     /// Send the fill frame; it is of SAPI 0 whatever the link.
     Idle,
+}
+
+impl<'a> Call<'a> {
+    /// The same, among all calls of an end.
+    pub fn whole(self) -> EndCall<'a>
+        ensures same { call_of result ≡ E.call_of (request_of self.entry) }
+        ensures any { (sapi : AnySapi) → IsOfSapi sapi (call_of result) }
+    {
+        match self {
+            Call::Send(message) => EndCall::Send(message),
+            Call::Unit(message) => EndCall::Unit(message),
+            Call::Close => EndCall::Close,
+            Call::Timer => EndCall::Timer,
+            Call::Idle => EndCall::Idle,
+        }
+    }
 }
 
 /// What the air does with the first block of a way.

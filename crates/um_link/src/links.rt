@@ -7,18 +7,19 @@ ghost use Rattle.lapdm_frame.specs.Frames.{octets_of};
 ghost use Rattle.lapdm_link.specs.Events as E;
 ghost use Rattle.um_air.specs.Air as A;
 ghost use Rattle.um_air.specs.Air.{start_on};
-ghost use Rattle.um_link.specs.Naming.{role_of, air_event, event_of, request_of, step_of, written};
+ghost use Rattle.um_link.specs.Naming.{role_of, air_event, event_of, step_of, written};
+ghost use Rattle.lapdm_window.specs.Calls.{call_of, IsOfSapi};
 ghost use Rattle.um_link.specs.Possible.{IsPossible, IsPossibleAir};
 ghost use Rattle.um_block.specs.Tallies.{raised, raised_by};
 ghost use Rattle.um_link.specs.Ways.{ArePlaces};
 
 use crate::ends::Ends;
-use crate::events::{Air, Call, End, Event, No, Step, Way, Who};
+use crate::events::{Air, End, Event, No, Step, Way, Who};
 use crate::hearing::hear;
 use crate::queue::{drop_first, receive_first, send_all};
 use circular_buffer::HeapCircularBuffer;
 use lapdm_frame::{Body, Channel, FrameView, write_on};
-use lapdm_window::{Effects, Refused, Sapi};
+use lapdm_window::{Call, Effects, Refused, Sapi};
 use std::alloc::Global;
 use um_block::{Radio, Received};
 use um_io::NoMemory;
@@ -36,7 +37,7 @@ pub(crate) struct Links {
 }
 
 impl Links {
-    ghost use Rattle.um_link.specs.Standing.{Stands, IsSound, Follows, FitsWho, frames_in, arrivals_in, blocks_from};
+    ghost use Rattle.um_link.specs.Standing.{IsAskedBy, Stands, IsSound, Follows, FitsWho, frames_in, arrivals_in, blocks_from};
     ghost use Rattle.um_link.specs.Moves.{Sends, ReceivesFrom, LosesFrom};
 
     /// Idle ends on a channel, with nothing on its way. All memory is taken here.
@@ -140,7 +141,7 @@ impl Links {
         };
     }
 
-    /// An end of a link is asked.
+    /// An end of a link is asked, by an event.
     fn ask<R: Radio>(
         &mut self,
         radio: &mut R,
@@ -150,7 +151,9 @@ impl Links {
         step: &mut Step,
     ) -> Result<(), No>
         requires sound { IsSound self.old }
-        ensures follows { Follows (E.Ask (role_of end) sapi (request_of call.now)) self.old (written result step.new) self.new }
+        requires call { IsOfSapi sapi (call_of call.now) }
+        ensures follows { (event : A.Event) → IsAskedBy event (role_of end) sapi (call_of call.now)
+            → Follows event self.old (written result step.new) self.new }
         ensures sound { IsSound self.new }
         ensures refused { OnErr result (self.new ≡ self.old) }
         ensures kept { OnErr result (step.new ≡ step.old) }
@@ -165,58 +168,6 @@ impl Links {
         match self.ends.ask(end, sapi, call, &mut step.effects) {
             Ok(()) => {
                 step.sapi = sapi;
-                step.received = None;
-                self.goes_out(radio, end, step);
-                Ok(())
-            }
-            Err(refused) => Err(No::from(refused)),
-        }
-    }
-
-    /// The mobile asks for the link of SAPI 0.
-    fn open<R: Radio>(&mut self, radio: &mut R, info: &[u8], step: &mut Step) -> Result<(), No>
-        requires sound { IsSound self.old }
-        ensures follows { Follows (E.Open info.now) self.old (written result step.new) self.new }
-        ensures sound { IsSound self.new }
-        ensures refused { OnErr result (self.new ≡ self.old) }
-        ensures kept { OnErr result (step.new ≡ step.old) }
-        ensures silent { OnErr result (radio.new ≡ radio.old) }
-        ensures sent { R.sent radio.new ≡ raised_by (frames_in (written result step.new)) (R.sent radio.old) }
-        ensures heard { R.heard radio.new ≡ raised_by (arrivals_in (written result step.new)) (R.heard radio.old) }
-        ensures who { OnOk result (FitsWho (step_of step.new)) }
-    {
-        if self.is_full(End::Mobile) {
-            return Err(No::AirFull);
-        }
-        match self.ends.open(info, &mut step.effects) {
-            Ok(()) => {
-                step.sapi = Sapi::Zero;
-                step.received = None;
-                self.goes_out(radio, End::Mobile, step);
-                Ok(())
-            }
-            Err(refused) => Err(No::from(refused)),
-        }
-    }
-
-    /// An end asks for the link of SAPI 3.
-    fn open_bare<R: Radio>(&mut self, radio: &mut R, end: End, step: &mut Step) -> Result<(), No>
-        requires sound { IsSound self.old }
-        ensures follows { Follows (E.OpenBare (role_of end)) self.old (written result step.new) self.new }
-        ensures sound { IsSound self.new }
-        ensures refused { OnErr result (self.new ≡ self.old) }
-        ensures kept { OnErr result (step.new ≡ step.old) }
-        ensures silent { OnErr result (radio.new ≡ radio.old) }
-        ensures sent { R.sent radio.new ≡ raised_by (frames_in (written result step.new)) (R.sent radio.old) }
-        ensures heard { R.heard radio.new ≡ raised_by (arrivals_in (written result step.new)) (R.heard radio.old) }
-        ensures who { OnOk result (FitsWho (step_of step.new)) }
-    {
-        if self.is_full(end) {
-            return Err(No::AirFull);
-        }
-        match self.ends.open_bare(end, &mut step.effects) {
-            Ok(()) => {
-                step.sapi = Sapi::Three;
                 step.received = None;
                 self.goes_out(radio, end, step);
                 Ok(())
@@ -370,9 +321,9 @@ impl Links {
         ensures who { OnOk result (FitsWho (step_of step.new)) }
     {
         match event {
-            Event::Open(info) => self.open(radio, info, step),
-            Event::OpenBare(end) => self.open_bare(radio, *end, step),
-            Event::End(end, sapi, call) => self.ask(radio, *end, *sapi, call, step),
+            Event::Open(info) => self.ask(radio, End::Mobile, Sapi::Zero, &Call::Open(info), step),
+            Event::OpenBare(end) => self.ask(radio, *end, Sapi::Three, &Call::OpenBare, step),
+            Event::End(end, sapi, call) => self.ask(radio, *end, *sapi, &call.whole(), step),
             Event::Air(way, air) => self.on_air(radio, way.sender(), air, step),
             Event::Rival(info) => self.rival(radio, info, step),
         }

@@ -1,6 +1,9 @@
 use Rattle.std.proofs.Common.{sym, subst, Some, Option}
 use Rattle.lapdm_frame.specs.declared.Channel.TheVariants.{Sdcch}
 use Rattle.lapdm_frame.specs.Content.{frame_of}
+use Rattle.lapdm_frame.specs.declared.Channel.{Channel}
+use Rattle.lapdm_window.specs.Sides.{takes}
+use Rattle.lapdm_end.specs.Sides.{IsDone}
 use Rattle.um_air.specs.Air.{Octets, Reads}
 use Rattle.um_end.proofs.terminal.Terminal.hear.Goals as goal
 
@@ -10,5 +13,6 @@ returns-in-Ok-clause-hears c a st =
     record {
       read = Some f;
       reads = subst (λ (o : Option Octets). Reads Sdcch o (Some f)) (sym c.in-Some.is) c.in-Ok.ensures.frame.frame;
-      done = c.take.ensures.follows a st;
+      done = subst (λ (x : Channel). IsDone x (takes f a) c.take.result c.take.new.effects c.take.new.self) c.args.self.now.channel
+          (c.take.ensures.follows a st);
     }

@@ -1,43 +1,28 @@
+use Rattle.std.proofs.Common.{◌≡◌, sym, ap, subst, Some}
 use Rattle.lapdm_frame.specs.Content.{frame_of}
-use Rattle.lapdm_window.specs.Tables.{after_frame}
-use Rattle.um_link.specs.FourEnds.{ends_channel}
-use Rattle.um_link.proofs.Asking.{zero_takes, three_takes, none_takes, mobile_follows, mobile3_follows, network_follows, network3_follows}
+use Rattle.lapdm_window.specs.Sides as D
+use Rattle.lapdm_link.specs.Events as E
+use Rattle.um_link.specs.Naming.{role_of}
+use Rattle.um_link.specs.declared.events.End.{End}
+use Rattle.um_link.proofs.Asking.{by_mobile, by_network}
 use Rattle.um_link.proofs.ends.Ends.take.Goals as goal
-use Rattle.um_link.proofs.ends.Ends.take.Goals.{in-Mobile+else-frame-eq0+else-frame-eq3, in-Network+else-frame-eq0-2+else-frame-eq3-2}
 
-pub returns-then-frame-eq0-clause-follows : goal.returns-then-frame-eq0-clause-follows
-returns-then-frame-eq0-clause-follows c =
-    zero_takes (ends_channel c.args.self.now) c.args.self.now _ c.take_into.new.effects c.args.end _
-    (frame_of c.args.frame.now) c.in-Mobile.is c.if-frame-eq0.true
-    (mobile_follows c.args.self.now (ends_channel c.args.self.now) c.requires.on
-    (after_frame (frame_of c.args.frame.now)) c.take_into.new.effects _ c.take_into.ensures.follows)
+pub returns-in-Mobile-clause-follows : goal.returns-in-Mobile-clause-follows
+returns-in-Mobile-clause-follows c es st =
+    by_mobile c.args.self.now (D.takes (frame_of c.args.frame.now)) c.take.result c.take.new.effects c.take.new.self es st
+    (role_of c.args.end) (ap role_of c.in-Mobile.is) c.take.ensures.follows
 
-pub returns-then-frame-eq3-clause-follows : goal.returns-then-frame-eq3-clause-follows
-returns-then-frame-eq3-clause-follows c =
-    three_takes (ends_channel c.args.self.now) c.args.self.now _ c.take_into-then-frame-eq3.new.effects c.args.end _
-    (frame_of c.args.frame.now) c.in-Mobile.is c.if-frame-eq3.true
-    (mobile3_follows c.args.self.now (ends_channel c.args.self.now) c.requires.on
-    (after_frame (frame_of c.args.frame.now)) c.take_into-then-frame-eq3.new.effects _ c.take_into-then-frame-eq3.ensures.follows)
+pub returns-in-Mobile-clause-sapi : goal.returns-in-Mobile-clause-sapi
+returns-in-Mobile-clause-sapi c es st =
+    subst (λ (x : End). c.take.result ≡ (E.takes_read (role_of x) (Some (frame_of c.args.frame.now)) es).sapi) (sym c.in-Mobile.is)
+    (c.take.ensures.follows es.mobile st.mobile).sapi_is
 
-pub returns-then-frame-eq0-2-clause-follows : goal.returns-then-frame-eq0-2-clause-follows
-returns-then-frame-eq0-2-clause-follows c =
-    zero_takes (ends_channel c.args.self.now) c.args.self.now _ c.take_into-then-frame-eq0-2.new.effects c.args.end _
-    (frame_of c.args.frame.now) c.in-Network.is c.if-frame-eq0-2.true
-    (network_follows c.args.self.now (ends_channel c.args.self.now) c.requires.on
-    (after_frame (frame_of c.args.frame.now)) c.take_into-then-frame-eq0-2.new.effects _ c.take_into-then-frame-eq0-2.ensures.follows)
+pub returns-in-Network-clause-follows : goal.returns-in-Network-clause-follows
+returns-in-Network-clause-follows c es st =
+    by_network c.args.self.now (D.takes (frame_of c.args.frame.now)) c.take-in-Network.result c.take-in-Network.new.effects
+    c.take-in-Network.new.self es st (role_of c.args.end) (ap role_of c.in-Network.is) c.requires.on c.take-in-Network.ensures.follows
 
-pub returns-then-frame-eq3-2-clause-follows : goal.returns-then-frame-eq3-2-clause-follows
-returns-then-frame-eq3-2-clause-follows c =
-    three_takes (ends_channel c.args.self.now) c.args.self.now _ c.take_into-then-frame-eq3-2.new.effects c.args.end _
-    (frame_of c.args.frame.now) c.in-Network.is c.if-frame-eq3-2.true
-    (network3_follows c.args.self.now (ends_channel c.args.self.now) c.requires.on
-    (after_frame (frame_of c.args.frame.now)) c.take_into-then-frame-eq3-2.new.effects _ c.take_into-then-frame-eq3-2.ensures.follows)
-
-pub returns-clause-follows : goal.returns-clause-follows
-returns-clause-follows c =
-    elim c.match-end.branch [
-      | in-Mobile+else-frame-eq0+else-frame-eq3 w ↦ none_takes (ends_channel c.args.self.now) c.args.self.now _ c.args.end
-          (frame_of c.args.frame.now) w.if-frame-eq0.false w.if-frame-eq3.false c.clear.ensures.frames c.clear.ensures.notices
-      | in-Network+else-frame-eq0-2+else-frame-eq3-2 w ↦ none_takes (ends_channel c.args.self.now) c.args.self.now _ c.args.end
-          (frame_of c.args.frame.now) w.if-frame-eq0-2.false w.if-frame-eq3-2.false c.clear.ensures.frames c.clear.ensures.notices
-    ]
+pub returns-in-Network-clause-sapi : goal.returns-in-Network-clause-sapi
+returns-in-Network-clause-sapi c es st =
+    subst (λ (x : End). c.take-in-Network.result ≡ (E.takes_read (role_of x) (Some (frame_of c.args.frame.now)) es).sapi)
+    (sym c.in-Network.is) (c.take-in-Network.ensures.follows es.network st.network).sapi_is
