@@ -2,6 +2,7 @@
 
     cd bindings/python && python3 -m unittest discover tests"""
 import array
+import concurrent.futures
 import copy
 import ctypes
 import doctest
@@ -125,11 +126,20 @@ class Blocks(unittest.TestCase):
         for form in forms:
             self.assertEqual(wanted, um.receive_block(form))
 
+    def test_threads(self):
+        rows = noisy()
+        with concurrent.futures.ThreadPoolExecutor(4) as pool:
+            self.assertEqual({um.receive_block(rows)}, set(pool.map(um.receive_block, [rows] * 100)))
+
     def test_no_copy(self):
         memory = array.array("b", bytes(592))
         self.assertEqual(memory.buffer_info()[0], ctypes.addressof(_values.soft("x", memory, 4, 148)))
         flat = bytes(592)
         self.assertIs(flat, _values.soft("x", flat, 4, 148))
+        self.assertIs(flat, _values.soft("x", memoryview(flat).cast("b", (4, 148)), 4, 148))
+        if numpy:
+            for whole in (numpy.zeros((4, 148), numpy.int8), numpy.frombuffer(flat, numpy.int8)):
+                self.assertEqual(whole.ctypes.data, ctypes.addressof(_values.soft("x", whole, 4, 148)))
 
     def test_struct_sizes(self):
         sizes = [blocks._BLOCK, blocks._ACCESS, blocks._SYNC, blocks._MARGIN, blocks._REPAIR, frames._FRAME, ends._NOTICE]
@@ -185,6 +195,10 @@ class Refusals(unittest.TestCase):
             self.refused(TypeError, ["bursts", name, "of int8", hint], um.receive_blocks, good[None].astype(form))
             self.refused(TypeError, ["bursts[0]", name, "of int8", hint], um.receive_block, list(good.astype(form)))
         self.refused(TypeError, ["octets: int64 array of shape (23,)", "uint8"], um.send_block, numpy.zeros(23, "i8"), 7)
+        bits = um.send_blocks(numpy.zeros((2, 23), "u1"), 7).astype("i1")
+        self.refused(ValueError, ["bursts", "bits", "soft_from_bits"], um.receive_block, bits[0])
+        self.refused(ValueError, ["bursts", "bits", "soft_from_bits"], um.receive_blocks, bits)
+        self.refused(ValueError, ["bursts", "bits", "soft_from_bits"], um.receive_blocks_among, bits, 64)
         self.refused(ValueError, ["expected n x 4 x 148"], um.receive_blocks, good)
         self.refused(ValueError, ["int8 array of shape (2, 148, 4)", "n x 4 x 148"], um.receive_blocks, numpy.zeros((2, 148, 4), "i1"))
         many = numpy.zeros((5, 4, 148), numpy.int8)
@@ -383,26 +397,26 @@ class Sides(unittest.TestCase):
                 taken, answer = network.take(asked[sapi].frames[0])
                 self.assertEqual((sapi, [("opened", info)]), (taken, answer.notices))
                 self.assertEqual((sapi, ([], [("opened", info)])), mobile.take(answer.frames[0]))
-            up, down = mobile.send(b"up"), network.send(b"down", 3)
+            up, down = mobile.send(0, b"up"), network.send(3, b"down")
             self.assertRaisesRegex(um.Refused, "not running", mobile.timer, 3)
             self.assertEqual(0x0F, network.timer(3).frames[0][2 * channel])
             for sapi, sender, sent, receiver, message in ((0, mobile, up, network, b"up"), (3, network, down, mobile, b"down")):
                 taken, got = receiver.take(sent.frames[0])
                 self.assertEqual((sapi, [("got", message)]), (taken, got.notices))
                 self.assertEqual((sapi, ([], [("acked", 1)])), sender.take(got.frames[0]))
-            taken, got = network.take(mobile.unit(b"u", 3).frames[0])
+            taken, got = network.take(mobile.unit(3, b"u").frames[0])
             self.assertEqual((3, [("unit", b"u")]), (taken, got.notices))
             self.assertEqual(23, len(mobile.idle().frames[0]))
             _, closed = mobile.take(network.close(3).frames[0])
             self.assertEqual([("closed", "released")], closed.notices)
-            self.assertEqual(("open", "closed"), (mobile.link(0).state, mobile.link(3).state))
+            self.assertEqual(("open", "closed"), (mobile.end(0).state, mobile.end(3).state))
 
     def test_refusals(self):
         mobile = um.Side("mobile")
         self.assertRaisesRegex(um.Refused, "no call", um.Side("network").open, b"a")
-        self.assertRaisesRegex(um.Refused, "not open", mobile.send, b"a", 3)
+        self.assertRaisesRegex(um.Refused, "not open", mobile.send, 3, b"a")
         self.assertRaisesRegex(um.Refused, r"no frame.*\(ea\)", mobile.take, bytes(23))
-        self.assertRaisesRegex(ValueError, "sapi: 1; expected 0 or 3", mobile.send, b"a", 1)
+        self.assertRaisesRegex(ValueError, "sapi: 1; expected 0 or 3", mobile.send, 1, b"a")
         self.assertRaisesRegex(ValueError, "role: 'phone'", um.Side, "phone")
 
     def test_values(self):

@@ -56,18 +56,21 @@ def _places() -> List[str]:
     return [os.path.join(here, _NAME), os.path.normpath(os.path.join(dist, _NAME)), _NAME]
 
 
+def _declared(place: str) -> ctypes.CDLL:
+    library = ctypes.CDLL(place)
+    for name, (result, arguments) in _CALLS.items():
+        call = getattr(library, name)
+        call.restype, call.argtypes = result, arguments
+    return library
+
+
 def _load() -> ctypes.CDLL:
     tried = []
     for place in _places():
         try:
-            library = ctypes.CDLL(place)
-        except OSError as error:
+            return _declared(place)
+        except (OSError, AttributeError) as error:  # it is not there, or is an older one without a call
             tried.append(f"\n    {place}: {error}")
-            continue
-        for name, (result, arguments) in _CALLS.items():
-            call = getattr(library, name)
-            call.restype, call.argtypes = result, arguments
-        return library
     raise ImportError("um: no " + _NAME + ". Tried:" + "".join(tried) + _MAKE.format(arch=platform.machine()))
 
 

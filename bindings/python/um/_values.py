@@ -87,7 +87,7 @@ def bits(name: str, values: Any, count: int) -> bytes:
 
 
 def soft(name: str, values: Any, rows: int, places: int) -> Pointer:
-    """Soft bits of so many bursts. int8 memory that can be written to, and bytes, are taken without a copy."""
+    """Soft bits of so many bursts. C-contiguous int8 memory and bytes are taken without a copy."""
     if not isinstance(values, (bytes, bytearray)):
         view = view_of(values)
         if view is not None:
@@ -96,9 +96,15 @@ def soft(name: str, values: Any, rows: int, places: int) -> Pointer:
     data = bytes(values)
     if len(data) != rows * places:
         raise ValueError(f"{name}: {len(data)} soft bits; expected {_shape(rows, places)}")
+    refuse_bits(name, data)
+    return data
+
+
+def refuse_bits(name: str, pointer: Pointer) -> None:
+    """Refuses soft bits of which each is 0 or 1 and one is 1: they are bits by mistake."""
+    data = bytes(pointer)
     if 1 in data and not data.translate(None, b"\0\1"):
         raise ValueError(f"{name}: each value is 0 or 1, so these are bits; {_NO_SOFT['bits']}")
-    return data
 
 
 def refuse_128(name: str, pointer: Pointer, rows: int, places: int) -> ValueError:
@@ -123,9 +129,14 @@ def _soft_memory(name: str, values: Any, view: memoryview, rows: int, places: in
         raise no_soft(name, values, view.format, _shape(rows, places))
     if view.shape != (rows, places) and view.shape != (rows * places,):
         raise ValueError(f"{name}: {name_of(values)}; expected {_shape(rows, places)}, or {rows * places} in one row")
-    if view.readonly or not view.c_contiguous:
+    if not view.c_contiguous:
         return view.tobytes()
-    return (ctypes.c_int8 * (rows * places)).from_buffer(view)
+    memory = ctypes.c_int8 * (rows * places)
+    if not view.readonly:
+        return memory.from_buffer(view)
+    if hasattr(values, "__array_interface__"):  # the caller holds the array for as long as the call lasts
+        return memory.from_address(values.__array_interface__["data"][0])
+    return view.obj if isinstance(view.obj, bytes) and len(view.obj) == view.nbytes else view.tobytes()
 
 
 def _soft_rows(name: str, values: Any, rows: int, places: int) -> bytes:

@@ -7,7 +7,7 @@ import struct
 from typing import Any, List, NamedTuple, Optional, Tuple
 
 from ._library import lib
-from ._values import bits, number, octets as octets_of, refuse_128, soft
+from ._values import Pointer, bits, number, octets as octets_of, refuse_128, refuse_bits, soft
 
 # the structs of um.h
 _BLOCK = struct.Struct("<iIIBB23s228s3x")
@@ -66,7 +66,7 @@ def receive_block(bursts: Any) -> Report:
     values, raw = soft("bursts", bursts, 4, 148), ctypes.create_string_buffer(268)
     if not lib.um_receive_block(values, raw):
         raise refuse_128("bursts", values, 4, 148)
-    return _block_report(raw)
+    return _block_report(values, raw)
 
 
 def receive_block_among(bursts: Any, most: int) -> Tuple[Report, int]:
@@ -76,7 +76,7 @@ def receive_block_among(bursts: Any, most: int) -> Tuple[Report, int]:
     raw, rank = ctypes.create_string_buffer(268), ctypes.c_uint32()
     if not lib.um_receive_block_among(values, tried, raw, ctypes.byref(rank)):
         raise refuse_128("bursts", values, 4, 148)
-    return _block_report(raw), rank.value
+    return _block_report(values, raw), rank.value
 
 
 def margin_block(bursts: Any) -> Margin:
@@ -112,7 +112,7 @@ def receive_access(burst: Any, bsic: Any) -> Report:
     values, raw = soft("burst", burst, 1, 88), ctypes.create_string_buffer(40)
     if not lib.um_receive_access(values, bits("bsic", bsic, 6), raw):
         raise refuse_128("burst", values, 1, 88)
-    return _burst_report(_ACCESS, raw)
+    return _burst_report(_ACCESS, values, raw)
 
 
 def send_sync(info: Any) -> bytes:
@@ -127,14 +127,18 @@ def receive_sync(burst: Any) -> Report:
     values, raw = soft("burst", burst, 1, 148), ctypes.create_string_buffer(80)
     if not lib.um_receive_sync(values, raw):
         raise refuse_128("burst", values, 1, 148)
-    return _burst_report(_SYNC, raw)
+    return _burst_report(_SYNC, values, raw)
 
 
-def _block_report(raw: Any) -> Report:
+def _block_report(values: Pointer, raw: Any) -> Report:
     metric, wrong_training, wrong_coded, tsc, accepted, data, word = _BLOCK.unpack(raw)
+    if not accepted:
+        refuse_bits("bursts", values)
     return Report(data if accepted else None, metric, wrong_training, wrong_coded, word, tsc)
 
 
-def _burst_report(form: struct.Struct, raw: Any) -> Report:
+def _burst_report(form: struct.Struct, values: Pointer, raw: Any) -> Report:
     metric, wrong_training, wrong_coded, accepted, data, word = form.unpack(raw)
+    if not accepted:
+        refuse_bits("burst", values)
     return Report(data if accepted else None, metric, wrong_training, wrong_coded, word)

@@ -194,13 +194,13 @@ class Side(_Endpoint):
         lib.um_side_new(self._state, choice("role", role, ROLES), channel_number(channel))
 
     def __repr__(self) -> str:
-        return f"<um.Side {self.role}, {self.channel.name}, SAPI 0 {self.link(0).state}, SAPI 3 {self.link(3).state}>"
+        return f"<um.Side {self.role}, {self.channel.name}, SAPI 0 {self.end(0).state}, SAPI 3 {self.end(3).state}>"
 
-    def link(self, sapi: int) -> End:
+    def end(self, sapi: int) -> End:
         """The endpoint of a SAPI, as a copy."""
         octets = self.to_bytes()
-        link: End = End.from_bytes(octets[_END_FIELDS:] if _sapi(sapi) else octets[:_END_FIELDS])
-        return link
+        end: End = End.from_bytes(octets[_END_FIELDS:] if _sapi(sapi) else octets[:_END_FIELDS])
+        return end
 
     def open(self, info: Any) -> Effects:
         """Asks the network to open the link of SAPI 0, with 1 to 20 octets of information (18 on SACCH): a mobile's call."""
@@ -210,19 +210,19 @@ class Side(_Endpoint):
         """Asks the other side to open the link of SAPI 3."""
         return self._call("open_bare")
 
-    def send(self, message: Any, sapi: int = 0) -> Effects:
+    def send(self, sapi: int, message: Any) -> Effects:
         """Sends a message of 1 to 251 octets over the link of a SAPI."""
         return self._call("send", _sapi(sapi), _message("message", message))
 
-    def unit(self, message: Any, sapi: int = 0) -> Effects:
+    def unit(self, sapi: int, message: Any) -> Effects:
         """Sends 1 to 20 octets (18 on SACCH) in one unnumbered frame of a SAPI, in any state and unacknowledged."""
         return self._call("unit", _sapi(sapi), _message("message", message))
 
-    def close(self, sapi: int = 0) -> Effects:
+    def close(self, sapi: int) -> Effects:
         """Closes the link of a SAPI. What is not acknowledged is given up."""
         return self._call("close", _sapi(sapi))
 
-    def timer(self, sapi: int = 0) -> Effects:
+    def timer(self, sapi: int) -> Effects:
         """On expiry of T200 of the link of a SAPI."""
         return self._call("timer", _sapi(sapi))
 

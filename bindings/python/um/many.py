@@ -3,7 +3,7 @@ from itertools import repeat
 from typing import TYPE_CHECKING, Any, Dict, Tuple
 
 from ._library import lib
-from ._values import name_of, no_soft, number
+from ._values import name_of, no_soft, number, refuse_bits
 
 if TYPE_CHECKING:
     import numpy
@@ -46,7 +46,7 @@ def receive_blocks(bursts: Any) -> "Array":
     at, to, count = soft.ctypes.data, reports.ctypes.data, len(soft)
     if not _each(lib.um_receive_block, range(at, at + 592 * count, 592), range(to, to + 268 * count, 268)):
         raise _minus_128(soft)
-    return reports
+    return _unless_bits(soft, reports)
 
 
 def receive_blocks_among(bursts: Any, most: int) -> "Array":
@@ -59,7 +59,7 @@ def receive_blocks_among(bursts: Any, most: int) -> "Array":
     ranks = range(to + 268, to + 268 + 272 * count, 272)
     if not _each(lib.um_receive_block_among, blocks, repeat(tried), places, ranks):
         raise _minus_128(soft)
-    return reports
+    return _unless_bits(soft, reports)
 
 
 def _numpy() -> Any:
@@ -98,6 +98,12 @@ def _codes(tsc: Any, count: int) -> Any:
     if codes.size and (codes.min() < 0 or codes.max() > 7):
         raise ValueError(f"tsc: {codes.min()} to {codes.max()}; expected 0 to 7")
     return numpy.broadcast_to(codes, (count,)).tolist()
+
+
+def _unless_bits(soft: "Array", reports: "Array") -> "Array":
+    if len(soft) and not reports["accepted"].any() and soft.min() >= 0 and soft.max() == 1:
+        refuse_bits("bursts", soft.tobytes())
+    return reports
 
 
 def _minus_128(soft: Any) -> ValueError:

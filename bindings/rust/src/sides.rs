@@ -44,7 +44,7 @@ impl Side {
     }
 
     /// The endpoint of a SAPI.
-    pub fn link(&self, sapi: Sapi) -> &End {
+    pub fn end(&self, sapi: Sapi) -> &End {
         match sapi {
             Sapi::Signalling => &self.link0,
             Sapi::ShortMessages => &self.link3,

@@ -153,12 +153,12 @@ fn both_links() -> Result<(), Box<dyn Error>> {
     let (sapi, unit) = network.take(&mobile.unit(Sapi::ShortMessages, b"u")?.frames()[0])?;
     assert_eq!((sapi, unit.notices().next()), (Sapi::ShortMessages, Some(Notice::Unit(b"u"))));
     assert_eq!(network.take(&mobile.idle()?.frames()[0])?.1.frames().len(), 0);
-    let before = *mobile.link(Sapi::Signalling);
+    let before = *mobile.end(Sapi::Signalling);
     let (_, closed) = mobile.take(&network.close(Sapi::ShortMessages)?.frames()[0])?;
     assert_eq!(closed.notices().next(), Some(Notice::Closed(Reason::Released)));
     assert_eq!(mobile.send(Sapi::ShortMessages, b"x"), Err(Refused::NotOpen));
     assert_eq!(mobile.take(&[0; 23]), Err(Refused::NoFrame));
-    assert_eq!(before, *mobile.link(Sapi::Signalling));
+    assert_eq!(before, *mobile.end(Sapi::Signalling));
     Ok(())
 }
 
