@@ -26,7 +26,7 @@ done
 for scene in 0 all; do
   for blocks in 1.5 2.5 3.5 4.5 6.5; do
     for pair in pp uu uo ou oo; do
-      "$work/sessions" $pair sdcch $scene 1 300 t200 $blocks loss 0 | sed "s/^/t200 $blocks /"
+      "$work/sessions" $pair sdcch $scene 1 300 t200 $blocks loss 0 | sed "s/^/$blocks /"
     done
   done
 done

@@ -9,7 +9,7 @@ HERE = os.path.dirname(os.path.abspath(__file__))
 ORDER = ("uu", "uo", "ou", "oo")
 PAIRS = {"uu": "um, um", "uo": "um, libosmogsm", "ou": "libosmogsm, um", "oo": "libosmogsm, libosmogsm", "pp": "um, um, T200 from the call"}
 LOSSES = (0, 10, 50, 100, 200, 300)
-ROW = re.compile(r"(?:t200 ([\d.]+) )?(\w\w) (\w+) (\w+) (loss|sigma) (\d+): (.*)")
+ROW = re.compile(r"(?:([\d.]+) )?(\w\w) (\w+) (\w+) (loss|sigma) (\d+): (.*)")
 CAUSE = re.compile(r"(\w\w) (\w+) (\w+) cause (\d+) (.*) \(seed (\d+)\)")
 
 
