@@ -1,6 +1,8 @@
 -- What the multiples of a bit polynomial are closed under, and which of them begin with zeros.
-use Rattle.std.proofs.Common.{◌≡◌, ℕ, zero, suc, ◌+◌, ◌-◌, ◌*◌, ◌%◌, ◌≤◌, ◌<◌, List, [], ◌∷◌, ◌++◌, length, replicate, get_or, refl, ap, sym, ◌∙◌, arith, append_assoc, below_more}
-use Rattle.std.proofs.lemmas.List.{length-replicate, get_or-replicate, length-append, get_or_past, append-nil, get_or_append_left, get_or-append-add}
+use Rattle.std.proofs.Common.{◌≡◌, ℕ, zero, suc, ◌+◌, ◌-◌, ◌*◌, ◌%◌, ◌≤◌, ◌<◌, List, [], ◌∷◌}
+use Rattle.std.proofs.Common.{◌++◌, length, replicate, get_or, refl, ap, sym, ◌∙◌, arith, append_assoc, below_more}
+use Rattle.std.proofs.lemmas.List.{length-replicate, get_or-replicate, length-append, get_or_past, append-nil, get_or_append_left}
+use Rattle.std.proofs.lemmas.List.{get_or-append-add}
 use Rattle.std.proofs.lemmas.List.Elements.{All-replicate, All-append, All-cons, All-head, All-tail, All-nil}
 use Rattle.std.proofs.lemmas.Nat.{mul-mod_first}
 use Rattle.std.proofs.lemmas.Grind.{same_number_lists}

@@ -1,6 +1,7 @@
 -- Soft values: what a receiver hears of each bit, and how sure it is (this project's own rule).
 -- A soft value is positive for a 0, negative for a 1, and the greater the surer.
-use Rattle.std.specs.Prelude.{ℕ, ◌+◌, ◌*◌, Bool, if◌then◌else◌, ℤ, pos, negsuc, ◌+ℤ◌, ◌-ℤ◌, ◌*ℤ◌, ◌≤ℤ◌, int_le, List, [], ◌∷◌}
+use Rattle.std.specs.Prelude.{ℕ, ◌+◌, ◌*◌, Bool, if◌then◌else◌, ℤ, pos, negsuc, ◌+ℤ◌, ◌-ℤ◌, ◌*ℤ◌}
+use Rattle.std.specs.Prelude.{◌≤ℤ◌, int_le, List, [], ◌∷◌}
 use Rattle.std.specs.List.{All}
 
 -- -127 to 127

@@ -1,5 +1,6 @@
 //! A fixed number of bits.
-ghost use Rattle.std.specs.Prelude.{◌≡◌, ℕ, ◌<◌, ◌≤◌, ◌↔◌, List, length, replicate, slice_index, slice_set, IsSome, IfSome};
+ghost use Rattle.std.specs.Prelude.{◌≡◌, ℕ, ◌<◌, ◌≤◌, ◌↔◌, List, length, replicate, slice_index, slice_set};
+ghost use Rattle.std.specs.Prelude.{IsSome, IfSome};
 ghost use Rattle.bit_blocks.specs.Bits.{AllBits, add_bits};
 
 use std::marker::Model;

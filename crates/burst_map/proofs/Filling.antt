@@ -1,5 +1,6 @@
 -- A burst of zeros is filled from its front.
-use Rattle.std.proofs.Common.{◌≡◌, ℕ, ◌+◌, ◌-◌, ◌≤◌, leb, true, List, ◌++◌, length, take, drop, replicate, ap, ◌∙◌, sym, arith, rules, tests}
+use Rattle.std.proofs.Common.{◌≡◌, ℕ, ◌+◌, ◌-◌, ◌≤◌, leb, true, List, ◌++◌, length, take, drop, replicate, ap}
+use Rattle.std.proofs.Common.{◌∙◌, sym, arith, rules, tests}
 use Rattle.std.specs.List.{list_all}
 use Rattle.std.proofs.lemmas.List.{take_at, drop_at, drop-drop, drop-replicate, length-append}
 use Rattle.std.proofs.lemmas.List.Elements.{All-append, All-replicate, All-same}

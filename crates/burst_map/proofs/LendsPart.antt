@@ -11,7 +11,8 @@ use mir.Val.{Val}
 use base.Logic.{SProp, ent, sep, ex, guard}
 use base.Fml.{Lft, GName, Share, fsep, feq, flft}
 use types.Logic.{Logic, sem}
-use types.Kit.{Item, ‵, ◌⊛◌, raw, given, ◌$◌, ◌∵◌, !, qed, move, drop, fsplit3, updating, await, later, some, use1, use2, group, pick, now, show, done, rewrite, split, join, check, fsplit, fjoin, feq_l, feq_i}
+use types.Kit.{Item, ‵, ◌⊛◌, raw, given, ◌$◌, ◌∵◌, !, qed, move, drop, fsplit3, updating, await, later, some, use1}
+use types.Kit.{use2, group, pick, now, show, done, rewrite, split, join, check, fsplit, fjoin, feq_l, feq_i}
 use types.SemTy.{cells}
 use types.Mut.{open_ref}
 use denote.Builtin.{u8}

@@ -1,5 +1,8 @@
 -- The coded bits eight to an octet.
-use Rattle.std.proofs.Common.{◌≡◌, ℕ, zero, suc, ◌+◌, ◌-◌, ◌*◌, ◌/◌, ◌%◌, ◌^◌, ◌<◌, ◌≤◌, Bool, true, ◌&&◌, eqb, List, [], ◌∷◌, ◌++◌, length, length-append, get_or, nat_lt, if◌then◌else◌, zero-add, get_or-set_other, get_or-set_same, refl, ap, ap₂, sym, ◌∙◌, arith, bit_and, bit_or, bit_xor, inl, inr}
+use Rattle.std.proofs.Common.{◌≡◌, ℕ, zero, suc, ◌+◌, ◌-◌, ◌*◌, ◌/◌, ◌%◌, ◌^◌, ◌<◌, ◌≤◌, Bool}
+use Rattle.std.proofs.Common.{true, ◌&&◌, eqb, List, [], ◌∷◌, ◌++◌, length, length-append, get_or, nat_lt}
+use Rattle.std.proofs.Common.{if◌then◌else◌, zero-add, get_or-set_other, get_or-set_same, refl, ap, ap₂, sym, ◌∙◌, arith}
+use Rattle.std.proofs.Common.{bit_and, bit_or, bit_xor, inl, inr}
 use Rattle.std.proofs.Math.ListN.{set}
 use Rattle.std.specs.List.{flat_map, range_with_len}
 use Rattle.std.proofs.lemmas.Bool.{cases_lt, cases_eq}

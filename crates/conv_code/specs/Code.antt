@@ -1,5 +1,6 @@
 -- The convolutional code of rate one half (GSM 05.03 section 4.1.3, which sections 4.6 and 4.7 take over for RACH and SCH).
-use Rattle.std.specs.Prelude.{ℕ, ◌≡◌, ◌≤◌, ◌+◌, ◌-◌, ◌%◌, if◌then◌else◌, nat_lt, List, [], ◌∷◌, length, slice_index, drop}
+use Rattle.std.specs.Prelude.{ℕ, ◌≡◌, ◌≤◌, ◌+◌, ◌-◌, ◌%◌, if◌then◌else◌, nat_lt, List, [], ◌∷◌}
+use Rattle.std.specs.Prelude.{length, slice_index, drop}
 use Rattle.std.specs.List.{All, flat_map, range_with_len}
 use Rattle.bit_blocks.specs.Bits.{AllBits}
 

@@ -1,9 +1,12 @@
 -- What crates above cite: each information part has exactly one parity part; and registers, with a step of the division.
-pub use Rattle.fire_code.proofs.Parities.{some_xcch_parity, some_rach_parity, some_sch_parity, one_xcch_parity, one_rach_parity, one_sch_parity}
+pub use Rattle.fire_code.proofs.Parities.{some_xcch_parity, some_rach_parity, some_sch_parity, one_xcch_parity, one_rach_parity}
+pub use Rattle.fire_code.proofs.Parities.{one_sch_parity}
 pub use Rattle.fire_code.proofs.OctetSteps.{taps_of_g40}
 pub use Rattle.fire_code.proofs.ParityParts.{add_after}
-pub use Rattle.fire_code.proofs.RegisterBits.{length-register_bits, AllBits-register_bits, get_or-register_bits, lowest_of_xor, number_of, number_of_within, register_bits-mod}
-pub use Rattle.fire_code.proofs.RegisterBits.{register_bits-number_of, register_bits-suc, register_bits-xor, register_bits-zero, register_bits_split, same_register}
+pub use Rattle.fire_code.proofs.RegisterBits.{length-register_bits, AllBits-register_bits, get_or-register_bits, lowest_of_xor, number_of}
+pub use Rattle.fire_code.proofs.RegisterBits.{number_of_within, register_bits-mod}
+pub use Rattle.fire_code.proofs.RegisterBits.{register_bits-number_of, register_bits-suc, register_bits-xor, register_bits-zero}
+pub use Rattle.fire_code.proofs.RegisterBits.{register_bits_split, same_register}
 pub use Rattle.fire_code.proofs.Steps.{carry_is, remainder_more}
 pub use Rattle.fire_code.proofs.Tests.{passed}
 unfoldable pub use Rattle.fire_code.proofs.Tests.{tested}

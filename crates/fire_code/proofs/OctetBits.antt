@@ -1,5 +1,7 @@
 -- Eight bits as a number and apart.
-use Rattle.std.proofs.Common.{◌≡◌, ℕ, ◌+◌, ◌-◌, ◌*◌, ◌/◌, ◌%◌, ◌^◌, ◌<◌, List, [], ◌∷◌, ◌++◌, length, get_or, take, drop, refl, ap, sym, subst, ◌∙◌, arith, bit_and, bit_or, Bool, true, eqb, append_assoc, length-append}
+use Rattle.std.proofs.Common.{◌≡◌, ℕ, ◌+◌, ◌-◌, ◌*◌, ◌/◌, ◌%◌, ◌^◌, ◌<◌, List, [], ◌∷◌}
+use Rattle.std.proofs.Common.{◌++◌, length, get_or, take, drop, refl, ap, sym, subst, ◌∙◌, arith, bit_and, bit_or, Bool, true}
+use Rattle.std.proofs.Common.{eqb, append_assoc, length-append}
 use Rattle.std.specs.Int.{from_le_bytes, to_le_bytes, w64}
 use Rattle.std.specs.Str.{bytes_eq}
 use Rattle.std.proofs.Math.Seq.{take-add, take-append_seam}
@@ -11,7 +13,8 @@ use Rattle.bit_blocks.specs.Bits.{AllBits}
 use Rattle.bit_blocks.specs.Octets.{octet_bits, bits_of}
 use Rattle.fire_code.specs.Registers.{register_bits}
 use Rattle.fire_code.proofs.Tests.{tested, passed}
-use Rattle.fire_code.proofs.RegisterBits.{octet_bits-register_bits, length-register_bits, register_bits-mod, register_bits-parts, register_bits_split, register_bits-number_of, number_of, number_of_within}
+use Rattle.fire_code.proofs.RegisterBits.{octet_bits-register_bits, length-register_bits, register_bits-mod, register_bits-parts}
+use Rattle.fire_code.proofs.RegisterBits.{register_bits_split, register_bits-number_of, number_of, number_of_within}
 
 -- the number that eight bits are gathered to
 abbrev pub gathering : List ℕ → ℕ

@@ -1,5 +1,7 @@
 -- Division by whole octets: the table's entries, the gathering of eight bits, and one step.
-use Rattle.std.proofs.Common.{◌≡◌, ℕ, ◌+◌, ◌*◌, ◌/◌, ◌^◌, ◌≤◌, ◌<◌, List, [], ◌∷◌, ◌++◌, length, replicate, get_or, take, drop, refl, ap, sym, subst, ◌∙◌, arith, bit_xor, bit_and, Bool, true, eqb, append_assoc}
+use Rattle.std.proofs.Common.{◌≡◌, ℕ, ◌+◌, ◌*◌, ◌/◌, ◌^◌, ◌≤◌, ◌<◌, List, [], ◌∷◌, ◌++◌}
+use Rattle.std.proofs.Common.{length, replicate, get_or, take, drop, refl, ap, sym, subst, ◌∙◌, arith, bit_xor, bit_and, Bool, true}
+use Rattle.std.proofs.Common.{eqb, append_assoc}
 use Rattle.std.proofs.lemmas.Bool.Decides.{Decides-eqb}
 use Rattle.std.proofs.Math.Seq.{take-add}
 use Rattle.std.proofs.lemmas.Grind.{flat_map-append}
@@ -14,7 +16,8 @@ use Rattle.fire_code.specs.declared.octets.TheConstants.{REMAINDERS}
 use Rattle.fire_code.specs.Registers.{register_bits}
 use Rattle.fire_code.specs.Words.{g40}
 use Rattle.fire_code.proofs.Tests.{tested, passed}
-use Rattle.fire_code.proofs.RegisterBits.{length-register_bits, AllBits-register_bits, register_bits-zero, register_bits-mod, register_bits-xor, octet_bits-register_bits, register_bits_split, register_bits_beyond}
+use Rattle.fire_code.proofs.RegisterBits.{length-register_bits, AllBits-register_bits, register_bits-zero, register_bits-mod}
+use Rattle.fire_code.proofs.RegisterBits.{register_bits-xor, octet_bits-register_bits, register_bits_split, register_bits_beyond}
 use Rattle.fire_code.proofs.Steps.{remainder_more, remainder_within}
 
 pub taps_of_g40 : 1 ∷ register_bits 40 618479558656 ≡ g40

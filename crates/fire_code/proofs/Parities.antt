@@ -1,5 +1,7 @@
 -- Each information part has exactly one parity part.
-use Rattle.std.proofs.Common.{◌≡◌, ℕ, zero, suc, ◌+◌, ◌*◌, ◌/◌, ◌^◌, ◌<◌, ◌≤◌, List, ◌∷◌, ◌++◌, length, take, get_or, drop, replicate, refl, ap, sym, ◌∙◌, arith, subst, length-append, bit_xor, bit_and, lit<}
+use Rattle.std.proofs.Common.{◌≡◌, ℕ, zero, suc, ◌+◌, ◌*◌, ◌/◌, ◌^◌, ◌<◌, ◌≤◌, List, ◌∷◌}
+use Rattle.std.proofs.Common.{◌++◌, length, take, get_or, drop, replicate, refl, ap, sym, ◌∙◌, arith, subst, length-append}
+use Rattle.std.proofs.Common.{bit_xor, bit_and, lit<}
 use Rattle.std.proofs.Math.Seq.{take-length}
 use Rattle.std.proofs.lemmas.Nat.{pow_pos}
 use Rattle.bit_blocks.specs.Bits.{AllBits, add_bits}

@@ -1,5 +1,6 @@
 -- The one parity part of an information part: turned over, it completes the information part to a multiple.
-use Rattle.std.proofs.Common.{◌≡◌, ℕ, ◌+◌, ◌≤◌, List, ◌∷◌, ◌++◌, length, get_or, replicate, ap, sym, ◌∙◌, arith, subst, length-append, take, drop}
+use Rattle.std.proofs.Common.{◌≡◌, ℕ, ◌+◌, ◌≤◌, List, ◌∷◌, ◌++◌, length, get_or, replicate, ap, sym}
+use Rattle.std.proofs.Common.{◌∙◌, arith, subst, length-append, take, drop}
 use Rattle.std.proofs.lemmas.List.{length-replicate, take-append-drop}
 use Rattle.std.proofs.lemmas.List.Elements.{All-take, All-drop}
 use Rattle.bit_blocks.specs.Bits.{IsBit, AllBits, add_bits}

@@ -1,5 +1,6 @@
 -- Words of a synchronisation burst and their parity parts.
-use Rattle.std.proofs.Common.{◌≡◌, ℕ, List, [], ◌∷◌, ◌++◌, length, replicate, refl, ap, sym, ◌∙◌, arith, lit≤, subst, length-append}
+use Rattle.std.proofs.Common.{◌≡◌, ℕ, List, [], ◌∷◌, ◌++◌, length, replicate, refl, ap, sym, ◌∙◌, arith, lit≤}
+use Rattle.std.proofs.Common.{subst, length-append}
 use Rattle.std.proofs.lemmas.List.Elements.{All-append}
 use Rattle.bit_blocks.specs.Bits.{IsBit, AllBits, add_bits}
 use Rattle.bit_blocks.specs.Polynomials.{HasQuotient}

@@ -1,5 +1,7 @@
 -- One step of a division by a register.
-use Rattle.std.proofs.Common.{◌≡◌, ℕ, zero, suc, ◌+◌, ◌*◌, ◌/◌, ◌%◌, ◌^◌, ◌≤◌, ◌<◌, List, [], ◌∷◌, ◌++◌, length, replicate, refl, ap, sym, ◌∙◌, arith, bit_xor, bit_and, subst, get_or, below_more, ◌≢◌, take}
+use Rattle.std.proofs.Common.{◌≡◌, ℕ, zero, suc, ◌+◌, ◌*◌, ◌/◌, ◌%◌, ◌^◌, ◌≤◌, ◌<◌, List, []}
+use Rattle.std.proofs.Common.{◌∷◌, ◌++◌, length, replicate, refl, ap, sym, ◌∙◌, arith, bit_xor, bit_and, subst, get_or}
+use Rattle.std.proofs.Common.{below_more, ◌≢◌, take}
 use Rattle.std.proofs.Math.ListN.{set}
 use Rattle.std.proofs.lemmas.Grind.{same_number_lists}
 use Rattle.std.proofs.lemmas.Nat.{and_mask, and_le_r, mul-le, xor_lt}
@@ -10,7 +12,8 @@ use Rattle.bit_blocks.specs.Bits.{IsBit, AllBits, add_bits}
 use Rattle.bit_blocks.specs.Polynomials.{HasQuotient}
 use Rattle.bit_blocks.proofs.Lemmas.{HasQuotient-zeros, HasQuotient_self, divided_more}
 use Rattle.fire_code.specs.Registers.{register_bits}
-use Rattle.fire_code.proofs.RegisterBits.{length-register_bits, get_or-register_bits, AllBits-register_bits, register_bits-zero, register_bits_beyond, register_bits-xor, register_bits-suc, half_below, lowest_of_xor}
+use Rattle.fire_code.proofs.RegisterBits.{length-register_bits, get_or-register_bits, AllBits-register_bits, register_bits-zero}
+use Rattle.fire_code.proofs.RegisterBits.{register_bits_beyond, register_bits-xor, register_bits-suc, half_below, lowest_of_xor}
 
 -- the generator or nothing
 taken_multiple : (n carry taps : ℕ) → carry ≤ 1 → HasQuotient (carry ∷ register_bits n (carry * taps)) (1 ∷ register_bits n taps)

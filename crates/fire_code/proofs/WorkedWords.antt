@@ -1,5 +1,6 @@
 -- The definitions at worked values.
-use Rattle.std.proofs.Common.{◌≡◌, ℕ, zero, suc, ◌+◌, ◌%◌, List, [], ◌∷◌, ◌++◌, replicate, refl, arith, lit≤, ap, subst, get_or}
+use Rattle.std.proofs.Common.{◌≡◌, ℕ, zero, suc, ◌+◌, ◌%◌, List, [], ◌∷◌, ◌++◌, replicate, refl, arith, lit≤}
+use Rattle.std.proofs.Common.{ap, subst, get_or}
 use Rattle.bit_blocks.specs.Bits.{AllBits, add_bits}
 use Rattle.bit_blocks.specs.Polynomials.{product_at}
 use Rattle.bit_blocks.proofs.Lemmas.{AllBits-add_bits, HasQuotient-zeros, HasQuotient-zeros_append, HasQuotient_self}

@@ -1,11 +1,13 @@
 -- Words of a control channel's block and their parity parts.
-use Rattle.std.proofs.Common.{◌≡◌, ℕ, ◌^◌, ◌<◌, List, ◌++◌, length, replicate, refl, ap, sym, ◌∙◌, arith, lit≤, subst, length-append, bit_xor}
+use Rattle.std.proofs.Common.{◌≡◌, ℕ, ◌^◌, ◌<◌, List, ◌++◌, length, replicate, refl, ap, sym, ◌∙◌, arith}
+use Rattle.std.proofs.Common.{lit≤, subst, length-append, bit_xor}
 use Rattle.std.specs.Int.Bits.{xor_assoc, xor_self, xor_zero_l, xor_zero_r}
 use Rattle.std.proofs.lemmas.Nat.{xor_lt, xor_comm}
 use Rattle.std.proofs.lemmas.List.Elements.{All-append}
 use Rattle.bit_blocks.specs.Bits.{IsBit, AllBits, add_bits}
 use Rattle.bit_blocks.specs.Polynomials.{HasQuotient}
-use Rattle.bit_blocks.proofs.Lemmas.{AllBits-front, AllBits-back, AllBits-add_bits, add_bits-comm, add_bits-zeros, add_bits_again, add_bits_twice, length-add_bits}
+use Rattle.bit_blocks.proofs.Lemmas.{AllBits-front, AllBits-back, AllBits-add_bits, add_bits-comm, add_bits-zeros, add_bits_again}
+use Rattle.bit_blocks.proofs.Lemmas.{add_bits_twice, length-add_bits}
 use Rattle.fire_code.specs.Registers.{register_bits}
 use Rattle.fire_code.specs.Words.{g40, IsXcchWord}
 use Rattle.fire_code.proofs.OctetSteps.{same_remainder_of_g40}

@@ -1,5 +1,6 @@
 -- The first and the last bit of a shape.
-use Rattle.std.proofs.Common.{◌≡◌, ◌≢◌, ℕ, zero, suc, ◌+◌, ◌-◌, ◌*◌, ◌/◌, ◌%◌, ◌^◌, ◌<◌, ◌≤◌, ap, sym, ◌∙◌, subst, arith}
+use Rattle.std.proofs.Common.{◌≡◌, ◌≢◌, ℕ, zero, suc, ◌+◌, ◌-◌, ◌*◌, ◌/◌, ◌%◌, ◌^◌, ◌<◌}
+use Rattle.std.proofs.Common.{◌≤◌, ap, sym, ◌∙◌, subst, arith}
 use Rattle.std.specs.Int.{bit_at, trailing_zeros, leading_zeros, w64}
 use Rattle.std.proofs.Math.Nat.{pow-suc, lt_of_not-le}
 use Rattle.std.proofs.lemmas.Nat.{leading_length, shr_high}

@@ -1,6 +1,7 @@
 -- No two bursts leave the same. By computing, for every shape: nowhere on its way through 212 places does a shape become another
 -- one, that is, a register whose first 28 places are 0, but as the same bits one place earlier.
-use Rattle.std.proofs.Common.{◌≡◌, ℕ, zero, suc, ◌+◌, ◌-◌, ◌*◌, ◌/◌, ◌%◌, ◌^◌, ◌<◌, ◌≤◌, Bool, true, false, eqb, ◌&&◌, refl, ap, sym, ◌∙◌, arith, eq-eqb, mul_assoc, ◌⊎◌, inl, inr}
+use Rattle.std.proofs.Common.{◌≡◌, ℕ, zero, suc, ◌+◌, ◌-◌, ◌*◌, ◌/◌, ◌%◌, ◌^◌, ◌<◌, ◌≤◌, Bool}
+use Rattle.std.proofs.Common.{true, false, eqb, ◌&&◌, refl, ap, sym, ◌∙◌, arith, eq-eqb, mul_assoc, ◌⊎◌, inl, inr}
 use Rattle.std.proofs.Math.Nat.{pow-suc, mul_comm}
 use Rattle.std.proofs.lemmas.Nat.{pow-add}
 use Rattle.std.proofs.lemmas.Bool.Decides.{Decides-eqb}

@@ -1,5 +1,7 @@
 -- What a burst leaves under the generator.
-use Rattle.std.proofs.Common.{◌≡◌, ℕ, zero, suc, ◌+◌, ◌-◌, ◌*◌, ◌/◌, ◌%◌, ◌^◌, ◌<◌, ◌≤◌, List, [], ◌∷◌, ◌++◌, length, length-append, replicate, get_or, refl, ap, ap₂, sym, ◌∙◌, subst, arith, bit_xor, bit_and, lit≤, add-zero, mul_assoc}
+use Rattle.std.proofs.Common.{◌≡◌, ℕ, zero, suc, ◌+◌, ◌-◌, ◌*◌, ◌/◌, ◌%◌, ◌^◌, ◌<◌, ◌≤◌, List}
+use Rattle.std.proofs.Common.{[], ◌∷◌, ◌++◌, length, length-append, replicate, get_or, refl, ap, ap₂, sym, ◌∙◌, subst}
+use Rattle.std.proofs.Common.{arith, bit_xor, bit_and, lit≤, add-zero, mul_assoc}
 use Rattle.std.specs.Int.Bits.{xor_assoc, xor_self}
 use Rattle.std.proofs.Math.Nat.{pow-suc, pow-le-pow_right}
 use Rattle.std.proofs.lemmas.Nat.{shr-shr, xor_shr, xor_lt, shl-shr, mod_low, shl_below, shr_below, pow_pos}
@@ -9,7 +11,8 @@ use Rattle.bit_blocks.specs.Polynomials.{product_at, HasQuotient}
 use Rattle.bit_blocks.proofs.Lemmas.{HasQuotient-zeros}
 use Rattle.fire_code.specs.Registers.{register_bits}
 use Rattle.fire_code.specs.Words.{g40}
-use Rattle.fire_code.proofs.Lemmas.{taps_of_g40, length-register_bits, AllBits-register_bits, register_bits-mod, register_bits-suc, register_bits-zero, register_bits_split, lowest_of_xor, carry_is, remainder_more}
+use Rattle.fire_code.proofs.Lemmas.{taps_of_g40, length-register_bits, AllBits-register_bits, register_bits-mod, register_bits-suc}
+use Rattle.fire_code.proofs.Lemmas.{register_bits-zero, register_bits_split, lowest_of_xor, carry_is, remainder_more}
 use Rattle.fire_repair.specs.Bursts.{moved_once, moved, left_by}
 use Rattle.fire_repair.proofs.Moves.{moved_once_within}
 

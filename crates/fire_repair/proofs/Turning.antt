@@ -1,5 +1,7 @@
 -- The bits of a burst are turned over in a word, one place after the other.
-use Rattle.std.proofs.Common.{◌≡◌, ◌≢◌, ℕ, ◌+◌, ◌-◌, ◌*◌, ◌/◌, ◌%◌, ◌^◌, ◌<◌, ◌≤◌, List, length, get_or, bit_and, bit_xor, refl, ap, sym, subst, ◌∙◌, arith, below_more, get_or-set_other, get_or-set_same, inl, inr}
+use Rattle.std.proofs.Common.{◌≡◌, ◌≢◌, ℕ, ◌+◌, ◌-◌, ◌*◌, ◌/◌, ◌%◌, ◌^◌, ◌<◌, ◌≤◌, List}
+use Rattle.std.proofs.Common.{length, get_or, bit_and, bit_xor, refl, ap, sym, subst, ◌∙◌, arith, below_more, get_or-set_other}
+use Rattle.std.proofs.Common.{get_or-set_same, inl, inr}
 use Rattle.std.specs.Int.{bit_at}
 use Rattle.std.proofs.Math.ListN.{set}
 use Rattle.std.proofs.lemmas.Nat.{and_le_r}

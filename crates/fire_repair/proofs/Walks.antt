@@ -1,5 +1,6 @@
 -- The walk back along a word, which finds a burst or shows that there is none.
-use Rattle.std.proofs.Common.{◌≡◌, ℕ, zero, suc, ◌-◌, ◌*◌, ◌/◌, ◌%◌, ◌^◌, ◌<◌, ◌≤◌, Option, Some, None, Bool, true, false, eqb, refl, ap, sym, ◌∙◌, subst, arith, eq-eqb, ne_eqb, below_more, bit_and}
+use Rattle.std.proofs.Common.{◌≡◌, ℕ, zero, suc, ◌-◌, ◌*◌, ◌/◌, ◌%◌, ◌^◌, ◌<◌, ◌≤◌, Option, Some}
+use Rattle.std.proofs.Common.{None, Bool, true, false, eqb, refl, ap, sym, ◌∙◌, subst, arith, eq-eqb, ne_eqb, below_more, bit_and}
 use Rattle.std.proofs.lemmas.Bool.Decides.{Decides-eqb}
 use Rattle.std.proofs.lemmas.Nat.{and_mask}
 use Rattle.fire_repair.specs.Bursts.{moved, left_by}

@@ -1,14 +1,18 @@
 -- What is added to 224 bits to make a word of the code.
-use Rattle.std.proofs.Common.{◌≡◌, ℕ, ◌+◌, ◌/◌, ◌%◌, ◌^◌, ◌<◌, List, [], ◌++◌, length, length-append, replicate, take, drop, get_or, refl, ap, sym, ◌∙◌, subst, arith, bit_xor}
+use Rattle.std.proofs.Common.{◌≡◌, ℕ, ◌+◌, ◌/◌, ◌%◌, ◌^◌, ◌<◌, List, [], ◌++◌, length, length-append}
+use Rattle.std.proofs.Common.{replicate, take, drop, get_or, refl, ap, sym, ◌∙◌, subst, arith, bit_xor}
 use Rattle.std.proofs.lemmas.Grind.{same_number_lists}
 use Rattle.std.proofs.lemmas.List.{append-nil, take-append-drop, length-take-le, length-drop}
 use Rattle.std.proofs.lemmas.List.Elements.{All-take}
 use Rattle.bit_blocks.specs.Bits.{IsBit, AllBits, add_bits}
 use Rattle.bit_blocks.specs.Polynomials.{HasQuotient}
-use Rattle.bit_blocks.proofs.Lemmas.{AllBits-add_bits, AllBits-back, add_bits-comm, add_bits_again, divided_more, get_or-add_bits, length-add_bits}
+use Rattle.bit_blocks.proofs.Lemmas.{AllBits-add_bits, AllBits-back, add_bits-comm, add_bits_again, divided_more, get_or-add_bits}
+use Rattle.bit_blocks.proofs.Lemmas.{length-add_bits}
 use Rattle.fire_code.specs.Registers.{register_bits}
 use Rattle.fire_code.specs.Words.{g40, IsXcchWord}
-use Rattle.fire_code.proofs.Lemmas.{add_after, length-register_bits, AllBits-register_bits, register_bits-xor, register_bits_split, same_register, one_xcch_parity, some_xcch_parity, number_of, number_of_within, register_bits-number_of}
+use Rattle.fire_code.proofs.Lemmas.{add_after, length-register_bits, AllBits-register_bits, register_bits-xor, register_bits_split}
+use Rattle.fire_code.proofs.Lemmas.{same_register, one_xcch_parity, some_xcch_parity, number_of, number_of_within}
+use Rattle.fire_code.proofs.Lemmas.{register_bits-number_of}
 use Rattle.fire_repair.proofs.Leavings.{Leaves}
 
 HasQuotient-sum : (x y g : List ℕ) → length y ≡ length x → HasQuotient x g → HasQuotient y g → HasQuotient (add_bits x y) g

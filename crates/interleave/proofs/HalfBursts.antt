@@ -1,5 +1,6 @@
 -- Half bursts are read and written, one place more at a time.
-use Rattle.std.proofs.Common.{◌≡◌, ℕ, ◌+◌, ◌*◌, ◌<◌, ◌≤◌, List, [], length, get_or, sym, ◌∙◌, arith, ◌≢◌, ℤ, pos, below_more, get_or-set_other, get_or-set_same, ap}
+use Rattle.std.proofs.Common.{◌≡◌, ℕ, ◌+◌, ◌*◌, ◌<◌, ◌≤◌, List, [], length, get_or, sym, ◌∙◌, arith}
+use Rattle.std.proofs.Common.{◌≢◌, ℤ, pos, below_more, get_or-set_other, get_or-set_same, ap}
 use Rattle.std.specs.Prelude.{slice_range}
 use Rattle.std.proofs.Math.ListN.{set}
 use Rattle.std.proofs.lemmas.List.{ext_get_or}

@@ -1,5 +1,7 @@
 -- Vectors whose lanes stand in turns, and are read as lanes of twice the width.
-use Rattle.std.proofs.Common.{◌≡◌, ℕ, zero, suc, ◌+◌, ◌*◌, ◌/◌, ◌%◌, ◌^◌, ◌<◌, List, [], ◌∷◌, ◌++◌, length, get_or, refl, ap, ap₂, sym, subst, ◌∙◌, arith, bit_and, Fits, ◌-◌, ◌≤◌, replicate, w8, w16, zero-add}
+use Rattle.std.proofs.Common.{◌≡◌, ℕ, zero, suc, ◌+◌, ◌*◌, ◌/◌, ◌%◌, ◌^◌, ◌<◌, List, [], ◌∷◌}
+use Rattle.std.proofs.Common.{◌++◌, length, get_or, refl, ap, ap₂, sym, subst, ◌∙◌, arith, bit_and, Fits, ◌-◌, ◌≤◌}
+use Rattle.std.proofs.Common.{replicate, w8, w16, zero-add}
 use Rattle.std.proofs.Math.Nat.{mul_comm, pow-suc, pow-zero}
 use Rattle.std.proofs.Math.Arith.{digits_lt}
 use Rattle.std.proofs.lemmas.List.{get_or_append_left, get_or-append_right, get_or-map, length-map}
@@ -7,7 +9,8 @@ use mir.Syntax.{Width}
 use mir.Val.{bits}
 use Rattle.std.proofs.lemmas.Nat.{and_mask, pow_pos}
 use Rattle.std.proofs.lemmas.Nat.Bits.{and_high_mask}
-use Rattle.std.proofs.lemmas.Simd.{get_or_wider, below_from_Fits, get_or-zip2, length-zip2, get_or-replicate, length-replicate, get_or-chunk, chunk-fits, length-chunk, Each1-chunk}
+use Rattle.std.proofs.lemmas.Simd.{get_or_wider, below_from_Fits, get_or-zip2, length-zip2, get_or-replicate, length-replicate}
+use Rattle.std.proofs.lemmas.Simd.{get_or-chunk, chunk-fits, length-chunk, Each1-chunk}
 use borrow.Rule.Slice.PartMut.{mid_of}
 use lib.Lanes.{Each1, zip2, chunk, number_l, digits_l, pick_l}
 

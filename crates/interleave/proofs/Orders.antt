@@ -1,5 +1,6 @@
 -- Bursts that are gathered in any order.
-use Rattle.std.proofs.Common.{◌≡◌, ◌≢◌, ℕ, zero, suc, ◌<◌, inl, inr, List, [], ◌∷◌, All, Contains, length, get_or, ap, sym, ◌∙◌, arith}
+use Rattle.std.proofs.Common.{◌≡◌, ◌≢◌, ℕ, zero, suc, ◌<◌, inl, inr, List, [], ◌∷◌, All, Contains, length, get_or}
+use Rattle.std.proofs.Common.{ap, sym, ◌∙◌, arith}
 use Rattle.std.proofs.lemmas.Bool.{cases_eq}
 use Rattle.interleave.specs.Bursts.{IsInterleaved, IsGathered, AreGathered}
 use Rattle.interleave.specs.Places.{burst_of, place_of}

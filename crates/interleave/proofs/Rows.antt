@@ -1,5 +1,6 @@
 -- Which coded bit stands at each place, found by computing.
-use Rattle.std.proofs.Common.{◌≡◌, ℕ, ◌+◌, ◌*◌, ◌/◌, ◌%◌, ◌<◌, Bool, true, ◌&&◌, eqb, ltb, refl, rules, tests}
+use Rattle.std.proofs.Common.{◌≡◌, ℕ, ◌+◌, ◌*◌, ◌/◌, ◌%◌, ◌<◌, Bool, true, ◌&&◌, eqb, ltb, refl, rules}
+use Rattle.std.proofs.Common.{tests}
 use Rattle.bit_blocks.proofs.Lemmas.{passes_below, at_passes_below, both_true}
 use Rattle.interleave.specs.ColumnPlaces.{column_bit, bit_at}
 use Rattle.interleave.specs.Places.{burst_of, place_of}

@@ -1,5 +1,6 @@
 //! From the soft values of the bursts back to the order of the coded list.
-ghost use Rattle.std.specs.Prelude.{◌≡◌, ◌≢◌, ℕ, ℤ, pos, ◌+◌, ◌*◌, ◌/◌, ◌%◌, ◌^◌, ◌<◌, ◌≤◌, ◌++◌, List, [], map, length, slice_index, slice_index_or};
+ghost use Rattle.std.specs.Prelude.{◌≡◌, ◌≢◌, ℕ, ℤ, pos, ◌+◌, ◌*◌, ◌/◌, ◌%◌, ◌^◌, ◌<◌, ◌≤◌};
+ghost use Rattle.std.specs.Prelude.{◌++◌, List, [], map, length, slice_index, slice_index_or};
 ghost use Rattle.std.specs.Int.{cast_signed, w8};
 ghost use Rattle.interleave.specs.Bursts.{IsInterleaved, IsGathered};
 ghost use Rattle.interleave.specs.ColumnPlaces.{column_bit, column_place};

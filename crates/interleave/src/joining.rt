@@ -1,7 +1,8 @@
 //! Eight columns of a block at once. A row holds one octet of each column, and the columns one after the other: so eight rows
 //! from eight places on are turned round, as octets are joined to pairs, pairs to fours, and fours to the eight octets of a
 //! column.
-ghost use Rattle.std.specs.Prelude.{◌≡◌, ℕ, ◌+◌, ◌*◌, ◌/◌, ◌%◌, ◌^◌, ◌<◌, ◌≤◌, [], length, slice_index, slice_index_or};
+ghost use Rattle.std.specs.Prelude.{◌≡◌, ℕ, ◌+◌, ◌*◌, ◌/◌, ◌%◌, ◌^◌, ◌<◌, ◌≤◌, [], length};
+ghost use Rattle.std.specs.Prelude.{slice_index, slice_index_or};
 ghost use Rattle.interleave.specs.ColumnPlaces.{column_place};
 
 use std::simd::prelude::*;

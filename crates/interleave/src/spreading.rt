@@ -1,5 +1,6 @@
 //! From the coded list to the bursts.
-ghost use Rattle.std.specs.Prelude.{◌≡◌, ℕ, ◌+◌, ◌*◌, ◌<◌, ◌≤◌, List, [], All, length, slice_index, slice_index_or, slice_range};
+ghost use Rattle.std.specs.Prelude.{◌≡◌, ℕ, ◌+◌, ◌*◌, ◌<◌, ◌≤◌, List, [], All, length, slice_index};
+ghost use Rattle.std.specs.Prelude.{slice_index_or, slice_range};
 ghost use Rattle.bit_blocks.specs.Bits.{AllBits};
 ghost use Rattle.interleave.specs.Bursts.{IsInterleaved};
 ghost use Rattle.interleave.specs.Places.{burst_of, place_of};

@@ -1,5 +1,6 @@
 -- How the rules of Open follow one after another.
-use Rattle.std.proofs.Common.{◌≡◌, true, false, refl, sym, ◌∙◌, ap, subst, ℕ, List, [], ◌∷◌, ◌++◌, append_assoc, map}
+use Rattle.std.proofs.Common.{◌≡◌, true, false, refl, sym, ◌∙◌, ap, subst, ℕ, List, [], ◌∷◌, ◌++◌, append_assoc}
+use Rattle.std.proofs.Common.{map}
 use Rattle.std.proofs.lemmas.List.{map-append, append-nil}
 use Rattle.lapdm_frame.specs.Frames.{octets_of}
 use Rattle.lapdm_window.specs.declared.Acked as A

@@ -1,5 +1,6 @@
 -- What an end stands for after its state, its kept information or its retry count changed.
-use Rattle.std.proofs.Common.{◌≡◌, subst, ◌<◌, ◌++◌, map, ◌+◌, if◌then◌else◌, nat_lt, refl, sym, ◌∙◌, ap, arith, ℕ, ◌≤◌, Bool, true, false, [], length, IsTrue}
+use Rattle.std.proofs.Common.{◌≡◌, subst, ◌<◌, ◌++◌, map, ◌+◌, if◌then◌else◌, nat_lt, refl, sym, ◌∙◌, ap}
+use Rattle.std.proofs.Common.{arith, ℕ, ◌≤◌, Bool, true, false, [], length, IsTrue}
 use Rattle.std.specs.List.{flat_map}
 use Rattle.std.proofs.lemmas.Bool.{false≢true}
 use Rattle.std.proofs.lemmas.Bool.Decides.{nat_tests}

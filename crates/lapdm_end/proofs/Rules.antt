@@ -1,5 +1,6 @@
 -- The rules of an end, put together otherwise.
-use Rattle.std.proofs.Common.{◌≡◌, ◌≤◌, refl, sym, ◌∙◌, ap, arith, ℕ, Bool, true, false, if◌then◌else◌, nat_eq, nat_lt, List, [], ◌∷◌, ◌++◌, length, append_assoc, unwrap_or}
+use Rattle.std.proofs.Common.{◌≡◌, ◌≤◌, refl, sym, ◌∙◌, ap, arith, ℕ, Bool, true, false, if◌then◌else◌, nat_eq}
+use Rattle.std.proofs.Common.{nat_lt, List, [], ◌∷◌, ◌++◌, length, append_assoc, unwrap_or}
 use Rattle.std.proofs.lemmas.Bool.Decides.{nat_tests}
 use Rattle.lapdm_frame.specs.Content.{Frame}
 use Rattle.segmenting.specs.declared.joiner.Joined.{Joined}
@@ -12,7 +13,8 @@ use Rattle.lapdm_window.specs.declared.Info.{Info}
 use Rattle.lapdm_window.specs.declared.Info.TheVariants as I
 use Rattle.lapdm_window.specs.declared.State.TheVariants.{Open}
 use Rattle.lapdm_window.specs.Ends.{EndState, Outcome, stays, ◌then◌, waits, next_piece, vr}
-use Rattle.lapdm_window.specs.Rules.{acknowledges, reports_acked, counts, has_piece, with_next, sends_piece, sends_next, accepts, answers_piece, rejects, reject_is_due, with_reject, takes_i, notices_of}
+use Rattle.lapdm_window.specs.Rules.{acknowledges, reports_acked, counts, has_piece, with_next, sends_piece, sends_next, accepts}
+use Rattle.lapdm_window.specs.Rules.{answers_piece, rejects, reject_is_due, with_reject, takes_i, notices_of}
 use Rattle.lapdm_window.proofs.Lemmas.{rejects-due, rejects-not_due, waits-one}
 use Rattle.lapdm_end.specs.Windows.{sends_waiting, says_rej, refuses_piece, takes_piece}
 

@@ -4,7 +4,8 @@ ghost use Rattle.std.specs.Prelude.{◌≡◌, ◌+◌, ◌≤◌, [], ◌++◌,
 ghost use Rattle.lapdm_frame.specs.Layout.{n201};
 ghost use Rattle.segmenting.specs.Joining.{latest};
 ghost use Rattle.lapdm_window.specs.Ends.{EndState};
-ghost use Rattle.lapdm_window.specs.Rules.{sends_next, counts, notices_of, says_rr, answers_piece, answers_poll, sends_again, takes_i, takes_rr, takes_rej};
+ghost use Rattle.lapdm_window.specs.Rules.{sends_next, counts, notices_of, says_rr, answers_piece, answers_poll, sends_again, takes_i};
+ghost use Rattle.lapdm_window.specs.Rules.{takes_rr, takes_rej};
 ghost use Rattle.lapdm_window.specs.Standing.{Stands, channel_of};
 
 use crate::link::Link;

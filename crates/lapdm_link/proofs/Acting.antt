@@ -1,7 +1,9 @@
 -- What an end does at a call that is not refused, or at a frame: what it tells and sends, what becomes of its link, and that
 -- both directions are kept.
-use Rattle.lapdm_link.proofs.Words.{HasBegun, MayOpen, ◌≡◌, refl, sym, ◌∙◌, ap, subst, ℕ, ◌≤◌, List, [], ◌∷◌, ◌++◌, length, Option, Some}
-use Rattle.lapdm_link.proofs.Words.{None, inl, ◌⊎◌, filter_map, cons_option, append-nil, Content, I, Rr, Rej, Sabm, Ui, Ua, Frame, Message}
+use Rattle.lapdm_link.proofs.Words.{HasBegun, MayOpen, ◌≡◌, refl, sym, ◌∙◌, ap, subst, ℕ, ◌≤◌, List, [], ◌∷◌}
+use Rattle.lapdm_link.proofs.Words.{◌++◌, length, Option, Some}
+use Rattle.lapdm_link.proofs.Words.{None, inl, ◌⊎◌, filter_map, cons_option, append-nil, Content, I, Rr, Rej, Sabm, Ui, Ua, Frame}
+use Rattle.lapdm_link.proofs.Words.{Message}
 use Rattle.lapdm_link.proofs.Words.{Piece, false, State, Idle, Opening, Closing, Closed, Notice, EndState}
 use Rattle.lapdm_link.proofs.Words.{Outcome, KeepsWindow, all_pieces, IsSameLink, Call, Opens, OpensBare, SendsUnit, Idles, sent_in}
 use Rattle.lapdm_link.proofs.Words.{unit_sent_in, unit_got_in, opened_in}

@@ -1,5 +1,11 @@
 -- What an end does at a call that is not refused.
-use Rattle.lapdm_link.proofs.Words.{◌≡◌, refl, sym, ap, arith, ◌+◌, ◌≤◌, max, Bool, true, false, not, if◌then◌else◌, nat_eq, nat_lt, List, [], ◌∷◌, length, Some, None, inl, inr, append-nil, false≢true, nat_tests, n201, Content, Ui, Message, State, EndState, KeepsWindow, sends_frame, waits, awaits, awaits_in, n200, is_open, becomes_closed, Call, Opens, OpensBare, Sends, SendsUnit, Closes, Ticks, Idles, is_idle, refusal_of, put_refusals, frame_refusals, with_taken, repeated, after_call, wholly_acked-taken, all_pieces-taken, KeepsWindow-taken, is_message, not_false, passes, is_idle-is, is_open-is}
+use Rattle.lapdm_link.proofs.Words.{◌≡◌, refl, sym, ap, arith, ◌+◌, ◌≤◌, max, Bool, true, false, not, if◌then◌else◌}
+use Rattle.lapdm_link.proofs.Words.{nat_eq, nat_lt, List, [], ◌∷◌, length, Some, None, inl, inr, append-nil, false≢true}
+use Rattle.lapdm_link.proofs.Words.{nat_tests, n201, Content, Ui, Message, State, EndState, KeepsWindow, sends_frame, waits, awaits}
+use Rattle.lapdm_link.proofs.Words.{awaits_in, n200, is_open, becomes_closed, Call, Opens, OpensBare, Sends, SendsUnit, Closes, Ticks}
+use Rattle.lapdm_link.proofs.Words.{Idles, is_idle, refusal_of, put_refusals, frame_refusals, with_taken, repeated, after_call}
+use Rattle.lapdm_link.proofs.Words.{wholly_acked-taken, all_pieces-taken, KeepsWindow-taken, is_message, not_false, passes, is_idle-is}
+use Rattle.lapdm_link.proofs.Words.{is_open-is}
 use Rattle.lapdm_window.specs.declared.State.TheVariants as S
 use Rattle.lapdm_window.specs.declared.Reason.TheVariants as R
 use Rattle.lapdm_window.specs.declared.Refused.TheVariants as No

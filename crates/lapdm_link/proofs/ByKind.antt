@@ -1,5 +1,6 @@
 -- Each event is refused, or is of one of five kinds.
-use Rattle.lapdm_link.proofs.Words.{arith, ◌≡◌, refl, sym, ap, subst, Bool, true, List, [], ◌∷◌, map, nat_eq, Option, Some, None}
+use Rattle.lapdm_link.proofs.Words.{arith, ◌≡◌, refl, sym, ap, subst, Bool, true, List, [], ◌∷◌, map, nat_eq, Option, Some}
+use Rattle.lapdm_link.proofs.Words.{None}
 use Rattle.lapdm_link.proofs.Words.{append-nil, Frame, Message, Sapi, Zero, Three, Refused, Role, Mobile, Network}
 use Rattle.lapdm_link.proofs.Words.{sapi_number, Call, Opens, OpensBare, refusal_of, after_call, after_frame, Request, Event, Open}
 use Rattle.lapdm_link.proofs.Words.{OpenBare, Ask, Deliver, Lose, Rival, other, rival_frame, deed, End, Why, by_side, side_in, by_sapi}

@@ -1,6 +1,10 @@
 -- Both directions of a link go on at whatever an end does; and the claims that they give: in order, acknowledged
 -- afterwards, none oversize.
-use Rattle.lapdm_link.proofs.Words.{◌≡◌, refl, sym, arith, List, [], ◌∷◌, Some, ◌∙◌, ap, ℕ, suc, ◌≤◌, ◌++◌, length, map, take, drop, Option, None, All, filter_map, flat_map, take-append-drop, filter_map-append, n201, Content, Message, Piece, IsMessage, pieces, endings, messages, ended, open_after, endings-all, endings-append, ended-take, ended-endings, messages_of, Sapi, Notice, Role, EndState, IsPrefix, Line, Told, StandsAfter, notices, got_in, got, acked, sent}
+use Rattle.lapdm_link.proofs.Words.{◌≡◌, refl, sym, arith, List, [], ◌∷◌, Some, ◌∙◌, ap, ℕ, suc, ◌≤◌, ◌++◌}
+use Rattle.lapdm_link.proofs.Words.{length, map, take, drop, Option, None, All, filter_map, flat_map, take-append-drop, filter_map-append}
+use Rattle.lapdm_link.proofs.Words.{n201, Content, Message, Piece, IsMessage, pieces, endings, messages, ended, open_after, endings-all}
+use Rattle.lapdm_link.proofs.Words.{endings-append, ended-take, ended-endings, messages_of, Sapi, Notice, Role, EndState, IsPrefix, Line}
+use Rattle.lapdm_link.proofs.Words.{Told, StandsAfter, notices, got_in, got, acked, sent}
 use Rattle.lapdm_window.specs.declared.Notice.TheVariants as N
 use Rattle.lapdm_link.proofs.Views.{notices-at}
 use Rattle.lapdm_link.proofs.Directions.{climbs-le}

@@ -7,7 +7,9 @@
 -- at most one more than its first, since the window is one frame. So of the two pieces that an arriving I frame may
 -- carry, the last accepted and the next, N(S) tells which, and of the two counts that an N(R) may stand for it tells
 -- whether it is that of the piece that waits; then what lies between, the count of accepted pieces, is that count too.
-use Rattle.lapdm_link.proofs.Words.{arith, ℕ, ◌≤◌, List, [], ◌∷◌, ◌++◌, ◌≡◌, ◌≢◌, refl, sym, ◌∙◌, ap, ◌+◌, ◌%◌, ◌<◌, false, length, take, get_or, length-append, take-append-le, take_more, get_or-append, Bool, Content, I, Rr, Rej, Piece}
+use Rattle.lapdm_link.proofs.Words.{arith, ℕ, ◌≤◌, List, [], ◌∷◌, ◌++◌, ◌≡◌, ◌≢◌, refl, sym, ◌∙◌, ap}
+use Rattle.lapdm_link.proofs.Words.{◌+◌, ◌%◌, ◌<◌, false, length, take, get_or, length-append, take-append-le, take_more}
+use Rattle.lapdm_link.proofs.Words.{get_or-append, Bool, Content, I, Rr, Rej, Piece}
 use Rattle.lapdm_link.proofs.Queues.{AllOf}
 
 -- ---- numbers that never fall

@@ -1,5 +1,6 @@
 -- Every frame on its way can be written.
-use Rattle.lapdm_link.proofs.Words.{◌≡◌, sym, subst, List, [], ◌∷◌, ◌++◌, None, All, refl, ◌∙◌, ap, arith, false, nat_eq, nat_lt, length}
+use Rattle.lapdm_link.proofs.Words.{◌≡◌, sym, subst, List, [], ◌∷◌, ◌++◌, None, All, refl, ◌∙◌, ap, arith, false}
+use Rattle.lapdm_link.proofs.Words.{nat_eq, nat_lt, length}
 use Rattle.lapdm_link.proofs.Words.{◌≤◌, Option, Some, All-nil, All-cons, All-head, All-tail, All-append}
 use Rattle.lapdm_link.proofs.Words.{All-drop, drop-append_seam, Channel, Frame, Message, Sapi, Role, Mobile, Network, EndState, Outcome}
 use Rattle.lapdm_link.proofs.Words.{start, IsEnd, Call, refusal_of, after_call, HasCall, after_frame, Event, other, rival_frame}

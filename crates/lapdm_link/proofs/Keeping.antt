@@ -1,5 +1,7 @@
 -- Both directions between an end and the other one, as frames go out and come in.
-use Rattle.lapdm_link.proofs.Words.{◌≡◌, refl, arith, ℕ, ◌+◌, ◌%◌, Bool, List, ◌∷◌, ◌++◌, length, Option, Some, None, cons_option, Content, I, Rr, Rej, State, Message, EndState, KeepsWindow, all_pieces, next_piece, vr}
+use Rattle.lapdm_link.proofs.Words.{◌≡◌, refl, arith, ℕ, ◌+◌, ◌%◌, Bool, List, ◌∷◌, ◌++◌, length, Option, Some}
+use Rattle.lapdm_link.proofs.Words.{None, cons_option, Content, I, Rr, Rej, State, Message, EndState, KeepsWindow, all_pieces, next_piece}
+use Rattle.lapdm_link.proofs.Words.{vr}
 use Rattle.lapdm_link.proofs.Queues.{IsPlain, AllOf, of-as}
 use Rattle.lapdm_link.proofs.Directions.{IsDirection, IsPiece, CountsIn, CarriesIn, pieces_out, piece_gone, numbers_out, number_gone}
 

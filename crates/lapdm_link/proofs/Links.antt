@@ -1,6 +1,7 @@
 -- One link, seen from one of its ends: what the end is, what is on its way from it, what it was asked and what it told;
 -- and what an end of a link does.
-use Rattle.lapdm_link.proofs.Words.{◌≡◌, refl, inl, List, [], ◌∷◌, ◌++◌, cons_option, Content, Message, Sapi, Zero, Notice, Role, Mobile, EndState, Outcome, Call, rival_frame, World, Line, calls, notices}
+use Rattle.lapdm_link.proofs.Words.{◌≡◌, refl, inl, List, [], ◌∷◌, ◌++◌, cons_option, Content, Message, Sapi, Zero}
+use Rattle.lapdm_link.proofs.Words.{Notice, Role, Mobile, EndState, Outcome, Call, rival_frame, World, Line, calls, notices}
 use Rattle.lapdm_link.proofs.Queues.{contents, contents_on, content_of, AllOf, IsOf, frames-own}
 use Rattle.lapdm_link.proofs.Views.{end_of, way, acted, spoken}
 use Rattle.lapdm_link.proofs.ByKind.{IsPlaced}

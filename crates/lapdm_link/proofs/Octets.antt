@@ -1,5 +1,10 @@
 -- Where messages are octets, so is what every frame on its way carries.
-use Rattle.lapdm_link.proofs.Words.{◌≡◌, sym, ap, subst, ℕ, zero, suc, ◌<◌, Bool, false, List, [], ◌∷◌, length, drop, get_or, Option, Some, None, cons_option, All, inl, inr, filter_map, flat_map, All-nil, All-cons, All-head, All-tail, All-append, All-take, All-drop, Channel, n201, Content, I, Sabm, Ui, Ua, Frame, information, Message, Piece, cut, pieces, Sapi, EndState, Outcome, KeepsWindow, all_pieces, after_frame, Call, Opens, OpensBare, Sends, SendsUnit, refusal_of, after_call, Event, Room, World, start_in, refusal, answer, after, Line, Asked, Rivals, Told, answer_lines, sent_in}
+use Rattle.lapdm_link.proofs.Words.{◌≡◌, sym, ap, subst, ℕ, zero, suc, ◌<◌, Bool, false, List, [], ◌∷◌, length, drop}
+use Rattle.lapdm_link.proofs.Words.{get_or, Option, Some, None, cons_option, All, inl, inr, filter_map, flat_map, All-nil, All-cons}
+use Rattle.lapdm_link.proofs.Words.{All-head, All-tail, All-append, All-take, All-drop, Channel, n201, Content, I, Sabm, Ui, Ua, Frame}
+use Rattle.lapdm_link.proofs.Words.{information, Message, Piece, cut, pieces, Sapi, EndState, Outcome, KeepsWindow, all_pieces}
+use Rattle.lapdm_link.proofs.Words.{after_frame, Call, Opens, OpensBare, Sends, SendsUnit, refusal_of, after_call, Event, Room, World}
+use Rattle.lapdm_link.proofs.Words.{start_in, refusal, answer, after, Line, Asked, Rivals, Told, answer_lines, sent_in}
 use Rattle.lapdm_link.proofs.Queues.{AllFrames}
 use Rattle.lapdm_link.proofs.Views.{end_of}
 use Rattle.lapdm_link.proofs.Acting.{Says, IsOpening, OpensBy, Goes, IsDone, remains, ends, closes, begins, opens}

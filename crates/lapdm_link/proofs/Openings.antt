@@ -1,6 +1,7 @@
 -- Each opening has its cause before it: what was asked or told before a SABM or UA went out, and before an end came into
 -- its state.
-use Rattle.lapdm_link.proofs.Words.{MayOpen, ◌≡◌, refl, ap, arith, ◌≤◌, List, [], ◌∷◌, ◌++◌, map, length, inl, inr, Option, Some, None, ◌⊎◌}
+use Rattle.lapdm_link.proofs.Words.{MayOpen, ◌≡◌, refl, ap, arith, ◌≤◌, List, [], ◌∷◌, ◌++◌, map, length, inl, inr}
+use Rattle.lapdm_link.proofs.Words.{Option, Some, None, ◌⊎◌}
 use Rattle.lapdm_link.proofs.Words.{Contains, cons_option, filter_map, Contains-append_left, Contains-push, append_assoc, false, Content}
 use Rattle.lapdm_link.proofs.Words.{Sabm, Ua, Ui, Message, Sapi, Zero, Three, State, Notice, Role, Mobile, Network, EndState, Outcome, Call}
 use Rattle.lapdm_link.proofs.Words.{Opens, OpensBare, other, Line, Asked, Rivals, Told, HasCause, opened_in}

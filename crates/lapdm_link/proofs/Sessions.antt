@@ -1,10 +1,16 @@
 -- Every harmless session: one event after another.
 use Rattle.lapdm_link.specs.Worlds.{rr_for_rej, IsSentOrRr, MayBeRrBy, MayBeRr}
-use Rattle.lapdm_link.proofs.Words.{◌≡◌, refl, sym, subst, ◌∙◌, ap, arith, ℕ, nat_eq, sapi_number, inl, inr, Bool, ◌+◌, ◌≤◌, true, false, List, [], ◌∷◌, ◌++◌, length, Option, Some, append_assoc, cons_option, append-nil, length-append, filter_map-append, Channel, Content, Rr, Rej, Frame, Sapi, Zero, Three, Notice, Role, Mobile, Network, start, Call, Event, Why, other, Room, World, start_in, refusal, answer, after, answers, IsHarmlessBy, IsHarmless, IsAsSent, Line, Asked, Rivals, Told, Message, OrderClaims, CountsAgree, is_sapi, answer_lines, Claims, acked, got}
+use Rattle.lapdm_link.proofs.Words.{◌≡◌, refl, sym, subst, ◌∙◌, ap, arith, ℕ, nat_eq, sapi_number, inl, inr, Bool, ◌+◌}
+use Rattle.lapdm_link.proofs.Words.{◌≤◌, true, false, List, [], ◌∷◌, ◌++◌, length, Option, Some, append_assoc}
+use Rattle.lapdm_link.proofs.Words.{cons_option, append-nil, length-append, filter_map-append, Channel, Content, Rr, Rej, Frame, Sapi}
+use Rattle.lapdm_link.proofs.Words.{Zero, Three, Notice, Role, Mobile, Network, start, Call, Event, Why, other, Room, World, start_in}
+use Rattle.lapdm_link.proofs.Words.{refusal, answer, after, answers, IsHarmlessBy, IsHarmless, IsAsSent, Line, Asked, Rivals, Told}
+use Rattle.lapdm_link.proofs.Words.{Message, OrderClaims, CountsAgree, is_sapi, answer_lines, Claims, acked, got}
 use Rattle.lapdm_window.specs.declared.Notice.TheVariants as N
 use Rattle.lapdm_link.specs.Claims as C
 use Rattle.lapdm_link.proofs.Queues.{is_on, content_of, content_on, contents_on, AllOf, IsOf, contents-own, contents-else}
-use Rattle.lapdm_link.proofs.Views.{end_of, way, rest, without_first, acted, spoken, is_end, by_link, other_is, link_else, end_does, end_does-else, way_does, calls-own, calls-else, notices-own, notices-else}
+use Rattle.lapdm_link.proofs.Views.{end_of, way, rest, without_first, acted, spoken, is_end, by_link, other_is, link_else, end_does}
+use Rattle.lapdm_link.proofs.Views.{end_does-else, way_does, calls-own, calls-else, notices-own, notices-else}
 use Rattle.lapdm_link.proofs.ByKind.{KnowsBy, by_kind}
 use Rattle.lapdm_link.proofs.Taking.{taken-frame}
 use Rattle.lapdm_link.proofs.Asked.{is_called}

@@ -1,5 +1,6 @@
 -- What an end does at any frame.
-use Rattle.lapdm_link.proofs.Words.{◌≡◌, refl, sym, ap, subst, arith, ◌≤◌, List, [], ◌∷◌, Some, None, inl, inr, append-nil, Content, I, Rr}
+use Rattle.lapdm_link.proofs.Words.{◌≡◌, refl, sym, ap, subst, arith, ◌≤◌, List, [], ◌∷◌, Some, None, inl, inr}
+use Rattle.lapdm_link.proofs.Words.{append-nil, Content, I, Rr}
 use Rattle.lapdm_link.proofs.Words.{Rej, Ui, Frame, Message, State, Closed, Reason, Notice, EndState, Outcome, KeepsWindow, vr, takes_i}
 use Rattle.lapdm_link.proofs.Words.{takes_rr, takes_rej, after_frame, HasBegun, IsReplyTo, cause_of}
 use Rattle.lapdm_window.specs.Tables.{Reply, Nothing, SaysDm, SaysUa, IsOpenedBy, IsOpen, IsClosed, IsReleased, TakesUnit, TakesI, TakesRr}

@@ -1,6 +1,14 @@
 -- What an end tells, the frames that it sends, and that it keeps both directions, in Open: each rule with whatever frames
 -- arrive.
-use Rattle.lapdm_link.proofs.Words.{◌≡◌, refl, sym, ◌∙◌, ap, subst, arith, ℕ, ◌+◌, ◌%◌, ◌<◌, Bool, true, false, if◌then◌else◌, nat_eq, nat_lt, List, [], ◌∷◌, ◌++◌, length, get_or, Option, Some, None, inl, append-nil, append_assoc, filter_map-append, nat_tests, Content, I, Rr, Rej, Frame, Message, Piece, longest, within, endings, open_part, endings-more, endings-last, Notice, Acked, EndState, Outcome, KeepsWindow, stays, sends_frame, ◌then◌, response, all_pieces, next_piece, waits, wholly_acked, vr, capped, waiting_frame, has_next, with_next, sends_piece, sends_next, acknowledges, with_acked, acked_number, reports_acked, counts, notices_of, accepts, says_rr, answers_piece, reject_is_due, rejects, takes_i, answers_poll, takes_rr, sends_again, takes_rej, wholly_acked-more, wholly_acked-last, wholly_acked-most, KeepsWindow-acked, unit_got_in, opened_in}
+use Rattle.lapdm_link.proofs.Words.{◌≡◌, refl, sym, ◌∙◌, ap, subst, arith, ℕ, ◌+◌, ◌%◌, ◌<◌, Bool, true, false}
+use Rattle.lapdm_link.proofs.Words.{if◌then◌else◌, nat_eq, nat_lt, List, [], ◌∷◌, ◌++◌, length, get_or, Option, Some}
+use Rattle.lapdm_link.proofs.Words.{None, inl, append-nil, append_assoc, filter_map-append, nat_tests, Content, I, Rr, Rej, Frame}
+use Rattle.lapdm_link.proofs.Words.{Message, Piece, longest, within, endings, open_part, endings-more, endings-last, Notice, Acked}
+use Rattle.lapdm_link.proofs.Words.{EndState, Outcome, KeepsWindow, stays, sends_frame, ◌then◌, response, all_pieces, next_piece}
+use Rattle.lapdm_link.proofs.Words.{waits, wholly_acked, vr, capped, waiting_frame, has_next, with_next, sends_piece, sends_next}
+use Rattle.lapdm_link.proofs.Words.{acknowledges, with_acked, acked_number, reports_acked, counts, notices_of, accepts, says_rr}
+use Rattle.lapdm_link.proofs.Words.{answers_piece, reject_is_due, rejects, takes_i, answers_poll, takes_rr, sends_again, takes_rej}
+use Rattle.lapdm_link.proofs.Words.{wholly_acked-more, wholly_acked-last, wholly_acked-most, KeepsWindow-acked, unit_got_in, opened_in}
 use Rattle.segmenting.specs.declared.joiner.Joined.TheVariants as J
 use Rattle.lapdm_window.specs.declared.State.TheVariants.{Open}
 use Rattle.lapdm_link.proofs.Queues.{IsPlain, AllFrames, AllOf, contents, of-append, frames-append, frames-as, frames-say}

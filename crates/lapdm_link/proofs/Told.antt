@@ -1,5 +1,9 @@
 -- What is known of an end by its calls and notices, one after another, with whatever frames arrive.
-use Rattle.lapdm_link.proofs.Words.{Contains, ◌≡◌, refl, sym, ◌∙◌, subst, arith, ℕ, zero, suc, ◌+◌, ◌-◌, ◌≤◌, max, min, false, List, [], ◌∷◌, ◌++◌, map, length, Option, Some, None, append_assoc, filter_map, cons_option, append-nil, Message, endings, Sapi, State, Notice, Role, EndState, wholly_acked, capped, Call, Sends, Closes, Line, Told, StandsAfter, sent_in, acked_in, opened_in, closed_in, call_in, notice_in, notices, sent, acked, opened, closed}
+use Rattle.lapdm_link.proofs.Words.{Contains, ◌≡◌, refl, sym, ◌∙◌, subst, arith, ℕ, zero, suc, ◌+◌, ◌-◌, ◌≤◌}
+use Rattle.lapdm_link.proofs.Words.{max, min, false, List, [], ◌∷◌, ◌++◌, map, length, Option, Some, None, append_assoc}
+use Rattle.lapdm_link.proofs.Words.{filter_map, cons_option, append-nil, Message, endings, Sapi, State, Notice, Role, EndState}
+use Rattle.lapdm_link.proofs.Words.{wholly_acked, capped, Call, Sends, Closes, Line, Told, StandsAfter, sent_in, acked_in, opened_in}
+use Rattle.lapdm_link.proofs.Words.{closed_in, call_in, notice_in, notices, sent, acked, opened, closed}
 use Rattle.lapdm_window.specs.declared.State.TheVariants as S
 use Rattle.lapdm_window.specs.declared.Notice.TheVariants as N
 use Rattle.lapdm_link.proofs.Views.{is_end, is_end-self, said}

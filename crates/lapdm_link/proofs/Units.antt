@@ -1,5 +1,7 @@
 -- Units come in the order in which they were sent, where some are lost.
-use Rattle.lapdm_link.proofs.Words.{◌≡◌, refl, List, [], ◌∷◌, ◌++◌, inl, inr, append_assoc, Option, Some, None, filter_map, cons_option, filter_map-append, Content, Ui, false, Message, Notice, IsSubsequence, unit_sent_in, unit_got_in}
+use Rattle.lapdm_link.proofs.Words.{◌≡◌, refl, List, [], ◌∷◌, ◌++◌, inl, inr, append_assoc, Option, Some, None}
+use Rattle.lapdm_link.proofs.Words.{filter_map, cons_option, filter_map-append, Content, Ui, false, Message, Notice, IsSubsequence}
+use Rattle.lapdm_link.proofs.Words.{unit_sent_in, unit_got_in}
 use Rattle.lapdm_link.proofs.Queues.{contents, content_of}
 use Rattle.lapdm_link.proofs.Acting.{unit_in, ReportsUnit}
 use Rattle.lapdm_link.proofs.Links.{Side, Act, IsActed, called, took, rival, after, other_after}

@@ -1,5 +1,6 @@
 -- Parts of a world after one of them changed, and of lines after more of them.
-use Rattle.lapdm_link.proofs.Words.{arith, Some, ◌≡◌, refl, Bool, true, false, ◌&&◌, List, [], ◌∷◌, ◌++◌, map, drop, Option, None}
+use Rattle.lapdm_link.proofs.Words.{arith, Some, ◌≡◌, refl, Bool, true, false, ◌&&◌, List, [], ◌∷◌, ◌++◌, map, drop}
+use Rattle.lapdm_link.proofs.Words.{Option, None}
 use Rattle.lapdm_link.proofs.Words.{append-nil, filter_map, filter_map-append, Channel, Frame, Message, Sapi, Zero, Three, Notice, Role}
 use Rattle.lapdm_link.proofs.Words.{Mobile, Network, EndState, Outcome, start, Call, other, end_in, with_end_in, World, start_on, Line}
 use Rattle.lapdm_link.proofs.Words.{Asked, Rivals, Told, is_role, is_sapi, call_in, notice_in, calls, notices}

@@ -1,13 +1,16 @@
 -- The words of the library and of the specs that these proofs and those of the crates above cite.
 pub use Rattle.std.specs.Prelude.{◌⊎◌, Contains}
 pub use Rattle.std.specs.List.{filter_map, cons_option, flat_map}
-pub use Rattle.std.proofs.Common.{◌≡◌, refl, Bool, true, false, nat_eq, if◌then◌else◌, List, [], ◌∷◌, ◌++◌, Option, Some, None, inl, inr}
-pub use Rattle.std.proofs.Common.{arith, ℕ, ◌≤◌, ◌≢◌, sym, ◌∙◌, ap, ◌+◌, ◌%◌, ◌<◌, length, take, get_or, append_assoc, ◌&&◌, map, drop}
+pub use Rattle.std.proofs.Common.{◌≡◌, refl, Bool, true, false, nat_eq, if◌then◌else◌, List, [], ◌∷◌, ◌++◌, Option}
+pub use Rattle.std.proofs.Common.{Some, None, inl, inr}
+pub use Rattle.std.proofs.Common.{arith, ℕ, ◌≤◌, ◌≢◌, sym, ◌∙◌, ap, ◌+◌, ◌%◌, ◌<◌, length, take, get_or}
+pub use Rattle.std.proofs.Common.{append_assoc, ◌&&◌, map, drop}
 pub use Rattle.std.proofs.Common.{subst, suc, All, max, not, nat_lt, zero, ◌-◌, min, replicate}
 pub use Rattle.lapdm_frame.specs.Content.{Content, I, Rr, Rej, Ui, Frame, Sabm, Ua, Disc, Dm, information}
 pub use Rattle.lapdm_window.specs.declared.Sapi.{Sapi}
 pub use Rattle.lapdm_window.specs.declared.Sapi.TheVariants.{Zero, Three}
-pub use Rattle.lapdm_window.specs.Ends.{sapi_number, EndState, Outcome, stays, sends_frame, ◌then◌, response, all_pieces, next_piece, waits}
+pub use Rattle.lapdm_window.specs.Ends.{sapi_number, EndState, Outcome, stays, sends_frame, ◌then◌, response, all_pieces, next_piece}
+pub use Rattle.lapdm_window.specs.Ends.{waits}
 pub use Rattle.lapdm_window.specs.Ends.{vr, Role, Mobile, Network, start, KeepsWindow, awaits, awaits_in, n200, wholly_acked, capped, IsEnd}
 pub use Rattle.lapdm_link.specs.Claims.{is_sapi, Line, Asked, Rivals, Told, is_role, call_in, notice_in, calls, notices, notice_lines}
 pub use Rattle.lapdm_link.specs.Claims.{answer_lines, IsPrefix, StandsAfter, got_in, got, acked, sent, IsSubsequence, unit_sent_in}

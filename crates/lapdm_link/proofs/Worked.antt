@@ -1,5 +1,9 @@
 -- Sessions worked by hand, and for each claim lines that break it.
-use Rattle.lapdm_link.proofs.Words.{◌≡◌, refl, arith, ℕ, false, List, [], ◌∷◌, ◌++◌, replicate, inl, inr, Option, Some, None, Sdcch, I, Ui, Frame, Message, zero, suc, Contains, Zero, Three, Role, Mobile, Network, Opens, OpensBare, Sends, SendsUnit, Closes, Ticks, way, Event, Send, Close, Tick, Open, OpenBare, Ask, Deliver, Lose, Rival, World, start_in, start_on, after, answers, IsHarmless, Line, Asked, Rivals, Told, lines, Claims, OrderClaims, IsSubsequence}
+use Rattle.lapdm_link.proofs.Words.{◌≡◌, refl, arith, ℕ, false, List, [], ◌∷◌, ◌++◌, replicate, inl, inr, Option, Some}
+use Rattle.lapdm_link.proofs.Words.{None, Sdcch, I, Ui, Frame, Message, zero, suc, Contains, Zero, Three, Role, Mobile, Network, Opens}
+use Rattle.lapdm_link.proofs.Words.{OpensBare, Sends, SendsUnit, Closes, Ticks, way, Event, Send, Close, Tick, Open, OpenBare, Ask}
+use Rattle.lapdm_link.proofs.Words.{Deliver, Lose, Rival, World, start_in, start_on, after, answers, IsHarmless, Line, Asked, Rivals}
+use Rattle.lapdm_link.proofs.Words.{Told, lines, Claims, OrderClaims, IsSubsequence}
 use Rattle.lapdm_link.specs.Events.{SendUnit, boundless}
 use Rattle.lapdm_window.specs.declared.Notice.TheVariants as N
 use Rattle.lapdm_window.specs.declared.Reason.TheVariants as R

@@ -1,5 +1,6 @@
 -- What a session claims, read from its events and their answers alone. One definition serves both ends of both links.
-use Rattle.std.specs.Prelude.{◌≡◌, ℕ, ◌+◌, ◌≤◌, Bool, true, false, ◌&&◌, if◌then◌else◌, nat_eq, List, [], ◌∷◌, ◌++◌, map, length, Option, Some, None, Contains, ◌⊎◌}
+use Rattle.std.specs.Prelude.{◌≡◌, ℕ, ◌+◌, ◌≤◌, Bool, true, false, ◌&&◌, if◌then◌else◌, nat_eq, List, []}
+use Rattle.std.specs.Prelude.{◌∷◌, ◌++◌, map, length, Option, Some, None, Contains, ◌⊎◌}
 use Rattle.std.specs.List.{filter_map}
 use Rattle.segmenting.specs.Pieces.{Message}
 use Rattle.lapdm_window.specs.declared.Sapi.{Sapi}

@@ -4,7 +4,8 @@ use Rattle.lapdm_frame.specs.declared.Channel.{Channel}
 use Rattle.lapdm_frame.specs.Content.{Content, Rr, Rej, Frame}
 use Rattle.lapdm_frame.specs.Frames.{Fits}
 use Rattle.lapdm_link.specs.Ways.{Ways, no_ways, way, with_more, count, IsAsSent}
-use Rattle.lapdm_link.specs.Events.{Event, Deliver, Ends, idle_ends, sender_of, Deed, deed, taken, Room, bounded, Why, refusal_in, Answer, Refuses, Does}
+use Rattle.lapdm_link.specs.Events.{Event, Deliver, Ends, idle_ends, sender_of, Deed, deed, taken, Room, bounded, Why, refusal_in, Answer}
+use Rattle.lapdm_link.specs.Events.{Refuses, Does}
 
 pub record World : Type 0 where
   pub room : Room

@@ -1,5 +1,6 @@
 -- How the rules of an end follow from what its window answers.
-use Rattle.std.proofs.Common.{◌≡◌, refl, sym, ap, ℕ, Bool, true, false, not, ◌||◌, ◌&&◌, if◌then◌else◌, [], Option, Some, None}
+use Rattle.std.proofs.Common.{◌≡◌, refl, sym, ap, ℕ, Bool, true, false, not, ◌||◌, ◌&&◌, if◌then◌else◌, [], Option}
+use Rattle.std.proofs.Common.{Some, None}
 use Rattle.std.proofs.lemmas.Bool.{false≢true}
 use Rattle.lapdm_frame.specs.Content.{I, Rej}
 use Rattle.segmenting.specs.Pieces.{Piece}
@@ -8,7 +9,8 @@ use Rattle.lapdm_window.specs.declared.Acked.TheVariants as V
 use Rattle.lapdm_window.specs.declared.Notice.TheVariants as N
 use Rattle.lapdm_window.specs.declared.State.TheVariants as S
 use Rattle.lapdm_window.specs.Ends.{EndState, Outcome, stays, sends_frame, reports, waits, next_piece, command, response, va, vr}
-use Rattle.lapdm_window.specs.Rules.{acknowledges, with_acked, acked_number, reports_acked, counts, reject_is_due, with_reject, rejects, waiting_frame, has_piece, is_open, sends_piece, sends_next}
+use Rattle.lapdm_window.specs.Rules.{acknowledges, with_acked, acked_number, reports_acked, counts, reject_is_due, with_reject, rejects}
+use Rattle.lapdm_window.specs.Rules.{waiting_frame, has_piece, is_open, sends_piece, sends_next}
 use Rattle.lapdm_window.specs.Answers.{acked_by, waiting_piece}
 
 -- an N(R) is counted, by what the window says that it acknowledges

@@ -1,6 +1,7 @@
 -- The rules of the window, by which pieces go out, are acknowledged and come in. Every RR and REJ is a
 -- response, and P is 1 in no command that these rules send.
-use Rattle.std.specs.Prelude.{ℕ, ◌+◌, Bool, true, false, not, ◌&&◌, ◌||◌, if◌then◌else◌, nat_eq, nat_lt, List, [], ◌∷◌, ◌++◌, length}
+use Rattle.std.specs.Prelude.{ℕ, ◌+◌, Bool, true, false, not, ◌&&◌, ◌||◌, if◌then◌else◌, nat_eq, nat_lt, List, []}
+use Rattle.std.specs.Prelude.{◌∷◌, ◌++◌, length}
 use Rattle.lapdm_frame.specs.Content.{I, Rr, Rej, Frame}
 use Rattle.segmenting.specs.declared.joiner.Joined.{Joined}
 use Rattle.segmenting.specs.declared.joiner.Joined.TheVariants as J
@@ -10,7 +11,8 @@ use Rattle.lapdm_window.specs.declared.State.{State}
 use Rattle.lapdm_window.specs.declared.State.TheVariants.{Open}
 use Rattle.lapdm_window.specs.declared.Notice.{Notice}
 use Rattle.lapdm_window.specs.declared.Notice.TheVariants.{Got, Acked, Oversize}
-use Rattle.lapdm_window.specs.Ends.{EndState, Outcome, stays, sends_frame, reports, ◌then◌, command, response, waits, all_pieces, next_piece, wholly_acked, vs, va, vr, capped}
+use Rattle.lapdm_window.specs.Ends.{EndState, Outcome, stays, sends_frame, reports, ◌then◌, command, response, waits, all_pieces}
+use Rattle.lapdm_window.specs.Ends.{next_piece, wholly_acked, vs, va, vr, capped}
 
 -- the piece that waits, as an I frame (section 5.5.1)
 abbrev pub waiting_frame : Bool → EndState → Frame

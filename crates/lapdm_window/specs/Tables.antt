@@ -13,7 +13,8 @@ use Rattle.lapdm_window.specs.declared.State.TheVariants.{Idle, Opening, Open, C
 use Rattle.lapdm_window.specs.declared.Reason.{Reason}
 use Rattle.lapdm_window.specs.declared.Reason.TheVariants as R
 use Rattle.lapdm_window.specs.declared.Notice.TheVariants as N
-use Rattle.lapdm_window.specs.Ends.{Role, Mobile, Network, EndState, Outcome, stays, sends_frame, reports, ◌then◌, command_cr, sapi_number}
+use Rattle.lapdm_window.specs.Ends.{Role, Mobile, Network, EndState, Outcome, stays, sends_frame, reports, ◌then◌, command_cr}
+use Rattle.lapdm_window.specs.Ends.{sapi_number}
 use Rattle.lapdm_window.specs.Ends.{response}
 use Rattle.lapdm_window.specs.Rules.{takes_i, takes_rr, takes_rej}
 

@@ -1,10 +1,12 @@
 -- A class may give way to parts of it that hold the same candidates.
 use Rattle.std.proofs.Common.{◌⊎◌, ℕ, inl, inr, ℤ, List, [], ◌∷◌, ◌++◌, sym, subst}
 use Rattle.std.specs.List.{Contains}
-use Rattle.std.proofs.lemmas.List.Elements.{All-nil, All-cons, All-head, All-append, Contains-append_left, Contains-append_right, Contains-append_cases}
+use Rattle.std.proofs.lemmas.List.Elements.{All-nil, All-cons, All-head, All-append, Contains-append_left, Contains-append_right}
+use Rattle.std.proofs.lemmas.List.Elements.{Contains-append_cases}
 use Rattle.list_decode.specs.Classes.{Class, StandsIn, Covers}
 use Rattle.list_decode.specs.Ranking.{IsCandidate}
-use Rattle.list_decode.proofs.ClassSteps.{Part, Disjoint, Listed, New, Apart-part, Apart-push, others_apart, All-replace, Contains-first, Contains-split, Contains-after}
+use Rattle.list_decode.proofs.ClassSteps.{Part, Disjoint, Listed, New, Apart-part, Apart-push, others_apart, All-replace, Contains-first}
+use Rattle.list_decode.proofs.ClassSteps.{Contains-split, Contains-after}
 use Rattle.list_decode.proofs.Rankings.{All-after}
 
 module _ (s : List ℤ) (us : List (List ℕ)) (before after : List Class) (c : Class) (covers : Covers s us (before ++ c ∷ after)) where

@@ -1,5 +1,7 @@
 -- Every other list leaves the best list of a state at one first place, and loses at least what was kept for that place.
-use Rattle.std.proofs.Common.{◌≡◌, ◌≢◌, ◌⊎◌, ℕ, zero, suc, ◌+◌, ◌-◌, ◌*◌, ◌/◌, ◌%◌, ◌^◌, ◌<◌, ◌≤◌, inl, inr, ℤ, ◌+ℤ◌, ◌-ℤ◌, List, [], ◌∷◌, ◌++◌, length, get_or, take, drop, refl, ap, ap₂, sym, ◌∙◌, subst, arith}
+use Rattle.std.proofs.Common.{◌≡◌, ◌≢◌, ◌⊎◌, ℕ, zero, suc, ◌+◌, ◌-◌, ◌*◌, ◌/◌, ◌%◌, ◌^◌}
+use Rattle.std.proofs.Common.{◌<◌, ◌≤◌, inl, inr, ℤ, ◌+ℤ◌, ◌-ℤ◌, List, [], ◌∷◌, ◌++◌, length, get_or}
+use Rattle.std.proofs.Common.{take, drop, refl, ap, ap₂, sym, ◌∙◌, subst, arith}
 use Rattle.std.specs.Prelude.{◌<ℤ◌}
 use Rattle.std.proofs.lemmas.Bool.{cases_lt}
 use Rattle.std.proofs.lemmas.Int.{ints, by_lt_z}
@@ -9,7 +11,8 @@ use Rattle.conv_code.specs.Code.{coded}
 use Rattle.conv_code.specs.Likelihood.{likelihood, IsBefore, FallsBehind, IsMostLikely}
 use Rattle.conv_code.proofs.Coding.{bit_at-most_1}
 use Rattle.trellis_decode.specs.Trellis.{next, gain, edge, Ends, IsNotAfter, Loses, Less, Later, read_out, IsBest, IsKept}
-use Rattle.trellis_decode.proofs.Lemmas.{gain-start, Ends-from_tail, Ends-bits, IsInformation-ends, IsMostLikely-best, IsBefore-not_after, gain-cons, Loses-same, length-read_out}
+use Rattle.trellis_decode.proofs.Lemmas.{gain-start, Ends-from_tail, Ends-bits, IsInformation-ends, IsMostLikely-best, IsBefore-not_after}
+use Rattle.trellis_decode.proofs.Lemmas.{gain-cons, Loses-same, length-read_out}
 use Rattle.conv_code.proofs.Lemmas.{same_number}
 use Rattle.list_decode.specs.Classes.{LeavesAt}
 use Rattle.list_decode.specs.Detours.{reached, loss_at, detour, IsLeastLoss}

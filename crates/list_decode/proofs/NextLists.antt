@@ -1,5 +1,7 @@
 -- The next list of a ranking is the best of the bests of all branches.
-use Rattle.std.proofs.Common.{◌≡◌, ◌≢◌, ◌⊎◌, ℕ, ◌+◌, ◌*◌, ◌<◌, ◌≤◌, true, inl, inr, ℤ, List, [], ◌∷◌, ◌++◌, length, get_or, Option, Some, None, refl, ap, sym, ◌∙◌, subst, append_assoc, arith}
+use Rattle.std.proofs.Common.{◌≡◌, ◌≢◌, ◌⊎◌, ℕ, ◌+◌, ◌*◌, ◌<◌, ◌≤◌, true, inl, inr, ℤ, List, []}
+use Rattle.std.proofs.Common.{◌∷◌, ◌++◌, length, get_or, Option, Some, None, refl, ap, sym, ◌∙◌, subst, append_assoc}
+use Rattle.std.proofs.Common.{arith}
 use Rattle.std.specs.List.{Contains}
 use Rattle.std.proofs.lemmas.Bool.{cases_lt}
 use Rattle.conv_code.specs.Likelihood.{FallsBehind, IsMostLikely}
@@ -15,7 +17,8 @@ use Rattle.list_decode.specs.declared.pass.Pass.{Pass}
 use Rattle.conv_code.proofs.Lemmas.{same_list}
 use Rattle.trellis_decode.proofs.Lemmas.{Ends-from_tail}
 use Rattle.list_decode.proofs.ClassParts.{narrow_covers, split_covers}
-use Rattle.list_decode.proofs.ClassSteps.{Part, Disjoint, begins_ranked, closed-free, free-closed, goes_on_ranked, leaves_once, place-behind, behind-place}
+use Rattle.list_decode.proofs.ClassSteps.{Part, Disjoint, begins_ranked, closed-free, free-closed, goes_on_ranked, leaves_once}
+use Rattle.list_decode.proofs.ClassSteps.{place-behind, behind-place}
 use Rattle.list_decode.proofs.Spans.{between_from, between_to, is_between}
 use Rattle.list_decode.proofs.Strays.{FallsBehind-trans, IsFollowed, follows_behind, is_stray, stands_short}
 

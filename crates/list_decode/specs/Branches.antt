@@ -1,5 +1,6 @@
 -- The spans of the lists that were given, and the best list that leaves each.
-use Rattle.std.specs.Prelude.{ℕ, ◌≡◌, ◌≢◌, ◌≤◌, ◌<◌, ◌+◌, Bool, ◌&&◌, nat_le, nat_lt, List, [], length, take, slice_index_or, Option, Some, None}
+use Rattle.std.specs.Prelude.{ℕ, ◌≡◌, ◌≢◌, ◌≤◌, ◌<◌, ◌+◌, Bool, ◌&&◌, nat_le, nat_lt, List, [], length}
+use Rattle.std.specs.Prelude.{take, slice_index_or, Option, Some, None}
 use Rattle.conv_code.specs.Code.{coded}
 use Rattle.conv_code.specs.Likelihood.{likelihood, FallsBehind}
 use Rattle.list_decode.specs.Classes.{Class, StandsIn}

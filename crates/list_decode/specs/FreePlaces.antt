@@ -1,5 +1,6 @@
 -- Where the best list leaves a given one at one of its free places.
-use Rattle.std.specs.Prelude.{ℕ, ◌≡◌, ◌≤◌, ◌<◌, Bool, true, ℤ, pos, ◌+ℤ◌, ◌-ℤ◌, List, slice_index, take, Option, Some, None}
+use Rattle.std.specs.Prelude.{ℕ, ◌≡◌, ◌≤◌, ◌<◌, Bool, true, ℤ, pos, ◌+ℤ◌, ◌-ℤ◌, List, slice_index, take}
+use Rattle.std.specs.Prelude.{Option, Some, None}
 use Rattle.list_decode.specs.Detours.{reached, loss_at, IsLeastFree}
 use Rattle.list_decode.specs.declared.leaving.Leave.{Leave}
 

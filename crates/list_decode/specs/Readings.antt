@@ -1,5 +1,6 @@
 -- Reading out a list place by place, and where it is best left so far.
-use Rattle.std.specs.Prelude.{ℕ, ◌≡◌, ◌+◌, ◌<◌, ◌≤◌, ℤ, pos, ◌+ℤ◌, ◌-ℤ◌, List, length, slice_index, take}
+use Rattle.std.specs.Prelude.{ℕ, ◌≡◌, ◌+◌, ◌<◌, ◌≤◌, ℤ, pos, ◌+ℤ◌, ◌-ℤ◌, List, length, slice_index}
+use Rattle.std.specs.Prelude.{take}
 use Rattle.trellis_decode.specs.Trellis.{read_out}
 use Rattle.list_decode.specs.Detours.{reached, IsLeastLoss}
 use Rattle.list_decode.specs.declared.leaving.Leave.{Leave}

@@ -1,6 +1,7 @@
 //! Which branch has the best list of all.
 
-ghost use Rattle.std.specs.Prelude.{◌≡◌, ◌⊎◌, ◌+◌, ◌<◌, ◌++◌, ◌∷◌, [], List, ℕ, Bool, true, false, Some, None, IfSome, length, slice_index_or, map, take};
+ghost use Rattle.std.specs.Prelude.{◌≡◌, ◌⊎◌, ◌+◌, ◌<◌, ◌++◌, ◌∷◌, [], List, ℕ, Bool, true, false, Some};
+ghost use Rattle.std.specs.Prelude.{None, IfSome, length, slice_index_or, map, take};
 ghost use Rattle.std.specs.List.{All};
 ghost use Rattle.conv_code.specs.Likelihood.{FallsBehind};
 ghost use Rattle.list_decode.specs.Branches.{IsBranchOf};

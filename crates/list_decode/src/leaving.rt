@@ -1,6 +1,7 @@
 //! Where a list is best left, and the best list that leaves it there.
 
-ghost use Rattle.std.specs.Prelude.{◌≡◌, true, false, pos, ◌+ℤ◌, ◌-ℤ◌, ◌<ℤ◌, ◌≤ℤ◌, ℕ, ◌+◌, ◌-◌, ◌*◌, ◌%◌, ◌<◌, ◌≤◌, length, slice_index, ◌++◌, ◌∷◌};
+ghost use Rattle.std.specs.Prelude.{◌≡◌, true, false, pos, ◌+ℤ◌, ◌-ℤ◌, ◌<ℤ◌, ◌≤ℤ◌, ℕ, ◌+◌, ◌-◌};
+ghost use Rattle.std.specs.Prelude.{◌*◌, ◌%◌, ◌<◌, ◌≤◌, length, slice_index, ◌++◌, ◌∷◌};
 ghost use Rattle.std.proofs.Common.{take, drop};
 ghost use Rattle.bit_blocks.specs.Bits.{AllBits};
 ghost use Rattle.list_decode.specs.Detours.{IsLeastLoss, reached};

@@ -6,7 +6,8 @@
 //! span. (List Viterbi decoding: Seshadri and Sundberg 1994; the parting is Lawler's way to the best solutions one after the
 //! other, 1972.)
 
-ghost use Rattle.std.specs.Prelude.{◌≡◌, ◌↔◌, ◌≤◌, ◌+◌, ◌-◌, ◌*◌, ◌%◌, ◌<◌, ◌++◌, ◌∷◌, [], length, take, None, IfSome, MatchOption};
+ghost use Rattle.std.specs.Prelude.{◌≡◌, ◌↔◌, ◌≤◌, ◌+◌, ◌-◌, ◌*◌, ◌%◌, ◌<◌, ◌++◌, ◌∷◌};
+ghost use Rattle.std.specs.Prelude.{[], length, take, None, IfSome, MatchOption};
 ghost use Rattle.conv_code.specs.Code.{coded, IsInformation};
 ghost use Rattle.conv_code.specs.Likelihood.{AllSoft, likelihood};
 ghost use Rattle.list_decode.specs.Ranking.{IsDone, IsRanked};

@@ -1,5 +1,6 @@
 -- Pieces joined again.
-use Rattle.std.proofs.Common.{◌≡◌, refl, sym, ◌∙◌, ap, arith, ℕ, zero, suc, ◌-◌, ◌/◌, ◌<◌, ◌≤◌, true, false, cond, List, [], ◌∷◌, ◌++◌, length, take, drop, Some, None, All, unwrap_or, inl, inr}
+use Rattle.std.proofs.Common.{◌≡◌, refl, sym, ◌∙◌, ap, arith, ℕ, zero, suc, ◌-◌, ◌/◌, ◌<◌, ◌≤◌, true}
+use Rattle.std.proofs.Common.{false, cond, List, [], ◌∷◌, ◌++◌, length, take, drop, Some, None, All, unwrap_or, inl, inr}
 use Rattle.std.specs.List.{flat_map, filter_map}
 use Rattle.std.proofs.lemmas.List.{append_assoc, append-nil, take-append-drop}
 use Rattle.std.proofs.lemmas.List.Elements.{All-head, All-tail, filter_map-append}
@@ -7,7 +8,8 @@ use Rattle.std.proofs.lemmas.Bool.{cases_lt}
 use Rattle.std.proofs.lemmas.Bool.Decides.{nat_tests}
 use Rattle.segmenting.specs.declared.joiner.Joined.TheVariants.{More, Whole, Oversize}
 use Rattle.segmenting.specs.Pieces.{Message, Piece, IsMessage, cut, pieces, longest}
-use Rattle.segmenting.specs.Joining.{within, endings, messages, open_after, open_part, answer_to, handed_up_at, handed_up, latest_after, latest}
+use Rattle.segmenting.specs.Joining.{within, endings, messages, open_after, open_part, answer_to, handed_up_at, handed_up, latest_after}
+use Rattle.segmenting.specs.Joining.{latest}
 
 pub within_some : (m : List ℕ) → length m ≤ longest → within m ≡ Some m
 within_some m h = grind (arith, nat_tests)

@@ -1,6 +1,7 @@
 -- Pieces joined to messages. A list of pieces is cut after each one whose M bit is 0 (GSM 04.06, section
 -- 3.7.2). That more octets than a message may have are dropped is this project's own rule.
-use Rattle.std.specs.Prelude.{ℕ, true, false, not, count_by, if◌then◌else◌, nat_lt, List, [], ◌∷◌, ◌++◌, length, Option, Some, None, unwrap_or}
+use Rattle.std.specs.Prelude.{ℕ, true, false, not, count_by, if◌then◌else◌, nat_lt, List, [], ◌∷◌, ◌++◌, length, Option}
+use Rattle.std.specs.Prelude.{Some, None, unwrap_or}
 use Rattle.std.specs.List.{filter_map}
 use Rattle.segmenting.specs.declared.joiner.Joined.{Joined}
 use Rattle.segmenting.specs.declared.joiner.Joined.TheVariants.{More, Whole, Oversize}

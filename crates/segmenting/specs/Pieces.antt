@@ -1,6 +1,7 @@
 -- Messages cut into pieces (GSM 04.06, sections 3.7.2 and 3.7.3: the M bit and the length of an
 -- I frame).
-use Rattle.std.specs.Prelude.{◌≡◌, ℕ, zero, suc, ◌+◌, ◌-◌, ◌/◌, ◌≤◌, Bool, true, false, List, [], ◌∷◌, length, take, drop}
+use Rattle.std.specs.Prelude.{◌≡◌, ℕ, zero, suc, ◌+◌, ◌-◌, ◌/◌, ◌≤◌, Bool, true, false, List, [], ◌∷◌}
+use Rattle.std.specs.Prelude.{length, take, drop}
 use Rattle.std.specs.List.{flat_map}
 use Rattle.lapdm_frame.specs.declared.Channel.{Channel}
 use Rattle.lapdm_frame.specs.declared.Channel.TheVariants.{Sdcch, Sacch}

@@ -1,5 +1,6 @@
 -- Correlations, one place more at a time, and those of sums.
-use Rattle.std.proofs.Common.{zero, suc, ◌≤◌, [], refl, ◌≡◌, ℕ, ◌+◌, ◌<◌, List, ◌∷◌, length, drop, get_or, ap, ℤ, pos, ◌+ℤ◌, arith}
+use Rattle.std.proofs.Common.{zero, suc, ◌≤◌, [], refl, ◌≡◌, ℕ, ◌+◌, ◌<◌, List, ◌∷◌, length, drop, get_or, ap}
+use Rattle.std.proofs.Common.{ℤ, pos, ◌+ℤ◌, arith}
 use Rattle.std.proofs.lemmas.List.{drop_more}
 use Rattle.std.proofs.lemmas.Int.{ints}
 use Rattle.std.proofs.lemmas.List.Elements.{All-head, All-tail}

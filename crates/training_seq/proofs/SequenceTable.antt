@@ -1,5 +1,6 @@
 -- What holds of each of the eight training sequences, found by computing.
-use Rattle.std.proofs.Common.{◌≡◌, ℕ, zero, suc, ◌<◌, ◌≤◌, Bool, eqb, leb, pos, List, [], ◌∷◌, length, get_or, refl, sym, subst, arith, rules, tests}
+use Rattle.std.proofs.Common.{◌≡◌, ℕ, zero, suc, ◌<◌, ◌≤◌, Bool, eqb, leb, pos, List, [], ◌∷◌, length, get_or}
+use Rattle.std.proofs.Common.{refl, sym, subst, arith, rules, tests}
 use Rattle.std.proofs.lemmas.Int.{ints}
 use Rattle.std.specs.List.{list_all}
 use Rattle.std.proofs.lemmas.List.Sums.{AllPass-from_list_all}

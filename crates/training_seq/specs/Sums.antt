@@ -1,5 +1,6 @@
 -- Sums of values place by place, which the body of the choice works on.
-use Rattle.std.specs.Prelude.{ℕ, ◌*◌, if◌then◌else◌, ℤ, pos, ◌+ℤ◌, ◌-ℤ◌, ◌*ℤ◌, int_le, List, [], ◌∷◌, map, slice_index_or}
+use Rattle.std.specs.Prelude.{ℕ, ◌*◌, if◌then◌else◌, ℤ, pos, ◌+ℤ◌, ◌-ℤ◌, ◌*ℤ◌, int_le, List, []}
+use Rattle.std.specs.Prelude.{◌∷◌, map, slice_index_or}
 
 -- the sum place by place, as far as the shorter list goes
 abbrev pub add_values : List ℤ → List ℤ → List ℤ

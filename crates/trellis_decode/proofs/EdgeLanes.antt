@@ -1,5 +1,6 @@
 -- What the bits count in the sixteen states, as four numbers of a place.
-use Rattle.std.proofs.Common.{◌≡◌, ℕ, zero, suc, ◌+◌, ◌<◌, ℤ, pos, negsuc, ◌+ℤ◌, ◌-ℤ◌, ◌*ℤ◌, List, [], ◌∷◌, length, refl, ap, sym, ◌∙◌}
+use Rattle.std.proofs.Common.{◌≡◌, ℕ, zero, suc, ◌+◌, ◌<◌, ℤ, pos, negsuc, ◌+ℤ◌, ◌-ℤ◌, ◌*ℤ◌, List, []}
+use Rattle.std.proofs.Common.{◌∷◌, length, refl, ap, sym, ◌∙◌}
 use Rattle.std.proofs.Common.{arith, below_more}
 use Rattle.std.proofs.Math.IntN.{one, neg_ℤ, *ℤ-one, *ℤ-negsuc}
 use Rattle.std.proofs.lemmas.Int.{ints}

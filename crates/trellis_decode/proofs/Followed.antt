@@ -1,5 +1,6 @@
 -- The bits that the states take, in one vector of sixteen.
-use Rattle.std.proofs.Common.{◌≡◌, ℕ, zero, suc, ◌+◌, ◌-◌, ◌<◌, ◌⊎◌, inl, inr, if◌then◌else◌, ℤ, pos, negsuc, List, [], ◌∷◌, ◌++◌}
+use Rattle.std.proofs.Common.{◌≡◌, ℕ, zero, suc, ◌+◌, ◌-◌, ◌<◌, ◌⊎◌, inl, inr, if◌then◌else◌, ℤ, pos}
+use Rattle.std.proofs.Common.{negsuc, List, [], ◌∷◌, ◌++◌}
 use Rattle.std.proofs.Common.{map, length, get_or, replicate, refl, ap, ap₂, sym, ◌∙◌, subst, arith, int_lt, w8, FitsSigned}
 use Rattle.std.specs.Int.{cast_signed, cast_unsigned}
 use Rattle.std.proofs.lemmas.Bool.{cases_lt}
@@ -23,7 +24,8 @@ bit_taken x (inl is) = subst (λ x. (if int_lt x (pos 0) then 1 else 0) ≡ take
 bit_taken x (inr is) = subst (λ x. (if int_lt x (pos 0) then 1 else 0) ≡ taken_bit x) (sym is) refl
 
 -- one of the lanes of two vectors
-octet_first : (a : List ℤ) (rest : List ℕ) (k : ℕ) → k < length a → get_or (map (cast_unsigned w8) a ++ rest) k 0 ≡ cast_unsigned w8 (lane a k)
+octet_first : (a : List ℤ) (rest : List ℕ) (k : ℕ) → k < length a → get_or (map (cast_unsigned w8) a ++ rest) k 0
+    ≡ cast_unsigned w8 (lane a k)
 octet_first [] rest k lt = absurd (omega arith)
 octet_first (x ∷ a) rest zero lt = refl
 octet_first (x ∷ a) rest (suc k) lt = let lt' : k < length a = omega arith in octet_first a rest k lt'
@@ -93,7 +95,8 @@ module _ (low high : List ℤ) (hl : AreTaken low) (hh : AreTaken high) where
   }
 
   -- the bit of each state
-  pub joined_choice : (s : ℕ) → s < 16 → (if int_lt (lane joined (place s)) (lane none (place s)) then 1 else 0) ≡ get_or (choices low high) s 0
+  pub joined_choice : (s : ℕ) → s < 16 → (if int_lt (lane joined (place s)) (lane none (place s)) then 1 else 0)
+      ≡ get_or (choices low high) s 0
   joined_choice = each_state
       (λ s. (if int_lt (lane joined (place s)) (lane none (place s)) then 1 else 0) ≡ get_or (choices low high) s 0)
       (λ k lt. ap (λ p. if int_lt (lane joined p) (lane none p) then 1 else 0) (place_low k lt)

@@ -1,6 +1,8 @@
 -- The operations on vectors of sixteen 8-bit numbers, lane by lane. A lane stands in them as its bits.
-use Rattle.std.proofs.Common.{◌≡◌, ℕ, zero, suc, ◌+◌, ◌-◌, ◌*◌, ◌/◌, ◌%◌, ◌^◌, ◌<◌, ◌≤◌, Bool, true, false, if◌then◌else◌, ℤ, pos, negsuc}
-use Rattle.std.proofs.Common.{◌+ℤ◌, ◌-ℤ◌, ◌≤ℤ◌, List, [], ◌∷◌, ◌++◌, map, length, get_or, replicate, refl, ap, ap₂, sym, ◌∙◌, subst, arith}
+use Rattle.std.proofs.Common.{◌≡◌, ℕ, zero, suc, ◌+◌, ◌-◌, ◌*◌, ◌/◌, ◌%◌, ◌^◌, ◌<◌, ◌≤◌, Bool}
+use Rattle.std.proofs.Common.{true, false, if◌then◌else◌, ℤ, pos, negsuc}
+use Rattle.std.proofs.Common.{◌+ℤ◌, ◌-ℤ◌, ◌≤ℤ◌, List, [], ◌∷◌, ◌++◌, map, length, get_or, replicate, refl}
+use Rattle.std.proofs.Common.{ap, ap₂, sym, ◌∙◌, subst, arith}
 use Rattle.std.proofs.Common.{int_lt, w8, FitsSigned}
 use Rattle.std.specs.Int.{cast_signed, cast_unsigned}
 use Rattle.std.proofs.lemmas.Int.{ints, to_z-of_z, wrapping_add_is, wrapping_sub_is, int_wrap_fits}
@@ -41,10 +43,12 @@ fits_between (pos n) low high = record { sfits = omega (arith, ints) }
 fits_between (negsuc n) low high = record { sfits = omega (arith, ints) }
 
 AreSmall-room : (a : List ℤ) → HasRoom a → (k : ℕ) → k < 16 → FitsSigned w8 (lane a k)
-AreSmall-room a h k lt = let low = h.low k lt in let high = h.high k lt in fits_between (lane a k) (omega (arith, ints)) (omega (arith, ints))
+AreSmall-room a h k lt = let low = h.low k lt in let high = h.high k lt in fits_between (lane a k) (omega (arith, ints))
+    (omega (arith, ints))
 
 AreSmall-units : (a : List ℤ) → AreUnits a → (k : ℕ) → k < 16 → FitsSigned w8 (lane a k)
-AreSmall-units a h k lt = let low = h.low k lt in let high = h.high k lt in fits_between (lane a k) (omega (arith, ints)) (omega (arith, ints))
+AreSmall-units a h k lt = let low = h.low k lt in let high = h.high k lt in fits_between (lane a k) (omega (arith, ints))
+    (omega (arith, ints))
 
 -- ---- the ways of either bit
 
@@ -226,7 +230,8 @@ module _ (zero_ways one_ways : List ℤ) (hz : AreSmall zero_ways) (ho : AreSmal
 
   pub lane-larger : (k : ℕ) → k < 16 → lane larger k ≡ (if less k then lane one_ways k else lane zero_ways k)
   lane-larger k lt =
-      get_or-map (cast_signed w8) (sel_l (map (top 7) (zip2 compared (bits zero_ways) (bits one_ways))) (bits one_ways) (bits zero_ways)) k 0
+      get_or-map (cast_signed w8) (sel_l (map (top 7) (zip2 compared (bits zero_ways) (bits one_ways))) (bits one_ways)
+      (bits zero_ways)) k 0
       (pos 0) (let n = length-picked (bits one_ways) (bits zero_ways) one_long zero_long in omega arith)
       ∙ ap (cast_signed w8) (picked (bits one_ways) (bits zero_ways) one_long zero_long k lt)
       ∙ elim (less k) as (λ t. cast_signed w8 (if t then get_or (bits one_ways) k 0 else get_or (bits zero_ways) k 0)
@@ -281,7 +286,8 @@ module _ (zero_ways one_ways : List ℤ) (hz : AreSmall zero_ways) (ho : AreSmal
 abbrev signs_below : ℕ → List ℤ → List Bool
 signs_below n a = map (top 7) (zip2 compared (bits a) (replicate n 0))
 
-signs-at : (a : List ℤ) (n k : ℕ) → length a ≡ n → k < n → get_or (signs_below n a) k false ≡ top 7 (compared (cast_unsigned w8 (lane a k)) 0)
+signs-at : (a : List ℤ) (n k : ℕ) → length a ≡ n → k < n → get_or (signs_below n a) k false
+    ≡ top 7 (compared (cast_unsigned w8 (lane a k)) 0)
 signs-at [] zero k e lt = absurd (omega arith)
 signs-at [] (suc n) k e lt = absurd (omega arith)
 signs-at (x ∷ a) zero k e lt = absurd (omega arith)

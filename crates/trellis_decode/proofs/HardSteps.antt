@@ -1,6 +1,8 @@
 -- A step of the trellis, from lanes of 8 bits.
-use Rattle.std.proofs.Common.{◌≡◌, ℕ, zero, suc, ◌+◌, ◌*◌, ◌<◌, ◌≤◌, Bool, true, false, if◌then◌else◌, ℤ, pos, negsuc, ◌+ℤ◌, ◌-ℤ◌, ◌*ℤ◌}
-use Rattle.std.proofs.Common.{List, [], ◌∷◌, map, get_or, take, drop, length, refl, ap, sym, ◌∙◌, subst, arith, int_lt, replicate, w8}
+use Rattle.std.proofs.Common.{◌≡◌, ℕ, zero, suc, ◌+◌, ◌*◌, ◌<◌, ◌≤◌, Bool, true, false, if◌then◌else◌}
+use Rattle.std.proofs.Common.{ℤ, pos, negsuc, ◌+ℤ◌, ◌-ℤ◌, ◌*ℤ◌}
+use Rattle.std.proofs.Common.{List, [], ◌∷◌, map, get_or, take, drop, length, refl, ap, sym, ◌∙◌, subst, arith, int_lt}
+use Rattle.std.proofs.Common.{replicate, w8}
 use Rattle.std.proofs.Common.{FitsSigned, inl, inr}
 use Rattle.std.specs.Int.{cast_signed, cast_unsigned}
 use Rattle.std.specs.List.{All}

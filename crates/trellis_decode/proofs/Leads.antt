@@ -1,5 +1,6 @@
 -- What the bit 0 is worth more than the bit 1: its sign is the choice, and its size the loss.
-use Rattle.std.proofs.Common.{◌≡◌, ℕ, true, false, if◌then◌else◌, ℤ, pos, negsuc, ◌+ℤ◌, ◌-ℤ◌, ◌≤ℤ◌, ◌+◌, ◌-◌, ◌<◌, ◌⊎◌, List, ap, sym, ◌∙◌}
+use Rattle.std.proofs.Common.{◌≡◌, ℕ, true, false, if◌then◌else◌, ℤ, pos, negsuc, ◌+ℤ◌, ◌-ℤ◌, ◌≤ℤ◌}
+use Rattle.std.proofs.Common.{◌+◌, ◌-◌, ◌<◌, ◌⊎◌, List, ap, sym, ◌∙◌}
 use Rattle.std.proofs.Common.{subst, arith, int_lt, inl, inr, refl}
 use Rattle.std.proofs.lemmas.Int.{ints, by_lt_z}
 use Rattle.trellis_decode.specs.Lanes.{lane}
@@ -62,10 +63,12 @@ pub record AreLeads (even odd edges leads : List ℤ) : Type 0 where
 
 module _ (even odd edges : List ℤ) (ways : Ways) (is : AreWays even odd edges ways) (close : AreClose even odd)
     (bounded : AreEdges edges) where
-  low_gap : (k : ℕ) → k < 8 → lane ways.low_zero.lanes k -ℤ lane ways.low_one.lanes k ≡ lane even k -ℤ lane odd k +ℤ lane edges k +ℤ lane edges k
+  low_gap : (k : ℕ) → k < 8 → lane ways.low_zero.lanes k -ℤ lane ways.low_one.lanes k
+      ≡ lane even k -ℤ lane odd k +ℤ lane edges k +ℤ lane edges k
   low_gap k lt = let zero = is.low_zero_lane k lt in let one = is.low_one_lane k lt in omega (arith, ints)
 
-  high_gap : (k : ℕ) → k < 8 → lane ways.high_zero.lanes k -ℤ lane ways.high_one.lanes k ≡ lane even k -ℤ lane odd k -ℤ lane edges k -ℤ lane edges k
+  high_gap : (k : ℕ) → k < 8 → lane ways.high_zero.lanes k -ℤ lane ways.high_one.lanes k
+      ≡ lane even k -ℤ lane odd k -ℤ lane edges k -ℤ lane edges k
   high_gap k lt = let zero = is.high_zero_lane k lt in let one = is.high_one_lane k lt in omega (arith, ints)
 
   abbrev Fits : ℤ → Type 0

@@ -1,5 +1,6 @@
 -- Hard bits, soft values that are all 127 or -127, and the sixteen states in one vector of 8-bit numbers.
-use Rattle.std.specs.Prelude.{ℕ, ◌≡◌, ◌+◌, ◌*◌, ◌/◌, ◌%◌, ◌<◌, ◌⊎◌, ◌≤ℤ◌, ℤ, pos, negsuc, ◌+ℤ◌, ◌*ℤ◌, List, [], ◌∷◌, length, if◌then◌else◌}
+use Rattle.std.specs.Prelude.{ℕ, ◌≡◌, ◌+◌, ◌*◌, ◌/◌, ◌%◌, ◌<◌, ◌⊎◌, ◌≤ℤ◌, ℤ, pos, negsuc}
+use Rattle.std.specs.Prelude.{◌+ℤ◌, ◌*ℤ◌, List, [], ◌∷◌, length, if◌then◌else◌}
 use Rattle.std.specs.Prelude.{int_lt, FitsSigned}
 use Rattle.std.specs.Int.{w8}
 use Rattle.trellis_decode.specs.Lanes.{lane}

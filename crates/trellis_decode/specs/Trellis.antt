@@ -1,6 +1,7 @@
 -- Paths through the sixteen states of the code, for the decoder's own proof. A state holds the last four bits, the newest as its bit
 -- of value 1.
-use Rattle.std.specs.Prelude.{ℕ, ◌≡◌, ◌/◌, ◌%◌, ◌^◌, ◌-◌, ◌<◌, ◌≤◌, ◌⊎◌, ℤ, pos, ◌+ℤ◌, ◌-ℤ◌, ◌<ℤ◌, ◌≤ℤ◌, List, [], ◌∷◌, length}
+use Rattle.std.specs.Prelude.{ℕ, ◌≡◌, ◌/◌, ◌%◌, ◌^◌, ◌-◌, ◌<◌, ◌≤◌, ◌⊎◌, ℤ, pos, ◌+ℤ◌}
+use Rattle.std.specs.Prelude.{◌-ℤ◌, ◌<ℤ◌, ◌≤ℤ◌, List, [], ◌∷◌, length}
 use Rattle.std.specs.Prelude.{slice_index_or, drop}
 use Rattle.bit_blocks.specs.Bits.{IsBit}
 use Rattle.conv_code.specs.Likelihood.{likelihood}

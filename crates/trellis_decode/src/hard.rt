@@ -3,7 +3,8 @@
 //! What they count is a multiple of 254. No state's best list counts less than -4 of them or more than 228, so that lowered by 120 the
 //! values of all sixteen states fit one vector of 8-bit numbers, each at its state's place in a map.
 
-ghost use Rattle.std.specs.Prelude.{◌≡◌, ℕ, ◌+◌, ◌*◌, ◌/◌, ◌%◌, ◌^◌, ◌<◌, ◌≤◌, ℤ, List, [], ◌∷◌, ◌+ℤ◌, ◌-ℤ◌, IsTrue, int_lt, if◌then◌else◌};
+ghost use Rattle.std.specs.Prelude.{◌≡◌, ℕ, ◌+◌, ◌*◌, ◌/◌, ◌%◌, ◌^◌, ◌<◌, ◌≤◌, ℤ, List, []};
+ghost use Rattle.std.specs.Prelude.{◌∷◌, ◌+ℤ◌, ◌-ℤ◌, IsTrue, int_lt, if◌then◌else◌};
 ghost use Rattle.std.specs.Prelude.{length, slice_index, slice_index_or, replicate, take, drop, ◌++◌};
 ghost use Rattle.std.specs.List.{All};
 ghost use Rattle.conv_code.specs.Code.{coded};

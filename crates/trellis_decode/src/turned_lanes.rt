@@ -1,6 +1,7 @@
 //! The operations of a step on vectors of 16-bit numbers, and what each of them does lane by lane.
 
-ghost use Rattle.std.specs.Prelude.{◌≡◌, ℕ, ◌*◌, ◌+◌, ◌/◌, ◌%◌, ◌^◌, ◌<◌, pos, negsuc, ◌+ℤ◌, ◌-ℤ◌, if◌then◌else◌, int_lt, length};
+ghost use Rattle.std.specs.Prelude.{◌≡◌, ℕ, ◌*◌, ◌+◌, ◌/◌, ◌%◌, ◌^◌, ◌<◌, pos, negsuc, ◌+ℤ◌};
+ghost use Rattle.std.specs.Prelude.{◌-ℤ◌, if◌then◌else◌, int_lt, length};
 ghost use Rattle.trellis_decode.specs.Lanes.{lane};
 ghost use Rattle.trellis_decode.specs.Turned.{AreEdges, AreGaps, AreNarrow, AreNear, HaveRoom, in_order, in_turns};
 
@@ -49,7 +50,8 @@ pub fn differences(a: Eight, edges: Eight) -> Eight
 pub fn larger(a: Eight, b: Eight) -> Eight
     requires a_lanes { AreNarrow a.lanes }
     requires b_lanes { AreNarrow b.lanes }
-    ensures each { (k : ℕ) → k < 8 → lane result.lanes k ≡ (if int_lt (lane a.lanes k) (lane b.lanes k) then lane b.lanes k else lane a.lanes k) }
+    ensures each { (k : ℕ) → k < 8 →
+        lane result.lanes k ≡ (if int_lt (lane a.lanes k) (lane b.lanes k) then lane b.lanes k else lane a.lanes k) }
     ensures lanes { AreNarrow result.lanes }
 {
     Eight {

@@ -1,6 +1,15 @@
 -- A session over the air is a session of frames, with the same lines: an event of blocks is an event of the frames that are
 -- read.
-use Rattle.um_air.proofs.Words.{arith, ◌≡◌, refl, sym, ◌∙◌, ap, subst, ℕ, ◌+◌, ◌-◌, ◌<◌, ◌≤◌, List, [], ◌∷◌, ◌++◌, map, length, drop, Option, Some, None, ap₂, IfSome, AllZip, All-head, All-take, All-drop, Channel, header, Frame, information, Fits, IsFrame, octets_of, octets_canonical, same_frame, Role, Received, IsSentBlock, softened, IsReceivedBlock, accepted_octets, Ways, no_ways, way, with_more, count, IsAsSent, Deliver, Ends, Deed, deed, taken, sender_of, Why, bounded, refusal_by, World, answer_by, after_by, Line, event_lines, notice_lines, answer_lines, Claims, OrderClaims, CountsAgree, KnowsBy, SaysOctets, AllFit, IsFitting, fits-step, AllReported, in_order-step, start-reported, order_claims, start-fits, claims, counts, Octets, Block, Event, as_read, AirState, Reads, Arrives, AreSent, Answer, Refuses, Does, refusal, AirStep, turned, start_on, AirRun, told, after, IsHarmlessStep, AreOctets, IsKindEvent, lines, IsHarmlessAfter, IsHarmless, IsKind, with_way, AllZip-long}
+use Rattle.um_air.proofs.Words.{arith, ◌≡◌, refl, sym, ◌∙◌, ap, subst, ℕ, ◌+◌, ◌-◌, ◌<◌, ◌≤◌, List, []}
+use Rattle.um_air.proofs.Words.{◌∷◌, ◌++◌, map, length, drop, Option, Some, None, ap₂, IfSome, AllZip, All-head, All-take}
+use Rattle.um_air.proofs.Words.{All-drop, Channel, header, Frame, information, Fits, IsFrame, octets_of, octets_canonical, same_frame}
+use Rattle.um_air.proofs.Words.{Role, Received, IsSentBlock, softened, IsReceivedBlock, accepted_octets, Ways, no_ways, way, with_more}
+use Rattle.um_air.proofs.Words.{count, IsAsSent, Deliver, Ends, Deed, deed, taken, sender_of, Why, bounded, refusal_by, World, answer_by}
+use Rattle.um_air.proofs.Words.{after_by, Line, event_lines, notice_lines, answer_lines, Claims, OrderClaims, CountsAgree, KnowsBy}
+use Rattle.um_air.proofs.Words.{SaysOctets, AllFit, IsFitting, fits-step, AllReported, in_order-step, start-reported, order_claims}
+use Rattle.um_air.proofs.Words.{start-fits, claims, counts, Octets, Block, Event, as_read, AirState, Reads, Arrives, AreSent, Answer}
+use Rattle.um_air.proofs.Words.{Refuses, Does, refusal, AirStep, turned, start_on, AirRun, told, after, IsHarmlessStep, AreOctets}
+use Rattle.um_air.proofs.Words.{IsKindEvent, lines, IsHarmlessAfter, IsHarmless, IsKind, with_way, AllZip-long}
 use Rattle.lapdm_link.specs as L
 use Rattle.um_air.proofs.Determined.{left, done}
 use Rattle.um_air.proofs.FewTurned.{accepted_as_sent}

@@ -1,5 +1,9 @@
 -- Events determine their answers and the air that they lead to.
-use Rattle.um_air.proofs.Words.{arith, ◌≡◌, refl, sym, ◌∙◌, ap, ap₂, subst, ℕ, List, [], ◌∷◌, map, Option, inl, inr, Channel, Refusal, Frame, IsFrame, octets_of, IsRefused, same_frame, one_reading, Role, Received, softened, one_received_block, one_sent_block, with_more, sender_of, Deed, deed, taken, Octets, Block, Event, as_read, AirState, Reads, Hears, Arrives, AreSent, Step, Answer, Refuses, Does, Happens, AirStep, AirRun, turned}
+use Rattle.um_air.proofs.Words.{arith, ◌≡◌, refl, sym, ◌∙◌, ap, ap₂, subst, ℕ, List, [], ◌∷◌, map, Option, inl, inr}
+use Rattle.um_air.proofs.Words.{Channel, Refusal, Frame, IsFrame, octets_of, IsRefused, same_frame, one_reading, Role, Received, softened}
+use Rattle.um_air.proofs.Words.{one_received_block, one_sent_block, with_more, sender_of, Deed, deed, taken, Octets, Block, Event}
+use Rattle.um_air.proofs.Words.{as_read, AirState, Reads, Hears, Arrives, AreSent, Step, Answer, Refuses, Does, Happens, AirStep, AirRun}
+use Rattle.um_air.proofs.Words.{turned}
 use Rattle.lapdm_link.specs.Events as E
 
 -- octets are not both a frame and refused

@@ -1,5 +1,12 @@
 -- A block of which at most three bits were turned over is accepted with the octets that were sent.
-use Rattle.um_air.proofs.Words.{◌≡◌, ◌≢◌, refl, sym, ◌∙◌, ap, arith, ℕ, ◌+◌, ◌*◌, ◌/◌, ◌%◌, ◌<◌, ◌≤◌, Bool, true, false, ◌||◌, ◌==◌, if◌then◌else◌, nat_eq, ℤ, pos, negsuc, List, [], ◌∷◌, map, length, get_or, take, drop, All, Some, inl, inr, unsigned_abs, cases_eq, nat_tests, get_or-set_other, get_or_default, get_or-take, get_or-drop, length-take, length-append, get_or-map, map-set_same, wrong_places, burst_of, place_of, burst_place, IsInterleaved, burst_place-lower, burst_place-upper, burst_of-below, halves-at, IsLightlyDamaged, IsLightlyDamaged-equal, IsSentBlock, soft_value, softened, coded_places, IsReceivedBlock, Received, AreBits, few_spoilt, clean_gathered, coded_block_bits, restored_block, Block, turned_at, turned}
+use Rattle.um_air.proofs.Words.{◌≡◌, ◌≢◌, refl, sym, ◌∙◌, ap, arith, ℕ, ◌+◌, ◌*◌, ◌/◌, ◌%◌, ◌<◌}
+use Rattle.um_air.proofs.Words.{◌≤◌, Bool, true, false, ◌||◌, ◌==◌, if◌then◌else◌, nat_eq, ℤ, pos, negsuc, List, []}
+use Rattle.um_air.proofs.Words.{◌∷◌, map, length, get_or, take, drop, All, Some, inl, inr, unsigned_abs, cases_eq, nat_tests}
+use Rattle.um_air.proofs.Words.{get_or-set_other, get_or_default, get_or-take, get_or-drop, length-take, length-append, get_or-map}
+use Rattle.um_air.proofs.Words.{map-set_same, wrong_places, burst_of, place_of, burst_place, IsInterleaved, burst_place-lower}
+use Rattle.um_air.proofs.Words.{burst_place-upper, burst_of-below, halves-at, IsLightlyDamaged, IsLightlyDamaged-equal, IsSentBlock}
+use Rattle.um_air.proofs.Words.{soft_value, softened, coded_places, IsReceivedBlock, Received, AreBits, few_spoilt, clean_gathered}
+use Rattle.um_air.proofs.Words.{coded_block_bits, restored_block, Block, turned_at, turned}
 use Rattle.um_block.proofs.Lemmas.{listed}
 use Rattle.burst_map.specs.NormalBurst as N
 

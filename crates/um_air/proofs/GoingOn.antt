@@ -1,5 +1,15 @@
 -- There is an answer to every event, where messages are octets: a session can always go on.
-use Rattle.um_air.proofs.Words.{◌≡◌, refl, sym, subst, arith, ℕ, ℤ, ◌-◌, ◌<◌, ◌≤◌, List, [], ◌∷◌, length, Option, None, ◌∙◌, ◌/◌, ◌%◌, map, get_or, set, nat_eq, Some, All, inl, inr, IfSome, cases_lt, length-set, length-map, set_past, All-nil, All-cons, All-head, All-tail, All-append, All-replicate, All-set, All-map, Channel, header, n201, Content, Frame, information, goes_on, address, control, length_octet, NumbersFit, Fits, octets_of, octets_canonical, bit_bound, one_reading, information_bound, Sapi, Notice, Role, Received, softened, IsReceivedBlock, IsSentBlock, some_sent_block, sent_block_bits, some_received_block, accepted_count, Ways, way, no_ways, Deliver, Who, End, Why, deed, Nothing, unless, bounded, World, notice_lines, answer_lines, KnowsBy, LineOctets, AllSay, EndOctets, SaysOctets, WorldOctets, octets-step, start-octets, AllFit, deed-fits, deed-holds, Octets, Event, as_read, AirState, start_on, Answer, AirStep, AirRun, Block, Reads, Hears, Arrives, AreSent, Happens, Refuses, Does, refusal, turned_at, turned, AreOctets, IsOctetEvent, after}
+use Rattle.um_air.proofs.Words.{◌≡◌, refl, sym, subst, arith, ℕ, ℤ, ◌-◌, ◌<◌, ◌≤◌, List, [], ◌∷◌, length}
+use Rattle.um_air.proofs.Words.{Option, None, ◌∙◌, ◌/◌, ◌%◌, map, get_or, set, nat_eq, Some, All, inl, inr, IfSome}
+use Rattle.um_air.proofs.Words.{cases_lt, length-set, length-map, set_past, All-nil, All-cons, All-head, All-tail, All-append}
+use Rattle.um_air.proofs.Words.{All-replicate, All-set, All-map, Channel, header, n201, Content, Frame, information, goes_on, address}
+use Rattle.um_air.proofs.Words.{control, length_octet, NumbersFit, Fits, octets_of, octets_canonical, bit_bound, one_reading}
+use Rattle.um_air.proofs.Words.{information_bound, Sapi, Notice, Role, Received, softened, IsReceivedBlock, IsSentBlock, some_sent_block}
+use Rattle.um_air.proofs.Words.{sent_block_bits, some_received_block, accepted_count, Ways, way, no_ways, Deliver, Who, End, Why, deed}
+use Rattle.um_air.proofs.Words.{Nothing, unless, bounded, World, notice_lines, answer_lines, KnowsBy, LineOctets, AllSay, EndOctets}
+use Rattle.um_air.proofs.Words.{SaysOctets, WorldOctets, octets-step, start-octets, AllFit, deed-fits, deed-holds, Octets, Event, as_read}
+use Rattle.um_air.proofs.Words.{AirState, start_on, Answer, AirStep, AirRun, Block, Reads, Hears, Arrives, AreSent, Happens, Refuses}
+use Rattle.um_air.proofs.Words.{Does, refusal, turned_at, turned, AreOctets, IsOctetEvent, after}
 use Rattle.lapdm_link.specs as L
 use Rattle.um_air.proofs.Determined.{left, done, one_run}
 use Rattle.um_air.proofs.Carrying.{Coded, world_of, refusal-same, known-read, IsSeenAt, seen-step, start-seen}

@@ -1,6 +1,7 @@
 -- The air: the blocks on their way between the ends, and what becomes of them. What a frame is as octets, octets as a
 -- block, and a block when it is received, say lapdm_frame (GSM 04.06, section 3) and um_block (GSM 05.03, section 4.1).
-use Rattle.std.specs.Prelude.{◌≡◌, ℕ, ◌-◌, ◌/◌, ◌%◌, List, [], ◌∷◌, map, slice_index_or, slice_set, Option, Some, None}
+use Rattle.std.specs.Prelude.{◌≡◌, ℕ, ◌-◌, ◌/◌, ◌%◌, List, [], ◌∷◌, map, slice_index_or, slice_set, Option}
+use Rattle.std.specs.Prelude.{Some, None}
 use Rattle.std.specs.List.{AllZip}
 use Rattle.lapdm_frame.specs.declared.Channel.{Channel}
 use Rattle.lapdm_frame.specs.declared.Refusal.{Refusal}
@@ -15,7 +16,8 @@ use Rattle.um_block.specs.Sent.{IsSentBlock}
 use Rattle.um_block.specs.Received.{IsReceivedBlock, softened}
 use Rattle.lapdm_link.specs.Ways.{Ways, no_ways, way, with_more, count}
 use Rattle.lapdm_link.specs.Events as E
-use Rattle.lapdm_link.specs.Events.{EventBy, Open, OpenBare, Ask, Deliver, Lose, Rival, Ends, idle_ends, Who, sender_of, Deed, deed, taken, Why, refusal_by}
+use Rattle.lapdm_link.specs.Events.{EventBy, Open, OpenBare, Ask, Deliver, Lose, Rival, Ends, idle_ends, Who, sender_of, Deed, deed}
+use Rattle.lapdm_link.specs.Events.{taken, Why, refusal_by}
 
 abbrev pub Octets : Type 0
 Octets = List ℕ

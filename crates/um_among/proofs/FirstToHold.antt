@@ -1,5 +1,7 @@
 -- The first list whose parity holds: there is one at most, or none holds; and of all lists that hold it is the most likely one.
-use Rattle.std.proofs.Common.{◌≡◌, ◌≢◌, inl, inr, false, true, ℕ, zero, suc, ◌+◌, ◌<◌, ◌≤◌, ℤ, Option, Some, None, List, [], ◌∷◌, ◌++◌, length, take, drop, get_or, length-append, refl, ap, ap₂, sym, ◌∙◌, subst, arith}
+use Rattle.std.proofs.Common.{◌≡◌, ◌≢◌, inl, inr, false, true, ℕ, zero, suc, ◌+◌, ◌<◌, ◌≤◌, ℤ, Option, Some}
+use Rattle.std.proofs.Common.{None, List, [], ◌∷◌, ◌++◌, length, take, drop, get_or, length-append, refl, ap, ap₂, sym}
+use Rattle.std.proofs.Common.{◌∙◌, subst, arith}
 use Rattle.std.specs.Prelude.{MatchOption, IsSome, IsNone, ◌↔◌}
 use Rattle.std.specs.List.{All, Contains}
 use Rattle.std.proofs.Math.Seq.{get_or-append_seam}

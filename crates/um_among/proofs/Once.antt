@@ -10,7 +10,8 @@ use Rattle.training_seq.proofs.Lemmas.{one_first_greatest}
 use Rattle.interleave.specs.Bursts.{IsInterleaved}
 use Rattle.interleave.proofs.Lemmas.{same_coded}
 use Rattle.list_decode.specs.Ranking.{IsCandidate}
-use Rattle.um_block.specs.Received.{coded_places, access_places, sync_places, training_of, wrong_training_places, IsReceivedBlock, IsReceivedAccess, IsReceivedSync}
+use Rattle.um_block.specs.Received.{coded_places, access_places, sync_places, training_of, wrong_training_places, IsReceivedBlock}
+use Rattle.um_block.specs.Received.{IsReceivedAccess, IsReceivedSync}
 use Rattle.um_block.specs.declared.received.Received.{Received}
 use Rattle.um_block.specs.declared.received.ReceivedAccess.{ReceivedAccess}
 use Rattle.um_block.specs.declared.received.ReceivedSync.{ReceivedSync}
@@ -19,7 +20,8 @@ use Rattle.um_among.specs.declared.reports.AccessAmong.{AccessAmong}
 use Rattle.um_among.specs.declared.reports.SyncAmong.{SyncAmong}
 use Rattle.um_among.specs.Parities.{HoldsInBlock, HoldsInAccess, HoldsInSync}
 use Rattle.um_among.specs.Among.{IsTaken, IsFirstToHold, NoneHolds, IsBlockAmong, IsAccessAmong, IsSyncAmong}
-use Rattle.um_among.proofs.FirstToHold.{taken_once, taken_best, taken_lost, taken_information, taken_first, taken_of_one, taken_at_once, taken_found, taken_none}
+use Rattle.um_among.proofs.FirstToHold.{taken_once, taken_best, taken_lost, taken_information, taken_first, taken_of_one, taken_at_once}
+use Rattle.um_among.proofs.FirstToHold.{taken_found, taken_none}
 
 -- ---- in one way
 

@@ -1,6 +1,7 @@
 -- What is accepted among the most likely lists: where not the first alone is tried, the first of them whose parity holds is taken
 -- (this project's own rule).
-use Rattle.std.specs.Prelude.{ℕ, ◌≡◌, ◌≤◌, ◌+◌, ◌⊎◌, ℤ, List, [], ◌∷◌, ◌++◌, length, map, take, Option, MatchOption}
+use Rattle.std.specs.Prelude.{ℕ, ◌≡◌, ◌≤◌, ◌+◌, ◌⊎◌, ℤ, List, [], ◌∷◌, ◌++◌, length, map, take}
+use Rattle.std.specs.Prelude.{Option, MatchOption}
 use Rattle.std.specs.List.{All, Contains}
 use Rattle.bit_blocks.specs.Octets.{octets_of}
 use Rattle.bit_blocks.specs.SoftValues.{likelihood, wrong_places}

@@ -1,16 +1,20 @@
 -- Where the coded bits of a block stand among the 592 places of its bursts, and how many of them few places can spoil.
-use Rattle.std.proofs.Common.{◌≡◌, ◌≢◌, refl, sym, ◌∙◌, ap, subst, arith, ℕ, zero, suc, ◌+◌, ◌-◌, ◌*◌, ◌<◌, ◌≤◌, Bool, true, false, ◌||◌, if◌then◌else◌, nat_eq, ℤ, pos, List, [], ◌∷◌, ◌++◌, map, length, get_or, drop, Contains}
+use Rattle.std.proofs.Common.{◌≡◌, ◌≢◌, refl, sym, ◌∙◌, ap, subst, arith, ℕ, zero, suc, ◌+◌, ◌-◌, ◌*◌}
+use Rattle.std.proofs.Common.{◌<◌, ◌≤◌, Bool, true, false, ◌||◌, if◌then◌else◌, nat_eq, ℤ, pos, List, [], ◌∷◌}
+use Rattle.std.proofs.Common.{◌++◌, map, length, get_or, drop, Contains}
 use Rattle.std.specs.Prelude.{slice_range}
 use Rattle.std.specs.List.{All}
 use Rattle.std.proofs.lemmas.Bool.{false≢true}
 use Rattle.std.proofs.lemmas.Bool.Decides.{nat_tests}
-use Rattle.std.proofs.lemmas.List.{get_or_append_left, get_or-append_right, get_or-take, get_or-drop, get_or-map, length-take, length-drop, length-map}
+use Rattle.std.proofs.lemmas.List.{get_or_append_left, get_or-append_right, get_or-take, get_or-drop, get_or-map, length-take}
+use Rattle.std.proofs.lemmas.List.{length-drop, length-map}
 use Rattle.std.proofs.lemmas.List.Elements.{All-head, All-tail}
 use Rattle.bit_blocks.specs.Bits.{IsBit, AllBits}
 use Rattle.bit_blocks.specs.SoftValues.{is_wrong, wrong_places}
 use Rattle.interleave.specs.Places.{burst_of, place_of, burst_place}
 use Rattle.interleave.specs.Bursts.{IsInterleaved}
-use Rattle.interleave.proofs.Lemmas.{burst_of-below, halves-at, burst_place-lower, burst_place-upper, burst_place-below, burst_place-differs}
+use Rattle.interleave.proofs.Lemmas.{burst_of-below, halves-at, burst_place-lower, burst_place-upper, burst_place-below}
+use Rattle.interleave.proofs.Lemmas.{burst_place-differs}
 use Rattle.um_block.specs.Sent.{IsCodedBlock, IsSentBlock}
 use Rattle.um_block.specs.Received.{soft_value, softened, coded_places, end_to_end}
 use Rattle.um_block.proofs.Words.{coded_block_bits}

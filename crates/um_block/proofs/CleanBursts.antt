@@ -1,5 +1,7 @@
 -- The parts of a burst that comes as it was sent.
-use Rattle.std.proofs.Common.{◌≡◌, ◌⊎◌, inl, inr, ℕ, zero, suc, ◌-◌, ◌<◌, ◌≤◌, Bool, true, false, ◌||◌, eqb, int_lt, ℤ, List, [], ◌∷◌, ◌++◌, map, take, drop, length, get_or, ap, ap₂, sym, ◌∙◌, refl, arith, append_assoc, length-append, zero-add}
+use Rattle.std.proofs.Common.{◌≡◌, ◌⊎◌, inl, inr, ℕ, zero, suc, ◌-◌, ◌<◌, ◌≤◌, Bool, true, false, ◌||◌}
+use Rattle.std.proofs.Common.{eqb, int_lt, ℤ, List, [], ◌∷◌, ◌++◌, map, take, drop, length, get_or, ap, ap₂, sym, ◌∙◌}
+use Rattle.std.proofs.Common.{refl, arith, append_assoc, length-append, zero-add}
 use Rattle.std.specs.Prelude.{slice_range}
 use Rattle.std.specs.List.{All}
 use Rattle.std.proofs.lemmas.Bool.{eqb-true}

@@ -1,5 +1,6 @@
 -- A block or a burst that comes as it was sent is restored.
-use Rattle.std.proofs.Common.{◌≡◌, ℕ, ◌+◌, ◌*◌, ◌<◌, pos, Option, Some, None, List, map, take, drop, length, subst, ap, ap₂, sym, ◌∙◌, refl, arith, lit<}
+use Rattle.std.proofs.Common.{◌≡◌, ℕ, ◌+◌, ◌*◌, ◌<◌, pos, Option, Some, None, List, map, take, drop, length, subst}
+use Rattle.std.proofs.Common.{ap, ap₂, sym, ◌∙◌, refl, arith, lit<}
 use Rattle.std.specs.Prelude.{MatchOption}
 use Rattle.std.proofs.lemmas.List.{length-take, length-drop, take-append-drop}
 use Rattle.bit_blocks.specs.Octets.{bits_of, octets_of}
@@ -15,14 +16,16 @@ use Rattle.training_seq.proofs.Lemmas.{AllBits-training_sequence, one_first_grea
 use Rattle.burst_map.specs.AccessBurst as A
 use Rattle.burst_map.specs.SyncBurst as S
 use Rattle.um_block.specs.Sent.{Carries, IsSentBlock, IsSentAccess, IsSentSync}
-use Rattle.um_block.specs.Received.{soft_value, softened, coded_places, access_places, sync_places, training_of, IsReceivedBlock, IsReceivedAccess, IsReceivedSync}
+use Rattle.um_block.specs.Received.{soft_value, softened, coded_places, access_places, sync_places, training_of, IsReceivedBlock}
+use Rattle.um_block.specs.Received.{IsReceivedAccess, IsReceivedSync}
 use Rattle.um_block.specs.Restored.{IsCleanBlock, IsCleanAccess, IsCleanSync}
 use Rattle.um_block.specs.declared.received.Received.{Received}
 use Rattle.um_block.specs.declared.received.ReceivedAccess.{ReceivedAccess}
 use Rattle.um_block.specs.declared.received.ReceivedSync.{ReceivedSync}
 use Rattle.um_block.proofs.Words.{Carried, block_carried, rach_carried, sch_carried, coded_access_bits, coded_sync_bits}
 use Rattle.um_block.proofs.CleanCodewords.{IsHeard, heard}
-use Rattle.um_block.proofs.CleanBursts.{halves, parts_of_bursts, softened_halves, clean_training_of, wrong_places-own, best_own, clean_body, clean_access_training, clean_halves, clean_sync_training}
+use Rattle.um_block.proofs.CleanBursts.{halves, parts_of_bursts, softened_halves, clean_training_of, wrong_places-own, best_own}
+use Rattle.um_block.proofs.CleanBursts.{clean_body, clean_access_training, clean_halves, clean_sync_training}
 
 -- what is accepted of a list that carries information
 pub accepted_of : {X : Type 0} (IsWord : List ℕ → Type 0) (answer : List ℕ → X) (n k : ℕ) (u v d : List ℕ) (x : X) (a : Option X) →

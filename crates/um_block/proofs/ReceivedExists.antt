@@ -1,5 +1,6 @@
 -- Every burst and every block is received in some way.
-use Rattle.std.proofs.Common.{◌≡◌, ◌⊎◌, inl, inr, ℕ, ◌+◌, ◌-◌, ◌≤◌, ℤ, pos, Option, Some, None, List, ◌++◌, map, take, drop, length, get_or, subst, ap, ap₂, sym, ◌∙◌, refl, arith, lit≤}
+use Rattle.std.proofs.Common.{◌≡◌, ◌⊎◌, inl, inr, ℕ, ◌+◌, ◌-◌, ◌≤◌, ℤ, pos, Option, Some, None, List}
+use Rattle.std.proofs.Common.{◌++◌, map, take, drop, length, get_or, subst, ap, ap₂, sym, ◌∙◌, refl, arith, lit≤}
 use Rattle.std.specs.Prelude.{MatchOption, slice_range}
 use Rattle.std.specs.List.{All}
 use Rattle.std.proofs.lemmas.List.{length-take, length-drop, length-append, length-map, take-append-drop}
@@ -18,7 +19,8 @@ use Rattle.interleave.specs.Bursts.{IsInterleaved}
 use Rattle.interleave.proofs.Lemmas.{some_gathered}
 use Rattle.burst_map.specs.AccessBurst as A
 use Rattle.burst_map.specs.SyncBurst as S
-use Rattle.um_block.specs.Received.{coded_places, access_places, sync_places, training_of, wrong_training_places, IsReceivedBlock, IsReceivedAccess, IsReceivedSync}
+use Rattle.um_block.specs.Received.{coded_places, access_places, sync_places, training_of, wrong_training_places, IsReceivedBlock}
+use Rattle.um_block.specs.Received.{IsReceivedAccess, IsReceivedSync}
 use Rattle.um_block.specs.declared.received.Received.{Received}
 use Rattle.um_block.specs.declared.received.ReceivedAccess.{ReceivedAccess}
 use Rattle.um_block.specs.declared.received.ReceivedSync.{ReceivedSync}

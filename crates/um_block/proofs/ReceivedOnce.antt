@@ -10,7 +10,8 @@ use Rattle.conv_code.proofs.Lemmas.{IsMostLikely-only}
 use Rattle.training_seq.specs.Choice.{total_correlation}
 use Rattle.training_seq.proofs.Lemmas.{one_first_greatest}
 use Rattle.interleave.proofs.Lemmas.{same_coded}
-use Rattle.um_block.specs.Received.{coded_places, access_places, sync_places, training_of, wrong_training_places, IsReceivedBlock, IsReceivedAccess, IsReceivedSync}
+use Rattle.um_block.specs.Received.{coded_places, access_places, sync_places, training_of, wrong_training_places, IsReceivedBlock}
+use Rattle.um_block.specs.Received.{IsReceivedAccess, IsReceivedSync}
 use Rattle.um_block.specs.declared.received.Received.{Received}
 use Rattle.um_block.specs.declared.received.ReceivedAccess.{ReceivedAccess}
 use Rattle.um_block.specs.declared.received.ReceivedSync.{ReceivedSync}

@@ -1,5 +1,6 @@
 -- Information lists that carry information, and their coded bits.
-use Rattle.std.proofs.Common.{◌≡◌, ℕ, ◌+◌, ◌*◌, ◌<◌, List, ◌++◌, take, length, replicate, refl, subst, ap, sym, ◌∙◌, arith, lit<, append_assoc, length-append}
+use Rattle.std.proofs.Common.{◌≡◌, ℕ, ◌+◌, ◌*◌, ◌<◌, List, ◌++◌, take, length, replicate, refl, subst, ap, sym}
+use Rattle.std.proofs.Common.{◌∙◌, arith, lit<, append_assoc, length-append}
 use Rattle.std.proofs.lemmas.List.{take_at}
 use Rattle.bit_blocks.specs.Bits.{AllBits}
 use Rattle.bit_blocks.specs.Octets.{bits_of}

@@ -1,6 +1,7 @@
 -- What is received: the most likely word of the soft values read, the training sequence heard, and whether the parity
 -- holds (GSM 05.03 sections 4.1, 4.6 and 4.7; which word is most likely is this project's own rule).
-use Rattle.std.specs.Prelude.{ℕ, ◌≡◌, ◌==◌, if◌then◌else◌, ℤ, pos, negsuc, List, [], ◌++◌, map, take, slice_index_or, MatchOption}
+use Rattle.std.specs.Prelude.{ℕ, ◌≡◌, ◌==◌, if◌then◌else◌, ℤ, pos, negsuc, List, [], ◌++◌, map, take}
+use Rattle.std.specs.Prelude.{slice_index_or, MatchOption}
 use Rattle.std.specs.List.{flat_map}
 use Rattle.bit_blocks.specs.Octets.{octets_of}
 use Rattle.bit_blocks.specs.SoftValues.{likelihood, wrong_places}

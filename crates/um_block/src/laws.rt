@@ -1,6 +1,7 @@
 //! Where the coded bits of a block stand among the 592 places of its four bursts. A law does nothing: it is called for its
 //! contract.
-ghost use Rattle.std.specs.Prelude.{◌≡◌, ℕ, ℤ, pos, ◌<◌, ◌≤◌, List, All, Contains, length, map, slice_index, slice_index_or};
+ghost use Rattle.std.specs.Prelude.{◌≡◌, ℕ, ℤ, pos, ◌<◌, ◌≤◌, List, All, Contains, length, map, slice_index};
+ghost use Rattle.std.specs.Prelude.{slice_index_or};
 ghost use Rattle.bit_blocks.specs.SoftValues.{wrong_places};
 ghost use Rattle.interleave.specs.Bursts.{IsInterleaved};
 ghost use Rattle.interleave.specs.Places.{burst_place};

@@ -1,5 +1,6 @@
 //! Sending: parity, the tail, the convolutional code, interleaving and the burst (GSM 05.03, today 3GPP TS 45.003).
-ghost use Rattle.std.specs.Prelude.{◌≡◌, ℕ, ◌+◌, ◌<◌, ◌≤◌, ◌++◌, List, [], length, replicate, take, drop, slice_index_or, All};
+ghost use Rattle.std.specs.Prelude.{◌≡◌, ℕ, ◌+◌, ◌<◌, ◌≤◌, ◌++◌, List, [], length, replicate, take, drop};
+ghost use Rattle.std.specs.Prelude.{slice_index_or, All};
 ghost use Rattle.bit_blocks.specs.Bits.{AllBits};
 ghost use Rattle.bit_blocks.specs.Octets.{bits_of};
 ghost use Rattle.burst_map.specs.NormalBurst.{normal_burst};

@@ -1,5 +1,6 @@
 -- Places that are written one after another.
-use Rattle.std.proofs.Common.{◌≡◌, refl, ◌∙◌, ap, arith, ℕ, zero, suc, ◌+◌, ◌-◌, ◌<◌, ◌≤◌, List, [], ◌∷◌, ◌++◌, length, take, replicate, slice_set, slice_index_or, get_or, map}
+use Rattle.std.proofs.Common.{◌≡◌, refl, ◌∙◌, ap, arith, ℕ, zero, suc, ◌+◌, ◌-◌, ◌<◌, ◌≤◌, List, []}
+use Rattle.std.proofs.Common.{◌∷◌, ◌++◌, length, take, replicate, slice_set, slice_index_or, get_or, map}
 use Rattle.segmenting.specs.declared.rooms.PlainMessage.{PlainMessage}
 use Rattle.segmenting.specs.Rooms.{octets_in, plain_message}
 use Rattle.lapdm_window.specs.declared.Notice.{Notice}

@@ -1,5 +1,6 @@
 -- What is read of a state that was written.
-use Rattle.std.proofs.Common.{◌≡◌, refl, ◌∙◌, ap, arith, ℕ, zero, suc, ◌-◌, ◌≤◌, Bool, true, false, nat_le, List, [], ◌∷◌, length, take, replicate, map, Some}
+use Rattle.std.proofs.Common.{◌≡◌, refl, ◌∙◌, ap, arith, ℕ, zero, suc, ◌-◌, ◌≤◌, Bool, true, false, nat_le, List}
+use Rattle.std.proofs.Common.{[], ◌∷◌, length, take, replicate, map, Some}
 use Rattle.std.proofs.lemmas.Bool.Decides.{nat_tests}
 use Rattle.std.proofs.lemmas.List.{take_at}
 use Rattle.lapdm_frame.specs.declared.Channel.{Channel}
@@ -18,7 +19,8 @@ use Rattle.lapdm_end.specs.declared.Role.{Role}
 use Rattle.lapdm_end.specs.declared.Role.TheVariants.{Mobile, Network}
 use Rattle.lapdm_end.specs.Parts.{EndValues}
 use Rattle.um_c.specs.Plain.{says, channel_of}
-use Rattle.um_c.specs.States.{role_of, sapi_of, state_of, part_of, window_with, said_window, end_with, said_end, role_number, sapi_number, channel_number, state_number, part_number, rooms_for, plain_end}
+use Rattle.um_c.specs.States.{role_of, sapi_of, state_of, part_of, window_with, said_window, end_with, said_end, role_number, sapi_number}
+use Rattle.um_c.specs.States.{channel_number, state_number, part_number, rooms_for, plain_end}
 
 role-number : (r : Role) → role_of (role_number r) ≡ Some r
 role-number Mobile = refl

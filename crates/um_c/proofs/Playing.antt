@@ -29,7 +29,8 @@ use Rattle.lapdm_window.specs.Calls.{Call, Opens, OpensBare, Sends, SendsUnit, C
 use Rattle.lapdm_window.specs.Tables.{after_frame}
 use Rattle.lapdm_link.specs.Ways.{Ways, no_ways, with_more}
 use Rattle.lapdm_link.specs.Ways as W
-use Rattle.lapdm_link.specs.Events.{Event, Open, OpenBare, Ask, Deliver, Lose, Rival, Request, call_of, Send, SendUnit, Close, Tick, Idle, other, boundless}
+use Rattle.lapdm_link.specs.Events.{Event, Open, OpenBare, Ask, Deliver, Lose, Rival, Request, call_of, Send, SendUnit, Close, Tick, Idle}
+use Rattle.lapdm_link.specs.Events.{other, boundless}
 use Rattle.lapdm_link.specs.Events.{Why, because, deed, rival_frame, rival_refusal}
 use Rattle.lapdm_link.specs.Worlds.{World, start_in, refusal, answer_by, answer, after_by, after, answers, rr_for_rej, IsSentOrRr}
 use Rattle.lapdm_link.specs.Worlds.{MayBeRrBy, MayBeRr}

@@ -1,5 +1,6 @@
 -- A frame as a C program sees it: its kind by a number, and each field in its place.
-use Rattle.std.specs.Prelude.{ℕ, ◌≡◌, ◌==◌, ◌⊎◌, ◌-◌, nat_le, not, if◌then◌else◌, Bool, true, false, List, [], ◌++◌, length, take, replicate, Option, Some, None}
+use Rattle.std.specs.Prelude.{ℕ, ◌≡◌, ◌==◌, ◌⊎◌, ◌-◌, nat_le, not, if◌then◌else◌, Bool, true, false, List, []}
+use Rattle.std.specs.Prelude.{◌++◌, length, take, replicate, Option, Some, None}
 use Rattle.lapdm_frame.specs.declared.Channel.{Channel}
 use Rattle.lapdm_frame.specs.declared.Channel.TheVariants.{Sdcch, Sacch}
 use Rattle.lapdm_frame.specs.declared.Refusal.{Refusal}

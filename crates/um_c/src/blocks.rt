@@ -1,5 +1,6 @@
 //! Blocks of 23 octets as four normal bursts, and back.
-ghost use Rattle.std.specs.Prelude.{◌≡◌, ◌≢◌, ◌≤◌, ◌↔◌, All, IsTrue, IsSome, false, ℕ, ℤ, List, map, replicate, MatchOption};
+ghost use Rattle.std.specs.Prelude.{◌≡◌, ◌≢◌, ◌≤◌, ◌↔◌, All, IsTrue, IsSome, false, ℕ, ℤ, List, map};
+ghost use Rattle.std.specs.Prelude.{replicate, MatchOption};
 ghost use Rattle.bit_blocks.specs.Bits.{AllBits};
 ghost use Rattle.bit_blocks.specs.SoftValues.{AllSoft};
 ghost use Rattle.um_block.specs.Sent.{IsSentBlock};

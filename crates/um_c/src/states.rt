@@ -7,7 +7,8 @@ ghost use Rattle.lapdm_window.specs.Parts.{said_by as window_by};
 ghost use Rattle.lapdm_end.specs.Parts.{values_of, said_by};
 ghost use Rattle.lapdm_end.specs.Standing.{Stands};
 ghost use Rattle.um_c.specs.Plain.{channel_of};
-ghost use Rattle.um_c.specs.States.{role_of, sapi_of, state_of, part_of, said_window, said_end, StandsFor, IsOfAnEnd, role_number, sapi_number, channel_number, state_number, part_number, rooms_for, plain_end};
+ghost use Rattle.um_c.specs.States.{role_of, sapi_of, state_of, part_of, said_window, said_end, StandsFor, IsOfAnEnd, role_number};
+ghost use Rattle.um_c.specs.States.{sapi_number, channel_number, state_number, part_number, rooms_for, plain_end};
 
 use crate::frames::channel_of;
 use lapdm_end::{End, EndParts, Role};

@@ -1,5 +1,7 @@
 -- The number of messages that a word names.
-use Rattle.std.proofs.Common.{rules, ◌≡◌, ℕ, ◌≤◌, ◌<◌, ◌^◌, Bool, true, false, ◌&&◌, nat_le, List, [], ◌∷◌, length, slice_index, Some, None, Result, Ok, Err, if◌then◌else◌, ◌⊎◌, refl, ap, subst, inl, inr, arith}
+use Rattle.std.proofs.Common.{rules, ◌≡◌, ℕ, ◌≤◌, ◌<◌, ◌^◌, Bool, true, false, ◌&&◌, nat_le, List, []}
+use Rattle.std.proofs.Common.{◌∷◌, length, slice_index, Some, None, Result, Ok, Err, if◌then◌else◌, ◌⊎◌, refl, ap}
+use Rattle.std.proofs.Common.{subst, inl, inr, arith}
 use Rattle.std.specs.Str.{all_ascii_digits}
 use Rattle.std.specs.Str.Parse.{digits_value, ParsesUnsigned}
 use Rattle.std.specs.Result.{OkIff}

@@ -1,6 +1,7 @@
 -- The command `replay` answers each good line in one way.
 use Rattle.std.proofs.Common.{◌≡◌, [], refl, sym, ap, ◌∙◌, subst}
-use Rattle.um_block.proofs.Lemmas.{accepted_count, one_received_block, one_received_access, one_received_sync, some_received_block, some_received_access, some_received_sync}
+use Rattle.um_block.proofs.Lemmas.{accepted_count, one_received_block, one_received_access, one_received_sync, some_received_block}
+use Rattle.um_block.proofs.Lemmas.{some_received_access, some_received_sync}
 use Rattle.um_text.specs.Reports.{IsBlockReport, access_report_text, sync_report_text}
 use Rattle.um_text.proofs.ReportLaws.{one_block_report, some_block_report}
 use Rattle.um_driver.specs.Rules.{IsDetermined}

@@ -1,5 +1,6 @@
 -- What `code` writes, `replay` restores.
-use Rattle.std.proofs.Common.{◌≡◌, ℕ, ℤ, ◌≤◌, inl, inr, List, [], ◌∷◌, ◌++◌, length, map, refl, sym, ap, ◌∙◌, subst, append_assoc, append-nil, arith, lit<}
+use Rattle.std.proofs.Common.{◌≡◌, ℕ, ℤ, ◌≤◌, inl, inr, List, [], ◌∷◌, ◌++◌, length, map, refl, sym, ap}
+use Rattle.std.proofs.Common.{◌∙◌, subst, append_assoc, append-nil, arith, lit<}
 use Rattle.std.specs.List.{All}
 use Rattle.std.proofs.lemmas.List.{length-map}
 use Rattle.std.proofs.lemmas.List.Elements.{All-nil, All-cons, All-head, All-tail, All-append}
@@ -8,7 +9,8 @@ use Rattle.um_io.specs.Lines.{IsLine, IsDivided, text_of}
 use Rattle.um_block.specs.Sent.{IsSentBlock, IsSentAccess, IsSentSync}
 use Rattle.um_block.specs.Received.{softened, soft_value, IsReceivedBlock}
 use Rattle.um_block.specs.declared.received.Received.{Received}
-use Rattle.um_block.proofs.Lemmas.{AreBits, accepted_count, clean_block, clean_access, clean_sync, sent_block_bits, sent_access_bits, sent_sync_bits, some_received_block, some_received_access, some_received_sync}
+use Rattle.um_block.proofs.Lemmas.{AreBits, accepted_count, clean_block, clean_access, clean_sync, sent_block_bits, sent_access_bits}
+use Rattle.um_block.proofs.Lemmas.{sent_sync_bits, some_received_block, some_received_access, some_received_sync}
 use Rattle.um_text.specs.declared.code.CodeLine.{CodeLine}
 use Rattle.um_text.specs.declared.code.CodeLine.TheVariants as C
 use Rattle.um_text.specs.declared.burst_lines.BurstLine.{BurstLine}
@@ -19,7 +21,8 @@ use Rattle.um_text.specs.CodeLines.{CodeMeans}
 use Rattle.um_lines.proofs.OneMeaning.{no_fault}
 use Rattle.um_text.specs.Reports.{IsBlockReport, access_report_text, sync_report_text}
 use Rattle.um_text.proofs.BurstLaws.{one_meaning, short}
-use Rattle.um_text.proofs.WrittenBursts.{normal_line, access_line, sync_line, normal_restored, access_restored, sync_restored, normal_whole, access_whole, sync_whole}
+use Rattle.um_text.proofs.WrittenBursts.{normal_line, access_line, sync_line, normal_restored, access_restored, sync_restored}
+use Rattle.um_text.proofs.WrittenBursts.{normal_whole, access_whole, sync_whole}
 use Rattle.um_text.proofs.ReportLaws.{some_block_report}
 use Rattle.um_text.proofs.CodeLaws.{can_be_sent}
 use Rattle.um_io.specs.Reading.{input_limit}

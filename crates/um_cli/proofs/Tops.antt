@@ -40,7 +40,8 @@ module _ {State : Type 0} (r : Rules State) (begun : State) (s : Shape) (is : (P
   same : (t : Shape) → found ≡ Some t → s ≡ t
   same t k = cc (named, k)
 
-  pub table_of : (Stands : State → Type 0) (left left' taken taken' : Option (List ℕ)) → IsRun r start Stands status left left' taken taken' →
+  pub table_of : (Stands : State → Type 0) (left left' taken taken' : Option (List ℕ)) →
+      IsRun r start Stands status left left' taken taken' →
       (t : Shape) → found ≡ Some t → IsTable t status left left' taken taken'
   table_of Stands left left' taken taken' run t k =
       let weak = weaker_run r r (as_weak r) start Stands (λ _. Unit {0}) (λ b stands. tt) status left left' taken taken' run in
@@ -72,4 +73,5 @@ pub replay_headline : (start : List (List ℤ)) → start ≡ [] → (Stands : L
     IsRun headline_rules [] (λ _. Unit {0}) status left left' taken taken'
 replay_headline start none Stands status left left' taken taken' run =
     subst (λ a. IsRun headline_rules a (λ _. Unit {0}) status left left' taken taken') none
-    (weaker_run replay_rules headline_rules headline_is_weaker start Stands (λ _. Unit {0}) (λ b stands. tt) status left left' taken taken' run)
+    (weaker_run replay_rules headline_rules headline_is_weaker start Stands (λ _. Unit {0}) (λ b stands. tt) status left left' taken
+    taken' run)

@@ -1,7 +1,8 @@
 //! The words that the program was called with.
 ghost use Rattle.std.specs.Prelude.{◌≡◌, ◌≤◌, ℕ, List, [], map, slice_index, IfSome};
 ghost use Rattle.um_cli.specs.WordLists.{held_word, added_word};
-ghost use Rattle.um_cli.specs.Shapes.{word_shape, shape_of, session_shape, three_words_shape, make_of, end_of, side_of, count_of, tsc_of, Fits};
+ghost use Rattle.um_cli.specs.Shapes.{word_shape, shape_of, session_shape, three_words_shape, make_of, end_of, side_of, count_of, tsc_of};
+ghost use Rattle.um_cli.specs.Shapes.{Fits};
 
 /// What a list of words asks for.
 #[derive(Clone, Copy, Debug, PartialEq, Eq)]

@@ -1,5 +1,6 @@
 -- What comes of judged lines, one after another.
-use Rattle.std.proofs.Common.{◌≡◌, ℕ, ◌+◌, Bool, true, false, List, [], ◌∷◌, ◌++◌, length, inl, inr, sym, refl, ap, ◌∙◌, append_assoc, arith}
+use Rattle.std.proofs.Common.{◌≡◌, ℕ, ◌+◌, Bool, true, false, List, [], ◌∷◌, ◌++◌, length, inl, inr, sym, refl, ap}
+use Rattle.std.proofs.Common.{◌∙◌, append_assoc, arith}
 use Rattle.um_lines.specs.declared.fault.LineFault.{LineFault}
 use Rattle.um_lines.specs.Refusals.{refused_text}
 use Rattle.um_driver.specs.Rules.{Rules, IsGood, IsBad, Runs, IsDetermined, joined}

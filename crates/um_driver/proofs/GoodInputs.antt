@@ -1,5 +1,6 @@
 -- An input whose output is that of a good one, line by line.
-use Rattle.std.proofs.Common.{◌≡◌, ℕ, ◌≤◌, ◌+◌, Bool, true, false, List, [], ◌∷◌, ◌++◌, length, None, inl, inr, refl, ap, ◌∙◌, append-nil}
+use Rattle.std.proofs.Common.{◌≡◌, ℕ, ◌≤◌, ◌+◌, Bool, true, false, List, [], ◌∷◌, ◌++◌, length, None, inl}
+use Rattle.std.proofs.Common.{inr, refl, ap, ◌∙◌, append-nil}
 use Rattle.um_io.specs.Lines.{IsDivided}
 use Rattle.um_io.specs.Reading.{input_limit}
 use Rattle.um_driver.specs.Rules.{Rules, Runs, joined}

@@ -1,6 +1,8 @@
 -- Which lines of an input are judged: those that ended within the limit, and what follows them where it is long or
 -- the input ends with it.
-use Rattle.std.proofs.Common.{◌≡◌, ℕ, ◌<◌, ◌≤◌, Bool, true, false, List, [], ◌∷◌, ◌++◌, length, ◌⊎◌, inl, inr, sym, refl, ap, ◌∙◌, append_assoc, append-nil, length-append, take, drop, take-append-drop, length-drop, arith}
+use Rattle.std.proofs.Common.{◌≡◌, ℕ, ◌<◌, ◌≤◌, Bool, true, false, List, [], ◌∷◌, ◌++◌, length, ◌⊎◌}
+use Rattle.std.proofs.Common.{inl, inr, sym, refl, ap, ◌∙◌, append_assoc, append-nil, length-append, take, drop, take-append-drop}
+use Rattle.std.proofs.Common.{length-drop, arith}
 use Rattle.std.specs.List.{All}
 use Rattle.std.proofs.Math.Seq.{take-append_seam}
 use Rattle.std.proofs.lemmas.Bool.{cases_lt}

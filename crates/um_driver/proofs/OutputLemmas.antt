@@ -1,5 +1,6 @@
 -- The output of an input, from how the input ends after good lines.
-use Rattle.std.proofs.Common.{◌≡◌, ℕ, ◌<◌, ◌+◌, Bool, true, false, List, [], ◌∷◌, ◌++◌, length, length-append, ◌⊎◌, inl, inr, refl, append_assoc, append-nil, arith}
+use Rattle.std.proofs.Common.{◌≡◌, ℕ, ◌<◌, ◌+◌, Bool, true, false, List, [], ◌∷◌, ◌++◌, length, length-append}
+use Rattle.std.proofs.Common.{◌⊎◌, inl, inr, refl, append_assoc, append-nil, arith}
 use Rattle.um_io.specs.Reading.{line_limit}
 use Rattle.um_lines.specs.declared.fault.LineFault.{LineFault}
 use Rattle.um_driver.specs.Rules.{Rules, IsBad, Runs, joined}

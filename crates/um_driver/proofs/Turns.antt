@@ -1,5 +1,6 @@
 -- One turn of a run: what the next answer of the reader of lines makes of it, before it writes.
-use Rattle.std.proofs.Common.{◌≡◌, ℕ, ◌≤◌, ◌+◌, List, [], ◌∷◌, ◌++◌, length-append, Option, Some, None, ◌⊎◌, inl, inr, sym, refl, ap, ◌∙◌, append_assoc, append-nil, length, arith}
+use Rattle.std.proofs.Common.{◌≡◌, ℕ, ◌≤◌, ◌+◌, List, [], ◌∷◌, ◌++◌, length-append, Option, Some, None}
+use Rattle.std.proofs.Common.{◌⊎◌, inl, inr, sym, refl, ap, ◌∙◌, append_assoc, append-nil, length, arith}
 use Rattle.std.specs.Borrow.{Bor}
 use Rattle.um_io.specs.Lines.{text_of}
 use Rattle.um_io.specs.Next.{IsNext, IsStep}
@@ -15,7 +16,8 @@ use Rattle.um_driver.specs.Table.{IsNear, Ends}
 use Rattle.um_driver.specs.Course.{EndsAt, IsAt, IsUnderway, IsEnding}
 use Rattle.um_driver.specs.declared.status.Status.{Status}
 use Rattle.um_driver.specs.declared.status.Status.TheVariants.{Done, BadInput, TooLong, ReadFault}
-use Rattle.um_driver.proofs.ReadLemmas.{arrive, whole_of, answered_of, next_line, line_judged, long_judged, goes_past, unfinished, no_came, failed_unready}
+use Rattle.um_driver.proofs.ReadLemmas.{arrive, whole_of, answered_of, next_line, line_judged, long_judged, goes_past, unfinished}
+use Rattle.um_driver.proofs.ReadLemmas.{no_came, failed_unready}
 use Rattle.um_driver.proofs.RunLemmas.{Runs-push, Runs-length, joined-append}
 
 -- more was written, and more lines were answered

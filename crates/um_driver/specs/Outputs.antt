@@ -1,5 +1,6 @@
 -- What a command's rules say of a whole input.
-use Rattle.std.specs.Prelude.{ℕ, ◌≡◌, ◌≤◌, ◌<◌, ◌+◌, Bool, true, false, List, [], ◌∷◌, ◌++◌, length, Some, None, ◌⊎◌}
+use Rattle.std.specs.Prelude.{ℕ, ◌≡◌, ◌≤◌, ◌<◌, ◌+◌, Bool, true, false, List, [], ◌∷◌, ◌++◌, length, Some}
+use Rattle.std.specs.Prelude.{None, ◌⊎◌}
 use Rattle.um_io.specs.Lines.{IsLine}
 use Rattle.um_io.specs.Reading.{input_limit, line_limit}
 use Rattle.um_lines.specs.declared.fault.LineFault.{LineFault}

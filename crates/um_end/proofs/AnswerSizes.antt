@@ -1,5 +1,7 @@
 -- How long an answer is: a step reports at most one message, and beside it at most that another was acknowledged.
-use Rattle.std.proofs.Common.{◌≡◌, ℕ, ◌+◌, ◌*◌, ◌<◌, ◌≤◌, ◌^◌, Bool, true, false, ◌&&◌, if◌then◌else◌, nat_eq, nat_lt, ℤ, pos, negsuc, nat_abs, List, [], ◌∷◌, ◌++◌, length, length-append, append-nil, codes, map, Option, None, Some, refl, sym, ap, ◌∙◌, subst, arith}
+use Rattle.std.proofs.Common.{◌≡◌, ℕ, ◌+◌, ◌*◌, ◌<◌, ◌≤◌, ◌^◌, Bool, true, false, ◌&&◌}
+use Rattle.std.proofs.Common.{if◌then◌else◌, nat_eq, nat_lt, ℤ, pos, negsuc, nat_abs, List, [], ◌∷◌, ◌++◌, length}
+use Rattle.std.proofs.Common.{length-append, append-nil, codes, map, Option, None, Some, refl, sym, ap, ◌∙◌, subst, arith}
 use Rattle.std.specs.Str.{bytes_eq}
 use Rattle.std.specs.Int.Signed.{mag}
 use Rattle.std.specs.Fmt.{decimal, signed_decimal}
@@ -23,9 +25,11 @@ use Rattle.lapdm_window.specs.declared.Notice.{Notice}
 use Rattle.lapdm_window.specs.declared.Notice.TheVariants as N
 use Rattle.lapdm_window.specs.declared.Reason.TheVariants as R
 use Rattle.lapdm_window.specs.Ends.{Role, Mobile, Network, EndState, Outcome, stays, ◌then◌, next_piece, n200, vr}
-use Rattle.lapdm_window.specs.Rules.{has_next, sends_piece, sends_next, acknowledges, reports_acked, counts, notices_of, accepts, says_rr, answers_piece, reject_is_due, rejects, takes_i, answers_poll, takes_rr, sends_again, takes_rej}
+use Rattle.lapdm_window.specs.Rules.{has_next, sends_piece, sends_next, acknowledges, reports_acked, counts, notices_of, accepts, says_rr}
+use Rattle.lapdm_window.specs.Rules.{answers_piece, reject_is_due, rejects, takes_i, answers_poll, takes_rr, sends_again, takes_rej}
 use Rattle.lapdm_window.specs.Calls.{Call, Opens, OpensBare, Sends, SendsUnit, Closes, Ticks, Idles, after_call, with_taken}
-use Rattle.lapdm_window.specs.Tables.{Reply, Nothing, SaysDm, SaysUa, IsOpenedBy, IsOpen, IsClosed, IsReleased, TakesUnit, TakesI, TakesRr, TakesRej, becomes_closed, outcome_of, reply_to, after_frame}
+use Rattle.lapdm_window.specs.Tables.{Reply, Nothing, SaysDm, SaysUa, IsOpenedBy, IsOpen, IsClosed, IsReleased, TakesUnit, TakesI}
+use Rattle.lapdm_window.specs.Tables.{TakesRr, TakesRej, becomes_closed, outcome_of, reply_to, after_frame}
 use Rattle.lapdm_window.proofs.Lemmas.{IsReplyTo, cause_of, by_sapi, few-frame, few-call}
 use Rattle.um_lines.proofs.SpelledLaws.{length-encode_lower}
 use Rattle.um_block.specs.declared.received.Received.{Received}
@@ -35,7 +39,8 @@ use Rattle.um_link.specs.Coded.{AreCoded}
 use Rattle.um_lines.specs.Spelled.{octets_word}
 use Rattle.um_script.specs.AnswerWords.{who_word, link_word}
 use Rattle.um_script.specs.AnswerLines as L
-use Rattle.um_script.specs.AnswerLines.{Said, heard, heard_words, notice_words, block_line, arrival_lines, spaced, lines_text, answer_text, FitsHeard}
+use Rattle.um_script.specs.AnswerLines.{Said, heard, heard_words, notice_words, block_line, arrival_lines, spaced, lines_text}
+use Rattle.um_script.specs.AnswerLines.{answer_text, FitsHeard}
 use Rattle.um_script.proofs.AnswerLaws.{lines_text_append, join-spaced, told_line}
 use Rattle.um_end.specs.Terminals.{SideState, link_in, does, does_nothing, takes, takes_read, step_of, IsAsked, Asks, Hears}
 use Rattle.um_end.specs.EndRuns.{frames_of, IsAnswerText}

@@ -1,5 +1,7 @@
 -- The lines of one end, by those of a script and of `replay`.
-use Rattle.std.proofs.Common.{◌≡◌, ℕ, ℤ, ◌≤◌, ◌==◌, Bool, true, false, not, ◌&&◌, ◌||◌, List, [], ◌∷◌, ◌++◌, length, map, option_map, Option, Some, None, codes, if◌then◌else◌, refl, ap, sym, ◌∙◌, subst, inl, inr}
+use Rattle.std.proofs.Common.{◌≡◌, ℕ, ℤ, ◌≤◌, ◌==◌, Bool, true, false, not, ◌&&◌, ◌||◌, List, [], ◌∷◌}
+use Rattle.std.proofs.Common.{◌++◌, length, map, option_map, Option, Some, None, codes, if◌then◌else◌, refl, ap, sym, ◌∙◌}
+use Rattle.std.proofs.Common.{subst, inl, inr}
 use Rattle.std.specs.Str.{bytes_eq}
 use Rattle.std.proofs.lemmas.Bool.{cases_Bool, le-ltb}
 use Rattle.std.proofs.lemmas.Slice.Eq.{bytes_eq-Decides}
@@ -11,7 +13,8 @@ use Rattle.um_lines.specs.declared.fault.LineFault.TheVariants.{Word, Order, Dig
 use Rattle.um_lines.specs.declared.fault.LineFault.TheVariants as R
 use Rattle.um_lines.specs.Words.{is_skipped, words}
 use Rattle.um_lines.specs.Fields.{Field, Value}
-use Rattle.um_lines.specs.Forms.{Form, Table, has_form, form_of, form_fault, fields_for, fields_fault, some_word, is_repeated, places, values_of, entry_says, line_fault, line_says, anywhere, LineMeans}
+use Rattle.um_lines.specs.Forms.{Form, Table, has_form, form_of, form_fault, fields_for, fields_fault, some_word, is_repeated, places}
+use Rattle.um_lines.specs.Forms.{values_of, entry_says, line_fault, line_says, anywhere, LineMeans}
 use Rattle.um_lines.specs.Fields as S
 use Rattle.um_lines.specs.BurstForms.{BurstName, is_single, block_forms, single_forms, burst_forms, burst_elsewhere}
 use Rattle.um_lines.specs.LinkForms.{LinkName, EndName, mobile_forms, network_forms, link_forms, end_forms, end_elsewhere}
@@ -29,7 +32,8 @@ use Rattle.um_link.specs.Naming.{event_of}
 use Rattle.um_end.specs.declared.lines.EndLine.{EndLine}
 use Rattle.um_end.specs.declared.lines.EndLine.TheVariants as V
 use Rattle.um_end.specs.Terminals.{IsCallOf}
-use Rattle.um_end.specs.EndLines.{Meaning, Nothing, Brings, Calls, meaning_of, IsPossible, own_forms, brought_by, called, end_line, end_fault, EndMeans, begins_own, inside, without_singles}
+use Rattle.um_end.specs.EndLines.{Meaning, Nothing, Brings, Calls, meaning_of, IsPossible, own_forms, brought_by, called, end_line}
+use Rattle.um_end.specs.EndLines.{end_fault, EndMeans, begins_own, inside, without_singles}
 
 -- ---- lines without a reason, of any table
 

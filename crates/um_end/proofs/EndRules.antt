@@ -1,5 +1,6 @@
 -- The command `end` answers each good line in one way.
-use Rattle.std.proofs.Common.{◌≡◌, ℕ, ℤ, ◌+◌, ◌<◌, ◌≤◌, inl, inr, List, [], ◌∷◌, ◌++◌, length, length-append, map, Option, None, Some, refl, sym, ap, ap₂, ◌∙◌, subst, arith}
+use Rattle.std.proofs.Common.{◌≡◌, ℕ, ℤ, ◌+◌, ◌<◌, ◌≤◌, inl, inr, List, [], ◌∷◌, ◌++◌, length}
+use Rattle.std.proofs.Common.{length-append, map, Option, None, Some, refl, sym, ap, ap₂, ◌∙◌, subst, arith}
 use Rattle.std.specs.Prelude.{IfSome}
 use Rattle.std.specs.List.{All, flat_map}
 use Rattle.std.proofs.lemmas.Bool.{cases_lt}
@@ -17,7 +18,8 @@ use Rattle.lapdm_window.specs.Calls.{Call, Opens, OpensBare, HasCall, refusal_of
 use Rattle.lapdm_window.specs.Tables.{after_frame}
 use Rattle.lapdm_window.proofs.Lemmas.{by_sapi, Keeps, keeps-call, keeps-frame, IsEnd-start}
 use Rattle.lapdm_link.proofs.Lemmas.{AreOctets, CallOctets, EndOctets, SaysOctets, AllSay, OutcomeOctets, call-octets, frame-octets}
-use Rattle.lapdm_link.specs.Events.{Request, Send, SendUnit, Close, Tick, Idle, Open, OpenBare, Ask, Deliver, Lose, Rival, because, Because, call_of}
+use Rattle.lapdm_link.specs.Events.{Request, Send, SendUnit, Close, Tick, Idle, Open, OpenBare, Ask, Deliver, Lose, Rival, because}
+use Rattle.lapdm_link.specs.Events.{Because, call_of}
 use Rattle.um_block.proofs.Lemmas.{one_sent_block, some_sent_block, some_received_block, accepted_count, accepted_octets}
 use Rattle.um_block.specs.declared.received.Received.{Received}
 use Rattle.um_lines.proofs.OneMeaning.{good_meaning, same_meaning}
@@ -31,9 +33,11 @@ use Rattle.um_driver.specs.Rules.{IsDetermined, IsTotal}
 use Rattle.um_driver.specs.Laws.{HasOneOutput}
 use Rattle.um_driver.proofs.OutputExists.{has_one_output}
 use Rattle.um_driver.proofs.RunLemmas.{Runs-keep}
-use Rattle.um_end.specs.Terminals.{SideState, link_in, with_link_in, Deed, does, does_nothing, asks, takes_read, step_of, IsAsked, IsCallOf, Asks}
+use Rattle.um_end.specs.Terminals.{SideState, link_in, with_link_in, Deed, does, does_nothing, asks, takes_read, step_of, IsAsked}
+use Rattle.um_end.specs.Terminals.{IsCallOf, Asks}
 use Rattle.um_end.specs.EndLines.{Meaning, Nothing, Brings, Calls, end_fault, EndMeans}
-use Rattle.um_end.specs.EndRuns.{EndRun, idle, frames_of, IsAnswerText, Arrived, AnswersBursts, Asked, AnswersMeaning, AnswersLine, end_rules}
+use Rattle.um_end.specs.EndRuns.{EndRun, idle, frames_of, IsAnswerText, Arrived, AnswersBursts, Asked, AnswersMeaning, AnswersLine}
+use Rattle.um_end.specs.EndRuns.{end_rules}
 use Rattle.um_end.proofs.Determined.{one_asking, one_hearing}
 use Rattle.um_end.proofs.EndLineLaws.{end_one_meaning, burst_is_soft, call_is_own}
 
@@ -147,7 +151,8 @@ fit_frame sapi f a fits octets h =
 fit_nothing : (a : SideState) → AreFit a → IsFitDeed (does_nothing a)
 fit_nothing a h = record { after = h; frames = All-nil (Fits Sdcch); said = All-nil SaysOctets }
 
-fit_read : (a : SideState) (accepted : Option Octets) (read : Option Frame) → IfSome accepted AreOctets → Reads Sdcch accepted read → AreFit a →
+fit_read : (a : SideState) (accepted : Option Octets) (read : Option Frame) → IfSome accepted AreOctets → Reads Sdcch accepted read →
+    AreFit a →
     IsFitDeed (takes_read read a)
 fit_read a accepted None octets reads h = fit_nothing a h
 fit_read a accepted (Some f) octets reads h =

@@ -1,5 +1,6 @@
 -- Two processes whose bursts reach each other are a session of frames.
-use Rattle.std.proofs.Common.{◌≡◌, refl, sym, ◌∙◌, ap, ap₂, subst, arith, ℤ, List, [], ◌∷◌, ◌++◌, map, length, Option, Some, None, All}
+use Rattle.std.proofs.Common.{◌≡◌, refl, sym, ◌∙◌, ap, ap₂, subst, arith, ℤ, List, [], ◌∷◌, ◌++◌, map, length}
+use Rattle.std.proofs.Common.{Option, Some, None, All}
 use Rattle.std.specs.Prelude.{IfSome}
 use Rattle.std.proofs.lemmas.List.{append-nil}
 use Rattle.lapdm_frame.specs.declared.Channel.TheVariants.{Sdcch}
@@ -11,7 +12,8 @@ use Rattle.lapdm_window.specs.Ends.{Role, Mobile, Network}
 use Rattle.lapdm_window.specs.Calls.{Call, Opens, OpensBare, refusal_of}
 use Rattle.lapdm_window.specs.Sides as S
 use Rattle.lapdm_link.specs.Ways.{Ways, no_ways, way, with_more, without_first, IsAsSent}
-use Rattle.lapdm_link.specs.Events.{Open, OpenBare, Ask, Deliver, Lose, Rival, Request, End, Ends, other, side_in, with_side_in, boundless, Why, because, call_of, deed}
+use Rattle.lapdm_link.specs.Events.{Open, OpenBare, Ask, Deliver, Lose, Rival, Request, End, Ends, other, side_in, with_side_in}
+use Rattle.lapdm_link.specs.Events.{boundless, Why, because, call_of, deed}
 use Rattle.lapdm_link.specs.Events as E
 use Rattle.lapdm_link.specs.Worlds.{World, start_in, refusal, answer_by, answer, after_by, after, answers, IsHarmlessBy, IsHarmless}
 use Rattle.lapdm_link.specs.Claims.{Line, event_lines, answer_lines, notice_lines, Claims, OrderClaims, CountsAgree}
@@ -25,7 +27,8 @@ use Rattle.um_air.specs.Sessions.{told}
 use Rattle.um_air.proofs.Laws.{zip-rest, AreAlike, alike-more, read_back, all-written, damaged_received, reads-well}
 use Rattle.um_end.specs.Terminals.{SideState, IsCallOf, Asks, IsAsked, Hears, link_in, takes_read, step_of}
 use Rattle.um_end.specs.EndRuns.{frames_of}
-use Rattle.um_end.specs.TwoEnds.{TwoEnds, at_start, Turn, Calls, Brings, Loses, goes_on, IsTurn, IsRun, AreOfFirst, Carries, Anything, turn_lines, lines}
+use Rattle.um_end.specs.TwoEnds.{TwoEnds, at_start, Turn, Calls, Brings, Loses, goes_on, IsTurn, IsRun, AreOfFirst, Carries, Anything}
+use Rattle.um_end.specs.TwoEnds.{turn_lines, lines}
 
 -- the session that this is, where these frames are on their way
 abbrev world_of : TwoEnds → Ways Frame → World
@@ -164,7 +167,9 @@ module _ {a : TwoEnds} {fs : Ways Frame} (seen : IsSeen a fs) where
         (seen.fit.ways (other side)) h.reads (received_first bursts (way (other side) a.ways) h.report h.received q)
 
     brings : after_by None event w ≡ record w {
-      ends = with_side_in side deed_is.after a.ends; ways = with_more side deed_is.frames (without_first (other side) fs) } →
+      ends = with_side_in side deed_is.after a.ends;
+      ways = with_more side deed_is.frames (without_first (other side) fs);
+    } →
         answer_lines event (answer_by None (deed event a.ends)) ≡ notice_lines (End side) deed_is.sapi deed_is.notices →
         IsPlayed a (goes_on side links step.frames (without_first (other side) a.ways) a) (Brings side bursts step) fs
     brings later says =

@@ -10,7 +10,8 @@ ghost use Rattle.um_lines.specs.Meanings.{HasOneMeaningUnless};
 ghost use Rattle.lapdm_window.specs.Ends.{Role};
 ghost use Rattle.um_link.specs.Naming.{role_of};
 ghost use Rattle.um_script.specs.Naming.{meaning_of as script_meaning};
-ghost use Rattle.um_end.specs.EndLines.{end_fault, EndMeans, meaning_of, IsPossible, begins_own, brought_by, called, inside, without_singles};
+ghost use Rattle.um_end.specs.EndLines.{end_fault, EndMeans, meaning_of, IsPossible, begins_own, brought_by, called, inside};
+ghost use Rattle.um_end.specs.EndLines.{without_singles};
 
 use um_lines::{LINE_LIMIT, LineFault, first_word, is_skipped};
 use um_link::{End, Event};

@@ -1,5 +1,7 @@
 -- Line feeds in parts of a list.
-use Rattle.std.proofs.Common.{◌≡◌, ℕ, ◌+◌, ◌-◌, ◌<◌, ◌≤◌, List, ◌++◌, length, take, drop, slice_index, slice_range, Option, None, Some, sym, ap, subst, ◌∙◌, arith, eq-eqb, MatchOption, max, le_refl, ⊎_elim}
+use Rattle.std.proofs.Common.{◌≡◌, ℕ, ◌+◌, ◌-◌, ◌<◌, ◌≤◌, List, ◌++◌, length, take, drop, slice_index}
+use Rattle.std.proofs.Common.{slice_range, Option, None, Some, sym, ap, subst, ◌∙◌, arith, eq-eqb, MatchOption, max, le_refl}
+use Rattle.std.proofs.Common.{⊎_elim}
 use Rattle.std.proofs.lemmas.Bool.{eqb-true, cases_lt}
 use Rattle.std.proofs.lemmas.List.Edits.{length-between}
 use Rattle.std.proofs.lemmas.Slice.{between_is}

@@ -1,5 +1,6 @@
 -- What is known of the octets that a source has left and a sink took, over several calls.
-use Rattle.std.proofs.Common.{◌≡◌, ℕ, ◌+◌, List, [], ◌++◌, length, ◌-◌, take, drop, Option, Some, None, sym, refl, ap, ◌∙◌, append_assoc, append-nil, take-append-drop}
+use Rattle.std.proofs.Common.{◌≡◌, ℕ, ◌+◌, List, [], ◌++◌, length, ◌-◌, take, drop, Option, Some, None, sym, refl, ap}
+use Rattle.std.proofs.Common.{◌∙◌, append_assoc, append-nil, take-append-drop}
 use Rattle.std.specs.Io.KnownBytes.{Appends, Consumes, Keeps}
 use Rattle.std.proofs.Math.Seq.{take-add}
 use Rattle.std.proofs.lemmas.List.{take_rest}

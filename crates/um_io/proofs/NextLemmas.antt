@@ -1,6 +1,9 @@
 -- What the answers of a reader of lines follow from.
-use Rattle.std.proofs.Common.{◌≡◌, ◌≤◌, ◌<◌, ◌+◌, ◌-◌, ℕ, Bool, true, false, List, [], ◌∷◌, ◌++◌, length, take, drop, slice_index, Option, Result, Ok, Err, Bor, refl, sym, ap, subst, ◌∙◌, arith, inl, inr, ◌⊎◌, ⊎_elim, slice_range}
-use Rattle.std.proofs.lemmas.List.{take-append-drop, length-append, length-take, append_assoc, append-nil, take-take, take_all, drop_all, drop_more, get_or-take}
+use Rattle.std.proofs.Common.{◌≡◌, ◌≤◌, ◌<◌, ◌+◌, ◌-◌, ℕ, Bool, true, false, List, [], ◌∷◌, ◌++◌}
+use Rattle.std.proofs.Common.{length, take, drop, slice_index, Option, Result, Ok, Err, Bor, refl, sym, ap, subst, ◌∙◌, arith, inl}
+use Rattle.std.proofs.Common.{inr, ◌⊎◌, ⊎_elim, slice_range}
+use Rattle.std.proofs.lemmas.List.{take-append-drop, length-append, length-take, append_assoc, append-nil, take-take, take_all, drop_all}
+use Rattle.std.proofs.lemmas.List.{drop_more, get_or-take}
 use Rattle.std.proofs.lemmas.Bool.{false≢true}
 use Rattle.um_io.specs.declared.buffer.Buffer.{Buffer}
 use Rattle.um_io.specs.declared.lines.Next.{Next}

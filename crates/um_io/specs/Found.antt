@@ -1,5 +1,6 @@
 -- What a reader of lines finds in what it holds: only its own body needs this.
-use Rattle.std.specs.Prelude.{ℕ, ◌≡◌, ◌≤◌, ◌<◌, ◌+◌, Bool, true, false, List, [], ◌++◌, length, Option, Result, MatchResult, ◌⊎◌}
+use Rattle.std.specs.Prelude.{ℕ, ◌≡◌, ◌≤◌, ◌<◌, ◌+◌, Bool, true, false, List, [], ◌++◌, length, Option, Result}
+use Rattle.std.specs.Prelude.{MatchResult, ◌⊎◌}
 use Rattle.std.specs.Io.KnownBytes.{Consumes, Keeps, IsAtEnd}
 use Rattle.um_io.specs.Lines.{IsLine, IsFirstFeed}
 use Rattle.um_io.specs.Reading.{Reading, NeedsMore, line_limit}

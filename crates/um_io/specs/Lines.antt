@@ -1,6 +1,7 @@
 -- How octets are divided into lines: this project's own rule. A line feed ends a line, every other octet is
 -- an ordinary one, and the octets after the last line feed are a line where there are any.
-use Rattle.std.specs.Prelude.{ℕ, ◌≡◌, ◌<◌, List, [], ◌∷◌, ◌++◌, length, take, slice_index, All, nat_eq, if◌then◌else◌, ◌⊎◌}
+use Rattle.std.specs.Prelude.{ℕ, ◌≡◌, ◌<◌, List, [], ◌∷◌, ◌++◌, length, take, slice_index, All, nat_eq}
+use Rattle.std.specs.Prelude.{if◌then◌else◌, ◌⊎◌}
 
 -- an octet that is no line feed
 abbrev pub IsPlain : ℕ → Type 0

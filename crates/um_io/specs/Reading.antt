@@ -1,6 +1,7 @@
 -- What a reader of lines has read and answered: this project's own rule. An input has at most 67,108,864 octets
 -- that count, and a line at most 4,096 before its line feed.
-use Rattle.std.specs.Prelude.{ℕ, ◌≡◌, ◌≤◌, ◌<◌, ◌+◌, ◌-◌, Bool, true, false, List, [], length, take, drop, ◌⊎◌}
+use Rattle.std.specs.Prelude.{ℕ, ◌≡◌, ◌≤◌, ◌<◌, ◌+◌, ◌-◌, Bool, true, false, List, [], length, take, drop}
+use Rattle.std.specs.Prelude.{◌⊎◌}
 use Rattle.um_io.specs.Lines.{IsLine}
 
 -- how many octets of the input count

@@ -1,5 +1,6 @@
 //! The octets that a reader of lines holds.
-ghost use Rattle.std.specs.Prelude.{◌≡◌, ◌≤◌, ◌<◌, ◌+◌, ◌-◌, ℕ, List, [], ◌++◌, length, take, drop, slice_range, vec_len, MatchOption, IfOk, OnOk, OnErr};
+ghost use Rattle.std.specs.Prelude.{◌≡◌, ◌≤◌, ◌<◌, ◌+◌, ◌-◌, ℕ, List, [], ◌++◌, length, take, drop};
+ghost use Rattle.std.specs.Prelude.{slice_range, vec_len, MatchOption, IfOk, OnOk, OnErr};
 ghost use Rattle.std.specs.Io.KnownBytes.{Consumes, Keeps, IsAtEnd};
 ghost use Rattle.um_io.specs.Lines.{IsLine, IsFirstFeed};
 ghost use Rattle.um_io.specs.Outside.{Rose};

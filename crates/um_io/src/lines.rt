@@ -1,5 +1,6 @@
 //! The lines of an input, one after another, over one buffer.
-ghost use Rattle.std.specs.Prelude.{◌≡◌, ◌≤◌, ◌<◌, ◌+◌, ◌-◌, ◌↔◌, ℕ, List, Bool, true, false, None, [], ◌++◌, length, MatchBool, MatchOption, IfOk, IfSome, OnOk, OnErr, IsTrue, ◌⊎◌};
+ghost use Rattle.std.specs.Prelude.{◌≡◌, ◌≤◌, ◌<◌, ◌+◌, ◌-◌, ◌↔◌, ℕ, List, Bool, true, false, None, []};
+ghost use Rattle.std.specs.Prelude.{◌++◌, length, MatchBool, MatchOption, IfOk, IfSome, OnOk, OnErr, IsTrue, ◌⊎◌};
 ghost use Rattle.std.specs.Borrow.{sem};
 ghost use Rattle.um_io.specs.Outside.{Rose};
 ghost use Rattle.um_io.specs.Found.{Shows, LacksAnswer};

@@ -1,9 +1,11 @@
 //! Sources and sinks in memory, which tell their content and fail at the calls that they are told.
-ghost use Rattle.std.specs.Prelude.{◌≡◌, ◌≤◌, ◌+◌, ◌↔◌, ℕ, Some, Ok, Err, [], ◌++◌, length, take, drop, vec_len, vec_capacity, IfOk, OnOk, OnErr, IsErr};
+ghost use Rattle.std.specs.Prelude.{◌≡◌, ◌≤◌, ◌+◌, ◌↔◌, ℕ, Some, Ok, Err, [], ◌++◌, length, take, drop};
+ghost use Rattle.std.specs.Prelude.{vec_len, vec_capacity, IfOk, OnOk, OnErr, IsErr};
 ghost use Rattle.std.specs.Io.{ReadsAtMost, WritesAtMost};
 ghost use Rattle.std.specs.Io.KnownBytes.{ReadConsumes, WriteAppends};
 ghost use Rattle.um_io.specs.Outside.{raised, Rose, TakesSome};
-ghost use Rattle.um_io.specs.Memory.{Plain, Feed, Store, new_feed, new_store, given_count, taken_count, filled, FailsNext, Refuses, after_giving, after_failing, after_taking, after_refusing};
+ghost use Rattle.um_io.specs.Memory.{Plain, Feed, Store, new_feed, new_store, given_count, taken_count, filled, FailsNext, Refuses};
+ghost use Rattle.um_io.specs.Memory.{after_giving, after_failing, after_taking, after_refusing};
 
 use crate::outside::{Failed, NoMemory, Sink, Source, fault};
 use std::alloc::Global;

@@ -1,10 +1,12 @@
 -- What is known of the values of a line that has a form.
-use Rattle.std.proofs.Common.{◌≡◌, ◌≢◌, ℕ, ◌<◌, ◌≤◌, Bool, true, false, List, [], ◌∷◌, length, Option, Some, None, sym, subst, inl, inr, arith}
+use Rattle.std.proofs.Common.{◌≡◌, ◌≢◌, ℕ, ◌<◌, ◌≤◌, Bool, true, false, List, [], ◌∷◌, length, Option, Some}
+use Rattle.std.proofs.Common.{None, sym, subst, inl, inr, arith}
 use Rattle.std.specs.List.{All}
 use Rattle.std.proofs.lemmas.Bool.{and_parts, leb-true}
 use Rattle.std.proofs.lemmas.List.Elements.{All-from_recursion}
 use Rattle.bit_blocks.specs.Bits.{AllBits}
-use Rattle.um_lines.specs.Fields.{Field, Fixed, DigitTo, BitDigits, HexOctets, SoftOctets, AnyOctets, BlockPlace, Value, Number, Several, Place, hex_octets, is_within, octet_count, are_octets}
+use Rattle.um_lines.specs.Fields.{Field, Fixed, DigitTo, BitDigits, HexOctets, SoftOctets, AnyOctets, BlockPlace, Value, Number, Several}
+use Rattle.um_lines.specs.Fields.{Place, hex_octets, is_within, octet_count, are_octets}
 use Rattle.um_lines.specs.Forms.{Form, Table, fields_for, Fill, IsOf, LineMeans}
 use Rattle.um_lines.specs.Reading.{LineIs}
 use Rattle.um_lines.proofs.HexLists.{hex_octets-small, length-hex_octets}

@@ -1,5 +1,6 @@
 -- The digits of octets, more of them at a time.
-use Rattle.std.proofs.Common.{◌≡◌, ℕ, true, ◌==◌, ◌+◌, ◌*◌, ◌<◌, ◌≤◌, ◌-◌, ◌/◌, ◌%◌, List, [], ◌∷◌, length, set, get_or, suc, refl, ap, ap₂, ◌∙◌, sym, arith, inl, inr}
+use Rattle.std.proofs.Common.{◌≡◌, ℕ, true, ◌==◌, ◌+◌, ◌*◌, ◌<◌, ◌≤◌, ◌-◌, ◌/◌, ◌%◌, List, []}
+use Rattle.std.proofs.Common.{◌∷◌, length, set, get_or, suc, refl, ap, ap₂, ◌∙◌, sym, arith, inl, inr}
 use Rattle.std.proofs.lemmas.Grind.{common_steps}
 use Rattle.std.proofs.lemmas.Bool.{cases_eq, eqb-true}
 use Rattle.bit_blocks.proofs.Lemmas.{passes_below, at_passes_below}

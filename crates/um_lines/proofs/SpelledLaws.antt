@@ -1,5 +1,7 @@
 -- A line that is written of values means these values.
-use Rattle.std.proofs.Common.{append-nil, ◌≡◌, ◌≢◌, ℕ, ◌+◌, ◌*◌, ◌/◌, ◌%◌, ◌<◌, ◌≤◌, ◌==◌, Bool, true, false, ◌&&◌, ◌||◌, not, List, [], ◌∷◌, length, slice_index, Option, Some, None, codes, refl, sym, ap, ◌∙◌, subst, arith}
+use Rattle.std.proofs.Common.{append-nil, ◌≡◌, ◌≢◌, ℕ, ◌+◌, ◌*◌, ◌/◌, ◌%◌, ◌<◌, ◌≤◌, ◌==◌}
+use Rattle.std.proofs.Common.{Bool, true, false, ◌&&◌, ◌||◌, not, List, [], ◌∷◌, length, slice_index, Option, Some, None}
+use Rattle.std.proofs.Common.{codes, refl, sym, ap, ◌∙◌, subst, arith}
 use Rattle.std.specs.Fmt.{decimal}
 use Rattle.std.specs.List.{All, list_all, AllByRecursion, join_with_byte}
 use Rattle.std.specs.Str.{bytes_eq, all_ascii_digits}
@@ -9,7 +11,8 @@ use Rattle.std.proofs.lemmas.List.Elements.{All-nil, All-cons, All-head, All-tai
 use Rattle.hex.specs.Hex.{encode_with, encode_lower, lower_digits, hex_digit_value, is_hex_digit}
 use Rattle.hex.proofs.HexLemmas.{IsDigits-lower_digits, length-encode_with}
 use Rattle.um_lines.specs.Words.{is_skipped, words}
-use Rattle.um_lines.specs.Fields.{Field, Fixed, DigitTo, BitDigits, HexOctets, SoftOctets, AnyOctets, BlockPlace, Value, Number, Several, Place, bit_digits, hex_octets, is_within, octet_count, are_octets, are_octet_digits}
+use Rattle.um_lines.specs.Fields.{Field, Fixed, DigitTo, BitDigits, HexOctets, SoftOctets, AnyOctets, BlockPlace, Value, Number, Several}
+use Rattle.um_lines.specs.Fields.{Place, bit_digits, hex_octets, is_within, octet_count, are_octets, are_octet_digits}
 use Rattle.um_lines.specs.Forms.{Just, Table, Fill, IsOf, LineMeans, AreDistinct, places}
 use Rattle.um_lines.specs.Spelled.{octets_word, spelled, spelled_line}
 use Rattle.um_lines.proofs.FieldLaws.{decimal_digits}

@@ -1,5 +1,6 @@
 -- A generated run goes on, event by event, to its end.
-use Rattle.std.proofs.Common.{◌≡◌, ◌∙◌, refl, sym, ap, subst, ℕ, ◌+◌, ◌*◌, ◌^◌, ◌≤◌, List, [], ◌∷◌, ◌++◌, length, length-append, append_assoc, Result, arith}
+use Rattle.std.proofs.Common.{◌≡◌, ◌∙◌, refl, sym, ap, subst, ℕ, ◌+◌, ◌*◌, ◌^◌, ◌≤◌, List, [], ◌∷◌}
+use Rattle.std.proofs.Common.{◌++◌, length, length-append, append_assoc, Result, arith}
 use Rattle.std.proofs.lemmas.List.{append-nil}
 use Rattle.lapdm_frame.specs.declared.Channel.TheVariants.{Sdcch}
 use Rattle.lapdm_window.specs.declared.Sapi.TheVariants.{Zero}

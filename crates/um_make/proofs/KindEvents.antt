@@ -1,5 +1,6 @@
 -- The generated events are kind.
-use Rattle.std.proofs.Common.{ℕ, zero, suc, ◌+◌, ◌*◌, ◌%◌, ◌<◌, Bool, true, false, if◌then◌else◌, nat_eq, List, [], ◌∷◌, ◌++◌, map, arith}
+use Rattle.std.proofs.Common.{ℕ, zero, suc, ◌+◌, ◌*◌, ◌%◌, ◌<◌, Bool, true, false, if◌then◌else◌, nat_eq, List}
+use Rattle.std.proofs.Common.{[], ◌∷◌, ◌++◌, map, arith}
 use Rattle.std.specs.List.{range_with_len}
 use Rattle.std.proofs.lemmas.List.Elements.{All-nil, All-cons}
 use Rattle.lapdm_window.specs.declared.Sapi.TheVariants.{Zero}
@@ -7,7 +8,8 @@ use Rattle.lapdm_window.specs.Ends.{Role}
 use Rattle.lapdm_link.specs.Events.{Ask, Deliver, Lose, Tick, other}
 use Rattle.um_air.specs.Air.{Event}
 use Rattle.um_air.specs.Sessions.{AreOctets, IsKind}
-use Rattle.um_make.specs.Generated.{size_of, sender, is_lost, turn, piece_turns, last_turn, turns, turn_after, pieces_of, messages, generated}
+use Rattle.um_make.specs.Generated.{size_of, sender, is_lost, turn, piece_turns, last_turn, turns, turn_after, pieces_of, messages}
+use Rattle.um_make.specs.Generated.{generated}
 
 kind-append : (es fs : List Event) → IsKind es → IsKind fs → IsKind (es ++ fs)
 kind-append [] fs h k = k

@@ -1,10 +1,12 @@
 -- How long a generated run is at most: a message has at most 13 pieces, and a piece at most two turns of two events.
-use Rattle.std.proofs.Common.{◌≡◌, ℕ, zero, suc, ◌+◌, ◌*◌, ◌%◌, ◌≤◌, Bool, true, false, if◌then◌else◌, [], ◌∷◌, length, length-append, arith}
+use Rattle.std.proofs.Common.{◌≡◌, ℕ, zero, suc, ◌+◌, ◌*◌, ◌%◌, ◌≤◌, Bool, true, false, if◌then◌else◌, []}
+use Rattle.std.proofs.Common.{◌∷◌, length, length-append, arith}
 use Rattle.std.proofs.lemmas.List.FromFn.{length-map-range_with_len}
 use Rattle.lapdm_window.specs.declared.Sapi.TheVariants.{Zero}
 use Rattle.lapdm_window.specs.Ends.{Role}
 use Rattle.lapdm_link.specs.Events.{Ask, Deliver, Lose, Tick, other}
-use Rattle.um_make.specs.Generated.{places, size_of, message, sender, is_lost, turn, piece_turns, last_turn, turns, turn_after, pieces_of, messages, generated}
+use Rattle.um_make.specs.Generated.{places, size_of, message, sender, is_lost, turn, piece_turns, last_turn, turns, turn_after, pieces_of}
+use Rattle.um_make.specs.Generated.{messages, generated}
 
 turn-size : (r : Role) (c : ℕ) → length (turn r c) ≤ 2
 turn-size r c = by (is_lost c)

@@ -1,5 +1,6 @@
 -- Tallies are raised one after another.
-use Rattle.std.proofs.Common.{◌≡◌, ◌∙◌, refl, ap, ℕ, zero, suc, ◌+◌, Option, Some, None, Result, Ok, Err, Bool, true, false, is_some, not, arith}
+use Rattle.std.proofs.Common.{◌≡◌, ◌∙◌, refl, ap, ℕ, zero, suc, ◌+◌, Option, Some, None, Result, Ok, Err, Bool, true}
+use Rattle.std.proofs.Common.{false, is_some, not, arith}
 use Rattle.um_block.specs.Tallies.{raised, raised_by}
 use Rattle.um_block.specs.declared.received.Received.{Received}
 use Rattle.um_link.specs.declared.events.No.{No}

@@ -1,5 +1,6 @@
 -- The numbers of a session with one event more.
-use Rattle.std.proofs.Common.{◌≡◌, ◌∙◌, refl, sym, ap, subst, ℕ, Bool, true, false, if◌then◌else◌, ◌&&◌, List, [], ◌∷◌, ◌++◌, length, sum, map, length-append, append_assoc, arith}
+use Rattle.std.proofs.Common.{◌≡◌, ◌∙◌, refl, sym, ap, subst, ℕ, Bool, true, false, if◌then◌else◌, ◌&&◌, List, []}
+use Rattle.std.proofs.Common.{◌∷◌, ◌++◌, length, sum, map, length-append, append_assoc, arith}
 use Rattle.std.specs.List.{sum_by, filter_map}
 use Rattle.std.proofs.lemmas.List.Elements.{filter_map-append}
 use Rattle.std.proofs.lemmas.List.Sums.{sum_by-append, sum_by_push}
@@ -8,7 +9,8 @@ use Rattle.lapdm_window.specs.declared.Sapi.{Sapi}
 use Rattle.lapdm_window.specs.declared.Sapi.TheVariants.{Zero}
 use Rattle.lapdm_window.specs.Ends.{Role, Mobile, Network}
 use Rattle.lapdm_link.specs.Events.{Open, OpenBare, Ask, Deliver, Lose, Rival, Who, End, Other, Nobody}
-use Rattle.lapdm_link.specs.Claims.{Line, Told, answer_lines, notice_lines, notice_in, notices, got_in, acked_in, got, acked, is_role, is_sapi}
+use Rattle.lapdm_link.specs.Claims.{Line, Told, answer_lines, notice_lines, notice_in, notices, got_in, acked_in, got, acked, is_role}
+use Rattle.lapdm_link.specs.Claims.{is_sapi}
 use Rattle.um_air.specs.Air.{Event, Answer, Refuses, Does}
 use Rattle.um_air.specs.Sessions.{told, lines}
 use Rattle.um_make.specs.declared.end_summary.EndSummary.{EndSummary}

@@ -1,5 +1,6 @@
 //! How far a generated run has come.
-ghost use Rattle.std.specs.Prelude.{◌≡◌, ◌≤◌, ◌<◌, ◌+◌, ◌%◌, ℕ, [], ◌∷◌, map, length, MatchOption, IfSome, All};
+ghost use Rattle.std.specs.Prelude.{◌≡◌, ◌≤◌, ◌<◌, ◌+◌, ◌%◌, ℕ, [], ◌∷◌, map, length, MatchOption};
+ghost use Rattle.std.specs.Prelude.{IfSome, All};
 ghost use Rattle.std.specs.List.{range_with_len};
 ghost use Rattle.lapdm_link.specs.Events.{other};
 ghost use Rattle.um_link.specs.Naming.{event_of, role_of, sender_of};

@@ -16,7 +16,8 @@ fn a_word_that_meets_its_parity_holds(rt: HostRuntime) {
     compare_in_pieces(
         &rt,
         &["repair"],
-        b"# comment\n\nword 0000000000000000000000000000000000000000000080 FFDFBEFF6F\nword 0303012b2b2b2b2b2b2b2b2b2b2b2b2b2b2b2b2b2b2b2b 2c4e540233",
+        b"# comment\n\nword 0000000000000000000000000000000000000000000080 FFDFBEFF6F\nword 0303012b2b2b2b2b2b2b\
+2b2b2b2b2b2b2b2b2b2b2b2b2b 2c4e540233",
         Status::Done,
         b"holds\nholds\n",
     );

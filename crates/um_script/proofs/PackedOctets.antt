@@ -1,5 +1,6 @@
 -- The octets of the bits of octets are these octets.
-use Rattle.std.proofs.Common.{◌≡◌, ℕ, suc, ◌+◌, ◌*◌, ◌/◌, ◌%◌, ◌<◌, List, [], ◌∷◌, get_or, Fits, w8, refl, arith}
+use Rattle.std.proofs.Common.{◌≡◌, ℕ, suc, ◌+◌, ◌*◌, ◌/◌, ◌%◌, ◌<◌, List, [], ◌∷◌, get_or, Fits, w8}
+use Rattle.std.proofs.Common.{refl, arith}
 use Rattle.bit_blocks.specs.Octets.{bits_of, octets_of}
 
 -- an octet is the sum of its bits

@@ -1,5 +1,7 @@
 -- Words of places.
-use Rattle.std.proofs.Common.{◌≡◌, ℕ, zero, suc, ◌+◌, ◌-◌, ◌*◌, ◌<◌, ◌≤◌, ◌==◌, min, nat_lt, Bool, true, false, not, ◌||◌, List, [], ◌∷◌, length, replicate, drop, get_or, add-one, inl, inr, IsTrue, Ok, refl, ap, sym, ◌∙◌, subst, arith}
+use Rattle.std.proofs.Common.{◌≡◌, ℕ, zero, suc, ◌+◌, ◌-◌, ◌*◌, ◌<◌, ◌≤◌, ◌==◌, min, nat_lt, Bool, true}
+use Rattle.std.proofs.Common.{false, not, ◌||◌, List, [], ◌∷◌, length, replicate, drop, get_or, add-one, inl, inr, IsTrue, Ok}
+use Rattle.std.proofs.Common.{refl, ap, sym, ◌∙◌, subst, arith}
 use Rattle.std.specs.Prelude.{slice_set, All}
 use Rattle.std.specs.List.{list_any}
 use Rattle.std.specs.Str.{all_ascii_digits}

@@ -1,5 +1,6 @@
 -- What is read part by part is what the forms say.
-use Rattle.std.proofs.Common.{◌≡◌, ℕ, suc, ◌-◌, ◌<◌, eqb, Bool, true, false, ◌||◌, List, [], ◌∷◌, length, map, replicate, Some, None, Ok, Err, codes, if◌then◌else◌, refl, ap, sym, subst, inl, inr, arith}
+use Rattle.std.proofs.Common.{◌≡◌, ℕ, suc, ◌-◌, ◌<◌, eqb, Bool, true, false, ◌||◌, List, [], ◌∷◌, length, map}
+use Rattle.std.proofs.Common.{replicate, Some, None, Ok, Err, codes, if◌then◌else◌, refl, ap, sym, subst, inl, inr, arith}
 use Rattle.std.specs.Cmp.Lexicographic.{pointwise}
 use Rattle.std.specs.List.{list_any}
 use Rattle.std.specs.Str.{bytes_eq}
@@ -10,13 +11,15 @@ use Rattle.std.proofs.lemmas.Slice.Eq.{bytes_eq-Decides}
 use Rattle.lapdm_link.specs.Events as E
 use Rattle.um_air.specs.Air as A
 use Rattle.um_lines.specs.declared.fault.LineFault.TheVariants.{Word, Digits, Place, Twice}
-use Rattle.um_lines.specs.Fields.{Field, Fixed, BlockPlace, are_octet_digits, are_octets, hex_octets, may_stand, has_wrong_digits, has_wrong_length, has_wrong_soft, has_wrong_place}
+use Rattle.um_lines.specs.Fields.{Field, Fixed, BlockPlace, are_octet_digits, are_octets, hex_octets, may_stand, has_wrong_digits}
+use Rattle.um_lines.specs.Fields.{has_wrong_length, has_wrong_soft, has_wrong_place}
 use Rattle.um_lines.specs.Forms.{some_word, places, values_of, fields_fault, unless, is_repeated}
 use Rattle.um_lines.specs.Words.{words}
 use Rattle.um_lines.specs.LinkForms as L
 use Rattle.um_lines.specs.LinkForms.{end_word, way_word, octets}
 use Rattle.um_script.specs.ScriptLines.{asks, sender_of}
-use Rattle.um_script.specs.ScriptReading.{read_words, octets_read, is_above, places_read, with_event, bare_call_read, octets_call_read, call_read, bare_air_read, flip_read, air_read, acted_read, script_read}
+use Rattle.um_script.specs.ScriptReading.{read_words, octets_read, is_above, places_read, with_event, bare_call_read, octets_call_read}
+use Rattle.um_script.specs.ScriptReading.{call_read, bare_air_read, flip_read, air_read, acted_read, script_read}
 use Rattle.um_script.specs.Names.{actor_said, request_said, act_said}
 
 -- a word is one of some, or equal to none

@@ -1,5 +1,6 @@
 -- The lines that answer a line of a script, by what they say (this project's own rule).
-use Rattle.std.specs.Prelude.{ℕ, ℤ, nat_abs, ◌<◌, ◌^◌, List, [], ◌∷◌, ◌++◌, map, take, drop, codes, Option, Some, None}
+use Rattle.std.specs.Prelude.{ℕ, ℤ, nat_abs, ◌<◌, ◌^◌, List, [], ◌∷◌, ◌++◌, map, take, drop, codes, Option, Some}
+use Rattle.std.specs.Prelude.{None}
 use Rattle.std.specs.Fmt.{decimal, signed_decimal}
 use Rattle.std.specs.List.{join_with_byte}
 use Rattle.hex.specs.Hex.{encode_lower}

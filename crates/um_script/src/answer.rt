@@ -1,5 +1,6 @@
 //! The lines that answer a line of a script.
-ghost use Rattle.std.specs.Prelude.{◌≡◌, ◌+◌, ◌*◌, ◌-◌, ◌<◌, ◌≤◌, [], ◌∷◌, ◌++◌, length, map, take, drop, codes, IfOk, OnOk};
+ghost use Rattle.std.specs.Prelude.{◌≡◌, ◌+◌, ◌*◌, ◌-◌, ◌<◌, ◌≤◌, [], ◌∷◌, ◌++◌, length, map, take};
+ghost use Rattle.std.specs.Prelude.{drop, codes, IfOk, OnOk};
 ghost use Rattle.hex.specs.Hex.{encode_lower};
 ghost use Rattle.bit_blocks.specs.Octets.{bits_of, octets_of};
 ghost use Rattle.um_air.specs.Air as A;
@@ -287,7 +288,8 @@ fn push_sent(out: &mut Text, frame: &[u8])
     out.push(b"\n");
 }
 
-/// Law: the same lines have one text, and different lines have different texts, where octets and numbers are such as the program has them (`fit` of `step_lines`).
+/// Law: the same lines have one text, and different lines have different texts, if their octets and numbers are those that the program
+/// has (`fit` of `step_lines`).
 pub fn law_different_lines()
     ensures same { (x y : A.Answer) → answer_lines x ≡ answer_lines y → answer_text x ≡ answer_text y }
     ensures different { (x y : A.Answer) → FitLines (answer_lines x) → FitLines (answer_lines y) → answer_text x ≡ answer_text y →

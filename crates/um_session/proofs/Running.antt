@@ -1,5 +1,6 @@
 -- A run of the command with its radio is a run of `link`, and what is promised holds of it.
-use Rattle.std.proofs.Common.{◌≡◌, ℕ, ◌+◌, inl, inr, Bool, true, false, List, [], ◌∷◌, ◌++◌, Option, None, Some, refl, sym, ap, ◌∙◌, subst, arith, append_assoc, append-nil}
+use Rattle.std.proofs.Common.{◌≡◌, ℕ, ◌+◌, inl, inr, Bool, true, false, List, [], ◌∷◌, ◌++◌, Option, None, Some}
+use Rattle.std.proofs.Common.{refl, sym, ap, ◌∙◌, subst, arith, append_assoc, append-nil}
 use Rattle.lapdm_frame.specs.declared.Channel.{Channel}
 use Rattle.um_block.specs.Tallies.{raised_by}
 use Rattle.um_air.specs.Air.{Answer}

@@ -1,5 +1,6 @@
 -- Lines of `replay`: each means one thing or has a reason, and what it means are soft values.
-use Rattle.std.proofs.Common.{◌≡◌, ◌≢◌, [], ◌∷◌, ◌<◌, ℕ, ◌≤◌, false, ◌&&◌, ◌==◌, not, true, ℤ, pos, List, ◌++◌, ◌-◌, length, map, set, take, drop, suc, replicate, refl, ap, ◌∙◌, arith}
+use Rattle.std.proofs.Common.{◌≡◌, ◌≢◌, [], ◌∷◌, ◌<◌, ℕ, ◌≤◌, false, ◌&&◌, ◌==◌, not, true, ℤ}
+use Rattle.std.proofs.Common.{pos, List, ◌++◌, ◌-◌, length, map, set, take, drop, suc, replicate, refl, ap, ◌∙◌, arith}
 use Rattle.std.specs.Int.{w8, cast_signed}
 use Rattle.std.specs.List.{All}
 use Rattle.std.proofs.lemmas.Bool.Decides.{nat_tests}
@@ -112,7 +113,8 @@ pub short : (held : ℕ) (line : List ℕ) (meaning : BurstLine) → BurstMeans 
 short held line meaning means = line_short burst_forms (burst_elsewhere held) burst_line line meaning means
 
 -- four bursts of which the last is this one
-pub fourth : (bursts : List (List ℤ)) (held : ℕ) (burst : List ℤ) → length bursts ≡ 4 → held ≡ 3 → set bursts held burst ≡ take held bursts ++ burst ∷ []
+pub fourth : (bursts : List (List ℤ)) (held : ℕ) (burst : List ℤ) → length bursts ≡ 4 → held ≡ 3 → set bursts held burst
+    ≡ take held bursts ++ burst ∷ []
 fourth bursts held burst four last =
     let none : drop (suc held) bursts ≡ [] = drop_all (suc held) bursts (omega arith) in
     set_split bursts held burst (omega arith) ∙ ap (λ rest. take held bursts ++ burst ∷ rest) none

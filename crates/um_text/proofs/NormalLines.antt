@@ -1,5 +1,6 @@
 -- The line of a normal burst means its soft values, and has no reason.
-use Rattle.std.proofs.Common.{◌≡◌, ℕ, ℤ, ◌-◌, ◌≤◌, ◌==◌, ◌&&◌, not, true, false, List, [], ◌∷◌, ◌++◌, length, map, codes, None, Ok, refl, sym, ap, ◌∙◌, arith}
+use Rattle.std.proofs.Common.{◌≡◌, ℕ, ℤ, ◌-◌, ◌≤◌, ◌==◌, ◌&&◌, not, true, false, List, [], ◌∷◌}
+use Rattle.std.proofs.Common.{◌++◌, length, map, codes, None, Ok, refl, sym, ap, ◌∙◌, arith}
 use Rattle.std.specs.List.{list_all}
 use Rattle.std.proofs.lemmas.Bool.{and_right}
 use Rattle.bit_blocks.specs.SoftValues.{AllSoft}
@@ -23,7 +24,8 @@ anywhere held = and_right (not (held == 0)) false refl
 abbrev IsRead : ℕ → List ℕ → List ℤ → Type 0
 IsRead held line soft = BurstMeans held line (Normal soft) × (None ≡ burst_fault held line)
 
-read_line : (held : ℕ) (line : List ℕ) (ws : List (List ℕ)) (soft : List ℤ) → words line ≡ ws → length line ≤ 4096 → is_skipped line ≡ false →
+read_line : (held : ℕ) (line : List ℕ) (ws : List (List ℕ)) (soft : List ℤ) → words line ≡ ws → length line ≤ 4096 → is_skipped line
+    ≡ false →
     read_burst held ws ≡ Ok (Normal soft) → IsRead held line soft
 read_line held line ws soft is short stays read =
     read_of_words burst_forms (burst_elsewhere held) burst_line line (Ok (Normal soft)) short stays

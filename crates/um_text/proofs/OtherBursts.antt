@@ -1,5 +1,6 @@
 -- Words that are none of the bursts' own.
-use Rattle.std.proofs.Common.{◌≡◌, ◌≢◌, ℕ, ◌≤◌, true, false, ◌&&◌, eqb, List, [], ◌∷◌, length, Err, codes, refl, ap, arith}
+use Rattle.std.proofs.Common.{◌≡◌, ◌≢◌, ℕ, ◌≤◌, true, false, ◌&&◌, eqb, List, [], ◌∷◌, length, Err, codes}
+use Rattle.std.proofs.Common.{refl, ap, arith}
 use Rattle.std.specs.Cmp.Lexicographic.{pointwise}
 use Rattle.std.specs.Str.{bytes_eq}
 use Rattle.std.proofs.lemmas.Bool.{ne_eqb, and_right}

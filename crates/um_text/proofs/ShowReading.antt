@@ -1,5 +1,6 @@
 -- What is read of the words of a line of `show`: why they fit no form, and what the words of a frame say.
-use Rattle.std.proofs.Common.{◌≡◌, ◌≢◌, inl, inr, ℕ, false, List, [], ◌∷◌, ◌++◌, codes, Err, refl, sym, subst, true, ◌&&◌, Bool, Option, Some, None, Ok, ◌∙◌, ap, ◌≤◌, not, ◌||◌, leb, leb-true, arith}
+use Rattle.std.proofs.Common.{◌≡◌, ◌≢◌, inl, inr, ℕ, false, List, [], ◌∷◌, ◌++◌, codes, Err, refl, sym, subst}
+use Rattle.std.proofs.Common.{true, ◌&&◌, Bool, Option, Some, None, Ok, ◌∙◌, ap, ◌≤◌, not, ◌||◌, leb, leb-true, arith}
 use Rattle.std.specs.Str.{bytes_eq}
 use Rattle.std.specs.List.{join_with_byte}
 use Rattle.std.proofs.lemmas.Bool.{cases_Bool, and_parts, or_parts, not-false}
@@ -11,14 +12,16 @@ use Rattle.lapdm_frame.specs.Frames.{octets_of}
 use Rattle.um_lines.specs.declared.fault.LineFault.TheVariants.{Word, Digits, Length}
 use Rattle.um_lines.specs.Words.{words}
 use Rattle.um_lines.specs.declared.fault.LineFault.{LineFault}
-use Rattle.um_lines.specs.Fields.{Field, has_wrong_digits, has_wrong_length, has_wrong_soft, has_wrong_place, is_digit_to, are_octet_digits, are_octets, octet_count}
+use Rattle.um_lines.specs.Fields.{Field, has_wrong_digits, has_wrong_length, has_wrong_soft, has_wrong_place, is_digit_to}
+use Rattle.um_lines.specs.Fields.{are_octet_digits, are_octets, octet_count}
 use Rattle.um_lines.specs.Forms.{some_word, values_of, places, fields_fault, unless, fields_of}
 use Rattle.um_lines.specs.ShowForms.{frame_form}
 use Rattle.um_text.specs.ShowLines.{read_show, said_frame, shown}
 use Rattle.um_text.specs.declared.frame_words.FrameWords.{FrameWords}
 use Rattle.um_text.specs.declared.frame_words.Fields.{Fields}
 use Rattle.um_text.specs.declared.frame_words.Fields.TheVariants.{I, Sabm, Ui, Ua}
-use Rattle.um_text.specs.ShowReading.{kind_word, kind_form, kind_of, name_of, field_words, line_words, line_fields, info_word, least_info, is_octets_word}
+use Rattle.um_text.specs.ShowReading.{kind_word, kind_form, kind_of, name_of, field_words, line_words, line_fields, info_word, least_info}
+use Rattle.um_text.specs.ShowReading.{is_octets_word}
 use Rattle.um_text.specs.declared.show.ShowLine.TheVariants as S
 
 -- ---- the first word

@@ -1,5 +1,6 @@
 -- Frames, octets and soft values that were read by hand, and what the definitions say of them.
-use Rattle.std.proofs.Common.{◌≡◌, ◌<◌, pos, negsuc, true, false, List, [], ◌∷◌, ◌++◌, Some, refl, codes, replicate, take, drop, inl, inr, arith}
+use Rattle.std.proofs.Common.{◌≡◌, ◌<◌, pos, negsuc, true, false, List, [], ◌∷◌, ◌++◌, Some, refl, codes, replicate}
+use Rattle.std.proofs.Common.{take, drop, inl, inr, arith}
 use Rattle.hex.specs.Hex.{encode_with, encode_lower}
 use Rattle.lapdm_frame.specs.declared.Channel.TheVariants.{Sdcch}
 use Rattle.lapdm_frame.specs.declared.Refusal.{Refusal}

@@ -1,5 +1,6 @@
 -- The lines of bursts as they are written, and that each means its burst again.
-use Rattle.std.proofs.Common.{◌≡◌, ◌≢◌, ℕ, ◌+◌, ◌≤◌, ◌==◌, false, not, Some, List, [], ◌∷◌, ◌++◌, length, codes, refl, ap, sym, subst, inl, inr, append_assoc, length-append, arith}
+use Rattle.std.proofs.Common.{◌≡◌, ◌≢◌, ℕ, ◌+◌, ◌≤◌, ◌==◌, false, not, Some, List, [], ◌∷◌, ◌++◌}
+use Rattle.std.proofs.Common.{length, codes, refl, ap, sym, subst, inl, inr, append_assoc, length-append, arith}
 use Rattle.std.specs.List.{All}
 use Rattle.std.proofs.lemmas.Bool.{and_right}
 use Rattle.std.proofs.lemmas.List.{length-map}

@@ -1,5 +1,6 @@
 //! The words of a line that spells a frame.
-ghost use Rattle.std.specs.Prelude.{◌≡◌, ◌-◌, ◌≤◌, ◌∷◌, ℕ, [], not, false, length, slice_index, codes, Some, IsTrue, IfSome, IfNone, MatchResult};
+ghost use Rattle.std.specs.Prelude.{◌≡◌, ◌-◌, ◌≤◌, ◌∷◌, ℕ, [], not, false, length, slice_index, codes, Some};
+ghost use Rattle.std.specs.Prelude.{IsTrue, IfSome, IfNone, MatchResult};
 ghost use Rattle.std.specs.List.{list_any};
 ghost use Rattle.std.specs.Str.{bytes_eq};
 ghost use Rattle.lapdm_frame.specs.Content.{Frame, content_of, information};
@@ -10,7 +11,8 @@ ghost use Rattle.um_lines.specs.Forms.{some_word, values_of};
 ghost use Rattle.um_lines.specs.ShowForms.{named, numbered, supervisory, plain};
 ghost use Rattle.um_lines.specs.ShowForms as forms;
 ghost use Rattle.um_text.specs.ShowLines.{is_set, framed, said_frame};
-ghost use Rattle.um_text.specs.ShowReading.{marked, has_fields, words_fault, begins_named, is_named, kind_word, kind_words, kind_form, kind_of, name_of, field_words, line_words, line_fields, info_word, least_info};
+ghost use Rattle.um_text.specs.ShowReading.{marked, has_fields, words_fault, begins_named, is_named, kind_word, kind_words, kind_form};
+ghost use Rattle.um_text.specs.ShowReading.{kind_of, name_of, field_words, line_words, line_fields, info_word, least_info};
 
 use crate::digits::{digit_of, is_digit_to};
 use crate::hex_digits::some_octets_of;

@@ -4,7 +4,8 @@ ghost use Rattle.bit_blocks.specs.Bits.{AllBits};
 ghost use Rattle.bit_blocks.specs.Octets.{bits_of, octets_of};
 ghost use Rattle.hex.specs.Hex.{encode_lower};
 ghost use Rattle.um_lines.specs.Fields.{bit_digits};
-ghost use Rattle.um_text.specs.Reports.{parity_word, quality_text, data_text, block_line_text, IsBlockReport, access_report_text, sync_report_text};
+ghost use Rattle.um_text.specs.Reports.{parity_word, quality_text, data_text, block_line_text, IsBlockReport, access_report_text};
+ghost use Rattle.um_text.specs.Reports.{sync_report_text};
 
 use crate::frames::push_frame;
 use bit_blocks::Bits;

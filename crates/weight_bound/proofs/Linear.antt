@@ -1,5 +1,6 @@
 -- The coded list of a sum is the sum of the coded lists.
-use Rattle.std.proofs.Common.{◌≡◌, ℕ, zero, suc, ◌+◌, ◌-◌, ◌%◌, ◌<◌, ◌≤◌, true, false, nat_lt, if◌then◌else◌, List, ◌∷◌, length, get_or, refl, ap, ap₂, ◌∙◌, arith}
+use Rattle.std.proofs.Common.{◌≡◌, ℕ, zero, suc, ◌+◌, ◌-◌, ◌%◌, ◌<◌, ◌≤◌, true, false, nat_lt}
+use Rattle.std.proofs.Common.{if◌then◌else◌, List, ◌∷◌, length, get_or, refl, ap, ap₂, ◌∙◌, arith}
 use Rattle.std.specs.List.{flat_map, range_with_len}
 use Rattle.bit_blocks.specs.Bits.{add_bits}
 use Rattle.bit_blocks.proofs.Lemmas.{length-add_bits, get_or-add_bits}

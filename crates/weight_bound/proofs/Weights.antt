@@ -1,5 +1,6 @@
 -- How many ones a coded list has, by a potential of the coder's states.
-use Rattle.std.proofs.Common.{◌≡◌, ℕ, zero, suc, ◌+◌, ◌<◌, ◌≤◌, Bool, ◌&&◌, true, nat_le, List, [], ◌∷◌, ◌++◌, get_or, refl, subst, ◌∙◌, zero-add, arith}
+use Rattle.std.proofs.Common.{◌≡◌, ℕ, zero, suc, ◌+◌, ◌<◌, ◌≤◌, Bool, ◌&&◌, true, nat_le, List, [], ◌∷◌}
+use Rattle.std.proofs.Common.{◌++◌, get_or, refl, subst, ◌∙◌, zero-add, arith}
 use Rattle.std.specs.List.{list_all, range_with_len}
 use Rattle.std.proofs.lemmas.Bool.{and_parts, leb-true}
 use Rattle.std.proofs.lemmas.List.Elements.{All-head, All-tail}

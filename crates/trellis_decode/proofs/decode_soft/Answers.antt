@@ -1,4 +1,5 @@
-use Rattle.std.proofs.Common.{arith, rules, lit≤, ◌≡◌, ◌*◌, ◌-◌, ◌%◌, ◌++◌, ℕ, ℤ, List, length, take, drop, refl, ap₂, sym, ◌∙◌, w32}
+use Rattle.std.proofs.Common.{arith, rules, lit≤, ◌≡◌, ◌*◌, ◌-◌, ◌%◌, ◌++◌, ℕ, ℤ, List, length, take, drop}
+use Rattle.std.proofs.Common.{refl, ap₂, sym, ◌∙◌, w32}
 use Rattle.std.proofs.Common.{FitsSigned}
 use Rattle.std.proofs.lemmas.Int.{ints, to_z-of_z}
 use Rattle.std.proofs.lemmas.List.{length-append, length-take, length-drop, take_all, take-take, take-append-drop}

@@ -1,4 +1,5 @@
-use Rattle.std.proofs.Common.{◌≡◌, ◌<◌, get_or, pos, ap, sym, subst, ◌∙◌, arith, length, w8, to_z, of_z, ℕ, ◌+◌, ◌*◌}
+use Rattle.std.proofs.Common.{◌≡◌, ◌<◌, get_or, pos, ap, sym, subst, ◌∙◌, arith, length, w8, to_z, of_z, ℕ, ◌+◌}
+use Rattle.std.proofs.Common.{◌*◌}
 use Rattle.std.proofs.lemmas.Int.{ints}
 use Rattle.std.proofs.lemmas.List.{length-set}
 use Rattle.interleave.specs.Places.{burst_of, place_of}

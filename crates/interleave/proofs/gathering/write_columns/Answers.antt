@@ -1,4 +1,5 @@
-use Rattle.std.proofs.Common.{◌≡◌, ℕ, zero, suc, ◌+◌, ◌*◌, ◌/◌, ◌%◌, ◌^◌, ◌<◌, get_or, pos, refl, ap, ◌∙◌, arith, below_more, w8, w64}
+use Rattle.std.proofs.Common.{◌≡◌, ℕ, zero, suc, ◌+◌, ◌*◌, ◌/◌, ◌%◌, ◌^◌, ◌<◌, get_or, pos, refl, ap}
+use Rattle.std.proofs.Common.{◌∙◌, arith, below_more, w8, w64}
 use Rattle.std.specs.Int.{cast_signed, to_le_bytes}
 use Rattle.interleave.specs.ColumnPlaces.{column_bit}
 use Rattle.interleave.proofs.gathering.write_columns.Goals as goal

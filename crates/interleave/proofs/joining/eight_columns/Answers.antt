@@ -1,4 +1,5 @@
-use Rattle.std.proofs.Common.{◌≡◌, ℕ, zero, suc, ◌+◌, ◌*◌, ◌/◌, ◌%◌, ◌^◌, ◌<◌, List, [], ◌∷◌, get_or, ap, ap₂, ◌∙◌, arith}
+use Rattle.std.proofs.Common.{◌≡◌, ℕ, zero, suc, ◌+◌, ◌*◌, ◌/◌, ◌%◌, ◌^◌, ◌<◌, List, [], ◌∷◌}
+use Rattle.std.proofs.Common.{get_or, ap, ap₂, ◌∙◌, arith}
 use Rattle.interleave.specs.ColumnPlaces.{column_place}
 use Rattle.interleave.proofs.JoinedLanes.{below_at, joined_octet}
 use Rattle.interleave.proofs.joining.eight_columns.Goals as goal

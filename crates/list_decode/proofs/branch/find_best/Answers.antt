@@ -1,4 +1,5 @@
-use Rattle.std.proofs.Common.{arith, rules, ◌≡◌, ◌<◌, [], pos, length, get_or, ap, ap₂, sym, ◌∙◌, to_z, of_z, w16, FitsSigned}
+use Rattle.std.proofs.Common.{arith, rules, ◌≡◌, ◌<◌, [], pos, length, get_or, ap, ap₂, sym, ◌∙◌, to_z, of_z, w16}
+use Rattle.std.proofs.Common.{FitsSigned}
 use Rattle.std.proofs.lemmas.Int.{to_z-of_z}
 use Rattle.list_decode.specs.Branches.{between}
 use Rattle.list_decode.specs.Detours.{loss_at}

@@ -1,4 +1,5 @@
-use Rattle.std.proofs.Common.{arith, rules, ◌≡◌, ℕ, ◌/◌, ◌%◌, ◌^◌, ◌+◌, ◌*◌, [], ℤ, pos, ◌+ℤ◌, ◌-ℤ◌, length, get_or, take, refl, ap, ap₂, sym, subst, ◌∙◌, w16, FitsSigned}
+use Rattle.std.proofs.Common.{arith, rules, ◌≡◌, ℕ, ◌/◌, ◌%◌, ◌^◌, ◌+◌, ◌*◌, [], ℤ, pos, ◌+ℤ◌}
+use Rattle.std.proofs.Common.{◌-ℤ◌, length, get_or, take, refl, ap, ap₂, sym, subst, ◌∙◌, w16, FitsSigned}
 use Rattle.std.proofs.lemmas.Int.{to_z-of_z}
 use Rattle.std.proofs.lemmas.Nat.{and_mask}
 use lib.Bits.{bit_and}

@@ -1,4 +1,5 @@
-use Rattle.std.proofs.Common.{◌≡◌, ◌≢◌, ◌<◌, length, pos, refl, arith, below_more, get_or-set_other, get_or-set_same, ◌∙◌, sym, ap, get_or, ◌+ℤ◌}
+use Rattle.std.proofs.Common.{◌≡◌, ◌≢◌, ◌<◌, length, pos, refl, arith, below_more, get_or-set_other, get_or-set_same}
+use Rattle.std.proofs.Common.{◌∙◌, sym, ap, get_or, ◌+ℤ◌}
 use Rattle.std.proofs.lemmas.Int.{ints}
 use Rattle.std.proofs.lemmas.List.{ext_get_or, length-set}
 use Rattle.std.proofs.lemmas.List.Elements.{All-replicate, All-set}

@@ -1,4 +1,5 @@
-use Rattle.std.proofs.Common.{◌≡◌, ℕ, ◌+◌, ◌*◌, ◌≤◌, ◌∷◌, [], List, ℤ, lit≤, length, get_or, take, drop, ap, sym, ◌∙◌, subst}
+use Rattle.std.proofs.Common.{◌≡◌, ℕ, ◌+◌, ◌*◌, ◌≤◌, ◌∷◌, [], List, ℤ, lit≤, length, get_or, take, drop}
+use Rattle.std.proofs.Common.{ap, sym, ◌∙◌, subst}
 use Rattle.trellis_decode.specs.Lanes.{AreOctets}
 use Rattle.trellis_decode.specs.Turned.{AreEdges, HasEdges}
 use Rattle.trellis_decode.specs.declared.turned_lanes.Eight.{Eight}

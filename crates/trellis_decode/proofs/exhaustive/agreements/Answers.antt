@@ -1,4 +1,5 @@
-use Rattle.std.proofs.Common.{rules, arith, ◌≡◌, ◌+◌, ◌<◌, length, suc, ap, ◌∙◌, pos, ◌+ℤ◌, FitsSigned, w8, get_or, take}
+use Rattle.std.proofs.Common.{rules, arith, ◌≡◌, ◌+◌, ◌<◌, length, suc, ap, ◌∙◌, pos, ◌+ℤ◌, FitsSigned, w8}
+use Rattle.std.proofs.Common.{get_or, take}
 use Rattle.std.proofs.lemmas.Int.{ints, to_z-of_z}
 use Rattle.conv_code.specs.Likelihood.{agreement, likelihood}
 use Rattle.trellis_decode.proofs.Likelihoods.{likelihood-more}

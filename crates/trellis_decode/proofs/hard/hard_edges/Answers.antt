@@ -1,4 +1,5 @@
-use Rattle.std.proofs.Common.{ℕ, ◌+◌, ◌*◌, ◌<◌, ◌≤◌, ◌∷◌, [], List, ℤ, pos, lit≤, get_or, take, drop, sym, subst, arith}
+use Rattle.std.proofs.Common.{ℕ, ◌+◌, ◌*◌, ◌<◌, ◌≤◌, ◌∷◌, [], List, ℤ, pos, lit≤, get_or, take, drop, sym}
+use Rattle.std.proofs.Common.{subst, arith}
 use Rattle.trellis_decode.specs.Lanes.{lane}
 use Rattle.trellis_decode.specs.Hard.{HasHardEdges, IsHard}
 use Rattle.trellis_decode.proofs.EdgeLanes.{each}

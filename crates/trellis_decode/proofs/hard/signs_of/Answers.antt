@@ -12,5 +12,6 @@ returns c k lt =
     let whole : take 8 soft ≡ soft = take_all 8 soft (omega (arith, c.requires.count)) in
     let octets = c.requires.octets in
     bit-signs (take 8 soft) (ap length whole ∙ c.requires.count)
-    (λ k lt. fits_octet (lane (take 8 soft) k) (subst (λ s. IsOctet (lane s k)) (sym whole) (octets k _ (omega (arith, c.requires.count))))) k lt
+    (λ k lt. fits_octet (lane (take 8 soft) k) (subst (λ s. IsOctet (lane s k)) (sym whole)
+    (octets k _ (omega (arith, c.requires.count))))) k lt
     ∙ ap (λ s. sign (lane s k)) whole

@@ -12,7 +12,8 @@ loop-k-init c =
     let soft = c.args.soft.now in
     let none : [] ≡ drop (2 * 4) soft = sym (ap (λ n. drop n soft) (sym c.requires.count) ∙ drop-length soft) in
     record {
-      walk = subst (IsWalk (hard_worths c.args.after.lanes) (hard_worths c.args.after.lanes) _) none (IsWalk-none (hard_worths c.args.after.lanes));
+      walk = subst (IsWalk (hard_worths c.args.after.lanes) (hard_worths c.args.after.lanes) _) none
+          (IsWalk-none (hard_worths c.args.after.lanes));
       within = c.requires.within;
       lanes = c.requires.lanes;
       count = refl;
@@ -48,7 +49,8 @@ loop-k-preserved c =
 pub returns-clause-walk : goal.returns-clause-walk
 returns-clause-walk c =
     let none : c.loop-k.k ≡ 0 = omega arith in
-    subst (λ k. IsWalk (hard_worths c.args.after.lanes) (hard_worths c.loop-k.walk.values.lanes) c.loop-k.walk.map (drop (2 * k) c.args.soft.now))
+    subst (λ k. IsWalk (hard_worths c.args.after.lanes) (hard_worths c.loop-k.walk.values.lanes) c.loop-k.walk.map
+    (drop (2 * k) c.args.soft.now))
     none c.loop-k.invariant.walk
 
 pub returns-clause-within : goal.returns-clause-within

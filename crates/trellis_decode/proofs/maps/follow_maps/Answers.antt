@@ -1,4 +1,5 @@
-use Rattle.std.proofs.Common.{arith, ◌≡◌, ◌*◌, ◌+◌, ◌%◌, ◌≤◌, ◌<◌, ◌++◌, ◌∷◌, List, ℕ, [], suc, length, take, drop, get_or, append_assoc}
+use Rattle.std.proofs.Common.{arith, ◌≡◌, ◌*◌, ◌+◌, ◌%◌, ◌≤◌, ◌<◌, ◌++◌, ◌∷◌, List, ℕ, [], suc}
+use Rattle.std.proofs.Common.{length, take, drop, get_or, append_assoc}
 use Rattle.std.proofs.Common.{ap, ap₂, sym, ◌∙◌}
 use Rattle.std.proofs.Math.Seq.{drop-cons}
 use Rattle.std.proofs.lemmas.Slice.{take-put_mid}

@@ -16,21 +16,24 @@ four_edges-edges-requires-clause-octets c = All-take IsOctet _ (drop (2 * c.args
 pub new-step-requires-clause-even : goal.new-step-requires-clause-even
 new-step-requires-clause-even c =
     let at = c.args.first + c.loop-k.k in
-    Keeps-even (drop at c.loop-k.rows) (drop at c.loop-k.losses) (drop (2 * at) c.args.soft.now) c.loop-k.values.even.lanes c.loop-k.values.odd.lanes
+    Keeps-even (drop at c.loop-k.rows) (drop at c.loop-k.losses) (drop (2 * at) c.args.soft.now) c.loop-k.values.even.lanes
+    c.loop-k.values.odd.lanes
     c.loop-k.invariant.keeps (let same = c.loop-k.auto.rows in omega (arith, length-drop at c.loop-k.rows))
     c.loop-k.invariant.even.count
 
 pub new-step-requires-clause-odd : goal.new-step-requires-clause-odd
 new-step-requires-clause-odd c =
     let at = c.args.first + c.loop-k.k in
-    Keeps-odd (drop at c.loop-k.rows) (drop at c.loop-k.losses) (drop (2 * at) c.args.soft.now) c.loop-k.values.even.lanes c.loop-k.values.odd.lanes
+    Keeps-odd (drop at c.loop-k.rows) (drop at c.loop-k.losses) (drop (2 * at) c.args.soft.now) c.loop-k.values.even.lanes
+    c.loop-k.values.odd.lanes
     c.loop-k.invariant.keeps (let same = c.loop-k.auto.rows in omega (arith, length-drop at c.loop-k.rows))
     c.loop-k.invariant.odd.count
 
 pub new-step-requires-clause-close : goal.new-step-requires-clause-close
 new-step-requires-clause-close c =
     let at = c.args.first + c.loop-k.k in
-    Keeps-close (drop at c.loop-k.rows) (drop at c.loop-k.losses) (drop (2 * at) c.args.soft.now) c.loop-k.values.even.lanes c.loop-k.values.odd.lanes
+    Keeps-close (drop at c.loop-k.rows) (drop at c.loop-k.losses) (drop (2 * at) c.args.soft.now) c.loop-k.values.even.lanes
+    c.loop-k.values.odd.lanes
     c.loop-k.invariant.keeps
 
 pub loop-k-preserved : goal.loop-k-preserved

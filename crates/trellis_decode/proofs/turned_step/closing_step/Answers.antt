@@ -14,7 +14,8 @@ low_way c pair has k lt =
     let even = c.args.after.even.lanes in
     ap (λ l. lane l (turned k)) (ap₂ worths c.first_in_turns.ensures.each c.last_in_turns.ensures.each)
     ∙ low_worth c.sums-low.result.lanes c.differences-high.result.lanes k lt
-    ∙ way_lane (worths even c.args.after.odd.lanes) pair (turned k) (lane even k) (lane c.args.edges.lanes k) (lane c.sums-low.result.lanes k)
+    ∙ way_lane (worths even c.args.after.odd.lanes) pair (turned k) (lane even k) (lane c.args.edges.lanes k)
+    (lane c.sums-low.result.lanes k)
     (even_worth even c.args.after.odd.lanes k lt) (sym (has.each k lt)) (c.sums-low.ensures.each k lt)
 
 high_way : (c : After-last_in_turns) (pair : List ℤ) → HasEdges c.args.edges.lanes pair → (k : ℕ) → k < 8 →

@@ -1,4 +1,5 @@
-use Rattle.std.proofs.Common.{◌≡◌, ℕ, ◌+◌, ◌<◌, ◌∷◌, [], ℤ, pos, List, Bool, true, false, ◌&&◌, IsTrue, take, length, get_or, refl, subst, sym, ◌∙◌, w8, FitsSigned, rules, arith}
+use Rattle.std.proofs.Common.{◌≡◌, ℕ, ◌+◌, ◌<◌, ◌∷◌, [], ℤ, pos, List, Bool, true, false, ◌&&◌, IsTrue, take}
+use Rattle.std.proofs.Common.{length, get_or, refl, subst, sym, ◌∙◌, w8, FitsSigned, rules, arith}
 use Rattle.std.specs.Prelude.{◌↔◌}
 use Rattle.std.proofs.lemmas.Int.{to_z-of_z}
 use Rattle.std.proofs.lemmas.List.{take_all, take_more, get_or-take, length-take}
@@ -41,4 +42,5 @@ loop-value-preserved c =
     (subst (λ v. IsTrue c.is_soft-all.result ↔ IsSoft v) (to_z-of_z w8 (get_or values i (pos 0)) fits) c.is_soft-all.ensures)
 
 pub returns : goal.returns
-returns c = subst (λ values. IsTrue c.loop-value.all ↔ AllSoft values) (take_all c.loop-value.value-index c.args.values.now (omega arith)) c.loop-value.invariant
+returns c = subst (λ values. IsTrue c.loop-value.all ↔ AllSoft values)
+    (take_all c.loop-value.value-index c.args.values.now (omega arith)) c.loop-value.invariant

@@ -26,7 +26,8 @@ returns-in-Some-Code-clause-due g c =
 pub returns-in-Some-Replay-clause-table : goal.returns-in-Some-Replay-clause-table
 returns-in-Some-Replay-clause-table g c =
     let run = c.drive-in-Some-Replay in
-    table_of replay_rules [] Replay (λ P p. p) (shape_of c.args.words.now) (cc (c.in-Some-Replay.ensures.shape, c.in-Some-Replay.field-0-is))
+    table_of replay_rules [] Replay (λ P p. p) (shape_of c.args.words.now)
+    (cc (c.in-Some-Replay.ensures.shape, c.in-Some-Replay.field-0-is))
     _ c.new.ensures run.result _ _ _ _ _ run.ensures.table
 
 pub returns-in-Some-Replay-clause-due : goal.returns-in-Some-Replay-clause-due
@@ -60,7 +61,8 @@ returns-in-Some-Repair-clause-due g c =
 pub returns-in-Some-Margin-clause-table : goal.returns-in-Some-Margin-clause-table
 returns-in-Some-Margin-clause-table g c =
     let run = c.drive-in-Some-Margin in
-    table_of margin_rules [] Margin (λ P p. p) (shape_of c.args.words.now) (cc (c.in-Some-Margin.ensures.shape, c.in-Some-Margin.field-0-is))
+    table_of margin_rules [] Margin (λ P p. p) (shape_of c.args.words.now)
+    (cc (c.in-Some-Margin.ensures.shape, c.in-Some-Margin.field-0-is))
     _ c.new-in-Some-Margin.ensures run.result _ _ _ _ _ run.ensures.table
 
 pub returns-in-Some-Margin-clause-due : goal.returns-in-Some-Margin-clause-due
@@ -74,7 +76,8 @@ returns-in-Some-End-clause-table g c =
     let run = c.drive-in-Some-End in
     let side = c.in-Some-End.side in
     let tsc = c.in-Some-End.tsc in
-    table_of end_rules (idle (role_of side) tsc) (End side tsc) (λ P p. p) (shape_of c.args.words.now) (cc (c.in-Some-End.ensures.shape, c.in-Some-End.field-0-is))
+    table_of end_rules (idle (role_of side) tsc) (End side tsc) (λ P p. p) (shape_of c.args.words.now)
+    (cc (c.in-Some-End.ensures.shape, c.in-Some-End.field-0-is))
     _ c.new-in-Some-End.ensures.start run.result _ _ _ _ _ run.ensures.table
 
 pub returns-in-Some-End-clause-due : goal.returns-in-Some-End-clause-due
@@ -82,5 +85,6 @@ returns-in-Some-End-clause-due g c =
     let run = c.drive-in-Some-End in
     let side = c.in-Some-End.side in
     let tsc = c.in-Some-End.tsc in
-    due_of end_rules (idle (role_of side) tsc) (End side tsc) (λ P p. p) (shape_of c.args.words.now) (cc (c.in-Some-End.ensures.shape, c.in-Some-End.field-0-is))
+    due_of end_rules (idle (role_of side) tsc) (End side tsc) (λ P p. p) (shape_of c.args.words.now)
+    (cc (c.in-Some-End.ensures.shape, c.in-Some-End.field-0-is))
     _ c.new-in-Some-End.ensures.start run.result end_is_determined _ _ _ run.ensures.due

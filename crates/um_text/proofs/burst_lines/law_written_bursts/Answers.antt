@@ -4,7 +4,8 @@ use Rattle.um_block.specs.Received.{softened}
 use Rattle.um_text.specs.declared.burst_lines.BurstLine.TheVariants.{Normal, Access, Sync}
 use Rattle.um_text.specs.BurstLines.{BurstMeans}
 use Rattle.um_text.specs.WrittenBursts.{IsWholeLine}
-use Rattle.um_text.proofs.WrittenBursts.{normal_line, normal_restored, normal_whole, access_line, access_restored, access_whole, sync_line, sync_restored, sync_whole}
+use Rattle.um_text.proofs.WrittenBursts.{normal_line, normal_restored, normal_whole, access_line, access_restored, access_whole}
+use Rattle.um_text.proofs.WrittenBursts.{sync_line, sync_restored, sync_whole}
 use Rattle.um_text.proofs.burst_lines.law_written_bursts.Goals as goal
 
 pub returns-clause-normal : goal.returns-clause-normal

@@ -9,7 +9,8 @@ use Rattle.lapdm_end.specs.Parts.{EndValues, values_of, said_by, AreOfAnEnd, Are
 use Rattle.lapdm_end.proofs.PartsOfEnds.{Stands-same_values, in_step, window_of}
 use Rattle.lapdm_end.proofs.Pasts.{stands_for_one}
 use Rattle.lapdm_end.proofs.ends.End.restore.Goals as goal
-use Rattle.lapdm_end.proofs.ends.End.restore.Goals.{then-not-are_in_step-via-then-not-are_in_step, then-not-are_in_step-via-else-not-are_in_step+then-not-restore}
+use Rattle.lapdm_end.proofs.ends.End.restore.Goals.{then-not-are_in_step-via-then-not-are_in_step}
+use Rattle.lapdm_end.proofs.ends.End.restore.Goals.{then-not-are_in_step-via-else-not-are_in_step+then-not-restore}
 
 stepped : (x : EndValues) → AreOfAnEnd x → AreInStep x
 stepped x h = subst AreInStep h.1.values (in_step h.1.end h.0 h.1.stands)

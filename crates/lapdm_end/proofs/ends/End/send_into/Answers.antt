@@ -12,7 +12,8 @@ returns-clause-follows c e h =
     let open_now : c.args.self.now.state ≡ Open = search rules in
     let runs : Runs c.args.self.now.link c.args.self.now.window e = Runs-open open_now h in
     let f : EndState = with_taken c.args.message.now e in
-    let g = c.send_next.ensures.follows f (runs_on c.put.new.self f runs refl refl refl refl (c.in_default.ensures.taken e runs.window)) in (
+    let g = c.send_next.ensures.follows f (runs_on c.put.new.self f runs refl refl refl refl (c.in_default.ensures.taken e runs.window))
+    in (
       Stands-open _ open_now h.kept (bare_of h) g,
       Does-open c.clear.ensures.frames c.clear.ensures.notices
           h.link.channel g,

@@ -6,7 +6,8 @@ use Rattle.lapdm_window.specs.Answers.{after_timer}
 use Rattle.lapdm_window.specs.Standing as W
 use Rattle.lapdm_end.specs.Windows.{Runs}
 use Rattle.lapdm_end.proofs.Giving.{runs_on}
-use Rattle.lapdm_end.proofs.Moves.{as_outcome, in_state, Runs-open, Stands-open, Does-open, bare_of, is_spent, IsAgain, is_again, ticks-closes, ticks-open}
+use Rattle.lapdm_end.proofs.Moves.{as_outcome, in_state, Runs-open, Stands-open, Does-open, bare_of, is_spent, IsAgain, is_again}
+use Rattle.lapdm_end.proofs.Moves.{ticks-closes, ticks-open}
 use Rattle.lapdm_end.proofs.ends.End.tick_open.Goals as goal
 
 pub returns-in-Spent-clause-follows : goal.returns-in-Spent-clause-follows

@@ -1,4 +1,5 @@
-use Rattle.std.proofs.Common.{◌≡◌, ◌≢◌, refl, sym, ◌∙◌, ap, subst, arith, ◌+◌, List, [], true, false, length, drop, slice_index_or, Some}
+use Rattle.std.proofs.Common.{◌≡◌, ◌≢◌, refl, sym, ◌∙◌, ap, subst, arith, ◌+◌, List, [], true, false, length, drop}
+use Rattle.std.proofs.Common.{slice_index_or, Some}
 use Rattle.std.proofs.lemmas.List.{length-drop}
 use Rattle.std.proofs.lemmas.List.Elements.{All-same, All-drop}
 use Rattle.lapdm_frame.specs.Layout.{n201}
@@ -10,7 +11,9 @@ use Rattle.lapdm_window.specs.Standing.{Holds}
 use Rattle.lapdm_window.proofs.Numbers.{one_sent, capped-more}
 use Rattle.lapdm_window.proofs.FirstPieces.{goes_on, ends}
 use Rattle.lapdm_window.proofs.Counting.{wholly_acked-more, wholly_acked-last}
-use Rattle.lapdm_window.proofs.Moves.{IsFirst, IsNext, next_is, KeepsWindow-acked, Holds-more, Holds-last, acknowledges-not_waiting, acknowledges-other, acknowledges-waiting, counts-nothing, counts-something, acked_by-piece, acked_by-message, acked-waits, Stands-same}
+use Rattle.lapdm_window.proofs.Moves.{IsFirst, IsNext, next_is, KeepsWindow-acked, Holds-more, Holds-last, acknowledges-not_waiting}
+use Rattle.lapdm_window.proofs.Moves.{acknowledges-other, acknowledges-waiting, counts-nothing, counts-something, acked_by-piece}
+use Rattle.lapdm_window.proofs.Moves.{acked_by-message, acked-waits, Stands-same}
 use Rattle.lapdm_window.proofs.window.Window.on_ack.Goals as goal
 use Rattle.lapdm_window.proofs.window.Window.on_ack.Goals.{then-self-via-then-self, then-self-via-else-self+then-nr-self}
 

@@ -1,4 +1,5 @@
-use Rattle.std.proofs.Common.{◌≡◌, ◌≢◌, refl, sym, ◌∙◌, ap, subst, arith, ℕ, ◌+◌, ◌%◌, ◌≤◌, ◌⊎◌, inl, inr, length, map}
+use Rattle.std.proofs.Common.{◌≡◌, ◌≢◌, refl, sym, ◌∙◌, ap, subst, arith, ℕ, ◌+◌, ◌%◌, ◌≤◌, ◌⊎◌}
+use Rattle.std.proofs.Common.{inl, inr, length, map}
 use Rattle.std.proofs.lemmas.Bool.{false≢true}
 use Rattle.segmenting.specs.Parts.{JoinerValues}
 use Rattle.segmenting.specs.Rooms.{octets_in}
@@ -6,7 +7,8 @@ use Rattle.lapdm_window.specs.declared.window.Window.{Window}
 use Rattle.lapdm_window.specs.Parts.{WindowValues, values_of, said_by, AreOfAWindow, AreInStep}
 use Rattle.lapdm_window.proofs.Parts.{in_step, stands_for_one}
 use Rattle.lapdm_window.proofs.window.Window.restore.Goals as goal
-use Rattle.lapdm_window.proofs.window.Window.restore.Goals.{then-not-are_in_step-via-then-not-are_in_step, then-not-are_in_step-via-else-not-are_in_step+then-not-restore}
+use Rattle.lapdm_window.proofs.window.Window.restore.Goals.{then-not-are_in_step-via-then-not-are_in_step}
+use Rattle.lapdm_window.proofs.window.Window.restore.Goals.{then-not-are_in_step-via-else-not-are_in_step+then-not-restore}
 
 stepped : (x : WindowValues) → AreOfAWindow x → AreInStep x
 stepped x h = subst AreInStep h.1.values (in_step h.1.window h.0 h.1.stands)

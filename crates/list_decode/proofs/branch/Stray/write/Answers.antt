@@ -1,4 +1,5 @@
-use Rattle.std.proofs.Common.{arith, ◌≡◌, ◌+◌, ◌-◌, ◌≤◌, ◌++◌, ◌∷◌, take, drop, get_or, length, ap, sym, ◌∙◌}
+use Rattle.std.proofs.Common.{arith, ◌≡◌, ◌+◌, ◌-◌, ◌≤◌, ◌++◌, ◌∷◌, take, drop, get_or, length, ap, sym}
+use Rattle.std.proofs.Common.{◌∙◌}
 use Rattle.trellis_decode.specs.Trellis.{next, read_out}
 use Rattle.list_decode.specs.Passes.{rows_of}
 use Rattle.list_decode.proofs.Losses.{reached_more}

@@ -1,4 +1,5 @@
-use Rattle.std.proofs.Common.{arith, rules, ◌≡◌, ◌/◌, ◌%◌, ◌^◌, ◌+◌, ◌*◌, ◌<◌, ℤ, [], pos, length, get_or, ap, ◌∙◌, to_z, of_z, w16, w32, FitsSigned}
+use Rattle.std.proofs.Common.{arith, rules, ◌≡◌, ◌/◌, ◌%◌, ◌^◌, ◌+◌, ◌*◌, ◌<◌, ℤ, [], pos, length, get_or}
+use Rattle.std.proofs.Common.{ap, ◌∙◌, to_z, of_z, w16, w32, FitsSigned}
 use Rattle.std.proofs.lemmas.Int.{ints, to_z-of_z}
 use Rattle.std.proofs.lemmas.Nat.{and_mask}
 use Rattle.list_decode.proofs.Losses.{best_kept, best_taken, read_more}

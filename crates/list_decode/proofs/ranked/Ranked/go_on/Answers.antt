@@ -1,4 +1,5 @@
-use Rattle.std.proofs.Common.{arith, rules, ◌≡◌, ◌<◌, ◌++◌, ◌∷◌, [], inr, length, refl, ap, ◌∙◌, subst, w32, FitsSigned}
+use Rattle.std.proofs.Common.{arith, rules, ◌≡◌, ◌<◌, ◌++◌, ◌∷◌, [], inr, length, refl, ap, ◌∙◌, subst, w32}
+use Rattle.std.proofs.Common.{FitsSigned}
 use Rattle.std.proofs.lemmas.Int.{to_z-of_z}
 use Rattle.conv_code.specs.Code.{coded}
 use Rattle.conv_code.specs.Likelihood.{likelihood}

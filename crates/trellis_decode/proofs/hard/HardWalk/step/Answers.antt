@@ -14,9 +14,12 @@ returns-clause-walk c pair has after soft =
     let ones = c.one_ways-one.result.lanes in
     let better = c.larger_lanes.result.lanes in
     IsWalk-more after (hard_worths values) (hard_worths better) pair soft c.args.self.map c.followed_lanes.result
-    (bit_of values edges pair has zeros ones better c.zero_ways-zero.ensures.each c.one_ways-one.ensures.each c.larger_lanes.ensures.each) has.count
-    (hard_chosen values edges pair has zeros ones better c.zero_ways-zero.ensures.each c.one_ways-one.ensures.each c.larger_lanes.ensures.each)
-    (λ s lt. c.followed_lanes.ensures.each (place s) (inside s lt) ∙ followed_place c.args.self.map (lane zeros (place s)) (lane ones (place s)) s lt)
+    (bit_of values edges pair has zeros ones better c.zero_ways-zero.ensures.each c.one_ways-one.ensures.each
+    c.larger_lanes.ensures.each) has.count
+    (hard_chosen values edges pair has zeros ones better c.zero_ways-zero.ensures.each c.one_ways-one.ensures.each
+    c.larger_lanes.ensures.each)
+    (λ s lt. c.followed_lanes.ensures.each (place s) (inside s lt) ∙ followed_place c.args.self.map (lane zeros (place s))
+    (lane ones (place s)) s lt)
 
 pub returns-clause-within : goal.returns-clause-within
 returns-clause-within c pair has octets most =
@@ -26,5 +29,7 @@ returns-clause-within c pair has octets most =
     let ones = c.one_ways-one.result.lanes in
     let better = c.larger_lanes.result.lanes in
     AreWithin-more (hard_worths values) (hard_worths better) pair most
-    (bit_of values edges pair has zeros ones better c.zero_ways-zero.ensures.each c.one_ways-one.ensures.each c.larger_lanes.ensures.each) has.count octets
-    (hard_chosen values edges pair has zeros ones better c.zero_ways-zero.ensures.each c.one_ways-one.ensures.each c.larger_lanes.ensures.each)
+    (bit_of values edges pair has zeros ones better c.zero_ways-zero.ensures.each c.one_ways-one.ensures.each
+    c.larger_lanes.ensures.each) has.count octets
+    (hard_chosen values edges pair has zeros ones better c.zero_ways-zero.ensures.each c.one_ways-one.ensures.each
+    c.larger_lanes.ensures.each)

@@ -15,7 +15,8 @@ gaps-high-requires-clause-near c =
     high_near c.args.after.even.lanes c.args.after.odd.lanes c.args.edges.lanes c.new-step.result.ways c.new-step.ensures.ways
     c.requires.close c.requires.edges
 
-leads : (c : After-by_state-leads) → AreLeads c.args.after.even.lanes c.args.after.odd.lanes c.args.edges.lanes c.by_state-leads.result.lanes
+leads : (c : After-by_state-leads) → AreLeads c.args.after.even.lanes c.args.after.odd.lanes c.args.edges.lanes
+    c.by_state-leads.result.lanes
 leads c = leads_are c.args.after.even.lanes c.args.after.odd.lanes c.args.edges.lanes c.new-step.result.ways c.new-step.ensures.ways
     c.requires.close c.requires.edges
     c.gaps-low.result.lanes c.gaps-high.result.lanes c.by_state-leads.result.lanes

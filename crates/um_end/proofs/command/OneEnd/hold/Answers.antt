@@ -1,4 +1,5 @@
-use Rattle.std.proofs.Common.{◌≡◌, Bool, ℕ, ℤ, ◌<◌, List, [], ◌∷◌, ◌++◌, length, inl, inr, refl, sym, ap, ◌∙◌, subst, rules, arith}
+use Rattle.std.proofs.Common.{◌≡◌, Bool, ℕ, ℤ, ◌<◌, List, [], ◌∷◌, ◌++◌, length, inl, inr, refl, sym, ap}
+use Rattle.std.proofs.Common.{◌∙◌, subst, rules, arith}
 use Rattle.lapdm_window.specs.Ends.{Role}
 use Rattle.um_text.specs.Held.{Holds}
 use Rattle.um_air.specs.Air.{Does}

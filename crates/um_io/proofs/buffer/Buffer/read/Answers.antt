@@ -1,4 +1,5 @@
-use Rattle.std.proofs.Common.{◌≤◌, ◌≡◌, ◌++◌, ◌+◌, ℕ, List, take, length, sym, ap, subst, ◌∙◌, arith, slice_range}
+use Rattle.std.proofs.Common.{◌≤◌, ◌≡◌, ◌++◌, ◌+◌, ℕ, List, take, length, sym, ap, subst, ◌∙◌, arith}
+use Rattle.std.proofs.Common.{slice_range}
 use Rattle.std.proofs.lemmas.List.Edits.{length-between}
 use Rattle.um_io.specs.Lines.{IsLine}
 use Rattle.um_io.specs.declared.buffer.Buffer.{Buffer}
