@@ -33,6 +33,11 @@ prove:
 dist:
 	tools/release
 
+## make crate      packs the Rust crate um-gsm with the libraries of dist/, below bindings/rust/target/package
+crate:
+	@for arch in x86_64 aarch64; do install -D -m 644 dist/$$arch-linux/libum.a bindings/rust/lib/$$arch-linux/libum.a || exit 1; done
+	cd bindings/rust && cargo package --allow-dirty
+
 ## make install    installs below PREFIX (/usr/local), LIBDIR (PREFIX/lib) and DESTDIR: program, manual page, libraries, headers,
 ##                 pkg-config, CMake, Python module, completion. FROM names the folder of the built files (dist/ARCH-linux)
 install:
@@ -76,4 +81,4 @@ uninstall:
 packages:
 	packaging/packages out/packages
 
-.PHONY: help check prove dist install uninstall packages
+.PHONY: crate help check prove dist install uninstall packages

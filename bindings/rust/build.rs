@@ -1,16 +1,17 @@
-//! Links libum.a: from the folder that UM_LIB names, or from lib/ARCH-linux of this crate, which in the repository is a link to
-//! dist/ARCH-linux and in a packed crate the file itself.
+//! Links libum.a: from the folder that UM_LIB names, from lib/ARCH-linux of a packed crate, or from dist/ARCH-linux of the repository.
 use std::{env, path::Path, process::exit};
 
 fn main() {
     println!("cargo:rerun-if-env-changed=UM_LIB");
     let target = env::var("TARGET").expect("cargo names the target");
     let system = env::var("CARGO_CFG_TARGET_OS").unwrap_or_default();
+    // the library needs memcpy, memmove and memset alone, so that one does for every C library of a processor
+    let arch = target.split('-').next().unwrap_or_default();
+    let here = env::var("CARGO_MANIFEST_DIR").expect("cargo names the crate's folder");
     let folder = env::var("UM_LIB").unwrap_or_else(|_| {
-        // the library needs memcpy, memmove and memset alone, so that one does for every C library of a processor
-        let arch = target.split('-').next().unwrap_or_default();
-        let here = env::var("CARGO_MANIFEST_DIR").expect("cargo names the crate's folder");
-        format!("{here}/lib/{arch}-{system}")
+        let packed = format!("{here}/lib/{arch}-{system}");
+        let released = format!("{here}/../../dist/{arch}-{system}");
+        if Path::new(&packed).exists() { packed } else { released }
     });
     let library = |name: &str| format!("{folder}/lib{name}.a");
     let Some(name) = ["um", "um_c"].into_iter().find(|name| Path::new(&library(name)).exists()) else {
