@@ -130,6 +130,7 @@ impl HeldBursts {
 }
 
 /// Reads a line as `parse_burst` does, and writes the soft values of a normal burst straight to their place.
+#[inline(always)]
 pub fn read_burst_into(line: &[u8], held: &mut HeldBursts) -> Result<NextBurst, LineFault>
     ensures means { IfOk result (λ next. (meaning : Meaning) × BurstMeans (length held.old.held) line.now meaning
         × Brings held.old meaning next held.new) }
@@ -137,9 +138,20 @@ pub fn read_burst_into(line: &[u8], held: &mut HeldBursts) -> Result<NextBurst, 
     ensures soft { IfOk result BringsSoft }
     ensures kept { OnErr result (held.new.held ≡ held.old.held) }
 {
-    if let Some(digits) = normal_digits(line) {
-        return Ok(next_normal(held.add_hard(digits)));
+    match normal_digits(line) {
+        Some(digits) => Ok(next_normal(held.add_hard(digits))),
+        None => read_soft_into(line, held),
     }
+}
+
+#[inline(never)]
+fn read_soft_into(line: &[u8], held: &mut HeldBursts) -> Result<NextBurst, LineFault>
+    ensures means { IfOk result (λ next. (meaning : Meaning) × BurstMeans (length held.old.held) line.now meaning
+        × Brings held.old meaning next held.new) }
+    ensures refused { result_err result ≡ burst_fault (length held.old.held) line.now }
+    ensures soft { IfOk result BringsSoft }
+    ensures kept { OnErr result (held.new.held ≡ held.old.held) }
+{
     match normal_octets(line) {
         Some(octets) => Ok(next_normal(held.add_soft(&octets))),
         None => read_other_into(line, held),

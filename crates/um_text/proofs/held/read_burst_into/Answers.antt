@@ -1,9 +1,5 @@
-use Rattle.std.proofs.Common.{ℕ, List, length, sym, subst}
-use Rattle.bit_blocks.specs.SoftValues.{AllSoft}
-use Rattle.um_text.specs.declared.burst_lines.BurstLine.TheVariants.{Normal}
-use Rattle.um_text.specs.BurstLines.{BurstMeans}
-use Rattle.um_text.specs.SoftOctets.{signed_octets}
-use Rattle.um_text.proofs.NormalLines.{hard_line, soft_line, soft_within}
+use Rattle.std.proofs.Common.{length}
+use Rattle.um_text.proofs.NormalLines.{hard_line}
 use Rattle.um_text.proofs.held.read_burst_into.Goals as goal
 
 pub returns-in-Some-clause-means : goal.returns-in-Some-clause-means
@@ -16,23 +12,3 @@ pub returns-in-Some-clause-refused : goal.returns-in-Some-clause-refused
 returns-in-Some-clause-refused c =
     let found = c.in-Some.ensures in
     (hard_line (length c.args.held.now.held) c.args.line.now c.in-Some.digits.now found.line found.each found.many).1
-
-pub add_soft-requires : goal.add_soft-requires
-add_soft-requires c =
-    let (digits, found, are) = c.in-Some-normal_octets.ensures in
-    subst (λ (octets : List ℕ). AllSoft (signed_octets octets)) (sym are) (soft_within c.args.line.now digits found)
-
-pub returns-in-Some-normal_octets-clause-means : goal.returns-in-Some-normal_octets-clause-means
-returns-in-Some-normal_octets-clause-means c =
-    let (digits, found, are) = c.in-Some-normal_octets.ensures in
-    let held = length c.args.held.now.held in (
-      Normal (signed_octets c.in-Some-normal_octets.octets),
-      subst (λ (octets : List ℕ). BurstMeans held c.args.line.now (Normal (signed_octets octets))) (sym are)
-          (soft_line held c.args.line.now digits found).0,
-      (c.add_soft.result, c.next_normal-in-Some-normal_octets.ensures, c.add_soft.ensures),
-    )
-
-pub returns-in-Some-normal_octets-clause-refused : goal.returns-in-Some-normal_octets-clause-refused
-returns-in-Some-normal_octets-clause-refused c =
-    let (digits, found, are) = c.in-Some-normal_octets.ensures in
-    (soft_line (length c.args.held.now.held) c.args.line.now digits found).1
