@@ -1,4 +1,4 @@
-// The view Block: 23 octets, their way to four bursts, the radio path, and what the receiver decides.
+// The view Block: 23 octets, their way to four bursts, the radio path, and the result at the receiver.
 import { soften } from "../bindings/js/um.mjs";
 import { BLOCK, differs, drawnAsSent, encode, noisy } from "./coding.mjs";
 import { $, h, hex, octetsOf, plural, same, save, spaced, valueOf, write } from "./dom.mjs";
@@ -83,7 +83,7 @@ export class BlockView {
 
   #sum() {
     const { report: { wrongCoded }, margin: { margin } } = this.shown;
-    return `The CRC ${this.#crc()[0]}. ${plural(wrongCoded, "coded bit")} wrong against the word decided for; margin ${margin}.`;
+    return `The CRC ${this.#crc()[0]}. ${plural(wrongCoded, "coded bit")} differ from the decoded word; margin ${margin}.`;
   }
 
   #asSent(octets) {
@@ -113,7 +113,7 @@ export class BlockView {
     if (span === 0) return "not needed";
     const turned = word.reduce((count, bit, k) => count + (bit ^ report.word[k]), 0);
     const right = truth && same(word, truth.subarray(0, 224)) ? ": what was sent" : truth ? ": not what was sent" : "";
-    return `${plural(turned, "bit")} turned over in u(${first}) to u(${first + span - 1})${right}`;
+    return `${plural(turned, "bit")} corrected in u(${first}) to u(${first + span - 1})${right}`;
   }
 
   #margin() {
@@ -132,8 +132,8 @@ export class BlockView {
       ["rank", `Rank of the word accepted, of ${this.most} tried`, among.accepted ? String(among.rank) : "none"],
       ["training", "Training sequence heard", `${report.tsc}, with ${report.wrongTraining} of 104 bits wrong`],
       ["metric", "Path metric", `${report.metric} of 57912`],
-      ["wrong", "Wrong coded bits, against the word", `${report.wrongCoded} of 456`],
-      ["unsent", "Wrong coded bits, against what was sent", sent ? `${unsent} of 456` : "unknown of a recording"],
+      ["wrong", "Coded bits that differ from the decoded word", `${report.wrongCoded} of 456`],
+      ["unsent", "Coded bits that differ from what was sent", sent ? `${unsent} of 456` : "unknown in a recording"],
       ["margin", "Margin over the next word", this.#margin()],
       ["repair", "Repair by the CRC", this.#repair()],
     ];

@@ -3,8 +3,8 @@
 
     playground/build.py [--wasm dist/wasm/um.wasm] [OUT.html]
 
-Each module of JavaScript becomes a function whose answer is what it exports, in the order in which they import one another. This script
-and the module stand in the page by gzip, in base64. Standard library only.
+Each module of JavaScript becomes a function whose answer is what it exports, in the order in which they import one another, without
+comments. This script and the module are in the page by gzip, in base64. Standard library only.
 """
 import argparse
 import base64
@@ -15,6 +15,7 @@ import re
 HERE = pathlib.Path(__file__).resolve().parent
 MOST = 110_000
 IMPORT = re.compile(r'^import \{([^}]*)\} from "([^"]+)";\n', re.M)
+COMMENT = re.compile(r"^ *(//[^\n]*|/\*\*.*?\*/)\n", re.M | re.S)
 EXPORT = re.compile(r"^export (?:const|class) ([\w$]+)", re.M)
 
 
@@ -31,7 +32,7 @@ def bundled(path, names):
     names[path] = f"m{len(names)}"
     body = IMPORT.sub(lambda found: f"const {{{found[1]}}} = {names[(path.parent / found[2]).resolve()]};\n", text)
     exports = EXPORT.findall(body)
-    body = re.sub(r"^export ", "", body, flags=re.M)
+    body = COMMENT.sub("", re.sub(r"^export ", "", body, flags=re.M))
     if not exports:
         return f"{before}{body}"
     return f"{before}const {names[path]} = (() => {{\n{body}return {{ {', '.join(exports)} }};\n}})();\n"

@@ -116,7 +116,7 @@ export class FrameView {
     const { um, octets, channel } = this;
     const frame = um.readFrame(octets, channel);
     this.showFrame(frame);
-    write($("f-verdict"), frame.unread ? `No frame: ${frame.unread}. ${WHY[frame.unread]}` : `A frame: ${NAMES[frame.kind]}.`);
+    write($("f-verdict"), frame.unread ? `Not a frame: ${frame.unread}. ${WHY[frame.unread]}` : `A frame: ${NAMES[frame.kind]}.`);
     $("f-verdict").className = frame.unread ? "bad" : "good";
     write($("f-lines"), `${channel === "sdcch" ? `$ um show <<< 'octets ${hex(octets)}'\n` : ""}${frameLine(frame)}`);
     this.#drawOctets(frame);

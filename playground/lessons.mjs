@@ -1,7 +1,7 @@
 // The eight lessons. A step is a view, its state, and a page of text.
 
 const OCTETS = "0100150601020304052b2b2b2b2b2b2b2b2b2b2b2b2b2b";
-const SEVEN = [123, 137, 255, 269, 310, 533, 584]; // where the seven coded bits stand that u(100) goes into
+const SEVEN = [123, 137, 255, 269, 310, 533, 584]; // where the seven coded bits are that depend on u(100)
 const NOISY = { noise: 0, seed: 18 }; // a block whose most likely word is wrong and whose second is the one sent
 
 const OPEN = ["mob open 01", "up deliver", "down deliver"];
@@ -24,25 +24,25 @@ export const LESSONS = [
     about: "From 23 octets to four bursts and back, bit by bit.",
     steps: [
       block({}, `
-        A block is 23 octets, here an I frame of the mobile with five octets of information. Its 184 bits are sent octet by octet,
-        the least significant bit first. 40 bits of CRC follow (a Fire code), by which the receiver tells whether what it decoded
-        is what was sent, and four zeros of tail, which bring the encoder back to its first state.
+        A block is 23 octets. This one is an I frame from the mobile with five octets of information. Its 184 bits are sent octet by
+        octet, least significant bit first. 40 CRC bits follow (a Fire code): they tell the receiver whether it decoded what was sent.
+        Four zero bits, the tail, return the encoder to its first state.
 
-        Point at a data bit, or go into the grid by Tab and move by the arrow keys. The line above the bits says which octet it
-        belongs to, and the seven coded bits that it goes into are lit.`),
+        Point at a data bit, or reach the grid with Tab and move with the arrow keys. The line above the bits says which octet the bit
+        belongs to, and the seven coded bits that depend on it light up.`),
       block({ flips: "3" }, `
-        Each of the 228 bits gives two coded bits, each the sum of bits up to four places back: the convolutional code of rate 1/2
-        and constraint length 5. Interleaving then spreads the 456 coded bits over four bursts: neighbours never stand in the same
-        burst, as the colours of the coded bits show.
+        Each of the 228 bits gives two coded bits. Each coded bit is the sum, modulo 2, of up to four information bits: this is the
+        convolutional code of rate 1/2 and constraint length 5. Interleaving then spreads the 456 coded bits over four bursts.
+        Neighbours are never in the same burst, as the colours show.
 
-        A normal burst has 57 coded bits, a stealing flag, the training sequence of 26 bits (the midamble), a flag, 57 coded bits,
-        and tails. Bit 3 of burst 0 was flipped: see which coded bit it is, and that the word decided for is still the one sent.`),
+        A normal burst has 57 coded bits, a stealing flag, the training sequence of 26 bits (the midamble), another flag, 57 coded bits,
+        and a tail at each end. Here bit 3 of burst 0 is flipped. See which coded bit it is, and that the block is still decoded.`),
       block({ noise: 3, seed: 5 }, `
-        A demodulator gives soft bits: how sure it is of each 0 and 1. Here white Gaussian noise at an Es/N0 of 3 dB was added;
-        pale bits are unsure. The receiver finds the word whose coded bits fit best: its path metric is the sum of the soft bits,
-        each counted for or against. That no other word fits better is proved of this receiver.
+        A demodulator gives soft bits, which say how likely a 0 or a 1 is. Here they have white Gaussian noise at an Es/N0 of 3 dB; pale
+        bits are uncertain. The receiver finds the word whose coded bits match best: its path metric is the sum of the soft bits, each
+        added if it agrees and subtracted if not. It is proved that no other word has a greater metric.
 
-        Move the noise down, and press New noise a few times: first bits are read wrong and put right, then blocks are lost.`),
+        Lower the Es/N0 and press New noise a few times. First, wrong bits are corrected; later, blocks are lost.`),
     ],
   },
   {
@@ -50,98 +50,95 @@ export const LESSONS = [
     about: "Why three wrong bits never harm a block, and which four do.",
     steps: [
       block(flips(3), `
-        Any two words differ in at least seven coded bits. So with at most three wrong bits, and all bits equally sure, the word
-        sent is always nearer than every other: it is decided for, wherever the three bits are. That is proved.
+        Any two words differ in at least seven coded bits. So if at most three bits are wrong and all are equally certain, the word that
+        was sent is closer than any other, wherever the three bits are. That is proved.
 
-        Here three of the seven coded bits of u(100) are flipped. The margin, by which the word fits better than the next one, has
-        gone from 1778 (seven bits of 254) to 254: one bit.`),
+        Here three of the seven coded bits that depend on u(100) are flipped. The margin over the next word has fallen from 1778, which
+        is seven bits of 254, to 254, which is one bit.`),
       block(flips(4), `
-        A fourth of the seven bits is flipped, and now another word is nearer: the one in which u(100) is the other bit. The
-        receiver decides for it, with three wrong coded bits against that word and four against what was sent. Its CRC fails, so
-        the block is not accepted as it stands.
+        Now a fourth of the seven bits is flipped, and another word is closer: the one that differs in u(100) alone. The receiver decodes
+        that word. It differs from the received bits in three places, the word that was sent in four. The CRC fails, so the block is not
+        accepted as it is.
 
-        Two more ways are left. The word of rank 2 is the one sent, and its CRC holds; and the CRC alone finds the wrong bit,
-        since it repairs wrong bits within twelve in a row.`),
+        Two remedies are left. The word of rank 2 is the one that was sent, and its CRC holds. And the CRC alone can correct the word,
+        because the wrong bits are within twelve in a row.`),
       block({ flips: "20.21.22.23.24.25.26.27.28.29.170.171.172.173.174.175" }, `
-        Which bits are wrong matters more than how many. Sixteen are flipped here, in two runs, and the block is received all the
-        same: after deinterleaving they stand far apart.
+        The position of wrong bits matters more than their number. Here sixteen are flipped, in two runs, and the block is decoded:
+        deinterleaving moves neighbours far apart.
 
-        Flip more of them, one at a time, and watch the margin fall.`),
+        Flip more bits, one at a time, and watch the margin fall.`),
     ],
   },
   {
     title: "A lost burst",
-    about: "A quarter of a block is missing, and it is received.",
+    about: "A quarter of a block is missing, and it is decoded.",
     steps: [
       block({ lost: "1" }, `
-        Burst 1 was lost: its 148 bits are unknown, and their soft bits are 0. A value of 0 speaks for no word and against none.
-        The burst carried every fourth coded bit, and the three others suffice.
+        Burst 1 is lost. Its 148 bits are unknown, so their soft bits are 0, which counts neither for nor against any word. The burst
+        carried every fourth coded bit; the other three bursts are enough.
 
-        A soft bit of 0 counts as a wrong one in the report, since nothing was received: 114 of 456. The margin has gone from 1778
-        to 1270.`),
+        The report counts a soft bit of 0 as wrong, because nothing was received: 114 of 456. The margin has fallen from 1778 to 1270.`),
       block({ lost: "1", noise: 4, seed: 3 }, `
-        With a burst lost the margin is smaller, so the noise that the block bears is less. Here Es/N0 is 4 dB. Press New noise
-        several times, and then tick the box of burst 1 off to compare.`),
+        With one burst lost, the margin is smaller, so the block withstands less noise. Here Es/N0 is 4 dB. Press New noise several times.
+        Then clear the box of burst 1 and compare.`),
       block({ lost: "13" }, `
-        Two bursts are lost, and half of the coded bits are unknown. The block is received all the same, but the margin is 508: some
-        other word differs from it in only two of the bits that are left.
+        Two bursts are lost, so half of the coded bits are unknown. The block is still decoded, but the margin is 508: some other word
+        differs in only two of the bits that are left.
 
-        Flip bits of the other bursts: one at the wrong place leaves two words equally likely, and two lose the block.`),
+        Flip bits in the other bursts. One bit at the wrong place makes two words equally likely, and two lose the block.`),
     ],
   },
   {
     title: "When the second word is the right one",
-    about: "The CRC chooses among the likeliest words.",
+    about: "The CRC chooses among the most likely words.",
     steps: [
       block({ ...NOISY, most: 1 }, `
-        At this noise the most likely word is not the one sent: its CRC fails, and most receivers lose the block here. Red bars
-        over the word show the bits that are wrong.`),
+        At this noise the most likely word is not the one that was sent. Its CRC fails, and an ordinary receiver loses the block. The red
+        bars above the decoded word mark its wrong bits.`),
       block(NOISY, `
-        This receiver goes on: it tries the words in the order of their likelihood, up to 64 of them, and accepts the first whose
-        CRC holds. Here it is the second. That no word with a good CRC fits better is proved.
+        This receiver continues: it tries up to 64 words, the most likely first, and accepts the first whose CRC holds. Here that is the
+        second. It is proved that no word with a valid CRC fits better.
 
-        How far apart are the two? The margin says by how much the first fits better than the second; it is small.`),
+        The margin tells how close the decision was: the first word fits only a little better than the second.`),
       block({ ...NOISY, noise: -1 }, `
-        A wrong word's CRC of 40 bits holds by chance once in 2^40 tries, so 64 tries cost next to nothing in certainty. With more
-        noise no word among 64 holds. Press New noise: how often is a block accepted, and at which rank?`),
+        The 40 bits of CRC of a wrong word hold by chance once in 2^40 tries, so 64 tries cost almost no certainty. With more noise, none
+        of the 64 words may have a valid CRC. Press New noise: how often is a block accepted, and at which rank?`),
     ],
   },
   {
     title: "Contention of two mobiles",
-    about: "Two mobiles take the same channel, and one learns that it is not meant.",
+    about: "Two mobiles use the same channel, and one of them learns that it is not its own.",
     steps: [
       link(["rival 02", "mob open 01"], {}, `
-        Two mobiles asked for a channel by the same access burst, and both think that the answer was theirs. Each sends a SABM
-        with information that tells it apart: 02 and 01. Both are on their way; the other mobile's comes first.
+        Two mobiles sent the same channel request, and both believe that the answer was theirs. Each sends a SABM with information that
+        identifies it: 02 and 01. Both blocks are on the air; the other mobile's is first.
 
-        Press Deliver under On the air, to the network.`),
+        Press Deliver under "On the air, to the network".`),
       link(["rival 02", "mob open 01", "up deliver"], {}, `
-        The network opened the link by 02, and its UA carries that information back. This is contention resolution: whoever reads
-        the UA compares. Deliver the block that is on its way to the mobile.`),
+        The network opened the link for 02, and its UA carries that information back. This is contention resolution: each mobile compares
+        the information in the UA with its own. Deliver the UA to the mobile.`),
       link(["rival 02", "mob open 01", "up deliver", "down deliver", "up deliver"], {}, `
-        The UA says 02 and the mobile had sent 01: it closes, with the reason contention, and tries again on another channel. Its
-        own SABM reached the network later, and was ignored, since the link was open for another mobile.
+        The UA says 02, and this mobile sent 01. It closes with the reason contention, and would ask for another channel. Its own SABM
+        reached the network later and was ignored, because the link was open for the other mobile.
 
-        Let the network send a message now: the mobile, closed, answers DM.`),
+        Let the network send a message now: this mobile is closed and answers DM.`),
     ],
   },
   {
     title: "A lost acknowledgement",
-    about: "A frame goes out twice, and its message is handed up once.",
+    about: "A frame is sent twice, and its message is delivered once.",
     steps: [
       link(HELLO, {}, `
-        The link is open, and the mobile's message arrived in one I frame. The network handed it up and answered RR with N(R) = 1:
-        the frame expected next has N(S) = 1. The RR is on its way. Press Lose under On the air, to the mobile.`),
+        The link is open, and the mobile's message arrived in one I frame. The network delivered it and answered RR with N(R) = 1, the
+        number that it expects next. The RR is on the air. Press Lose under "On the air, to the mobile".`),
       link([...HELLO, "down lose"], {}, `
-        The acknowledgement is lost. The mobile cannot know whether its frame or the answer was lost. T200 runs; when it expires
-        the frame goes out again, now with P = 1, so that an answer has to come. Press T200 expires at the mobile, and deliver the
-        frame.`),
+        The acknowledgement is lost. The mobile cannot know whether its frame or the answer was lost. When T200 expires, it repeats the
+        frame with P = 1, which demands an answer. Press "T200 expires" at the mobile, and deliver the frame.`),
       link([...HELLO, "down lose", "mob tick", "up deliver"], {}, `
-        The network expected N(S) = 1 and got 0 again. It drops the information and answers REJ with F = 1 and N(R) = 1. The
-        message was handed up once.
+        The network expected N(S) = 1 and received 0 again. It discards the information and answers REJ with F = 1 and N(R) = 1. The
+        message was delivered once.
 
-        Deliver the REJ: its N(R) acknowledges the message. See the table of what is claimed: taken 1, handed up 1, acknowledged
-        1.`),
+        Deliver the REJ: its N(R) acknowledges the message. The table of claims says: accepted 1, delivered 1, acknowledged 1.`),
     ],
   },
   {
@@ -149,33 +146,32 @@ export const LESSONS = [
     about: "Both ends ask for the link of short messages at once.",
     steps: [
       link([...OPEN, ...SAPI3.slice(0, 2)], {}, `
-        The link of SAPI 0 is open. A link of its own, with SAPI 3, carries short messages, and either end may ask for it. Here
-        both did, and two SABM frames cross. Without a rule each end would wait for a UA while it refuses the other's SABM.
-        Deliver both.`),
+        The link of SAPI 0 is open. Short messages use another link, SAPI 3, and either end may open it. Here both sent a SABM at once,
+        and the two cross on the air. Deliver both.`),
       link([...OPEN, ...SAPI3], {}, `
-        Each end got a SABM while its own awaits an answer, and answers UA. Deliver the two UA frames: the link opens, once at
+        Each end received a SABM while it waits for the answer to its own, and answers UA. Deliver both UA frames: the link opens, once at
         each end.`),
       link([...OPEN, ...SAPI3, "up deliver", "down deliver", "net3 send 736d73"], {}, `
-        The link of SAPI 3 is open, and a message is on its way beside whatever SAPI 0 does: each link has its own V(S), V(R) and
-        V(A), its own T200, and its own claims.`),
+        The link of SAPI 3 is open, and a message is on the air. Each link has its own V(S), V(R) and V(A), its own T200, and its own
+        claims; SAPI 0 is not affected.`),
     ],
   },
   {
     title: "What an early T200 does",
-    about: "A timer shorter than the way there and back costs frames, but no message.",
+    about: "A timer shorter than the round trip costs frames, but no message.",
     steps: [
       link(EARLY, { t200: 10, delay: 3 }, `
-        A block takes three steps of the clock here, so an answer is back after six. T200 is ten steps. Start the clock: two
-        messages go up, each frame once. Stop it when nothing is on its way.`),
+        Here a block takes three steps of the clock, so a round trip takes six. T200 is ten steps. Start the clock: two messages go to the
+        network, each in one frame. Stop the clock when nothing is on the air.`),
       link(EARLY, { t200: 4, delay: 3 }, `
-        Now T200 is four steps. It expires while the RR is still on its way, and the frame goes out again. Start the clock, and
-        count the frames in the chart: each message costs more of them, and a REJ answers what was not needed.`),
+        Now T200 is four steps. It expires while the RR is still on the air, and the frame is repeated. Start the clock and count the
+        frames in the chart: each message takes more of them, and REJ answers those that were not needed.`),
       link([...OPEN, "mob send 6f6e65", "mob tick", "mob tick", ...Array(3).fill("up deliver"), ...Array(3).fill("down deliver")], {}, `
-        The same by hand: T200 expired twice before anything arrived, so the I frame went out three times. The first is handed up;
-        the two others are dropped and answered REJ. The message was handed up once and acknowledged once.
+        The same by hand: T200 expired twice before anything arrived, so the I frame was sent three times. The first copy is delivered; the
+        other two are discarded and answered with REJ. The message was delivered once and acknowledged once.
 
-        Whatever you lose, delay or damage (three bits of a block at most): each end hands up the first messages that the other
-        took, in order, each once, and what is acknowledged was handed up before. That is proved of every session.`),
+        Lose or delay any block, or damage up to three of its bits: each end still delivers a prefix of the messages that the other end
+        accepted, each once, and whatever is acknowledged was delivered before. That is proved of every session.`),
     ],
   },
 ];

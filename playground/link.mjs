@@ -76,7 +76,7 @@ export class LinkView {
     const rest = [this.#button(`${side}-idle`, "Fill frame", () => `${side} idle`)];
     if (side === "mob") {
       rest.push(...this.#input("rival-info", "information", "02", 6),
-        this.#button("rival", "Another mobile asks", () => `rival ${this.#digits("rival-info")}`, "l-rival-info"));
+        this.#button("rival", "Another mobile sends SABM", () => `rival ${this.#digits("rival-info")}`, "l-rival-info"));
     }
     $(`l-${side}`).append(this.#buildLink(side), this.#buildLink(`${side}3`), h("div", { class: "fields" }, ...rest));
   }
@@ -272,10 +272,10 @@ export class LinkView {
   #drawWay(way) {
     const queue = this.session.air[way];
     const items = queue.map(({ from, label }) => h("li", {}, `${from === "rival" ? "another mobile: " : ""}${label}`));
-    $(`l-${way}-list`).replaceChildren(...(items.length ? items : [h("li", { class: "dim none" }, "nothing on its way")]));
+    $(`l-${way}-list`).replaceChildren(...(items.length ? items : [h("li", { class: "dim none" }, "nothing on the air")]));
     const last = this.chart.arrivals.findLast(({ event }) => event.who === way && !event.lost);
     const click = () => this.#look(last.event, true);
-    const look = h("button", { type: "button", id: `l-${way}-look`, click }, "Look at it as received");
+    const look = h("button", { type: "button", id: `l-${way}-look`, click }, "Show it as received");
     $(`l-${way}-last`).replaceChildren(...(last ? [`Arrived last: ${last.event.block.label} `, look] : []));
   }
 
@@ -285,12 +285,12 @@ export class LinkView {
     $("l-claims").replaceChildren(...used.map((who) => {
       const { taken, handed, acked, front, acknowledged } = this.session.claim(who);
       return h("tr", {}, h("th", { scope: "row" }, `from ${NAMES[who]}`), h("td", {}, String(taken)),
-        says(front, `${handed}${handed ? ": the first taken, in order, each once" : ""}`),
-        says(acknowledged, `${acked}${acked ? ": each handed up before" : ""}`));
+        says(front, `${handed}${handed ? ": a prefix, each once" : ""}`),
+        says(acknowledged, `${acked}${acked ? ": each delivered before" : ""}`));
     }));
     write($("l-air"), this.session.altered
-      ? `${plural(this.session.altered, "block")} passed the CRC with other octets than were sent: of such an air nothing is claimed.`
-      : "Each block was lost, dropped, or accepted as it was sent. Of every such session it is proved that these hold.");
+      ? `${plural(this.session.altered, "block")} passed the CRC with other octets than were sent. Nothing is claimed of such an air.`
+      : "Every block was lost, dropped, or accepted as it was sent. It is proved that the claims hold in every such session.");
   }
 
   // -- the clock --

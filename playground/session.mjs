@@ -72,7 +72,7 @@ export class Session {
   }
 
   #wantRoom(way) {
-    if (this.air[way].length > ROOM - 2) throw new Refused("airfull", `${this.air[way].length} blocks are on their way there already`);
+    if (this.air[way].length > ROOM - 2) throw new Refused("airfull", `${this.air[way].length} blocks are on the air there already`);
   }
 
   #call(event) {
@@ -96,7 +96,7 @@ export class Session {
   #arrive(event) {
     const { who: way, call, places = [] } = event;
     const queue = this.air[way];
-    if (queue.length === 0) throw new Refused("nothing", "no block is on its way there");
+    if (queue.length === 0) throw new Refused("nothing", "no block is on the air there");
     if (call !== "lose") this.#wantRoom("down" === way ? "up" : "down");
     event.block = queue.shift();
     event.lost = call === "lose";
@@ -140,7 +140,7 @@ export class Session {
     }
   }
 
-  /** What is claimed of the messages that an end took, and whether it holds: handed up is a front of taken, acknowledged was handed up. */
+  /** How many messages an end accepted, and of them were delivered and acknowledged; whether delivered is a prefix, each once. */
   claim(who) {
     const { taken, handed, acked } = this.claims[who];
     const front = handed.length <= taken.length && handed.every((message, i) => same(message, taken[i]));

@@ -17,7 +17,8 @@ const KINDS = {
   },
 };
 
-const ABOUT = "Point at a bit, or go to it by the arrow keys, to read where it comes from. In the burst, a click, Space or Enter flips it.";
+const ABOUT = "Point at a bit, or move to it with the arrow keys, to see where it comes from. In the burst, click it or press Space to "
+  + "flip it.";
 
 class SingleBurst {
   constructor(um, name, host, changed) {
@@ -57,13 +58,13 @@ class SingleBurst {
     this.host.append(
       h("div", { class: "cards" },
         card("Sender", h("div", { class: "fields" }, ...info),
-          h("p", { id: this.#id("recorded"), hidden: true }, "A recording stands in place of the sender. ", again)),
+          h("p", { id: this.#id("recorded"), hidden: true }, "A recording replaces the sender. ", again)),
         card("Radio path", h("div", { id: this.#id("path") }),
           ...(this.access ? [h("div", { class: "fields" }, ...this.#input("heard", "BSIC of the receiver", 6))] : []))),
       card("Bits",
         h("div", { class: "about" }, h("p", { id: this.#id("sum"), role: "status" }), h("p", { id: this.#id("about") }, ABOUT)),
-        ...part("The word decided for", "word"), ...part("Its coded bits", "coded"), ...part("The burst as received", "burst")),
-      card("What the receiver decides", h("table", { id: this.#id("report"), class: "report" })),
+        ...part("The decoded word", "word"), ...part("Its coded bits", "coded"), ...part("The burst as received", "burst")),
+      card("Result", h("table", { id: this.#id("report"), class: "report" })),
       h("details", { class: "card" }, h("summary", {}, "The program's lines"), this.program,
         h("button", { type: "button", click: () => save("recording.txt", "text/plain", `${this.recording()}\n`) }, "Save as a recording")),
     );
@@ -89,7 +90,7 @@ class SingleBurst {
     $(this.#id("recorded")).hidden = this.recorded === null;
     this.trace.draw(this.shown);
     const { accepted, wrongCoded } = report;
-    const wrong = `${plural(wrongCoded, "coded bit")} wrong against the word decided for`;
+    const wrong = `${plural(wrongCoded, "coded bit")} differ from the decoded word`;
     write($(this.#id("sum")), `The CRC ${accepted ? "holds" : "fails"}. ${wrong}.`);
     rows($(this.#id("report")), this.#report());
     write(this.program, this.#linesText());
@@ -107,9 +108,9 @@ class SingleBurst {
         right ? "good" : "bad"],
       ["training", "Bits of the training sequence wrong", `${wrongTraining} of ${training}`],
       ["metric", "Path metric", `${metric} of ${most}`],
-      ["wrong", "Wrong coded bits, against the word", `${wrongCoded} of ${at.length}`],
-      ["unsent", "Wrong coded bits, against what was sent", sent ? `${unsent} of ${at.length}` : "unknown of a recording"],
-      ["chance", "The CRC of a wrong word holds by chance", chance],
+      ["wrong", "Coded bits that differ from the decoded word", `${wrongCoded} of ${at.length}`],
+      ["unsent", "Coded bits that differ from what was sent", sent ? `${unsent} of ${at.length}` : "unknown in a recording"],
+      ["chance", "A wrong word has a valid CRC by chance", chance],
     ];
   }
 

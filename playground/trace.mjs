@@ -1,4 +1,4 @@
-// Three grids of bits: the word decided for, its coded bits, and what was received. Each bit says where it comes from, and the bits
+// Three grids of bits: the decoded word, its coded bits, and what was received. Each bit says where it comes from, and the bits
 // that belong together are lit in all three.
 import { BitGrid, softLook } from "./bits.mjs";
 import { differs, sources, sum, targets, wordBit } from "./coding.mjs";
@@ -30,7 +30,7 @@ export class Trace {
       });
     const four = bursts(places.length) === 4;
     this.grids = {
-      word: grid("word", "The word decided for", [{ count: length }], list(length, (k) => wordKind(k, word))),
+      word: grid("word", "The decoded word", [{ count: length }], list(length, (k) => wordKind(k, word))),
       coded: grid("coded", "Coded bits of that word", [{ count: at.length }],
         list(at.length, (k) => (four ? `data burst${k % 4}` : "data"))),
       burst: grid("burst", four ? "Four bursts as received" : "The burst as received",
@@ -40,7 +40,7 @@ export class Trace {
   }
 
   #place(i) {
-    return bursts(this.layout.places.length) === 4 ? `burst ${i / 148 | 0}, bit ${i % 148}` : `bit ${i} of the burst`;
+    return bursts(this.layout.places.length) === 4 ? `bit ${i % 148} of burst ${i / 148 | 0}` : `bit ${i} of the burst`;
   }
 
   #received(i) {
@@ -54,7 +54,7 @@ export class Trace {
     const bsic = word.data === 8 && k >= 8 && k < 14 ? ", with the BSIC added" : "";
     const wrong = truth && truth[k] !== report.word[k] ? `, but ${truth[k]} was sent` : "";
     const into = targets(k, this.length).map((c) => `c(${c})`).join(", ");
-    return `u(${k}), ${wordBit(k, word)}${bsic}: ${report.word[k]}${wrong}. It goes into ${into}.`;
+    return `u(${k}), ${wordBit(k, word)}${bsic}: ${report.word[k]}${wrong}. It is part of ${into}.`;
   }
 
   #burstWords(i) {
@@ -72,7 +72,7 @@ export class Trace {
     if (part === "word") return this.#wordWords(i);
     if (part === "burst") return this.#burstWords(i);
     const place = this.layout.at[i];
-    return `${sum(i)} = ${this.shown.coded[i]}; ${this.#received(place)}. It stands in ${this.#place(place)}.`;
+    return `${sum(i)} = ${this.shown.coded[i]}; ${this.#received(place)}. It is ${this.#place(place)}.`;
   }
 
   /** Lights what belongs to bit i of a grid, and says what it is. */
