@@ -1,5 +1,5 @@
 -- What arrives in a session is received as a codeword that no other beats.
-use Rattle.std.proofs.Common.{ℕ, List, map, Option, Some, None, refl}
+use Rattle.std.proofs.Common.{ℕ, ℤ, List, [], ◌∷◌, ◌++◌, map, Option, Some, None, inl, inr, refl, subst}
 use Rattle.lapdm_frame.specs.Content.{Frame}
 use Rattle.lapdm_frame.specs.declared.Channel.{Channel}
 use Rattle.lapdm_link.specs.Events.{Open, OpenBare, Ask, Deliver, Lose, Rival}
@@ -14,6 +14,10 @@ use Rattle.um_session.specs.Courses.{Tallies}
 use Rattle.um_session.specs.Promises.{IsLinkRun}
 use Rattle.um_cli.specs.Arrivals.{ReceivesBest, ReportsBestArrival, AnswersBest, arrival_rules}
 use Rattle.um_cli.proofs.Headlines.{best_word}
+use Rattle.um_end.specs.EndLines.{Meaning, Nothing, Brings, Calls}
+use Rattle.um_end.specs.EndRuns.{EndRun, AnswersBursts, end_rules}
+use Rattle.um_end.specs.EndRuns as M
+use Rattle.um_cli.specs.Brought as B
 
 receives_best : (a : AirState) (event : Event) (received : Option Received) (read : Option Frame) → Arrives a event received read →
     ReceivesBest a event received
@@ -49,3 +53,34 @@ pub best_arrivals : (tsc : ℕ) (channel : Channel) (status : Status) (left left
 best_arrivals tsc channel status left left' taken taken' before after h =
     weaker_run link_rules arrival_rules arrivals_are_weaker (idle tsc channel) (λ last. Unit {0}) (λ last. Unit {0})
     (λ last stands. stands) status left left' taken taken' h.run
+
+-- ---- at one end by itself
+
+best_bursts : (s : EndRun) (bursts : List (List ℤ)) (text : List ℕ) (after : EndRun) → AnswersBursts s bursts text after →
+    B.AnswersBestBursts s bursts text after
+best_bursts s bursts text after (inl few) = inl few
+best_bursts s bursts text after (inr (four, h)) =
+    inr (four, record { arrived = h; word = best_word bursts h.heard.report h.heard.received })
+
+best_meaning : (s : EndRun) (meaning : Meaning) (text : List ℕ) (after : EndRun) → M.AnswersMeaning s meaning text after →
+    B.AnswersBest s meaning text after
+best_meaning s Nothing text after h = h
+best_meaning s (Brings soft) text after h = best_bursts s (s.held ++ soft ∷ []) text after h
+best_meaning s (Calls event) text after h = h
+
+brought_are_weaker : IsWeaker end_rules B.brought_rules
+brought_are_weaker = record {
+  fault = λ s line. refl;
+  end_fault = λ s. refl;
+  step = λ s after line text (meaning, means, h). (meaning, means, best_meaning s meaning text after h);
+}
+
+pub best_brought : (begun : EndRun) {start : EndRun} → start ≡ begun → (Stands : EndRun → Type 0) (status : Status)
+    (left left' taken taken' : Option (List ℕ)) → IsRun end_rules start Stands status left left' taken taken' →
+    IsRun B.brought_rules begun (λ last. Unit {0}) status left left' taken taken'
+best_brought begun {start} same Stands status left left' taken taken' run =
+    subst (λ a. IsRun B.brought_rules a (λ last. Unit {0}) status left left' taken taken') same
+    (weaker_run end_rules B.brought_rules brought_are_weaker start Stands (λ last. Unit {0}) (λ last stands. tt) status left left'
+    taken taken' run) =
+    weaker_run end_rules B.brought_rules brought_are_weaker begun Stands (λ last. Unit {0}) (λ last stands. tt) status left left'
+    taken taken' run

@@ -40,6 +40,9 @@ module _ {State : Type 0} (r : Rules State) (begun : State) (s : Shape) (is : (P
   same : (t : Shape) → found ≡ Some t → s ≡ t
   same t k = cc (named, k)
 
+  pub at_shape : (P : Shape → Type 0) → P s → (t : Shape) → found ≡ Some t → P t
+  at_shape P p t k = subst P (same t k) p
+
   pub table_of : (Stands : State → Type 0) (left left' taken taken' : Option (List ℕ)) →
       IsRun r start Stands status left left' taken taken' →
       (t : Shape) → found ≡ Some t → IsTable t status left left' taken taken'

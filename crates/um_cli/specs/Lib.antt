@@ -13,3 +13,4 @@ pub use Rattle.um_driver.specs.Table
 pub use Rattle.um_driver.specs.Outputs
 pub use Rattle.um_driver.specs.Rules
 pub mod Arrivals
+pub mod Brought

@@ -2,6 +2,7 @@
 ghost use Rattle.std.specs.Prelude.{◌≡◌, ◌↔◌, ℕ, Some, None, []};
 ghost use Rattle.um_driver.specs.Table.{IsRun, HasCause};
 ghost use Rattle.um_cli.specs.Arrivals.{arrival_rules};
+ghost use Rattle.um_cli.specs.Brought.{brought_rules};
 ghost use Rattle.um_cli.specs.Headline.{headline_rules};
 ghost use Rattle.um_cli.specs.Make.{IsMakeRun};
 ghost use Rattle.um_cli.specs.Machines.{IsTable, IsDueEnd, OneOutput};
@@ -10,6 +11,9 @@ ghost use Rattle.um_cli.specs.Shapes.{shape_of, Fits, IsSilent};
 ghost use Rattle.um_session.specs.Promises.{IsLinkRun};
 ghost use Rattle.um_session.specs.Sessions.{idle};
 ghost use Rattle.lapdm_frame.specs.declared.Channel.{Channel as ChannelOf};
+ghost use Rattle.um_link.specs.declared.events.End.{End as SideOf};
+ghost use Rattle.um_link.specs.Naming.{role_of};
+ghost use Rattle.um_end.specs.EndRuns.{idle as idle_end};
 
 use crate::code::Code;
 use crate::link::run_link;
@@ -60,6 +64,11 @@ pub fn run<S: Source, K: Sink, R: Radio>(
     // parity holds.
     ensures arrivals { (tsc : ℕ) (channel : ChannelOf) → shape_of words.now ≡ Some (Shape.Link tsc channel) →
         IsRun arrival_rules (idle tsc channel) (λ _. Unit {0}) result
+        (S.left input.old) (S.left input.new) (K.taken output.old) (K.taken output.new) }
+
+    // So is each block whose bursts `end` reads.
+    ensures brought { (side : SideOf) (tsc : ℕ) → shape_of words.now ≡ Some (Shape.End side tsc) →
+        IsRun brought_rules (idle_end (role_of side) tsc) (λ _. Unit {0}) result
         (S.left input.old) (S.left input.new) (K.taken output.old) (K.taken output.new) }
 
     // What `code` writes, `replay` restores.

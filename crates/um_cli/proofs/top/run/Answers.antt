@@ -1,4 +1,8 @@
-use Rattle.std.proofs.Common.{[], refl}
+use Rattle.std.proofs.Common.{[], refl, ℕ, List, Option, subst}
+use Rattle.um_driver.specs.Table.{IsRun}
+use Rattle.um_driver.specs.declared.status.Status.{Status}
+use Rattle.um_cli.specs.Brought.{brought_rules}
+use Rattle.um_cli.specs.declared.words.Shape.{Shape}
 use Rattle.um_cli.specs.Replay.{replay_rules}
 use Rattle.um_cli.specs.Code.{code_rules}
 use Rattle.um_cli.specs.Show.{show_rules}
@@ -14,8 +18,14 @@ use Rattle.um_end.proofs.EndRules.{end_is_determined}
 use Rattle.um_cli.proofs.CodeRules.{code_is_determined}
 use Rattle.um_cli.proofs.ReplayRules.{replay_is_determined}
 use Rattle.um_cli.proofs.ShowRules.{show_is_determined}
-use Rattle.um_cli.proofs.Tops.{table_of, due_of, restores, replay_headline}
+use Rattle.um_cli.proofs.Tops.{table_of, due_of, at_shape, restores, replay_headline}
+use Rattle.um_cli.proofs.Arriving.{best_brought}
 use Rattle.um_cli.proofs.top.run.Goals as goal
+
+abbrev IsBrought : Shape → Status → (left left' taken taken' : Option (List ℕ)) → Type 0
+IsBrought (End side tsc) status left left' taken taken' =
+    IsRun brought_rules (idle (role_of side) tsc) (λ last. Unit {0}) status left left' taken taken'
+IsBrought shape status left left' taken taken' = Unit {0}
 
 pub returns-in-Some-Code-clause-due : goal.returns-in-Some-Code-clause-due
 returns-in-Some-Code-clause-due g c =
@@ -88,3 +98,13 @@ returns-in-Some-End-clause-due g c =
     due_of end_rules (idle (role_of side) tsc) (End side tsc) (λ P p. p) (shape_of c.args.words.now)
     (cc (c.in-Some-End.ensures.shape, c.in-Some-End.field-0-is))
     _ c.new-in-Some-End.ensures.start run.result end_is_determined _ _ _ run.ensures.due
+
+pub returns-in-Some-End-clause-brought : goal.returns-in-Some-End-clause-brought
+returns-in-Some-End-clause-brought g c = λ side tsc is.
+    let run = c.drive-in-Some-End in
+    let begun = idle (role_of c.in-Some-End.side) c.in-Some-End.tsc in
+    at_shape end_rules begun (End c.in-Some-End.side c.in-Some-End.tsc) (λ P p. p) (shape_of c.args.words.now)
+    (cc (c.in-Some-End.ensures.shape, c.in-Some-End.field-0-is)) _ c.new-in-Some-End.ensures.start run.result
+    (λ shape. IsBrought shape run.result (g.S.Source.left c.args.input.now) (g.S.Source.left run.new.input)
+    (g.K.Sink.taken c.args.output.now) (g.K.Sink.taken run.new.output))
+    (best_brought begun c.new-in-Some-End.ensures.start _ run.result _ _ _ _ run.ensures.table) (End side tsc) is

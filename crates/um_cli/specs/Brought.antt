@@ -1,0 +1,28 @@
+-- Each block whose bursts `end` reads is reported as a codeword that no other beats under their soft values, and is taken exactly where
+-- its CRC holds (this project's own rule).
+use Rattle.std.specs.Prelude.{ℕ, ℤ, ◌≡◌, ◌<◌, ◌⊎◌, List, [], ◌∷◌, ◌++◌, length}
+use Rattle.um_driver.specs.Rules.{Rules}
+use Rattle.um_end.specs.EndLines.{Meaning, Brings, EndMeans}
+use Rattle.um_end.specs.EndRuns.{EndRun, Arrived, AnswersMeaning, end_rules}
+use Rattle.um_cli.specs.Headline.{IsBestWord}
+
+-- four bursts arrive as a block that is so received
+pub record ArrivedBest (s : EndRun) (bursts : List (List ℤ)) (text : List ℕ) (after : EndRun) : Type 0 where
+  pub arrived : Arrived s bursts text after
+  pub word : IsBestWord bursts arrived.heard.report
+
+abbrev pub AnswersBestBursts : EndRun → List (List ℤ) → List ℕ → EndRun → Type 0
+AnswersBestBursts s bursts text after =
+    ((length bursts < 4) × (text ≡ []) × (after ≡ record s { held = bursts })) ⊎ ((length bursts ≡ 4) × ArrivedBest s bursts text after)
+
+abbrev pub AnswersBest : EndRun → Meaning → List ℕ → EndRun → Type 0
+AnswersBest s (Brings soft) text after = AnswersBestBursts s (s.held ++ soft ∷ []) text after
+AnswersBest s meaning text after = AnswersMeaning s meaning text after
+
+-- the lines of `end`, where each block that arrives is so reported
+abbrev pub brought_rules : Rules EndRun
+brought_rules = record {
+  fault = end_rules.fault;
+  end_fault = end_rules.end_fault;
+  Step = λ s line text after. (meaning : Meaning) × EndMeans s.role (length s.held) line meaning × AnswersBest s meaning text after;
+}
