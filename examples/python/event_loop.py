@@ -11,6 +11,8 @@ on its SACCH.  So the caller keeps a queue for each link and the time at which i
 - T200 is longer than the way there and back: the answer takes a block, and so may a frame that waits before it at the other side.  A block
   of the other link that comes in took the place of the answer, so it puts T200 off by one block.
 - The window is one frame.  So a SABM, a DISC or an I frame replaces the one that still waits, which is its copy or is acknowledged.
+- A REJ is passed to the end as an RR with the same N(R).  With a window of one frame it asks for a frame that T200 repeats anyway, or for
+  the one after a frame that was sent twice, whose repeat would be one too many.  Delivery holds so (law_rr_for_rej of lapdm_link).
 - A later N(R) says all that an earlier one said.  So an RR or a REJ that still waits is dropped when a later one is there to be sent, and
   an RR is dropped for an I frame too.  One with F = 1 answers a poll and stays.
 
@@ -66,6 +68,8 @@ class Channel:
         """A block came in; ValueError where it is no frame."""
         frame = um.read_frame(block, self.channel)
         fill = frame.kind == "ui" and not frame.info
+        if frame.kind == "rej":
+            block = um.write_frame(frame._replace(kind="rr"), self.channel)
         for sapi in SAPIS:
             if sapi == frame.sapi:
                 self.done(sapi, self.ends[sapi].take(block))

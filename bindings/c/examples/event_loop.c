@@ -10,6 +10,8 @@
  *   - T200 is longer than the way there and back: the answer takes a block, and so may a frame that waits before it at the other side.
  *     A block of the other link that comes in took the place of the answer, so it puts T200 off by one block.
  *   - The window is one frame. So a SABM, a DISC or an I frame replaces the one that still waits, which is its copy or is acknowledged.
+ *   - A REJ is passed to the end as an RR with the same N(R). With a window of one frame it asks for a frame that T200 repeats anyway, or
+ *     for the one after a frame that was sent twice, whose repeat would be one too many. Delivery holds so (law_rr_for_rej of lapdm_link).
  *   - A later N(R) says all that an earlier one said. So an RR or a REJ that still waits is dropped when a later one is there to be
  *     sent, and an RR is dropped for an I frame too. One with F = 1 answers a poll and stays.
  *
@@ -114,13 +116,18 @@ static uint8_t channel_take(channel *c, const uint8_t block[23])
 {
 	um_frame f;
 	um_effects done;
-	uint8_t answer = UM_END_DONE;
+	uint8_t answer = UM_END_DONE, heard[23];
 	if (um_read_frame(block, c->ends[0].channel, &f) != UM_FRAME)
 		return UM_END_NO_FRAME;
+	memcpy(heard, block, 23);
+	if (f.kind == UM_REJ) {
+		f.kind = UM_RR;
+		um_write_frame(&f, c->ends[0].channel, heard);
+	}
 	bool fill = f.kind == UM_UI && f.count == 0;
 	for (int link = 0; link < LINKS; link++) {
 		if (SAPIS[link] == f.sapi) {
-			answer = um_end_take(&c->ends[link], block, &done);
+			answer = um_end_take(&c->ends[link], heard, &done);
 			if (answer == UM_END_DONE)
 				channel_done(c, link, &done);
 		} else if (c->expiry[link] && !fill)
