@@ -78,9 +78,9 @@ brought_are_weaker = record {
 pub best_brought : (begun : EndRun) {start : EndRun} → start ≡ begun → (Stands : EndRun → Type 0) (status : Status)
     (left left' taken taken' : Option (List ℕ)) → IsRun end_rules start Stands status left left' taken taken' →
     IsRun B.brought_rules begun (λ last. Unit {0}) status left left' taken taken'
-best_brought begun {start} same Stands status left left' taken taken' run =
+best_brought begun same Stands status left left' taken taken' run =
     subst (λ a. IsRun B.brought_rules a (λ last. Unit {0}) status left left' taken taken') same
-    (weaker_run end_rules B.brought_rules brought_are_weaker start Stands (λ last. Unit {0}) (λ last stands. tt) status left left'
+    (weaker_run end_rules B.brought_rules brought_are_weaker _ Stands (λ last. Unit {0}) (λ last stands. tt) status left left'
     taken taken' run) =
     weaker_run end_rules B.brought_rules brought_are_weaker begun Stands (λ last. Unit {0}) (λ last stands. tt) status left left'
     taken taken' run
