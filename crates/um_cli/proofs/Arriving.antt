@@ -81,6 +81,4 @@ pub best_brought : (begun : EndRun) {start : EndRun} → start ≡ begun → (St
 best_brought begun same Stands status left left' taken taken' run =
     subst (λ a. IsRun B.brought_rules a (λ last. Unit {0}) status left left' taken taken') same
     (weaker_run end_rules B.brought_rules brought_are_weaker _ Stands (λ last. Unit {0}) (λ last stands. tt) status left left'
-    taken taken' run) =
-    weaker_run end_rules B.brought_rules brought_are_weaker begun Stands (λ last. Unit {0}) (λ last stands. tt) status left left'
-    taken taken' run
+    taken taken' run)
