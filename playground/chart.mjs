@@ -6,6 +6,7 @@ import { svg } from "./dom.mjs";
 const ROW = 17;
 const GUTTER = 6;
 const COLUMNS = 4;
+const HEAD = 34;
 const EVENTS = 40; // in one drawing
 
 // what stands in an SVG file that is saved; the page has its own colours
@@ -35,13 +36,19 @@ export class Chart {
     this.arrivals = [];
     this.chosen = -1;
     this.host.replaceChildren();
-    this.#begin(0, 30);
-    const head = (x, anchor, words, y = 24) => this.#text(x, y, words, anchor, "head");
-    head(0, "start", narrow ? "other" : "another", 10);
-    head(0, "start", "mobile");
-    head(this.lanes.mob + 6, "start", "mobile");
-    head(this.width, "end", "network");
+    this.#heads(narrow ? "other" : "another");
+    this.#begin(HEAD, HEAD);
     this.#grow();
+  }
+
+  // the names of the lanes, which stay in sight while the chart is scrolled
+  #heads(other) {
+    this.drawing = svg("svg", { class: "chart heads", width: this.width, height: HEAD });
+    this.#text(0, 12, other, "start", "head");
+    this.#text(0, 26, "mobile", "start", "head");
+    this.#text(this.lanes.mob + 6, 26, "mobile", "start", "head");
+    this.#text(this.width, 26, "network", "end", "head");
+    this.host.append(this.drawing);
   }
 
   // a drawing from this height on, below the others

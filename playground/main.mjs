@@ -41,7 +41,8 @@ class Page {
 
   /** Shows the view and the state that the address holds. */
   show() {
-    const [name, query = ""] = location.hash.slice(1).split("?");
+    this.address = location.hash;
+    const [name, query = ""] = this.address.slice(1).split("?");
     const view = this.views[name] ? name : "block";
     const params = new URLSearchParams(query);
     clearTimeout(this.later);

@@ -13,6 +13,7 @@ export type Role = "mobile" | "network";
 export type State = "idle" | "opening" | "open" | "closing" | "closed";
 export type Unread = "lpd" | "ea" | "control" | "el" | "length" | "empty" | "more";
 export type Bit = 0 | 1;
+export type Sapi = 0 | 3;
 
 export const KINDS: readonly Kind[];
 export const CHANNELS: readonly Channel[];
@@ -111,8 +112,10 @@ export class Um {
   receiveSync(burst: Numbers): Report;
   readFrame(octets: Octets, channel?: Channel): Frame | { unread: Unread };
   writeFrame(frame: FrameFields | Frame, channel?: Channel): Uint8Array;
-  end(role: Role, options?: { sapi?: 0 | 3; channel?: Channel }): End;
+  end(role: Role, options?: { sapi?: Sapi; channel?: Channel }): End;
   restoreEnd(bytes: Octets): End;
+  side(role: Role, options?: { channel?: Channel }): Side;
+  restoreSide(bytes: Octets): Side;
 }
 
 /** One end of a link; made by `Um.end` and `Um.restoreEnd`. A call that is refused throws Refused. */
@@ -120,7 +123,7 @@ export class End {
   private constructor();
   readonly bytes: Uint8Array;
   readonly role: Role;
-  readonly sapi: 0 | 3;
+  readonly sapi: Sapi;
   readonly channel: Channel;
   readonly state: State;
   readonly variables: Variables;
@@ -133,4 +136,21 @@ export class End {
   timer(): Effects;
   idle(): Effects;
   take(octets: Octets): Effects;
+}
+
+/** Both links of a mobile, or of the network, on one channel; made by `Um.side` and `Um.restoreSide`. */
+export class Side {
+  private constructor();
+  readonly bytes: Uint8Array;
+  readonly role: Role;
+  readonly channel: Channel;
+  copy(): Side;
+  end(sapi: Sapi): End;
+  open(info?: Octets): Effects;
+  send(sapi: Sapi, octets: Octets): Effects;
+  unit(sapi: Sapi, octets: Octets): Effects;
+  close(sapi: Sapi): Effects;
+  timer(sapi: Sapi): Effects;
+  idle(): Effects;
+  take(octets: Octets): Effects & { sapi: Sapi };
 }

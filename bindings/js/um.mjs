@@ -12,6 +12,7 @@
 
 export const KINDS = Object.freeze(["i", "rr", "rnr", "rej", "sabm", "dm", "ui", "disc", "ua"]);
 export const CHANNELS = Object.freeze(["sdcch", "sacch"]);
+const SAPIS = [0, 3];
 export const ROLES = Object.freeze(["mobile", "network"]);
 export const STATES = Object.freeze(["idle", "opening", "open", "closing", "closed"]);
 /** Why 23 octets are no frame. */
@@ -33,6 +34,7 @@ const REFUSALS = [
 
 // octets of the structs of um.h
 const END = 2584;
+const SIDE = 2 * END;
 const EFFECTS = 864;
 const NOTICE = 272;
 const FRAME = 28;
@@ -102,7 +104,7 @@ class Machine {
   #begin(instance) {
     const { memory, __heap_base: base } = (this.#exports = instance.exports);
     this.input = (Number(base.value) + 63) & ~63;
-    this.second = this.input + 2624;
+    this.second = this.input + 5184;
     this.output = this.second + 640;
     this.beside = this.output + 896;
     if (memory.buffer.byteLength < this.beside + 64) throw new Error("um.wasm has too little memory behind its heap base");
@@ -315,10 +317,26 @@ export class Um {
   /** A new end of a link. */
   end(role, { sapi = 0, channel = "sdcch" } = {}) {
     const m = this.#machine;
-    const numbers = [place("role", role, ROLES), [0, 3][place("sapi", sapi, [0, 3])], place("channel", channel, CHANNELS)];
+    const numbers = [place("role", role, ROLES), SAPIS[place("sapi", sapi, SAPIS)], place("channel", channel, CHANNELS)];
     m.octets.fill(0, m.input, m.input + END);
     m.told("um_end_new", m.INPUT, ...numbers);
     return new End(m, m.copy(m.input, END));
+  }
+
+  /** A new side: both links of a mobile, or of the network, on one channel. */
+  side(role, { channel = "sdcch" } = {}) {
+    const m = this.#machine;
+    const numbers = [place("role", role, ROLES), place("channel", channel, CHANNELS)];
+    m.octets.fill(0, m.input, m.input + SIDE);
+    m.told("um_side_new", m.INPUT, ...numbers);
+    return new Side(m, m.copy(m.input, SIDE));
+  }
+
+  /** A side whose state `side.bytes` gave before; refused with the reason "noend" where no side has such a state. */
+  restoreSide(bytes) {
+    const side = new Side(this.#machine, Uint8Array.from(octetsOf("bytes", bytes, SIDE)));
+    side.idle();
+    return side;
   }
 
   /** An end whose state `end.bytes` gave before; refused with the reason "noend" where no end has such a state. */
@@ -329,11 +347,8 @@ export class Um {
   }
 }
 
-/**
- * One end of a link in acknowledged mode. It has no timer: its caller sends the `frames` that each call answers, in their order, hands
- * it each block that comes in, and calls `timer` when T200 expires. A call that is refused throws Refused.
- */
-export class End {
+// A state of the library's in octets, and calls that change it.
+class State {
   #machine;
   #bytes;
 
@@ -342,80 +357,146 @@ export class End {
     this.#bytes = bytes;
   }
 
-  /** A copy of the state, for restoreEnd. */
+  /** A copy of the state, to be restored. */
   get bytes() {
     return this.#bytes.slice();
   }
+  /** Another one in the same state. */
+  copy() {
+    return new this.constructor(this.#machine, this.bytes);
+  }
+
+  _machine() {
+    return this.#machine;
+  }
+  _octets(from, to) {
+    return this.#bytes.subarray(from, to);
+  }
+  // puts the state into the module's memory, and calls
+  _try(name, ...values) {
+    const m = this.#machine;
+    m.octets.set(this.#bytes, m.input);
+    return m.call(name, m.INPUT, ...values, m.OUTPUT);
+  }
+  _call(name, ...values) {
+    const answer = this._try(name, ...values);
+    if (answer) throw new Refused(...REFUSALS[answer - 1]);
+    const m = this.#machine;
+    this.#bytes.set(m.octets.subarray(m.input, m.input + this.#bytes.length));
+    return m.effects();
+  }
+  // a call with a message, behind other values
+  _send(name, octets, ...values) {
+    this.#machine.putMessage(octetsOf("octets", octets));
+    return this._call(name, ...values, this.#machine.SECOND);
+  }
+  _put(octets) {
+    this.#machine.octets.set(octetsOf("octets", octets, BLOCK_OCTETS), this.#machine.second);
+    return this.#machine.SECOND;
+  }
+}
+
+/**
+ * One end of a link in acknowledged mode. It has no timer: its caller sends the `frames` that each call answers, in their order, hands
+ * it each block that comes in, and calls `timer` when T200 expires. A call that is refused throws Refused.
+ */
+export class End extends State {
   get role() {
-    return ROLES[this.#bytes[8]];
+    return ROLES[this._octets(8)[0]];
   }
   get sapi() {
-    return this.#bytes[9];
+    return this._octets(9)[0];
   }
   get channel() {
-    return CHANNELS[this.#bytes[10]];
+    return CHANNELS[this._octets(10)[0]];
   }
   get state() {
-    return STATES[this.#bytes[11]];
+    return STATES[this._octets(11)[0]];
   }
   /** V(S), V(A), V(R), how often a frame went out again, how many messages are held, and how many were acknowledged. */
   get variables() {
-    const [retries, vs, va, vr, repeats, rejecting, , held] = this.#bytes.subarray(12);
-    const done = new DataView(this.#bytes.buffer).getBigUint64(0, true);
+    const [retries, vs, va, vr, repeats, rejecting, , held] = this._octets(12, 20);
+    const done = new DataView(this.bytes.buffer).getBigUint64(0, true);
     return { vs, va, vr, retries: this.state === "open" ? repeats : retries, rejecting: rejecting !== 0, held, done };
   }
-  /** Whether T200 runs, that is, whether a frame awaits an answer: `timer` is tried on a copy. */
+  /** Whether T200 runs, that is, whether a frame awaits an answer: `timer` is tried, and its effects are dropped. */
   get timerRuns() {
-    const m = this.#machine;
-    m.octets.set(this.#bytes, m.input);
-    return m.call("um_end_timer", m.INPUT, m.OUTPUT) === 0;
-  }
-  /** Another end in the same state. */
-  copy() {
-    return new End(this.#machine, this.bytes);
-  }
-
-  #call(name, ...places) {
-    const m = this.#machine;
-    m.octets.set(this.#bytes, m.input);
-    const answer = m.call(name, m.INPUT, ...places, m.OUTPUT);
-    if (answer) throw new Refused(...REFUSALS[answer - 1]);
-    this.#bytes.set(m.octets.subarray(m.input, m.input + END));
-    return m.effects();
-  }
-  #with(name, octets) {
-    this.#machine.putMessage(octetsOf("octets", octets));
-    return this.#call(name, this.#machine.SECOND);
+    return this._try("um_end_timer") === 0;
   }
 
   /** Opens the link: of SAPI 0, by a mobile, with 1 to 20 octets of information (18 on SACCH); of SAPI 3, by either end, without. */
   open(info) {
-    return info === undefined ? this.#call("um_end_open_bare") : this.#with("um_end_open", info);
+    return info === undefined ? this._call("um_end_open_bare") : this._send("um_end_open", info);
   }
   /** Sends a message of 1 to 251 octets over the open link. */
   send(octets) {
-    return this.#with("um_end_send", octets);
+    return this._send("um_end_send", octets);
   }
   /** Sends 1 to 20 octets (18 on SACCH) in one UI frame, unacknowledged, in any state. */
   unit(octets) {
-    return this.#with("um_end_unit", octets);
+    return this._send("um_end_unit", octets);
   }
   /** Releases the link. */
   close() {
-    return this.#call("um_end_close");
+    return this._call("um_end_close");
   }
   /** T200 expired. */
   timer() {
-    return this.#call("um_end_timer");
+    return this._call("um_end_timer");
   }
   /** The fill frame. */
   idle() {
-    return this.#call("um_end_idle");
+    return this._call("um_end_idle");
   }
   /** Takes a block of 23 octets that came in. */
   take(octets) {
-    this.#machine.octets.set(octetsOf("octets", octets, BLOCK_OCTETS), this.#machine.second);
-    return this.#call("um_end_take", this.#machine.SECOND);
+    return this._call("um_end_take", this._put(octets));
+  }
+}
+
+/** Both links, of SAPI 0 and of SAPI 3, of a mobile or of the network on one channel. Each link has its own T200. */
+export class Side extends State {
+  get role() {
+    return ROLES[this._octets(8)[0]];
+  }
+  get channel() {
+    return CHANNELS[this._octets(10)[0]];
+  }
+  /** The end of one of the links as it is now; what is called of it does not change the side. */
+  end(sapi) {
+    const at = END * place("sapi", sapi, SAPIS);
+    return new End(this._machine(), this._octets(at, at + END).slice());
+  }
+
+  /** Opens the link of SAPI 0, by a mobile, with information; or that of SAPI 3, without. */
+  open(info) {
+    return info === undefined ? this._call("um_side_open_bare") : this._send("um_side_open", info);
+  }
+  /** Sends a message of 1 to 251 octets over the open link of this SAPI. */
+  send(sapi, octets) {
+    return this._send("um_side_send", octets, SAPIS[place("sapi", sapi, SAPIS)]);
+  }
+  /** Sends 1 to 20 octets (18 on SACCH) in one UI frame of this SAPI. */
+  unit(sapi, octets) {
+    return this._send("um_side_unit", octets, SAPIS[place("sapi", sapi, SAPIS)]);
+  }
+  /** Releases the link of this SAPI. */
+  close(sapi) {
+    return this._call("um_side_close", SAPIS[place("sapi", sapi, SAPIS)]);
+  }
+  /** T200 of the link of this SAPI expired. */
+  timer(sapi) {
+    return this._call("um_side_timer", SAPIS[place("sapi", sapi, SAPIS)]);
+  }
+  /** The fill frame. */
+  idle() {
+    return this._call("um_side_idle");
+  }
+  /** Takes a block that came in: it goes to the end of its SAPI, which is answered beside the effects; a frame of another is ignored. */
+  take(octets) {
+    const m = this._machine();
+    const effects = this._call("um_side_take", this._put(octets), m.BESIDE);
+    return { ...effects, sapi: m.octets[m.beside] };
   }
 }
 

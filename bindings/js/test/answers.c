@@ -1,5 +1,6 @@
-/* The native library's answers, as lines of text, for compare.mjs: 2,000 noisy blocks, then 20,000 calls of ends.
- * Both draw the same numbers by xorshift, in integers alone, so that no rounding tells them apart. */
+/* The native library's answers, as lines of text, for compare.mjs: 2,000 noisy blocks, then 20,000 calls of ends
+ * and 20,000 of sides.
+ * Both programs draw the same numbers by xorshift, in integers alone, so that no rounding tells them apart. */
 #include "um.h"
 #include <stdio.h>
 #include <string.h>
@@ -75,19 +76,32 @@ static void block(int number)
 	putchar('\n');
 }
 
-struct session {
-	um_end ends[2];
+/* What each end sent and the other did not take yet. */
+struct air {
 	uint8_t queue[2][QUEUE][23];
 	int queued[2];
 };
 
-static void begin(struct session *s)
+static void add(struct air *air, int who, const um_effects *effects)
 {
-	uint8_t sapi = draw(2) ? 3 : 0, channel = (uint8_t)draw(2);
-	memset(s, 0, sizeof *s);
-	for (uint8_t role = 0; role < 2; role++)
-		if (!um_end_new(&s->ends[role], role, sapi, channel))
-			puts("refused");
+	for (int f = 0; f < effects->frame_count && air->queued[who] < QUEUE; f++)
+		memcpy(air->queue[who][air->queued[who]++], effects->frames[f], 23);
+}
+
+/* Takes the first block that `from` sent; one in eight is lost, and one in thirty of the others has a wrong bit. */
+static int arrives(struct air *air, int from, uint8_t octets[23])
+{
+	if (air->queued[from] == 0)
+		return 0;
+	memcpy(octets, air->queue[from][0], 23);
+	memmove(air->queue[from][0], air->queue[from][1], (size_t)(23 * --air->queued[from]));
+	if (draw(8) == 0)
+		return 0;
+	if (draw(30) == 0) {
+		int at = (int)draw(5);
+		octets[at] = (uint8_t)(octets[at] ^ 1 << draw(8));
+	}
+	return 1;
 }
 
 static um_message message(int count)
@@ -100,27 +114,24 @@ static um_message message(int count)
 	return m;
 }
 
-/* Takes the first block that the other end sent; one in eight is lost, and one in thirty of the others has a wrong bit. */
-static int take(struct session *s, int who, um_effects *effects)
+struct ends {
+	um_end ends[2];
+	struct air air;
+};
+
+static void begin_ends(struct ends *s)
 {
-	uint8_t octets[23];
-	int other = 1 - who;
-	if (s->queued[other] == 0)
-		return -1;
-	memcpy(octets, s->queue[other][0], 23);
-	memmove(s->queue[other][0], s->queue[other][1], (size_t)(23 * --s->queued[other]));
-	if (draw(8) == 0)
-		return -1;
-	if (draw(30) == 0) {
-		int at = (int)draw(5);
-		octets[at] = (uint8_t)(octets[at] ^ 1 << draw(8));
-	}
-	return um_end_take(&s->ends[who], octets, effects);
+	uint8_t sapi = draw(2) ? 3 : 0, channel = (uint8_t)draw(2);
+	memset(s, 0, sizeof *s);
+	for (uint8_t role = 0; role < 2; role++)
+		if (!um_end_new(&s->ends[role], role, sapi, channel))
+			puts("refused");
 }
 
-static int call(struct session *s, int who, um_effects *effects)
+static int call_end(struct ends *s, int who, um_effects *effects)
 {
 	um_end *end = &s->ends[who];
+	uint8_t octets[23];
 	um_message m;
 	switch (draw(12)) {
 	case 0:
@@ -144,7 +155,52 @@ static int call(struct session *s, int who, um_effects *effects)
 	case 7:
 		return um_end_idle(end, effects);
 	default:
-		return take(s, who, effects);
+		return arrives(&s->air, 1 - who, octets) ? um_end_take(end, octets, effects) : -1;
+	}
+}
+
+struct sides {
+	um_side sides[2];
+	struct air air;
+};
+
+static void begin_sides(struct sides *s)
+{
+	uint8_t channel = (uint8_t)draw(2);
+	memset(s, 0, sizeof *s);
+	for (uint8_t role = 0; role < 2; role++)
+		if (!um_side_new(&s->sides[role], role, channel))
+			puts("refused");
+}
+
+static int call_side(struct sides *s, int who, uint8_t *taken, um_effects *effects)
+{
+	um_side *side = &s->sides[who];
+	uint8_t octets[23], sapi = draw(2) ? 3 : 0;
+	um_message m;
+	switch (draw(12)) {
+	case 0:
+		m = message((int)draw(22));
+		return um_side_open(side, &m, effects);
+	case 1:
+		return um_side_open_bare(side, effects);
+	case 2:
+		m = message((int)draw(256));
+		return um_side_send(side, sapi, &m, effects);
+	case 3:
+		m = message((int)draw(60));
+		return um_side_send(side, sapi, &m, effects);
+	case 4:
+		m = message((int)draw(23));
+		return um_side_unit(side, sapi, &m, effects);
+	case 5:
+		return draw(20) ? -1 : um_side_close(side, sapi, effects);
+	case 6:
+		return um_side_timer(side, sapi, effects);
+	case 7:
+		return um_side_idle(side, effects);
+	default:
+		return arrives(&s->air, 1 - who, octets) ? um_side_take(side, octets, taken, effects) : -1;
 	}
 }
 
@@ -169,25 +225,53 @@ static void put_effects(const um_effects *e)
 	}
 }
 
-int main(void)
+static void put_call(const char *name, int answer, const void *state, size_t size, const um_effects *effects)
 {
-	static struct session s;
-	for (int i = 0; i < BLOCKS; i++)
-		block(i);
-	begin(&s);
+	printf("%s %d %u", name, answer, hash(state, size));
+	if (answer == UM_END_DONE)
+		put_effects(effects);
+}
+
+static void calls_of_ends(void)
+{
+	static struct ends s;
+	begin_ends(&s);
 	for (int i = 0; i < CALLS; i++) {
 		int who = (int)draw(2);
 		um_effects effects;
 		if (draw(300) == 0)
-			begin(&s);
-		int answer = call(&s, who, &effects);
-		printf("call %d %u", answer, hash(&s.ends[who], sizeof s.ends[who]));
-		if (answer == UM_END_DONE) {
-			put_effects(&effects);
-			for (int f = 0; f < effects.frame_count && s.queued[who] < QUEUE; f++)
-				memcpy(s.queue[who][s.queued[who]++], effects.frames[f], 23);
-		}
+			begin_ends(&s);
+		int answer = call_end(&s, who, &effects);
+		put_call("end", answer, &s.ends[who], sizeof s.ends[who], &effects);
 		putchar('\n');
+		if (answer == UM_END_DONE)
+			add(&s.air, who, &effects);
 	}
+}
+
+static void calls_of_sides(void)
+{
+	static struct sides s;
+	begin_sides(&s);
+	for (int i = 0; i < CALLS; i++) {
+		int who = (int)draw(2);
+		um_effects effects;
+		uint8_t taken = 9;
+		if (draw(300) == 0)
+			begin_sides(&s);
+		int answer = call_side(&s, who, &taken, &effects);
+		put_call("side", answer, &s.sides[who], sizeof s.sides[who], &effects);
+		printf(" %d\n", answer == UM_END_DONE ? taken : 9);
+		if (answer == UM_END_DONE)
+			add(&s.air, who, &effects);
+	}
+}
+
+int main(void)
+{
+	for (int i = 0; i < BLOCKS; i++)
+		block(i);
+	calls_of_ends();
+	calls_of_sides();
 	return 0;
 }

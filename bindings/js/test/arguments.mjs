@@ -52,6 +52,11 @@ const WRONG = (um) => [
   [() => um.end("mobile").take(zeros(22)), RangeError, "octets has 22 values"],
   [() => um.end("mobile").send([300]), RangeError, "octets[0] is 300"],
   [() => um.restoreEnd(zeros(2583)), RangeError, "bytes has 2583 values; expected 2584 octets"],
+  [() => um.side("phone"), RangeError, 'role is "phone"'],
+  [() => um.side("mobile").send(1, [1]), RangeError, "sapi is 1; expected 0 or 3"],
+  [() => um.side("mobile").timer(256), RangeError, "sapi is 256"],
+  [() => um.side("mobile").take(zeros(24)), RangeError, "octets has 24 values"],
+  [() => um.restoreSide(zeros(2584)), RangeError, "bytes has 2584 values; expected 5168 octets"],
   [() => soften([0, 1, 2]), RangeError, "bits[2] is 2; expected an integer from 0 to 1"],
 ];
 
@@ -65,6 +70,8 @@ const REFUSED = (um) => [
   ["nocall", () => um.end("mobile").open()],
   ["noframe", () => um.end("mobile").take(new Uint8Array(23))],
   ["noend", () => um.restoreEnd(new Uint8Array(2584).fill(255))],
+  ["notopen", () => um.side("mobile").send(3, [1])],
+  ["noend", () => um.restoreSide(new Uint8Array([...um.end("mobile").bytes, ...um.end("mobile").bytes]))],
   ["notidle", () => {
     const mobile = um.end("mobile", { sapi: 3 });
     mobile.open();
@@ -88,6 +95,17 @@ const states = (um) => {
   assert.equal(mobile.state, "opening");
 };
 
+const sides = (um) => {
+  const [mobile, network] = [um.side("mobile"), um.side("network")];
+  const { sapi, frames, notices } = network.take(mobile.open().frames[0]);
+  assert.deepEqual([sapi, notices[0].kind, network.end(3).state, network.end(0).state], [3, "opened", "open", "idle"]);
+  assert.equal(mobile.take(frames[0]).sapi, 3);
+  assert.deepEqual([mobile.end(3).state, mobile.role, mobile.channel, mobile.end(3).timerRuns], ["open", "mobile", "sdcch", false]);
+  mobile.end(3).close();
+  assert.equal(mobile.end(3).state, "open");
+  assert.deepEqual(um.restoreSide(mobile.copy().bytes).bytes, mobile.bytes);
+};
+
 const trap = (um) => {
   const fine = () => um.receiveBlock(soften(um.sendBlock(zeros(23), 6))).tsc;
   const before = um.exports;
@@ -103,6 +121,7 @@ export const tryArguments = (um) => {
   }
   for (const [reason, call] of REFUSED(um)) assert.throws(call, (error) => error instanceof Refused && error.reason === reason);
   states(um);
+  sides(um);
   trap(um);
   assert.ok(um instanceof Um);
   return WRONG(um).length + REFUSED(um).length;

@@ -1,5 +1,5 @@
 // What the module answers, compared with what others do: the vectors, the repairs, and the native library's answers (answers.c) to
-// 2,000 noisy blocks and 20,000 calls of ends. Used by node and, in a page and in a Worker, by browsers.
+// 2,000 noisy blocks, 20,000 calls of ends and 20,000 of sides. Used by node and, in a page and in a Worker, by browsers.
 import { Refused, soften } from "../um.mjs";
 
 const hex = (octets) => Array.from(octets, (octet) => octet.toString(16).padStart(2, "0")).join("");
@@ -98,23 +98,29 @@ const ANSWERS = ["notidle", "notopen", "notrunning", "empty", "toolong", "full",
 const NOTICES = ["opened", "got", "unit", "acked", "oversize", "closed"];
 const REASONS = ["contention", "failed", "refused", "released"];
 
-const begun = (um) => {
-  const sapi = draw(2) ? 3 : 0;
-  const channel = draw(2) ? "sacch" : "sdcch";
-  return { ends: ["mobile", "network"].map((role) => um.end(role, { sapi, channel })), queues: [[], []] };
-};
-
-const taken = (session, who) => {
-  const octets = session.queues[1 - who].shift();
+// one in eight blocks is lost, and one in thirty of the others has a wrong bit
+const arrived = (queue) => {
+  const octets = queue.shift();
   if (octets === undefined || draw(8) === 0) return null;
   if (draw(30) === 0) {
     const at = draw(5);
     octets[at] ^= 1 << draw(8);
   }
-  return session.ends[who].take(octets);
+  return octets;
 };
 
-const CALLS = [
+const pair = (make) => ({ states: ["mobile", "network"].map(make), queues: [[], []] });
+const begunEnds = (um) => {
+  const sapi = draw(2) ? 3 : 0;
+  const channel = draw(2) ? "sacch" : "sdcch";
+  return pair((role) => um.end(role, { sapi, channel }));
+};
+const begunSides = (um) => {
+  const channel = draw(2) ? "sacch" : "sdcch";
+  return pair((role) => um.side(role, { channel }));
+};
+
+const END_CALLS = [
   (end) => end.open(drawOctets(draw(22))),
   (end) => end.open(),
   (end) => end.send(drawOctets(draw(256))),
@@ -124,12 +130,24 @@ const CALLS = [
   (end) => end.timer(),
   (end) => end.idle(),
 ];
+const SIDE_CALLS = [
+  (side) => side.open(drawOctets(draw(22))),
+  (side) => side.open(),
+  (side, sapi) => side.send(sapi, drawOctets(draw(256))),
+  (side, sapi) => side.send(sapi, drawOctets(draw(60))),
+  (side, sapi) => side.unit(sapi, drawOctets(draw(23))),
+  (side, sapi) => (draw(20) ? null : side.close(sapi)),
+  (side, sapi) => side.timer(sapi),
+  (side) => side.idle(),
+];
 
-const called = (session, who) => {
+const called = (calls, { states, queues }, who) => {
+  const sapi = calls === SIDE_CALLS && draw(2) ? 3 : 0;
+  const call = calls[draw(12)];
   try {
-    const call = CALLS[draw(12)];
-    const effects = call ? call(session.ends[who]) : taken(session, who);
-    return effects === null ? { answer: -1 } : { answer: 0, ...effects };
+    if (call) return { answer: 0, ...(call(states[who], sapi) ?? { answer: -1 }) };
+    const octets = arrived(queues[1 - who]);
+    return octets === null ? { answer: -1 } : { answer: 0, ...states[who].take(octets) };
   } catch (error) {
     if (error instanceof Refused) return { answer: 1 + ANSWERS.indexOf(error.reason) };
     throw error;
@@ -141,24 +159,32 @@ const hash = (bytes) => bytes.reduce((h, octet) => Math.imul(h ^ octet, 16777619
 const noticeWords = ({ kind, number = 0n, reason, message = [] }) =>
   ` ${1 + NOTICES.indexOf(kind)},${number},${reason ? REASONS.indexOf(reason) : 0},${hex(message)}`;
 
-const callLine = (um, session) => {
+const callLine = (calls, session, begin) => {
   const who = draw(2);
-  if (draw(300) === 0) Object.assign(session, begun(um));
-  const { answer, frames = [], notices = [] } = called(session, who);
+  if (draw(300) === 0) Object.assign(session, begin());
+  const { answer, frames = [], notices = [], sapi = 9 } = called(calls, session, who);
   for (const frame of frames) if (session.queues[who].length < 16) session.queues[who].push(Uint8Array.from(frame));
   const said = notices.map(noticeWords).join("") + frames.map((frame) => ` ${hex(frame)}`).join("");
-  return `call ${answer} ${hash(session.ends[who].bytes)}${said}`;
+  const line = `${answer} ${hash(session.states[who].bytes)}${said}`;
+  return calls === SIDE_CALLS ? `side ${line} ${sapi}` : `end ${line}`;
+};
+
+const callLines = (calls, count, begin) => {
+  const session = begin();
+  return Array.from({ length: count }, () => callLine(calls, session, begin));
 };
 
 const native = (um, answers) => {
   const wanted = lines(answers);
-  const [blocks, calls] = ["receive", "call"].map((word) => wanted.filter((line) => line.startsWith(word)).length);
+  const [blocks, ends, sides] = ["receive ", "end ", "side "].map((word) => wanted.filter((line) => line.startsWith(word)).length);
   drawn = 2463534242 | 0;
-  const given = Array.from({ length: blocks }, (_, i) => blockLines(um, i)).flat();
-  const session = begun(um);
-  for (let i = 0; i < calls; i++) given.push(callLine(um, session));
+  const given = [
+    ...Array.from({ length: blocks }, (_, i) => blockLines(um, i)).flat(),
+    ...callLines(END_CALLS, ends, () => begunEnds(um)),
+    ...callLines(SIDE_CALLS, sides, () => begunSides(um)),
+  ];
   const wrong = wanted.filter((line, i) => line !== given[i]);
-  return { name: `${blocks} noisy blocks and ${calls} calls of ends`, wrong: wrong.length, first: wrong[0] };
+  return { name: `${blocks} noisy blocks, ${ends} calls of ends and ${sides} of sides`, wrong: wrong.length, first: wrong[0] };
 };
 
 /** Compares all; `texts` has codeIn, codeOut, repairIn, repairOut and answers. */

@@ -1,5 +1,5 @@
 // What um.d.ts lets pass and what it does not: read by tsc, never run.
-import { End, Frame, load, Refused, soften, Um } from "um-gsm";
+import { End, Frame, load, Refused, Side, soften, Um } from "um-gsm";
 
 const use = async (): Promise<void> => {
   const um: Um = await load(fetch("um.wasm"));
@@ -19,6 +19,10 @@ const use = async (): Promise<void> => {
   const { span } = um.repair(new Uint8Array(224)) ?? { span: 0 };
   const refusal = new Refused("full", `${span} ${end.variables.vs}`);
   console.log(refusal.reason === "full", um.receiveSync(new Int8Array(148)).word.length, um.restoreEnd(end.bytes).timerRuns);
+  const side: Side = um.side("mobile", { channel: "sacch" });
+  side.send(3, [1]).frames.concat(side.take(bursts).frames, side.end(0).idle().frames);
+  // @ts-expect-error no such SAPI
+  side.timer(1);
   // @ts-expect-error no such kind
   um.writeFrame({ kind: "xid" });
   // @ts-expect-error no such channel
