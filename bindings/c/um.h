@@ -161,8 +161,8 @@ bool um_write_frame(const um_frame *frame, uint8_t channel, uint8_t octets[23]) 
 /* Ends: one end of a link of LAPDm in acknowledged mode (3GPP TS 44.006, 5), a mobile's or a network's.
  *
  * An end has no timer and no line of its own. Its caller sends what each call writes into a um_effects, the frames in their order,
- * gives it each block that comes in, and calls um_end_timer when T200 has run out: T200 starts anew whenever an end sends a SABM,
- * a DISC or an I frame, and stops once nothing awaits an answer (um_end_timer then answers UM_END_NOT_RUNNING).
+ * gives it each block that comes in, and calls um_end_timer when T200 has expired: T200 starts anew when a SABM, a DISC or an I frame
+ * goes on the air, and stops once nothing awaits an answer (um_end_timer then answers UM_END_NOT_RUNNING).
  *
  * The state is plain numbers and arrays: it may be copied, kept in a file and taken up again. Each call tests it, and answers
  * UM_END_NONE, with nothing written, where it is the state of no end; otherwise the call does what that end does. A call writes the
