@@ -70,9 +70,9 @@ def found_by(name, url):
         arguments = [argument.format(profile=profile) for argument in ARGUMENTS[name]]
         browser = subprocess.Popen([name, *arguments, url], stdout=subprocess.DEVNULL, stderr=subprocess.DEVNULL)
         try:
-            return Files.found.get(timeout=120)
+            return Files.found.get(timeout=300)
         except queue.Empty:
-            sys.exit(f"js: {name}: the page found nothing in 120 seconds")
+            sys.exit(f"js: {name}: the page found nothing in 300 seconds")
         finally:
             browser.terminate()
             browser.wait(20)
