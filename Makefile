@@ -21,11 +21,11 @@ FILL    := sed -e 's|@PREFIX@|$(PREFIX)|; s|@LIBDIR@|$(LIBDIR)|; s|@INCLUDE@|$(I
 help:
 	@sed -n 's/^## //p' Makefile
 
-## make check      tests the program and the library of dist/: two minutes; what a missing tool would test is named
+## make check      tests the program and the library of dist/ in some minutes; it names the tests that need a missing tool
 check:
 	@checks/run quick
 
-## make prove      proves everything and runs every check; needs the Rattle toolchain, and from nothing half an hour and more
+## make prove      proves everything and runs every check; needs the Rattle toolchain, and from nothing about an hour
 prove:
 	.ci/run
 
