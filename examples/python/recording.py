@@ -75,4 +75,9 @@ def main(name, drawing=None):
             out.write(draw(soft, reports))
 
 
-main(*sys.argv[1:])
+if len(sys.argv) not in (2, 3) or sys.argv[1].startswith("-"):
+    sys.exit(__doc__)
+try:
+    main(*sys.argv[1:])
+except (OSError, ValueError) as error:
+    sys.exit(f"recording: {error}")
