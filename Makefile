@@ -43,39 +43,39 @@ crate:
 install:
 	@test -f $(FROM)/libum.so.0 || \
 	  { echo "make install: no $(FROM)/libum.so.0; dist/ has x86_64-linux and aarch64-linux, and FROM names another folder" >&2; exit 1; }
-	install -d $(D)$(INCLUDE) $(D)$(LIBDIR)/pkgconfig $(D)$(LIBDIR)/cmake/um
-	install -m 644 $(HEADERS) $(D)$(INCLUDE)/
-	install -m 644 $(FROM)/libum.a $(D)$(LIBDIR)/libum.a
-	install -m 644 $(FROM)/libum.so.0 $(D)$(LIBDIR)/libum.so.$(VERSION)
-	ln -sf libum.so.$(VERSION) $(D)$(LIBDIR)/libum.so.0
-	ln -sf libum.so.0 $(D)$(LIBDIR)/libum.so
-	$(FILL) packaging/um.pc.in >$(D)$(LIBDIR)/pkgconfig/um.pc
-	$(FILL) packaging/umConfig.cmake.in >$(D)$(LIBDIR)/cmake/um/umConfig.cmake
-	$(FILL) packaging/umConfigVersion.cmake.in >$(D)$(LIBDIR)/cmake/um/umConfigVersion.cmake
+	install -d "$(D)$(INCLUDE)" "$(D)$(LIBDIR)/pkgconfig" "$(D)$(LIBDIR)/cmake/um"
+	install -m 644 $(HEADERS) "$(D)$(INCLUDE)/"
+	install -m 644 $(FROM)/libum.a "$(D)$(LIBDIR)/libum.a"
+	install -m 644 $(FROM)/libum.so.0 "$(D)$(LIBDIR)/libum.so.$(VERSION)"
+	ln -sf libum.so.$(VERSION) "$(D)$(LIBDIR)/libum.so.0"
+	ln -sf libum.so.0 "$(D)$(LIBDIR)/libum.so"
+	$(FILL) packaging/um.pc.in >"$(D)$(LIBDIR)/pkgconfig/um.pc"
+	$(FILL) packaging/umConfig.cmake.in >"$(D)$(LIBDIR)/cmake/um/umConfig.cmake"
+	$(FILL) packaging/umConfigVersion.cmake.in >"$(D)$(LIBDIR)/cmake/um/umConfigVersion.cmake"
 ifneq ($(wildcard $(FROM)/um),)
-	install -d $(D)$(BINDIR) $(D)$(LIBEXEC) $(D)$(SHARE)/man/man1 $(D)$(SHARE)/bash-completion/completions
-	install -m 755 um $(D)$(BINDIR)/um
-	install -m 755 $(FROM)/um $(D)$(LIBEXEC)/um
-	install -m 644 tools/refused.awk $(D)$(LIBEXEC)/refused.awk
-	install -m 644 docs/um.1 $(D)$(SHARE)/man/man1/um.1
-	install -m 644 packaging/um.bash $(D)$(SHARE)/bash-completion/completions/um
+	install -d "$(D)$(BINDIR)" "$(D)$(LIBEXEC)" "$(D)$(SHARE)/man/man1" "$(D)$(SHARE)/bash-completion/completions"
+	install -m 755 um "$(D)$(BINDIR)/um"
+	install -m 755 $(FROM)/um "$(D)$(LIBEXEC)/um"
+	install -m 644 tools/refused.awk "$(D)$(LIBEXEC)/refused.awk"
+	install -m 644 docs/um.1 "$(D)$(SHARE)/man/man1/um.1"
+	install -m 644 packaging/um.bash "$(D)$(SHARE)/bash-completion/completions/um"
 else
 	@echo "make install: $(FROM) has no program, so that the libraries alone are installed"
 endif
 ifneq ($(and $(PYTHON),$(MODULE)),)
-	install -d $(D)$(PYTHON)/um
-	install -m 644 $(MODULE) $(D)$(PYTHON)/um/
-	ln -srf $(D)$(LIBDIR)/libum.so.0 $(D)$(PYTHON)/um/libum.so.0
+	install -d "$(D)$(PYTHON)/um"
+	install -m 644 $(MODULE) "$(D)$(PYTHON)/um/"
+	ln -srf "$(D)$(LIBDIR)/libum.so.0" "$(D)$(PYTHON)/um/libum.so.0"
 endif
 
 ## make uninstall  removes what make install put there, with the same PREFIX, LIBDIR and DESTDIR
 uninstall:
-	rm -f $(D)$(BINDIR)/um $(D)$(LIBEXEC)/um $(D)$(LIBEXEC)/refused.awk \
-	  $(D)$(SHARE)/man/man1/um.1 $(D)$(SHARE)/bash-completion/completions/um \
-	  $(addprefix $(D)$(INCLUDE)/,$(notdir $(HEADERS))) $(D)$(LIBDIR)/libum.a $(D)$(LIBDIR)/libum.so $(D)$(LIBDIR)/libum.so.0 \
-	  $(D)$(LIBDIR)/libum.so.$(VERSION) $(D)$(LIBDIR)/pkgconfig/um.pc
-	rm -rf $(D)$(LIBDIR)/cmake/um $(if $(PYTHON),$(D)$(PYTHON)/um)
-	-rmdir $(D)$(LIBEXEC) 2>/dev/null
+	rm -f "$(D)$(BINDIR)/um" "$(D)$(LIBEXEC)/um" "$(D)$(LIBEXEC)/refused.awk" \
+	  "$(D)$(SHARE)/man/man1/um.1" "$(D)$(SHARE)/bash-completion/completions/um" \
+	  $(foreach header,$(notdir $(HEADERS)),"$(D)$(INCLUDE)/$(header)") "$(D)$(LIBDIR)/libum.a" "$(D)$(LIBDIR)/libum.so" "$(D)$(LIBDIR)/libum.so.0" \
+	  "$(D)$(LIBDIR)/libum.so.$(VERSION)" "$(D)$(LIBDIR)/pkgconfig/um.pc"
+	rm -rf "$(D)$(LIBDIR)/cmake/um" $(if $(PYTHON),"$(D)$(PYTHON)/um")
+	-rmdir "$(D)$(LIBEXEC)" 2>/dev/null
 
 ## make packages   makes Debian packages for amd64 and arm64 and the archive of the sources in out/packages
 packages:

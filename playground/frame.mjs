@@ -5,8 +5,8 @@ import { frameLine } from "./lines.mjs";
 
 // name, channel, octets before the fill
 const EXAMPLES = [
-  ["SABM: a mobile asks for the link", "sdcch", "013f11050820a3b8c1"],
-  ["UA: the network answers with the same information", "sdcch", "017311050820a3b8c1"],
+  ["SABM: a mobile asks for the link", "sdcch", "013f19050820a3b8c1"],
+  ["UA: the network answers with the same information", "sdcch", "017319050820a3b8c1"],
   ["I: one segment of a message, more follow", "sdcch", "030053" + "05".repeat(20)],
   ["RR: the next segment may come", "sdcch", "012101"],
   ["REJ: send again from N(R) on", "sdcch", "014901"],
@@ -14,7 +14,7 @@ const EXAMPLES = [
   ["DM: no link here", "sdcch", "031f01"],
   ["UI without information: the fill frame", "sdcch", "030301"],
   ["SABM of SAPI 3: the link for short messages", "sdcch", "0d3f01"],
-  ["UI on SACCH: a measurement report", "sacch", "05000103350615" + "00".repeat(12)],
+  ["UI on SACCH: a measurement report", "sacch", "05000103490615" + "00".repeat(16)],
   ["lpd: another link protocol", "sdcch", "410301"],
   ["ea: the address goes on", "sdcch", "000301"],
   ["control: no such frame", "sdcch", "01af01"],
@@ -134,7 +134,7 @@ export class FrameView {
 
   set(params) {
     $("f-examples").value = "";
-    this.#show(params.get("channel") === "sacch" ? "sacch" : "sdcch", params.get("octets") ?? "013f11050820a3b8c1");
+    this.#show(params.get("channel") === "sacch" ? "sacch" : "sdcch", params.get("octets") ?? "013f19050820a3b8c1");
   }
 
   get() {

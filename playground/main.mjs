@@ -112,9 +112,11 @@ class Page {
 try {
   const um = await load(unpack("wasm"));
   const page = new Page(um);
+  $("loading").remove();
   page.show();
   globalThis.playground = { um, page };
 } catch (error) {
+  $("loading")?.remove();
   $("failure").textContent = `The page could not start: ${error.message}`;
   $("failure").hidden = false;
   throw error;
