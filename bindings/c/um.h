@@ -264,8 +264,7 @@ uint8_t um_end_close(um_end *end, um_effects *effects) UM_NONNULL;
 /* T200 has expired: the frame that awaits an answer is repeated, or the link is given up.
  *
  * T200 counts from when the block goes on the air, not from the call that made it. It is longer than the way there and back, with all
- * that waits before the block in this side's queue and before its answer in the other side's. A repeat replaces the copy that still
- * waits. Where T200 expires while the answer is on its way, messages stay whole, but from then on each I frame is sent twice and every
+ * that the other side sends before the answer. A repeat replaces the copy that still waits. Where T200 expires while the answer is on its way, messages stay whole, but from then on each I frame is sent twice and every
  * second answer is a REJ, until the end has nothing left to send; where it always expires too early, links are given up without a loss.
  * A caller may pass each REJ to um_end_take as an RR with the same N(R): delivery holds, and the doubling ends.
  * bindings/c/examples/event_loop.c keeps T200 for both links of a channel. */

@@ -84,7 +84,22 @@ const integers = (name, values, count, least, most, what) => {
 
 const octetsOf = (name, values, count) => integers(name, values, count, 0, 255, "octets");
 const bitsOf = (name, values, count) => integers(name, values, count, 0, 1, "bits");
-const softOf = (name, values, count) => integers(name, values, count, -127, 127, "soft bits");
+const softOf = (name, values, count) => {
+  integers(name, values, count, -127, 127, "soft bits");
+  // a soft bit of 1 beside zeros alone is a bit that was meant
+  if (!values.some((value) => value !== 0 && value !== 1) && values.includes(1)) {
+    throw new RangeError(`${name} has bits, each 0 or 1; expected soft bits from -127 to 127, as soften(bits) makes them`);
+  }
+  return values;
+};
+
+// the members of an object, which has no others than these
+const membersOf = (name, value, known) => {
+  if (typeof value !== "object" || value === null) throw new TypeError(`${name} is ${shown(value)}; expected an object`);
+  const other = Object.keys(value).find((key) => !known.includes(key));
+  if (other !== undefined) throw new RangeError(`${name} has a member ${JSON.stringify(other)}; expected ${known.join(", ")}`);
+  return value;
+};
 
 /** Soft bits of hard bits: 127 for a 0, -127 for a 1. */
 export const soften = (bits) => Int8Array.from(bitsOf("bits", bits), (bit) => (bit ? -127 : 127));
@@ -294,8 +309,8 @@ export class Um {
   /** The 23 octets of a frame on a channel, with fill 2b. */
   writeFrame(frame, channel = "sdcch") {
     const m = this.#machine;
-    if (typeof frame !== "object" || frame === null) throw new TypeError(`frame is ${shown(frame)}; expected an object with a kind`);
-    const { kind, sapi = 0, cr = 0, pf = 0, ns = 0, nr = 0, more = 0, info = [] } = frame;
+    const members = ["kind", "sapi", "cr", "pf", "ns", "nr", "more", "info"];
+    const { kind, sapi = 0, cr = 0, pf = 0, ns = 0, nr = 0, more = 0, info = [] } = membersOf("frame", frame, members);
     const at = place("channel", channel, CHANNELS);
     const bit = (name, value) => (typeof value === "boolean" ? Number(value) : integer(name, value, 0, 1));
     const fields = [
@@ -315,8 +330,9 @@ export class Um {
   }
 
   /** A new end of a link. */
-  end(role, { sapi = 0, channel = "sdcch" } = {}) {
+  end(role, options = {}) {
     const m = this.#machine;
+    const { sapi = 0, channel = "sdcch" } = membersOf("options", options, ["sapi", "channel"]);
     const numbers = [place("role", role, ROLES), SAPIS[place("sapi", sapi, SAPIS)], place("channel", channel, CHANNELS)];
     m.octets.fill(0, m.input, m.input + END);
     m.told("um_end_new", m.INPUT, ...numbers);
@@ -324,8 +340,9 @@ export class Um {
   }
 
   /** A new side: both links of a mobile, or of the network, on one channel. */
-  side(role, { channel = "sdcch" } = {}) {
+  side(role, options = {}) {
     const m = this.#machine;
+    const { channel = "sdcch" } = membersOf("options", options, ["channel"]);
     const numbers = [place("role", role, ROLES), place("channel", channel, CHANNELS)];
     m.octets.fill(0, m.input, m.input + SIDE);
     m.told("um_side_new", m.INPUT, ...numbers);
@@ -335,6 +352,8 @@ export class Um {
   /** A side whose state `side.bytes` gave before; refused with the reason "noend" where no side has such a state. */
   restoreSide(bytes) {
     const side = new Side(this.#machine, Uint8Array.from(octetsOf("bytes", bytes, SIDE)));
+    // the fill frame is that of one link, so each is tested by itself
+    for (const at of [0, END]) this.restoreEnd(side.bytes.slice(at, at + END));
     side.idle();
     return side;
   }

@@ -235,8 +235,15 @@ class Refusals(unittest.TestCase):
         self.refused(ValueError, ["frame.info: 1 octets; expected none"], um.write_frame, um.Frame("rr", info=b"a"))
         self.refused(TypeError, ["frame.info: int 5"], um.write_frame, um.Frame("i", info=5))
 
+    @unittest.skipUnless(numpy, "numpy is not here")
+    def test_small_integers_do_not_wrap(self):
+        for kind, values, scale, wanted in (("i1", [127, -127], 2, [127, -127]), ("i2", [1000, -1000], 127, [127, -127]), ("i1", [-128], 1, [-127])):
+            self.assertEqual(list(um.soft_from_llr(numpy.array(values, kind), scale=scale)), wanted)
+            self.assertEqual(list(um.soft_from_llr(list(numpy.array(values, kind)), scale=scale)), wanted)
+
     def test_soft_helpers(self):
         self.refused(ValueError, ["values[1]: NaN"], um.soft_from_llr, [0.0, float("nan")])
+        self.refused(TypeError, ["values[0][0]: str '1'"], um.soft_from_llr, ["1"])
         self.refused(TypeError, ["values[0]: NoneType None"], um.soft_from_llr, [None])
         self.refused(TypeError, ["values: float 1.5"], um.soft_from_llr, 1.5)
         self.refused(ValueError, ["scale: 0"], um.soft_from_llr, [1.0], 0)
@@ -389,6 +396,12 @@ class Ends(unittest.TestCase):
 
 
 class Sides(unittest.TestCase):
+    def test_each_link_of_a_restored_side_is_tested(self):
+        state = bytearray(um.Side("mobile").to_bytes())
+        state[len(state) // 2 + 13] = 9
+        with self.assertRaises(um.Refused):
+            um.Side.from_bytes(bytes(state))
+
     def test_both_links(self):
         for channel in (um.SDCCH, um.SACCH):
             mobile, network = um.Side("mobile", channel), um.Side("network", channel)

@@ -78,6 +78,11 @@ class _Endpoint:
         _Endpoint.__init__(end)
         for link in range(cls._links):
             ctypes.memmove(ctypes.addressof(end._state) + link * _END_SIZE, data[link * _END_FIELDS :], _END_FIELDS)
+        # the fill frame is that of one link, so each is tested by itself
+        for link in range(cls._links):
+            one = End.__new__(End)
+            one._state = ctypes.create_string_buffer(end._state[link * _END_SIZE : (link + 1) * _END_SIZE], _END_SIZE)
+            one.idle()
         end.idle()
         return end
 

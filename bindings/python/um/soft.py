@@ -11,6 +11,7 @@ A soft bit is an int from -127, a sure 1, to 127, a sure 0; 0 is a place of whic
     [array('b', [127, -127]), array('b', [-127, -127])]
 """
 import array
+import numbers
 from typing import Any, Callable, List
 
 from ._values import bits as _bits
@@ -64,13 +65,13 @@ def _soft_row(name: str, row: Any, sure: int) -> "array.array[int]":
 def _scaled_row(name: str, row: Any, factor: float) -> "array.array[int]":
     scaled = array.array("b")
     for at, value in enumerate(row):
-        try:
-            real = value * factor
-            if real != real:
-                raise ValueError(f"{name}[{at}]: NaN; expected a number")
-            scaled.append(round(max(-127.0, min(127.0, real))))
-        except TypeError:
-            raise TypeError(f"{name}[{at}]: {name_of(value)}; expected a number") from None
+        if not isinstance(value, numbers.Real):
+            raise TypeError(f"{name}[{at}]: {name_of(value)}; expected a number")
+        # a float, since a small integer of numpy would wrap
+        real = float(value) * factor
+        if real != real:
+            raise ValueError(f"{name}[{at}]: NaN; expected a number")
+        scaled.append(round(max(-127.0, min(127.0, real))))
     return scaled
 
 
@@ -79,7 +80,8 @@ def _scaled_array(values: Any, factor: float) -> Any:
 
     if values.dtype.kind not in "fiu":
         raise TypeError(f"values: {name_of(values)}; expected floats or ints")
-    scaled = values * factor
+    # floats, since small integers would wrap
+    scaled = values.astype(float) * factor
     if numpy.isnan(scaled).any():
         raise ValueError(f"values: NaN at {tuple(map(int, numpy.argwhere(numpy.isnan(scaled))[0]))}; expected numbers")
     return numpy.clip(numpy.rint(scaled), -127, 127).astype(numpy.int8)
