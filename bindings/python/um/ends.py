@@ -81,7 +81,7 @@ class _Endpoint:
         # the fill frame is that of one link, so each is tested by itself
         for link in range(cls._links):
             one = End.__new__(End)
-            one._state = ctypes.create_string_buffer(end._state[link * _END_SIZE : (link + 1) * _END_SIZE], _END_SIZE)
+            one._state = ctypes.create_string_buffer(end._state.raw[link * _END_SIZE : (link + 1) * _END_SIZE], _END_SIZE)
             one.idle()
         end.idle()
         return end
