@@ -1,4 +1,4 @@
-# `make help` says what each target does. Everything but `prove` and `dist` works without the Rattle toolchain, from dist/.
+# `make help` lists the targets. All except `prove` and `dist` use dist/ and work without the Rattle toolchain.
 VERSION := $(shell cat VERSION)
 ARCH    ?= $(shell uname -m)
 FROM    ?= dist/$(ARCH)-linux
@@ -8,28 +8,28 @@ LIBDIR  ?= $(PREFIX)/lib
 LIBEXEC ?= $(PREFIX)/libexec/um
 INCLUDE ?= $(PREFIX)/include
 SHARE   ?= $(PREFIX)/share
-# the folder below PREFIX in which python3 looks for modules, if it looks in one
+# the directory below PREFIX in which python3 looks for modules, if any
 PYTHON  ?= $(shell python3 -c 'import sys; p = "$(PREFIX)/lib"; f = [f for f in sys.path if f.startswith(p) and f.endswith("-packages")]; \
 	print(f[0] if f else p + "/python%d.%d/site-packages" % sys.version_info[:2])' 2>/dev/null)
 D       := $(DESTDIR)
 HEADERS := bindings/c/um.h bindings/c/um_osmo.h
 MODULE  := $(wildcard bindings/python/um/*.py bindings/python/um/*.pyi bindings/python/um/py.typed)
-# from LIBDIR up to PREFIX, for the files of CMake, which find all from where they are
+# the relative path from LIBDIR to PREFIX, for the relocatable CMake files
 UP      := $(shell echo '$(LIBDIR)' | sed 's|^$(PREFIX)/||; s|[^/][^/]*|..|g')
 FILL    := sed -e 's|@PREFIX@|$(PREFIX)|; s|@LIBDIR@|$(LIBDIR)|; s|@INCLUDE@|$(INCLUDE)|; s|@VERSION@|$(VERSION)|; s|@UP@|$(UP)|'
 
 help:
 	@sed -n 's/^## //p' Makefile
 
-## make check      tests the program and the library of dist/ in some minutes; it names the tests that need a missing tool
+## make check      tests the program and the library of dist/ in a few minutes; names tests whose tool is missing
 check:
 	@checks/run quick
 
-## make prove      proves everything and runs every check; needs the Rattle toolchain, and from nothing about an hour
+## make prove      proves everything and runs every check; needs the Rattle toolchain; about an hour from scratch
 prove:
 	.ci/run
 
-## make dist       makes dist/ from the proved sources; needs the Rattle toolchain and wasm-opt
+## make dist       builds dist/ from the proved sources; needs the Rattle toolchain and wasm-opt 131
 dist:
 	tools/release
 
@@ -39,10 +39,10 @@ crate:
 	cd bindings/rust && cargo package --allow-dirty
 
 ## make install    installs below PREFIX (/usr/local), LIBDIR (PREFIX/lib) and DESTDIR: program, manual page, libraries, headers,
-##                 pkg-config, CMake, Python module, completion. FROM names the folder of the built files (dist/ARCH-linux)
+##                 pkg-config, CMake, Python module, completion. FROM is the directory of the built files (dist/ARCH-linux)
 install:
 	@test -f $(FROM)/libum.so.0 || \
-	  { echo "make install: no $(FROM)/libum.so.0; dist/ has x86_64-linux and aarch64-linux, and FROM names another folder" >&2; exit 1; }
+	  { echo "make install: no $(FROM)/libum.so.0; dist/ has x86_64-linux and aarch64-linux, and FROM selects another directory" >&2; exit 1; }
 	install -d "$(D)$(INCLUDE)" "$(D)$(LIBDIR)/pkgconfig" "$(D)$(LIBDIR)/cmake/um"
 	install -m 644 $(HEADERS) "$(D)$(INCLUDE)/"
 	install -m 644 $(FROM)/libum.a "$(D)$(LIBDIR)/libum.a"
@@ -60,7 +60,7 @@ ifneq ($(wildcard $(FROM)/um),)
 	install -m 644 docs/um.1 "$(D)$(SHARE)/man/man1/um.1"
 	install -m 644 packaging/um.bash "$(D)$(SHARE)/bash-completion/completions/um"
 else
-	@echo "make install: $(FROM) has no program, so that the libraries alone are installed"
+	@echo "make install: $(FROM) has no program, so only the libraries are installed"
 endif
 ifneq ($(and $(PYTHON),$(MODULE)),)
 	install -d "$(D)$(PYTHON)/um"
@@ -68,7 +68,7 @@ ifneq ($(and $(PYTHON),$(MODULE)),)
 	ln -srf "$(D)$(LIBDIR)/libum.so.0" "$(D)$(PYTHON)/um/libum.so.0"
 endif
 
-## make uninstall  removes what make install put there, with the same PREFIX, LIBDIR and DESTDIR
+## make uninstall  removes what make install installed, with the same PREFIX, LIBDIR and DESTDIR
 uninstall:
 	rm -f "$(D)$(BINDIR)/um" "$(D)$(LIBEXEC)/um" "$(D)$(LIBEXEC)/refused.awk" \
 	  "$(D)$(SHARE)/man/man1/um.1" "$(D)$(SHARE)/bash-completion/completions/um" \
@@ -77,7 +77,7 @@ uninstall:
 	rm -rf "$(D)$(LIBDIR)/cmake/um" $(if $(PYTHON),"$(D)$(PYTHON)/um")
 	-rmdir "$(D)$(LIBEXEC)" 2>/dev/null
 
-## make packages   makes Debian packages for amd64 and arm64 and the archive of the sources in out/packages
+## make packages   builds Debian packages for amd64 and arm64 and the source archive in out/packages
 packages:
 	packaging/packages out/packages
 

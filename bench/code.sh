@@ -1,5 +1,5 @@
 #!/usr/bin/env bash
-# `um code` beside a program over libosmocoding that reads and writes the same lines, on 20,000 random blocks.
+# Compares `um code` with a program over libosmocoding that reads and writes the same lines, on 20,000 random blocks.
 # Needs gcc, make, pkg-config, libosmocore-dev, libtalloc-dev, valgrind, python3 and time(1).
 . "$(dirname "${BASH_SOURCE[0]}")/common.sh"
 prepare code

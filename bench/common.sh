@@ -1,4 +1,4 @@
-# What the measurements of the program share. Each script sources this file.
+# Functions that the measurements of the program share. Each script sources this file.
 set -eu
 here=$(cd "$(dirname "${BASH_SOURCE[0]}")" && pwd)
 top=$(cd "$here/.." && pwd)
@@ -6,7 +6,7 @@ um=$top/crates/um/out/um
 work=$(mktemp -d)
 trap 'rm -rf "$work"' EXIT
 
-# prepare COMMAND: the program is built, and so is the peer with its inputs
+# prepare COMMAND: builds the program and the peer with its inputs
 prepare() {
   "$top/um" "$1" </dev/null
   cp "$here"/peer/* "$work/"
@@ -14,8 +14,8 @@ prepare() {
   (cd "$work" && python3 gen_files.py "$work" ./peer)
 }
 
-# times FILE ROUNDS UNIT COMMAND [PROGRAM ..]: wall time of each program with the command over the file, in turns, the least of
-# all rounds, for each of the 20,000 units that the file has; the ratio of the last program to the first
+# times FILE ROUNDS UNIT COMMAND [PROGRAM ..]: wall time of each program with the command over the file, per unit of its 20,000 units;
+# the minimum over alternating rounds, and the ratio of the last program to the first
 times() {
   python3 - "$work" "$@" <<'P'
 import os, subprocess, sys, time
@@ -34,7 +34,7 @@ if len(programs) > 1:
 P
 }
 
-# instructions FILE LINES UNIT PROGRAM COMMAND: what 1,000 units more cost by callgrind, of so many lines each
+# instructions FILE LINES UNIT PROGRAM COMMAND: the callgrind cost of 1,000 more units of LINES lines each
 instructions() {
   local few many
   for n in 500 1500; do
@@ -46,12 +46,12 @@ instructions() {
   echo "$1, ${4##*/} $5: $(((many - few) / 1000)) instructions a $3"
 }
 
-# resident FILE COMMAND: the memory of the program
+# resident FILE COMMAND: the program's resident memory
 resident() {
   /usr/bin/time -f "%M kB resident: um $2, $1" "$um" "$2" <"$work/$1" >/dev/null
 }
 
-# prepare_calls: a program that sends and receives blocks by themselves is proved and built beside a copy of the crates, as $calls
+# prepare_calls: builds a program that only sends and receives blocks, in a copy of the crates, as $calls
 prepare_calls() {
   local crate
   mkdir -p "$work/copy/crates/radio_cost/src"
@@ -67,8 +67,8 @@ prepare_calls() {
   calls=$work/copy/crates/radio_cost/out/radio_cost
 }
 
-# beside FILE SENDS RECEIVES ROUNDS WORD ..: what the program takes with these words over the file, beside as many calls of
-# `send_block` and `receive_block` by themselves: wall time in turns, the least of all rounds, and instructions
+# beside FILE SENDS RECEIVES ROUNDS WORD ..: the cost of the program with these arguments over the file, compared with as many plain
+# calls of `send_block` and `receive_block`: wall time, the minimum over alternating rounds, and instructions
 beside() {
   python3 - "$um" "$calls" "$@" <<'P'
 import subprocess, sys, time

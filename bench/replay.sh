@@ -1,5 +1,5 @@
 #!/usr/bin/env bash
-# `um replay` beside a program over libosmocoding that reads the same lines, on 20,000 hard and 20,000 soft blocks.
+# Compares `um replay` with a program over libosmocoding that reads the same lines, on 20,000 hard and 20,000 soft blocks.
 # Needs gcc, make, pkg-config, libosmocore-dev, libtalloc-dev, valgrind, python3 and time(1).
 . "$(dirname "${BASH_SOURCE[0]}")/common.sh"
 prepare replay

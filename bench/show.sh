@@ -1,5 +1,5 @@
 #!/usr/bin/env bash
-# `um show` on 20,000 `octets` lines, by itself: the peer has no frames.
+# Measures `um show` on 20,000 `octets` lines, without comparison: the peer has no frames.
 # Needs gcc, make, pkg-config, libosmocore-dev, libtalloc-dev, valgrind, python3 and time(1).
 . "$(dirname "${BASH_SOURCE[0]}")/common.sh"
 prepare show

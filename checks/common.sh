@@ -1,12 +1,12 @@
-# What checks share: the library that belongs to these sources. Each script of bash sources this file at the repository's top.
+# Functions that the checks share. Each bash script sources this file from the repository's root.
 
-# dist_is_ours: whether dist/ was made from these sources
+# dist_is_ours: whether dist/ was built from these sources
 dist_is_ours() {
   [ -f dist/MANIFEST ] && [ "$(tools/sources)" = "$(sed -n 's/^sources //p' dist/MANIFEST)" ]
 }
 
-# find_library: sets archive and shared to the library of dist/ for this machine where it was made from these sources, and else to one
-# that is proved and built. False: there is neither.
+# find_library: sets archive and shared to the library of dist/ for this machine if it was built from these sources, otherwise to one
+# that it proves and builds. False: neither is available.
 find_library() {
   local machine
   machine=$(uname -m)
@@ -27,7 +27,7 @@ exports() {
   cc -E -P -Ibindings/c -xc - <<<'#include "um.h"' | grep -oE '\bum_[a-z0-9_]+ *\(' | tr -d ' (' | LC_ALL=C sort -u
 }
 
-# runs WHAT COMMAND..: a part of the check that is named in $check, whose output is shown where it fails. Needs $work and $failed
+# runs WHAT COMMAND..: runs a part of the check named in $check, and shows its output if it fails. Needs $work and $failed
 runs() {
   local what=$1
   shift
@@ -43,6 +43,6 @@ runs() {
 # has TOOL PART
 has() {
   command -v "$1" >/dev/null && return
-  echo "$check: no $1 here, so $2 is passed over"
+  echo "$check: no $1 here, so $2 is skipped"
   return 1
 }

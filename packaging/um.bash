@@ -1,4 +1,4 @@
-# Completes the commands of um in bash, and their words.
+# Bash completion for um and its arguments.
 _um() {
   local word=${COMP_WORDS[COMP_CWORD]} choices=
   case $COMP_CWORD:${COMP_WORDS[1]} in

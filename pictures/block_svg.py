@@ -1,5 +1,5 @@
 #!/usr/bin/env python3
-"""Draws the way of one block: octets, information list, coded list, four bursts, and what is received of them.
+"""Draws one block: octets, information bits, coded bits, four bursts, and the decoded report.
 
     pictures/block_svg.py [--um PROGRAM] [--octet N] T HEX46 > PICTURE.svg
 
@@ -45,7 +45,7 @@ class Picture:
 
 
 def sums(k):
-    """The information bits whose sum a coded bit is."""
+    """The information bits whose sum is this coded bit."""
     taps = (0, 1, 3, 4) if k % 2 else (0, 3, 4)
     return " + ".join(f"u({k // 2 - at})" for at in taps if k // 2 >= at)
 
@@ -92,7 +92,7 @@ def draw(um, tsc, octets, octet):
 
 
 def main():
-    asked = argparse.ArgumentParser(description="Draws the way of one block.")
+    asked = argparse.ArgumentParser(description="Draws one block from octets to bursts.")
     asked.add_argument("--um", default="./um", help="the program (./um)")
     asked.add_argument("--octet", type=int, default=3, help="the octet whose bits are outlined (3)")
     asked.add_argument("tsc")

@@ -1,5 +1,5 @@
 #!/usr/bin/env python3
-"""Draws a recording: bursts in, one SVG out.
+"""Draws a recording of bursts as an SVG.
 
     pictures/bursts_svg.py [--um PROGRAM] [--titles] < RECORDING > PICTURE.svg
 
@@ -27,7 +27,7 @@ LAYOUTS = {
 }
 
 
-# the coded bit at a place of a normal burst of a block: the interleaver of GSM 05.03 section 4.1.4
+# the coded bit at a position of a normal burst of a block: the interleaver of GSM 05.03 section 4.1.4
 CODED_AT = {}
 for _k in range(456):
     _place = 2 * (49 * _k % 57) + _k % 8 // 4
@@ -43,7 +43,7 @@ def run(um, command, lines):
 
 
 def soft_of(line):
-    """Kind and soft values of a line with a burst."""
+    """Kind and soft bits of a burst line."""
     words = line.split(" ")
     kind = words[0]
     if kind == "lost":
@@ -55,7 +55,7 @@ def soft_of(line):
 
 
 def groups_of(lines):
-    """The lines of each answer, four normal bursts or one other, in order."""
+    """The input lines of each answer, four normal bursts or one other burst, in order."""
     held = []
     for line in lines:
         if not line or line.startswith("#"):
@@ -67,7 +67,7 @@ def groups_of(lines):
 
 
 def coded_again(um, report):
-    """The bursts that would be sent for what was reported."""
+    """The bursts that encode the reported word."""
     words = report.split(" ")
     said = dict(zip(words[1::2], words[2::2]))
     if words[0] == "block":
@@ -85,7 +85,7 @@ def parts_of(kind):
 
 
 def tone(colour, bit, sure):
-    """A 1 in full colour, a 0 in a light tone; the less sure, the paler."""
+    """A 1 in full colour, a 0 in a light tone; the less certain, the paler."""
     weight = (0.25 + 0.75 * sure) * (1.0 if bit else 0.28)
     red, green, blue = (int(colour[i : i + 2], 16) for i in (1, 3, 5))
     mixed = (round(255 + (channel - 255) * weight) for channel in (red, green, blue))
@@ -93,13 +93,13 @@ def tone(colour, bit, sure):
 
 
 def sums(k):
-    """The information bits whose sum a coded bit is: the code of rate one half of GSM 05.03 section 4.1.3."""
+    """The information bits whose sum is this coded bit: the code of rate 1/2 of GSM 05.03 section 4.1.3."""
     taps = (0, 1, 3, 4) if k % 2 else (0, 3, 4)
     return " + ".join(f"u({k // 2 - at})" for at in taps if k // 2 >= at)
 
 
 def title_of(number, kind, at, value, bit):
-    """What a bit of a burst is."""
+    """The description of a bit of a burst."""
     said = f"position {at}: soft value {value}, {bit} in the word reported"
     k = CODED_AT.get((number, at)) if kind == "n" and number is not None else None
     return f"{f'burst {number}, ' if number is not None else ''}{said}" + (f"; c({k}) = {sums(k)}" if k is not None else "")
@@ -138,7 +138,7 @@ class Picture:
         self.y += HIGH + 11
 
     def coded_list(self, softs, sents):
-        """The 456 coded bits in their own order."""
+        """The 456 coded bits in the order of the encoder."""
         self.text(6, self.y + 11, "coded bits", 11, "#4a5568")
         wide = 148 * CELL / 228
         for (burst, at), k in sorted(CODED_AT.items(), key=lambda placed: placed[1]):
@@ -160,9 +160,9 @@ class Picture:
             self.text(x + 24, self.y + 10, f"{name} 0, 1", 11)
             x += 44 + 7 * len(name) + 22
         self.cell(x, self.y, 9, 11, "url(#lost)")
-        self.text(x + 14, self.y + 10, "nothing known", 11)
+        self.text(x + 14, self.y + 10, "unknown", 11)
         self.cell(x + 112, self.y, 9, 11, "none", ' stroke="#e53e3e" stroke-width="1.6"')
-        self.text(x + 126, self.y + 10, "read otherwise than the reported word has it", 11)
+        self.text(x + 126, self.y + 10, "differs from the decoded word", 11)
         self.y += 30
 
     def svg(self):
@@ -183,7 +183,7 @@ class Picture:
 def main():
     asked = argparse.ArgumentParser(description="Draws a recording of bursts as an SVG.")
     asked.add_argument("--um", default="./um", help="the program (./um)")
-    asked.add_argument("--titles", action="store_true", help="each bit says what it is when it is pointed at")
+    asked.add_argument("--titles", action="store_true", help="describe each bit in a tooltip")
     said_words = asked.parse_args()
     um = said_words.um
     lines = sys.stdin.read().splitlines()

@@ -1,5 +1,5 @@
 #!/usr/bin/env python3
-"""Draws the share of sessions that end well over the share of blocks lost, for um and libosmogsm with each other and with themselves.
+"""Draws the share of sessions that succeed against the share of blocks lost, for um and libosmogsm with each other and with themselves.
 
     pictures/interop_svg.py [MEASURED] > PICTURE.svg
 
@@ -11,7 +11,7 @@ import re
 
 HERE = os.path.dirname(os.path.abspath(__file__))
 LINE = re.compile(r"(uu|uo|ou|oo) \w+ \w+ loss (\d+): sessions (\d+) whole (\d+) early (\d+) ")
-# who plays the mobile and the network, what the picture calls them, the class in the style and the mark
+# the mobile and the network, their label, their class in the style, and the mark
 DRAWN = [
     ("uu", "um, um", "um", "circle"),
     ("ou", "libosmogsm, um", "second", "diamond"),
@@ -29,7 +29,7 @@ text{fill:#1a202c}.paper{fill:#ffffff}.grid{stroke:#d2d8e0;fill:none}.faint{fill
 
 
 def read(path):
-    """Sessions and those that ended well, by pair and percent lost."""
+    """The number of sessions and of successful ones, by pair and percentage lost."""
     counts = {}
     for line in open(path, encoding="utf-8"):
         found = LINE.match(line)
@@ -71,7 +71,7 @@ def mark(kind, name, x, y):
 
 
 def main():
-    asked = argparse.ArgumentParser(description="Draws the share of sessions that end well over the share of blocks lost.")
+    asked = argparse.ArgumentParser(description="Draws the share of sessions that succeed against the share of blocks lost.")
     asked.add_argument("measured", nargs="?", default=os.path.join(HERE, "..", "bench", "interop", "measured.txt"))
     counts = read(asked.parse_args().measured)
     sessions = sum(sessions for losses in counts.values() for sessions, _ in losses.values())

@@ -1,5 +1,5 @@
 #!/usr/bin/env python3
-"""Draws a session of `um link` as a message sequence chart: a script in, one SVG out.
+"""Draws a script of `um link` as a message sequence chart, an SVG.
 
     pictures/link_svg.py [--um PROGRAM] T [sacch] < SCRIPT > CHART.svg
 
@@ -26,7 +26,7 @@ def run(um, words, text):
 
 
 def answers_of(lines):
-    """The lines of each answer, in order: up to `ok`, or the one line of a refusal."""
+    """The lines of each answer, in order: up to `ok`, or the single line of a refusal."""
     held = []
     for line in lines:
         held.append(line)
@@ -40,7 +40,7 @@ def short(octets):
 
 
 class Frame:
-    """A frame as `um show` reads it: on SACCH two octets of layer 1 stand before it."""
+    """A frame as `um show` prints it; on SACCH two layer 1 octets precede it."""
 
     def __init__(self, um, block, sacch):
         shown = run(um, ["show"], f"octets {block[4:] + '2b2b' if sacch else block}\n")[0].split(" ")
@@ -68,14 +68,14 @@ class Chart:
         )
 
     def beside(self, side, words, colour, size=12):
-        """Words outside the arrows, at the lane of an end."""
+        """A text beside the arrows, at the lane of an end."""
         self.lanes.add(side)
         left = side in ("mob", "rival")
         self.text(LANES[side] + (-10 if left else 10), self.y + 4, words, "end" if left else "start", size, colour)
         self.y += ROW - 4
 
     def arrow(self, sent, y, frame, fate, wrong):
-        """From where a block was sent to where it arrives now, or is lost, or is still on its way at the end."""
+        """The arrow of a block, from its sending to its arrival or loss, or to the end of the chart if it is in transit."""
         start, end = LANES[sent], LANES["net" if sent != "net" else "mob"]
         colour = {"arrives": "#1a202c", "lost": "#c53030", "waits": "#a0aec0"}[fate]
         part = 1 if fate == "arrives" else 0.55
@@ -89,7 +89,7 @@ class Chart:
         )
         if fate == "lost":
             self.out.append(f'<path d="M{x - 6:g} {fall - 6:g}l12 12m0 -12l-12 12" stroke="{colour}" stroke-width="2"/>')
-        label = frame.label + (f"  [{wrong} bits turned over]" if wrong else "")
+        label = frame.label + (f"  [{wrong} bits inverted]" if wrong else "")
         right = end > start
         self.text(start + (10 if right else -10), y - 5, label, "start" if right else "end", 11, colour)
 
@@ -116,7 +116,7 @@ class Session:
         self.um, self.sacch, self.chart = um, sacch, Chart()
         self.ways = {"up": [], "down": []}
         self.numbers, self.open = {}, set()
-        self.arrived = None  # the height of the last arrival, while nothing stands below it
+        self.arrived = None  # the height of the last arrival, as long as nothing is below it
 
     def show_numbers(self, side, sapi, changed):
         numbers = self.numbers.setdefault((side, sapi), [0, 0])
@@ -126,7 +126,7 @@ class Session:
             self.chart.beside(side, f"V(S)={numbers[0]} V(R)={numbers[1]}", "#805ad5", 11)
 
     def arrive(self, way, words):
-        """The first block of a way is lost, or arrives at this height."""
+        """The first block of one direction is lost, or arrives at this height."""
         side, y, frame = self.ways[way].pop(0)
         lost = words[1] == "lose"
         self.chart.y += ROW // 2

@@ -1,5 +1,5 @@
 #!/usr/bin/env python3
-"""Draws where the 456 coded bits of a block stand in its four bursts.
+"""Draws the positions of the 456 coded bits of a block in its four bursts.
 
     pictures/places_svg.py [--um PROGRAM] > PICTURE.svg
 
@@ -23,7 +23,7 @@ def bursts_of(um, lines):
 
 
 def information(um, octets):
-    """The 228 bits that are coded, by the report of `um replay`."""
+    """The 228 information bits, from the report of `um replay`."""
     sent = subprocess.run([um, "code"], input=f"block 0 {octets}\n", capture_output=True, text=True, check=True).stdout
     said = subprocess.run([um, "replay"], input=sent, capture_output=True, text=True, check=True).stdout.split(" ")
     word = bytes.fromhex(octets) + bytes.fromhex(said[said.index("check") + 1].split("\n")[0])
@@ -31,13 +31,13 @@ def information(um, octets):
 
 
 def coded(bits):
-    """The code of rate one half: G0 = 1 + D3 + D4 and G1 = 1 + D + D3 + D4."""
+    """The code of rate 1/2: G0 = 1 + D3 + D4 and G1 = 1 + D + D3 + D4."""
     before = [0] * 4 + bits
     return [sum(before[k + 4 - at] for at in taps) % 2 for k in range(len(bits)) for taps in ((0, 3, 4), (0, 1, 3, 4))]
 
 
 def places(um):
-    """For each coded bit the burst and the place of its 114, found by its values in many blocks."""
+    """For each coded bit, its burst and its position among 114, found by its values in many blocks."""
     blocks = [hashlib.sha256(b"%d" % number).digest()[:23].hex() for number in range(64)]
     sent = bursts_of(um, [f"block 0 {octets}\n" for octets in blocks])
     at_places = {}
@@ -45,17 +45,17 @@ def places(um):
         for place in range(114):
             at_places.setdefault(tuple(int(block[burst][place]) for block in sent), []).append((burst, place))
     lists = [coded(information(um, octets)) for octets in blocks]
-    # the last two coded bits are alike in every block, since the tail is zeros: the first stands in the earlier burst
+    # the last two coded bits are equal in every block, since the tail is zeros: the first is in the earlier burst
     return [at_places[tuple(bits[k] for bits in lists)].pop(0) for k in range(456)]
 
 
 def main():
-    asked = argparse.ArgumentParser(description="Draws the places of the coded bits of a block.")
+    asked = argparse.ArgumentParser(description="Draws the positions of the coded bits of a block.")
     asked.add_argument("--um", default="./um", help="the program (./um)")
     found = places(asked.parse_args().um)
     x_of = lambda k: LEFT + k * WIDE / 456
     y_of = lambda place: TOP + place * HIGH / 114
-    out = [f'<text x="{LEFT}" y="22" font-size="14">Where the coded bits of a block stand: bit k, from left to right, at this place of its burst</text>']
+    out = [f'<text x="{LEFT}" y="22" font-size="14">The coded bits of a block: bit k, from left to right, and its position in its burst</text>']
     for burst, colour in enumerate(COLOURS):
         out.append(f'<circle cx="{LEFT + 6 + 110 * burst}" cy="40" r="4" fill="{colour}"/>'
                    f'<text x="{LEFT + 16 + 110 * burst}" y="44" font-size="12">burst {burst}</text>')

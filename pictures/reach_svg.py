@@ -12,7 +12,7 @@ import re
 
 HERE = os.path.dirname(os.path.abspath(__file__))
 LINE = re.compile(r"(-?[\d.]+) dB, ([\w ]+): lost ([\d.]+) %, wrong \d+ of (\d+),")
-# each receiver's name, what the picture calls it, and its class in the style
+# each receiver's name, its label, and its class in the style
 DRAWN = [
     ("um", "the most likely word alone", "alone"),
     ("among 4", "the first of 4 whose parity holds", "four"),
@@ -34,7 +34,7 @@ text{fill:#1a202c}.paper{fill:#ffffff}.grid{stroke:#d2d8e0;fill:none}.faint{fill
 
 
 def read(path):
-    """The percent lost by receiver and noise, and how many blocks there were at each noise."""
+    """The percentage lost by receiver and noise, and the number of blocks at each noise."""
     lost, blocks = {}, 0
     for line in open(path, encoding="utf-8"):
         found = LINE.match(line)
@@ -49,7 +49,7 @@ def x_of(decibels):
 
 
 def y_of(percent):
-    """Four decades from 100 % to 0.01 %; a row below them for none."""
+    """Four decades from 100 % to 0.01 %, and below them a row for zero."""
     return TOP - math.log10(percent / 100) * HIGH / 4 if percent else NONE
 
 
@@ -71,7 +71,7 @@ def axes():
 
 
 def curve(points, name):
-    """Straight lines between the noises, dashed down to the row of none, and a mark at each: hollow where none was lost."""
+    """Lines between the measured noises, dashed down to the row for zero, and a mark at each: hollow if no block was lost."""
     lost = [point for point in points if point[1]]
     path = " ".join(f"{x_of(at):.1f} {y_of(percent):.1f}" for at, percent in lost)
     yield f'<path class="line {name}" style="fill:none" d="M{path}"/>'

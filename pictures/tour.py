@@ -1,5 +1,5 @@
 #!/usr/bin/env python3
-"""Makes the pictures of docs/pictures again, from the program's output and from what the measurements printed.
+"""Draws all pictures of docs/pictures, from the program's output and the measurements.
 
     pictures/tour.py [--um PROGRAM]
 
@@ -11,7 +11,7 @@ import subprocess
 import sys
 
 HERE = os.path.dirname(os.path.abspath(__file__))
-# each picture: its script with its words, and the example that it reads
+# each picture: its script with arguments, and the example that it reads
 PICTURES = {
     "block.svg": (["block_svg.py", "7", "0100150601020304052b2b2b2b2b2b2b2b2b2b2b2b2b2b"], None),
     "places.svg": (["places_svg.py"], None),
@@ -37,7 +37,7 @@ def made(words, script, um):
 
 
 def main():
-    asked = argparse.ArgumentParser(description="Makes the pictures of docs/pictures again.")
+    asked = argparse.ArgumentParser(description="Draws all pictures of docs/pictures.")
     asked.add_argument("--um", default=os.path.join(HERE, "..", "um"), help="the program (./um)")
     um = asked.parse_args().um
     for name, (words, script) in PICTURES.items():

@@ -1,4 +1,4 @@
-// A grid of bits: arrow keys move between them, Enter and Space flip one, and each says where it comes from.
+// A grid of bits: arrow keys move between them, Enter and Space flip one, and each shows its origin.
 import { h, write } from "./dom.mjs";
 
 const LEVELS = ["", "weak", "fair", "good", "sure"];
@@ -41,7 +41,7 @@ export class BitGrid {
     if (flip) host.addEventListener("click", (event) => place(event) !== null && (this.focus(place(event)), flip(place(event))));
   }
 
-  // the bit in the next row, or the one before, that is as far from its front
+  // the bit in the same column of the next or previous row
   #beside(step) {
     let first = 0;
     const row = this.#rows.findIndex(({ count }) => this.#current < (first += count));

@@ -1,4 +1,4 @@
-// The view Block: 23 octets, their way to four bursts, the radio path, and the result at the receiver.
+// The view Block: 23 octets, their encoding into four bursts, the radio path, and the receiver's result.
 import { soften } from "../bindings/js/um.mjs";
 import { BLOCK, differs, drawnAsSent, encode, noisy } from "./coding.mjs";
 import { $, h, hex, octetsOf, plural, same, save, spaced, valueOf, write } from "./dom.mjs";
@@ -71,7 +71,7 @@ export class BlockView {
     $("b-recorded").hidden = this.recorded === null;
     this.path.show(this.recorded !== null);
     this.showFrame(frame);
-    write($("b-reads"), frame.unread ? `These octets are no frame on ${this.channel.toUpperCase()}: ${frame.unread}.` : "");
+    write($("b-reads"), frame.unread ? `These octets are not a frame on ${this.channel.toUpperCase()}: ${frame.unread}.` : "");
     this.trace.draw(this.shown);
     write($("b-sum"), this.#sum());
     rows($("b-report"), this.#report());
@@ -95,7 +95,7 @@ export class BlockView {
   #crc() {
     const { report, among } = this.shown;
     if (report.accepted) return ["holds", "good"];
-    if (among.accepted) return [`fails; that of the word of rank ${among.rank} holds`, "fair"];
+    if (among.accepted) return [`fails; the CRC of the word of rank ${among.rank} holds`, "fair"];
     return [this.most === 1 ? "fails" : `fails, as in each of the ${this.most} likeliest words`, "bad"];
   }
 
@@ -108,7 +108,7 @@ export class BlockView {
 
   #repair() {
     const { repaired, report, truth } = this.shown;
-    if (repaired === null) return "none: no codeword differs within 12 bits in a row";
+    if (repaired === null) return "none: no codeword differs only within 12 consecutive bits";
     const { word, first, span } = repaired;
     if (span === 0) return "not needed";
     const turned = word.reduce((count, bit, k) => count + (bit ^ report.word[k]), 0);
@@ -129,13 +129,13 @@ export class BlockView {
       ["crc", "CRC of the most likely word", ...this.#crc()],
       ["octets", "Octets accepted", ...this.#accepted()],
       ["frame", "LAPDm frame", among.accepted ? frameLabel(this.um.readFrame(among.accepted, this.channel)) : "none"],
-      ["rank", `Rank of the word accepted, of ${this.most} tried`, among.accepted ? String(among.rank) : "none"],
-      ["training", "Training sequence heard", `${report.tsc}, with ${report.wrongTraining} of 104 bits wrong`],
+      ["rank", `Rank of the accepted word, of ${this.most} tried`, among.accepted ? String(among.rank) : "none"],
+      ["training", "Training sequence detected", `${report.tsc}, with ${report.wrongTraining} of 104 bits wrong`],
       ["metric", "Path metric", `${report.metric} of 57912`],
       ["wrong", "Coded bits that differ from the decoded word", `${report.wrongCoded} of 456`],
       ["unsent", "Coded bits that differ from what was sent", sent ? `${unsent} of 456` : "unknown in a recording"],
       ["margin", "Margin over the next word", this.#margin()],
-      ["repair", "Repair by the CRC", this.#repair()],
+      ["repair", "Correction by the CRC", this.#repair()],
     ];
   }
 

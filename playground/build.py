@@ -1,10 +1,10 @@
 #!/usr/bin/env python3
-"""Makes docs/playground.html of the sources in this folder, bindings/js/um.mjs and the module: one file, which loads nothing.
+"""Builds docs/playground.html from the sources in this folder, bindings/js/um.mjs and the WebAssembly module: one self-contained file.
 
     playground/build.py [--wasm dist/wasm/um.wasm] [OUT.html]
 
-Each module of JavaScript becomes a function whose answer is what it exports, in the order in which they import one another, without
-comments. This script and the module are in the page by gzip, in base64. Standard library only.
+Each JavaScript module becomes a function that returns its exports, without comments, after the modules that it imports. The resulting
+script and the WebAssembly module are embedded with gzip and base64. Needs only the standard library.
 """
 import argparse
 import base64
@@ -24,7 +24,7 @@ def packed(octets):
 
 
 def bundled(path, names):
-    """The modules that a module needs, and it, as JavaScript; `names` holds those that stand already."""
+    """A module and its imports as JavaScript; `names` holds the modules already written."""
     if path in names:
         return ""
     text = path.read_text(encoding="utf-8")
@@ -39,7 +39,7 @@ def bundled(path, names):
 
 
 def main():
-    asked = argparse.ArgumentParser(description="Makes docs/playground.html.")
+    asked = argparse.ArgumentParser(description="Builds docs/playground.html.")
     asked.add_argument("--wasm", type=pathlib.Path, default=HERE.parent / "dist" / "wasm" / "um.wasm")
     asked.add_argument("out", nargs="?", type=pathlib.Path, default=HERE.parent / "docs" / "playground.html")
     said = asked.parse_args()

@@ -1,6 +1,6 @@
-// A message sequence chart that grows: each event adds its rows below, and nothing above is drawn again. Each row has its own height
-// over the whole chart, so no text lies on an arrow or on other text. A block waits in a line beside its sender until it arrives.
-// The chart is many small drawings, one below the other in one system of coordinates: a browser lays out again all of one that grows.
+// A message sequence chart that grows: each event adds rows at the bottom, and nothing above is redrawn. No two rows share a height, so no
+// text covers an arrow or other text. A block in transit is a line beside its sender until it arrives. The chart is many small drawings
+// in one system of coordinates, because a browser lays out the whole of a drawing that grows.
 import { svg } from "./dom.mjs";
 
 const ROW = 17;
@@ -9,7 +9,7 @@ const COLUMNS = 4;
 const HEAD = 34;
 const EVENTS = 40; // in one drawing
 
-// what stands in an SVG file that is saved; the page has its own colours
+// the style of a saved SVG file; the page has its own colours
 const STYLE = `text{font:12px ui-monospace,monospace;fill:#1a202c} .head{font-weight:600} .lane,.wait{stroke:#8a94a3} .arrow{stroke:#1a202c}
 .wait,.arrow,.lost,.hit{fill:none} .wait,.lost{stroke-dasharray:3} .lost,.cross{stroke:#b02a2a} .tip{fill:#1a202c} text.call{fill:#1e4e8c}
 text.good{fill:#1d6b3a} text.bad{fill:#b02a2a} text.dim{fill:#5a6472}`;
@@ -41,7 +41,7 @@ export class Chart {
     this.#grow();
   }
 
-  // the names of the lanes, which stay in sight while the chart is scrolled
+  // the names of the lanes, which stay visible while the chart scrolls
   #heads(other) {
     this.drawing = svg("svg", { class: "chart heads", width: this.width, height: HEAD });
     this.#text(0, 12, other, "start", "head");
@@ -51,7 +51,7 @@ export class Chart {
     this.host.append(this.drawing);
   }
 
-  // a drawing from this height on, below the others
+  // a drawing that starts at this height, below the others
   #begin(top, lanesFrom) {
     this.drawing = svg("svg", { class: "chart", width: this.width, role: "presentation" });
     this.top = top;
@@ -65,7 +65,7 @@ export class Chart {
     this.drawing.append(svg("text", { x, y, "text-anchor": anchor, class: kind }, words));
   }
 
-  // as many letters as stand between the lanes
+  // cuts a text to the width between the lanes
   #fit(words) {
     const most = Math.floor((this.lanes.net - this.lanes.mob - 2 * GUTTER * COLUMNS - 16) / this.letter);
     return words.length <= most ? words : `${words.slice(0, most - 1)}…`;
@@ -80,7 +80,7 @@ export class Chart {
     else this.#text(this.lanes[side] + (right ? -away : away), this.y, this.#fit(words), right ? "end" : "start", kind);
   }
 
-  // a block was sent: it waits in a free column beside its lane
+  // a block was sent: its line occupies a free column beside its lane
   #wait(block) {
     const taken = [...this.waiting.values()].filter(({ from }) => from === block.from).map(({ column }) => column);
     const column = [1, 2, 3, 4].find((free) => !taken.includes(free)) ?? COLUMNS;
@@ -134,7 +134,7 @@ export class Chart {
     }
   }
 
-  // gives the last drawing its height
+  // sets the height of the last drawing
   #stand(bottom) {
     const height = bottom - this.top;
     this.drawing.setAttribute("height", height);

@@ -1,5 +1,5 @@
-// Where each bit stands and comes from (3GPP TS 45.003, 4.1; TS 45.002, 5.2), for the drawing: the library has no call for it, so the
-// page compares what is drawn with what sendBlock, sendAccess and sendSync answer.
+// The position and origin of each bit (3GPP TS 45.003, 4.1; TS 45.002, 5.2), for the drawing. The library has no call for it, so the
+// check compares the drawn bits with the results of sendBlock, sendAccess and sendSync.
 
 /** The coded bits of a word: c(2k) = u(k) + u(k-3) + u(k-4), c(2k+1) the same and u(k-1). */
 export const encode = (word) => {
@@ -19,7 +19,7 @@ export const targets = (k, length) =>
 
 const part = (name, count) => Array.from({ length: count }, (_, i) => ({ name, i, count }));
 
-// the place of coded bit k among the 592 bits of four bursts
+// the position of coded bit k among the 592 bits of four bursts
 const blockPlace = (k) => {
   const j = 2 * ((49 * k) % 57) + ((k % 8) >> 2);
   return 148 * (k % 4) + j + (j < 57 ? 3 : 31);
@@ -28,7 +28,7 @@ const blockPlace = (k) => {
 const NORMAL = [...part("tail", 3), ...part("coded", 57), ...part("stealing flag", 1), ...part("training sequence", 26),
   ...part("stealing flag", 1), ...part("coded", 57), ...part("tail", 3)];
 
-// a layout: what stands at each place of what is sent, and the place of each coded bit
+// a layout: the meaning of each transmitted bit, and the position of each coded bit
 const layout = (places, word, placeOf) => {
   const at = Array.from({ length: 2 * word.data + 2 * word.crc + 8 }, (_, k) => placeOf(k));
   const coded = new Int16Array(places.length).fill(-1);

@@ -1,4 +1,4 @@
-// Small helpers of the page: elements, octets as text, files, and what is said to a screen reader.
+// Helpers of the page: elements, octets as text, files, and messages to a screen reader.
 
 export const $ = (id) => document.getElementById(id);
 
@@ -33,7 +33,7 @@ export const spaced = (octets) => hex(octets).replace(/..(?=.)/g, "$& ");
 export const octetsOf = (text, count) => {
   const digits = text.replace(/\s/g, "");
   const bad = digits.match(/[^0-9a-f]/i);
-  if (bad) throw new Error(`"${bad[0]}" is no hexadecimal digit`);
+  if (bad) throw new Error(`"${bad[0]}" is not a hexadecimal digit`);
   if (digits.length % 2) throw new Error(`${digits.length} digits; an octet has two`);
   if (count !== undefined && digits.length !== 2 * count) throw new Error(`${digits.length / 2} octets; expected ${count}`);
   return Uint8Array.from(digits.match(/../g) ?? [], (pair) => parseInt(pair, 16));
@@ -42,7 +42,7 @@ export const octetsOf = (text, count) => {
 export const bitsOf = (text, count) => {
   const digits = text.replace(/\s/g, "");
   const bad = digits.match(/[^01]/);
-  if (bad) throw new Error(`"${bad[0]}" is no bit, 0 or 1`);
+  if (bad) throw new Error(`"${bad[0]}" is not a bit, 0 or 1`);
   if (digits.length !== count) throw new Error(`${digits.length} bits; expected ${count}`);
   return Uint8Array.from(digits, Number);
 };
@@ -88,6 +88,6 @@ export const copyText = async (text) => {
     await navigator.clipboard.writeText(text);
     announce("Copied");
   } catch {
-    announce("The browser does not let this page copy; select the text and copy it");
+    announce("The browser does not let this page copy; select and copy the text yourself");
   }
 };

@@ -1,24 +1,24 @@
-// The view Frame: 23 octets to the fields of an LAPDm frame and back, octet by octet, and why octets are no frame.
+// The view Frame: 23 octets to the fields of an LAPDm frame and back, octet by octet, and why octets are not a frame.
 import { $, h, hex, octetsOf, valueOf, write } from "./dom.mjs";
 import { frameForm } from "./frameform.mjs";
 import { frameLine } from "./lines.mjs";
 
 // name, channel, octets before the fill
 const EXAMPLES = [
-  ["SABM: a mobile asks for the link", "sdcch", "013f19050820a3b8c1"],
+  ["SABM: a mobile opens the link", "sdcch", "013f19050820a3b8c1"],
   ["UA: the network answers with the same information", "sdcch", "017319050820a3b8c1"],
   ["I: one segment of a message, more follow", "sdcch", "030053" + "05".repeat(20)],
-  ["RR: the next segment may come", "sdcch", "012101"],
-  ["REJ: send again from N(R) on", "sdcch", "014901"],
+  ["RR: ready for the next segment", "sdcch", "012101"],
+  ["REJ: retransmit from N(R) on", "sdcch", "014901"],
   ["DISC: release", "sdcch", "015301"],
   ["DM: no link here", "sdcch", "031f01"],
   ["UI without information: the fill frame", "sdcch", "030301"],
   ["SABM of SAPI 3: the link for short messages", "sdcch", "0d3f01"],
   ["UI on SACCH: a measurement report", "sacch", "05000103490615" + "00".repeat(16)],
   ["lpd: another link protocol", "sdcch", "410301"],
-  ["ea: the address goes on", "sdcch", "000301"],
-  ["control: no such frame", "sdcch", "01af01"],
-  ["el: the length goes on", "sdcch", "010300"],
+  ["ea: the address field continues", "sdcch", "000301"],
+  ["control: undefined control octet", "sdcch", "01af01"],
+  ["el: the length field continues", "sdcch", "010300"],
   ["length: more than N201 octets", "sdcch", "010355"],
   ["length: information in an RR", "sdcch", "010105aa"],
   ["empty: an I frame without information", "sdcch", "010001"],
@@ -28,9 +28,9 @@ const EXAMPLES = [
 const WHY = {
   lpd: "Bits 8 to 6 of the address octet are not all 0. Bit 8 is spare, and bits 7 and 6, the link protocol discriminator, are 00 in LAPDm "
     + "(01 is the cell broadcast service).",
-  ea: "Bit 1 of the address octet, EA, is 0: the address would go on in the next octet. An LAPDm address has one octet.",
-  control: "No frame of LAPDm has this control octet.",
-  el: "Bit 1 of the length octet, EL, is 0: the length would go on in the next octet. It has one octet in LAPDm.",
+  ea: "Bit 1 of the address octet, EA, is 0: the address field would continue. An LAPDm address has one octet.",
+  control: "No LAPDm frame has this control octet.",
+  el: "Bit 1 of the length octet, EL, is 0: the length field would continue. It has one octet in LAPDm.",
   length: "The length L is above N201, which is 20 octets on SDCCH and 18 on SACCH; or L is not 0, though a frame of this kind has no "
     + "information.",
   empty: "This is an I frame with L = 0, but an I frame carries at least one octet.",
@@ -65,12 +65,12 @@ const control = (octet, frame) => {
   return `Control: N(R) ${frame.nr}, P/F ${b[3]}, ${b.slice(4)} — ${NAMES[frame.kind]}`;
 };
 
-// what each of the 23 octets is
+// the meaning of each of the 23 octets
 const meanings = (octets, channel, frame) => {
   const first = channel === "sacch" ? 2 : 0;
   const length = octets[first + 2] >> 2;
   return Array.from(octets, (octet, i) => {
-    if (i < first) return "Layer 1 of SACCH: power and timing advance; LAPDm does not look at it";
+    if (i < first) return "Layer 1 of SACCH: power and timing advance; LAPDm ignores it";
     if (i === first) return address(octet);
     if (i === first + 1) return control(octet, frame);
     if (i === first + 2) return `Length: L ${length}, M ${(octet >> 1) & 1}, EL ${octet & 1}`;

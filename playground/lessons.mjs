@@ -1,7 +1,7 @@
 // The eight lessons. A step is a view, its state, and a page of text.
 
 const OCTETS = "0100150601020304052b2b2b2b2b2b2b2b2b2b2b2b2b2b";
-const SEVEN = [123, 137, 255, 269, 310, 533, 584]; // where the seven coded bits are that depend on u(100)
+const SEVEN = [123, 137, 255, 269, 310, 533, 584]; // the positions of the seven coded bits that depend on u(100)
 const NOISY = { noise: 0, seed: 18 }; // a block whose most likely word is wrong and whose second is the one sent
 
 const OPEN = ["mob open 01", "up deliver", "down deliver"];
@@ -20,48 +20,48 @@ const flips = (count) => ({ flips: SEVEN.slice(0, count).join(".") });
 
 export const LESSONS = [
   {
-    title: "A block on its way",
+    title: "How a block is sent and received",
     about: "From 23 octets to four bursts and back, bit by bit.",
     steps: [
       block({}, `
         A block is 23 octets. This one is an I frame from the mobile with five octets of information. Its 184 bits are sent octet by
-        octet, least significant bit first. 40 CRC bits follow (a Fire code): they tell the receiver whether it decoded what was sent.
+        octet, least significant bit first. 40 CRC bits follow (a Fire code), with which the receiver tests the decoded word.
         Four zero bits, the tail, return the encoder to its first state.
 
-        Point at a data bit, or reach the grid with Tab and move with the arrow keys. The line above the bits says which octet the bit
-        belongs to, and the seven coded bits that depend on it light up.`),
+        Point at a data bit, or reach the grid with Tab and move with the arrow keys. The line above the bits names the octet of the bit,
+        and the seven coded bits that depend on it light up.`),
       block({ flips: "3" }, `
         Each of the 228 bits gives two coded bits. Each coded bit is the sum, modulo 2, of up to four information bits: this is the
         convolutional code of rate 1/2 and constraint length 5. Interleaving then spreads the 456 coded bits over four bursts.
         Neighbours are never in the same burst, as the colours show.
 
         A normal burst has 57 coded bits, a stealing flag, the training sequence of 26 bits (the midamble), another flag, 57 coded bits,
-        and a tail at each end. Here bit 3 of burst 0 is flipped. See which coded bit it is, and that the block is still decoded.`),
+        and a tail at each end. Here bit 3 of burst 0 is flipped. See which coded bit it is; the block is still decoded.`),
       block({ noise: 3, seed: 5 }, `
-        A demodulator gives soft bits, which say how likely a 0 or a 1 is. Here they have white Gaussian noise at an Es/N0 of 3 dB; pale
-        bits are uncertain. The receiver finds the word whose coded bits match best: its path metric is the sum of the soft bits, each
-        added if it agrees and subtracted if not. It is proved that no other word has a greater metric.
+        A demodulator outputs soft bits, whose sign is the bit and whose size is the confidence. Here they have white Gaussian noise at an
+        Es/N0 of 3 dB; pale bits are uncertain. The receiver finds the word whose coded bits match best: its path metric is the sum of
+        the soft bits, each added if it agrees and subtracted if not. It is proved that no other word has a greater metric.
 
         Lower the Es/N0 and press New noise a few times. First, wrong bits are corrected; later, blocks are lost.`),
     ],
   },
   {
     title: "Three wrong bits",
-    about: "Why three wrong bits never harm a block, and which four do.",
+    about: "Why three wrong bits never cost a block, and which four do.",
     steps: [
       block(flips(3), `
         Any two words differ in at least seven coded bits. So if at most three bits are wrong and all are equally certain, the word that
-        was sent is closer than any other, wherever the three bits are. That is proved.
+        was sent is closer than any other, wherever the three bits are. This is proved.
 
         Here three of the seven coded bits that depend on u(100) are flipped. The margin over the next word has fallen from 1778, which
         is seven bits of 254, to 254, which is one bit.`),
       block(flips(4), `
         Now a fourth of the seven bits is flipped, and another word is closer: the one that differs in u(100) alone. The receiver decodes
-        that word. It differs from the received bits in three places, the word that was sent in four. The CRC fails, so the block is not
-        accepted as it is.
+        that word. It differs from the received bits in three bits, the word that was sent in four. The CRC fails, so the block is not
+        accepted.
 
-        Two remedies are left. The word of rank 2 is the one that was sent, and its CRC holds. And the CRC alone can correct the word,
-        because the wrong bits are within twelve in a row.`),
+        Two methods still recover it. List decoding: the word of rank 2 is the one that was sent, and its CRC holds. Error correction by
+        the CRC: the wrong bits of the word lie within twelve consecutive bits.`),
       block({ flips: "20.21.22.23.24.25.26.27.28.29.170.171.172.173.174.175" }, `
         The position of wrong bits matters more than their number. Here sixteen are flipped, in two runs, and the block is decoded:
         deinterleaving moves neighbours far apart.
@@ -71,7 +71,7 @@ export const LESSONS = [
   },
   {
     title: "A lost burst",
-    about: "A quarter of a block is missing, and it is decoded.",
+    about: "A quarter of a block is missing, and it is still decoded.",
     steps: [
       block({ lost: "1" }, `
         Burst 1 is lost. Its 148 bits are unknown, so their soft bits are 0, which counts neither for nor against any word. The burst
@@ -85,7 +85,7 @@ export const LESSONS = [
         Two bursts are lost, so half of the coded bits are unknown. The block is still decoded, but the margin is 508: some other word
         differs in only two of the bits that are left.
 
-        Flip bits in the other bursts. One bit at the wrong place makes two words equally likely, and two lose the block.`),
+        Flip bits in the other bursts. One bit in the wrong position makes two words equally likely; two lose the block.`),
     ],
   },
   {
@@ -96,21 +96,21 @@ export const LESSONS = [
         At this noise the most likely word is not the one that was sent. Its CRC fails, and an ordinary receiver loses the block. The red
         bars above the decoded word mark its wrong bits.`),
       block(NOISY, `
-        This receiver continues: it tries up to 64 words, the most likely first, and accepts the first whose CRC holds. Here that is the
+        This receiver uses list decoding: it tries up to 64 words, the most likely first, and accepts the first whose CRC holds. Here that is the
         second. It is proved that no word with a valid CRC fits better.
 
-        The margin tells how close the decision was: the first word fits only a little better than the second.`),
+        The margin shows how close the decision was: the first word fits only a little better than the second.`),
       block({ ...NOISY, noise: -1 }, `
-        The 40 bits of CRC of a wrong word hold by chance once in 2^40 tries, so 64 tries cost almost no certainty. With more noise, none
+        A wrong word passes the CRC of 40 bits by chance once in 2^40 tries, so 64 tries add almost no risk. With more noise, none
         of the 64 words may have a valid CRC. Press New noise: how often is a block accepted, and at which rank?`),
     ],
   },
   {
     title: "Contention of two mobiles",
-    about: "Two mobiles use the same channel, and one of them learns that it is not its own.",
+    about: "Two mobiles use the same channel, and one of them learns that the channel is not its own.",
     steps: [
       link(["rival 02", "mob open 01"], {}, `
-        Two mobiles sent the same channel request, and both believe that the answer was theirs. Each sends a SABM with information that
+        Two mobiles sent the same channel request, and both believe that the answer was for them. Each sends a SABM with information that
         identifies it: 02 and 01. Both blocks are on the air; the other mobile's is first.
 
         Press Deliver under "On the air, to the network".`),
@@ -118,7 +118,7 @@ export const LESSONS = [
         The network opened the link for 02, and its UA carries that information back. This is contention resolution: each mobile compares
         the information in the UA with its own. Deliver the UA to the mobile.`),
       link(["rival 02", "mob open 01", "up deliver", "down deliver", "up deliver"], {}, `
-        The UA says 02, and this mobile sent 01. It closes with the reason contention, and would ask for another channel. Its own SABM
+        The UA carries 02, but this mobile sent 01. It closes with the reason contention, and would request another channel. Its own SABM
         reached the network later and was ignored, because the link was open for the other mobile.
 
         Let the network send a message now: this mobile is closed and answers DM.`),
@@ -132,24 +132,24 @@ export const LESSONS = [
         The link is open, and the mobile's message arrived in one I frame. The network delivered it and answered RR with N(R) = 1, the
         number that it expects next. The RR is on the air. Press Lose under "On the air, to the mobile".`),
       link([...HELLO, "down lose"], {}, `
-        The acknowledgement is lost. The mobile cannot know whether its frame or the answer was lost. When T200 expires, it repeats the
-        frame with P = 1, which demands an answer. Press "T200 expires" at the mobile, and deliver the frame.`),
+        The acknowledgement is lost. The mobile cannot know whether its frame or the answer was lost. When T200 expires, it retransmits
+        the frame with P = 1, which demands an answer. Press "T200 expires" at the mobile, and deliver the frame.`),
       link([...HELLO, "down lose", "mob tick", "up deliver"], {}, `
         The network expected N(S) = 1 and received 0 again. It discards the information and answers REJ with F = 1 and N(R) = 1. The
         message was delivered once.
 
-        Deliver the REJ: its N(R) acknowledges the message. The table of claims says: accepted 1, delivered 1, acknowledged 1.`),
+        Deliver the REJ: its N(R) acknowledges the message. The table of claims shows: accepted 1, delivered 1, acknowledged 1.`),
     ],
   },
   {
     title: "A collision on SAPI 3",
-    about: "Both ends ask for the link of short messages at once.",
+    about: "Both ends open the link for short messages at once.",
     steps: [
       link([...OPEN, ...SAPI3.slice(0, 2)], {}, `
         The link of SAPI 0 is open. Short messages use another link, SAPI 3, and either end may open it. Here both sent a SABM at once,
         and the two cross on the air. Deliver both.`),
       link([...OPEN, ...SAPI3], {}, `
-        Each end received a SABM while it waits for the answer to its own, and answers UA. Deliver both UA frames: the link opens, once at
+        Each end received a SABM while it was waiting for the answer to its own, and answers UA. Deliver both UA frames: the link opens, once at
         each end.`),
       link([...OPEN, ...SAPI3, "up deliver", "down deliver", "net3 send 736d73"], {}, `
         The link of SAPI 3 is open, and a message is on the air. Each link has its own V(S), V(R) and V(A), its own T200, and its own
@@ -161,17 +161,17 @@ export const LESSONS = [
     about: "A timer shorter than the round trip costs frames, but no message.",
     steps: [
       link(EARLY, { t200: 10, delay: 3 }, `
-        Here a block takes three steps of the clock, so a round trip takes six. T200 is ten steps. Start the clock: two messages go to the
-        network, each in one frame. Stop the clock when nothing is on the air.`),
+        Here a block takes three steps of the clock, so a round trip takes six. T200 is ten steps. Start the clock: the mobile sends two
+        messages, each in one frame. Stop the clock when nothing is on the air.`),
       link(EARLY, { t200: 4, delay: 3 }, `
-        Now T200 is four steps. It expires while the RR is still on the air, and the frame is repeated. Start the clock and count the
-        frames in the chart: each message takes more of them, and REJ answers those that were not needed.`),
+        Now T200 is four steps. It expires while the RR is in transit, and the frame is sent again. Start the clock and count the
+        frames in the chart: each message takes more of them, and each duplicate is answered with REJ.`),
       link([...OPEN, "mob send 6f6e65", "mob tick", "mob tick", ...Array(3).fill("up deliver"), ...Array(3).fill("down deliver")], {}, `
         The same by hand: T200 expired twice before anything arrived, so the I frame was sent three times. The first copy is delivered; the
         other two are discarded and answered with REJ. The message was delivered once and acknowledged once.
 
         Lose or delay any block, or damage up to three of its bits: each end still delivers a prefix of the messages that the other end
-        accepted, each once, and whatever is acknowledged was delivered before. That is proved of every session.`),
+        accepted, each once, and only delivered messages are acknowledged. This is proved for every session.`),
     ],
   },
 ];

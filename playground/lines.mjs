@@ -1,4 +1,4 @@
-// The lines that the program `um` reads and writes: `um code`, `replay`, `margin`, `repair` and `show` for what the page shows.
+// The lines of `um code`, `replay`, `margin`, `repair` and `show` for the state of the page.
 import { bitsOf, hex, octetsOf, octetsOfBits } from "./dom.mjs";
 
 const HAS_INFO = /^(i|sabm|ui|ua)$/;
@@ -20,9 +20,9 @@ export const frameLine = (frame) => {
   return words.join(" ");
 };
 
-/** A frame as a chart has it: I N(S)=0 N(R)=0 M 0601. */
+/** The label of a frame in the chart: I N(S)=0 N(R)=0 M 0601. */
 export const frameLabel = (frame) => {
-  if (frame.unread) return `no frame (${frame.unread})`;
+  if (frame.unread) return `not a frame (${frame.unread})`;
   const { kind, sapi, pf, ns, nr, more, info } = frame;
   const words = [kind.toUpperCase()];
   if (kind === "i") words.push(`N(S)=${ns}`);
@@ -98,7 +98,7 @@ export const readRecording = (text) => {
     if (line === "" || line.startsWith("#")) return;
     try {
       const burst = burstOf(line);
-      if (burst.letter !== "n" && block.length) throw new Error("a burst of another kind stands inside a block of four");
+      if (burst.letter !== "n" && block.length) throw new Error("a burst of another kind interrupts a block of four");
       if (burst.letter !== "n") found.push(burst);
       else if (block.push(...burst.soft) === 592) {
         found.push({ letter: "n", soft: Int8Array.from(block) });

@@ -1,4 +1,4 @@
-// The view Link: a mobile and a network, the air between them, a clock that runs T200, the chart, and what is claimed of the session.
+// The view Link: a mobile and a network, the radio path between them, a clock that runs T200, the chart, and the claims about the session.
 import { Chart } from "./chart.mjs";
 import { randomOf } from "./coding.mjs";
 import { $, announce, complain, copyText, h, hex, octetsOf, plural, save, valueOf, write } from "./dom.mjs";
@@ -17,7 +17,7 @@ const noticeWords = ({ kind, message, number, reason }) => {
   if (kind === "opened") return message.length ? `opened ${short(message)}` : "opened";
   if (kind === "acked") return `message ${number} acknowledged`;
   if (kind === "closed") return `closed: ${reason === "contention" ? "contention, another mobile has the link" : reason}`;
-  if (kind === "oversize") return "a message was too long, and is dropped";
+  if (kind === "oversize") return "a message was too long and is discarded";
   return `got ${kind === "unit" ? "unacknowledged " : ""}${short(message)}`;
 };
 
@@ -135,7 +135,7 @@ export class LinkView {
     });
   }
 
-  // a line from a button; one that is no line is explained beside its input
+  // runs a line from a button; an invalid line is explained beside its input
   #type(lineOf, field) {
     try {
       this.run(lineOf());
@@ -190,7 +190,7 @@ export class LinkView {
     const notes = [];
     const changes = new Map();
     const note = (end, words, kind) => notes.push({ side: end.replace("3", ""), words, kind });
-    if (block && !lost && !report.accepted) note(event.to, "CRC fails: the block is dropped", "bad");
+    if (block && !lost && !report.accepted) note(event.to, "CRC fails: the block is discarded", "bad");
     if (!block && !refused) note(who, callWords(event), "call");
     if (refused && NAMES[who]) note(who, `${callWords(event)}: refused, ${why}`, "bad");
     for (const { who: end, notice } of notices) {
@@ -207,7 +207,7 @@ export class LinkView {
     return this.#say(event);
   }
 
-  // T200 starts anew with each SABM, DISC and I frame that an end sends, and stops once nothing awaits an answer
+  // T200 restarts with each SABM, DISC and I frame that an end sends, and stops when no frame awaits an answer
   #startTimers({ sent }) {
     for (const { id, who, frame } of sent) {
       this.sentAt.set(id, this.now);
@@ -223,7 +223,7 @@ export class LinkView {
     else if (lost) parts.push(`${block.label} ${TO[who]} is lost`);
     else {
       const damage = places.length ? ` with ${plural(places.length, "wrong bit")}` : "";
-      parts.push(`${block.label} ${TO[who]} arrives${damage}${report.accepted ? "" : ", and is dropped, since its CRC fails"}`);
+      parts.push(`${block.label} ${TO[who]} arrives${damage}${report.accepted ? "" : " and is discarded, because its CRC fails"}`);
     }
     for (const { who: end, notice } of notices) parts.push(`${NAMES[end]} ${noticeWords(notice)}`);
     for (const { from, label } of sent) parts.push(`${NAMES[from]} sends ${label}`);
@@ -240,7 +240,7 @@ export class LinkView {
     }
   }
 
-  // -- what is shown --
+  // -- display --
 
   #draw() {
     for (const who of Object.keys(this.session.ends)) this.#drawEnd(who);
@@ -252,7 +252,7 @@ export class LinkView {
     this.changed();
   }
 
-  // a long text costs a browser much to lay out, so this waits until nothing more happens
+  // laying out a long text is slow, so this waits until nothing more happens
   #drawLines() {
     const lines = this.session.lines.map((line) => `${line}\n`).join("");
     if (document.activeElement !== $("l-lines")) $("l-lines").value = lines;
@@ -289,8 +289,8 @@ export class LinkView {
         says(acknowledged, `${acked}${acked ? ": each delivered before" : ""}`));
     }));
     write($("l-air"), this.session.altered
-      ? `${plural(this.session.altered, "block")} passed the CRC with other octets than were sent. Nothing is claimed of such an air.`
-      : "Every block was lost, dropped, or accepted as it was sent. It is proved that the claims hold in every such session.");
+      ? `${plural(this.session.altered, "block")} passed the CRC with wrong octets. The claims do not cover such a radio path.`
+      : "Every block was lost, discarded, or accepted as it was sent. It is proved that the claims hold in every such session.");
   }
 
   // -- the clock --
@@ -301,7 +301,7 @@ export class LinkView {
     write($("l-clock"), on ? "Stop the clock" : "Start the clock");
   }
 
-  // one step of time: blocks arrive that were long enough on their way, and then T200 expires where it is due
+  // one step of time: blocks whose delay is over arrive, and then T200 expires where it is due
   #step() {
     this.now++;
     for (const way of this.arrives ? ["up", "down"] : []) {

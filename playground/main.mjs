@@ -1,4 +1,4 @@
-// The page: the module, the five views, and the address, which holds the state of the view that is shown.
+// The page: the module, the five views, and the address, which holds the state of the current view.
 import { load } from "../bindings/js/um.mjs";
 import { BlockView } from "./block.mjs";
 import { $, h, write } from "./dom.mjs";
@@ -61,7 +61,7 @@ class Page {
       $("failure").hidden = true;
       this.views[view].set(params);
     } catch (error) {
-      write($("failure"), `The address holds no state of this view: ${error.message}`);
+      write($("failure"), `The address is not a state of this view: ${error.message}`);
       $("failure").hidden = false;
       this.views[view].set(new URLSearchParams());
     }
@@ -96,7 +96,7 @@ class Page {
     this.later = setTimeout(() => this.#write(), 150);
   }
 
-  // writes the state of the view into the address, without a step in the history, and into its link above
+  // writes the state of the view into the address, without a history entry, and into its link above
   #write() {
     clearTimeout(this.later);
     const params = this.views[this.view].get();

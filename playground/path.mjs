@@ -1,7 +1,7 @@
 // The radio path of the views Block and Bursts: noise by Es/N0 with a seed, and bits that are flipped; and the table of a report.
 import { $, h, plural, write } from "./dom.mjs";
 
-const NONE = 13; // the slider's place for no noise
+const NONE = 13; // the slider's position for no noise
 
 export const radioPath = (host, prefix, length, changed) => {
   const path = { db: null, seed: 1, flips: new Set() };
@@ -36,7 +36,7 @@ export const radioPath = (host, prefix, length, changed) => {
     if (!path.flips.delete(i)) path.flips.add(i);
     changed();
   };
-  /** The soft bits with the flipped ones turned over, as a copy. */
+  /** The soft bits with the flipped ones inverted, as a copy. */
   path.over = (soft) => Int8Array.from(soft, (value, i) => (path.flips.has(i) ? -value : value));
   path.show = (recorded) => {
     for (const control of [noise, seed, again]) control.disabled = recorded;

@@ -1,4 +1,4 @@
-// The panel Recording of the views Block and Bursts: lines of `um replay` in, what they are received as out, and each opened in its view.
+// The panel Recording of the views Block and Bursts: decodes lines of `um replay`, and opens each result in its view.
 import { $, h, hex, write } from "./dom.mjs";
 import { readRecording, replayLines } from "./lines.mjs";
 

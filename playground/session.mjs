@@ -1,23 +1,23 @@
-// A session of two ends over an air, line by line as `um link` has it: the same lines, the same answers. Nothing of the page is here.
+// A session of two ends over a radio path, line by line as `um link` runs it: the same lines, the same answers. Independent of the page.
 import { Refused, soften } from "../bindings/js/um.mjs";
 import { hex, octetsOfBits, octetsOf, same } from "./dom.mjs";
 import { frameLabel } from "./lines.mjs";
 
-const ROOM = 64; // blocks that an air holds one way; an event adds at most two
+const ROOM = 64; // the most blocks in transit one way; an event adds at most two
 const FORMS = [/^mob open HEX$/, /^(mob|net)3 open$/, /^(mob|net)3? (send HEX|unit HEX|close|tick)$/, /^(mob|net) idle$/,
   /^(up|down) (deliver|lose|flip( P)+)$/, /^rival HEX$/];
-const HOW = "expected a line of um link, as mob open 01, net send 4142, mob3 tick, up deliver, down flip 3 77, or rival 02";
+const HOW = "expected a line of um link, such as mob open 01, net send 4142, mob3 tick, up deliver, down flip 3 77, or rival 02";
 
 const otherEnd = (who) => who.replace(/^.../, (side) => (side === "mob" ? "net" : "mob"));
 const wayFrom = (who) => (who.startsWith("net") ? "down" : "up");
 
 const placesOf = (words) => {
   const bad = words.find((word) => !/^(0|[1-9]\d*)$/.test(word));
-  if (bad !== undefined) throw new Error(`"${bad}" is no place; expected whole numbers from 0 to 591`);
+  if (bad !== undefined) throw new Error(`"${bad}" is not a bit number; expected whole numbers from 0 to 591`);
   const above = words.find((word) => Number(word) > 591);
-  if (above !== undefined) throw new Error(`place ${above} is above 591, the last bit of a block`);
+  if (above !== undefined) throw new Error(`bit ${above} is above 591, the last bit of a block`);
   const twice = words.find((word, i) => words.indexOf(word) < i);
-  if (twice !== undefined) throw new Error(`place ${twice} is named twice`);
+  if (twice !== undefined) throw new Error(`bit ${twice} is given twice`);
   return words.map(Number);
 };
 
@@ -87,12 +87,12 @@ export class Session {
   #rival(event) {
     const most = this.channel === "sacch" ? 18 : 20;
     const { octets } = event;
-    if (octets.length === 0) throw new Refused("empty", "a SABM that asks for the link of SAPI 0 has information");
-    if (octets.length > most) throw new Refused("toolong", `${octets.length} octets; a SABM here has at most ${most}`);
+    if (octets.length === 0) throw new Refused("empty", "a SABM that opens the link of SAPI 0 carries information");
+    if (octets.length > most) throw new Refused("toolong", `${octets.length} octets; a SABM here carries at most ${most}`);
     this.#effects(event, "rival", { notices: [], frames: [this.um.writeFrame({ kind: "sabm", pf: 1, info: octets }, this.channel)] });
   }
 
-  // the first block of a way is lost, or arrives with some of its bits turned over
+  // the first block of one direction is lost, or arrives with some of its bits inverted
   #arrive(event) {
     const { who: way, call, places = [] } = event;
     const queue = this.air[way];

@@ -103,10 +103,10 @@ class SingleBurst {
     const right = accepted && (!sent || same(accepted, bitsOf(this.info, this.parts.data)));
     const unsent = sent && at.filter((place) => differs(soft[place], sent[place])).length;
     return [
-      ["crc", this.access ? "CRC under the receiver's BSIC" : "CRC", accepted ? "holds" : "fails", accepted ? "good" : "bad"],
-      ["info", "Bits accepted", accepted ? accepted.join("") + (!sent ? "" : right ? " (as sent)" : " (not what was sent)") : "none",
+      ["crc", this.access ? "CRC for the receiver's BSIC" : "CRC", accepted ? "holds" : "fails", accepted ? "good" : "bad"],
+      ["info", "Accepted bits", accepted ? accepted.join("") + (!sent ? "" : right ? " (as sent)" : " (not what was sent)") : "none",
         right ? "good" : "bad"],
-      ["training", "Bits of the training sequence wrong", `${wrongTraining} of ${training}`],
+      ["training", "Wrong bits of the training sequence", `${wrongTraining} of ${training}`],
       ["metric", "Path metric", `${metric} of ${most}`],
       ["wrong", "Coded bits that differ from the decoded word", `${wrongCoded} of ${at.length}`],
       ["unsent", "Coded bits that differ from what was sent", sent ? `${unsent} of ${at.length}` : "unknown in a recording"],

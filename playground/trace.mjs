@@ -1,5 +1,5 @@
-// Three grids of bits: the decoded word, its coded bits, and what was received. Each bit says where it comes from, and the bits
-// that belong together are lit in all three.
+// Three grids of bits: the decoded word, its coded bits, and the received bits. Each bit shows its origin, and the bits that belong
+// together light up in all three.
 import { BitGrid, softLook } from "./bits.mjs";
 import { differs, sources, sum, targets, wordBit } from "./coding.mjs";
 import { $, write } from "./dom.mjs";
@@ -51,7 +51,7 @@ export class Trace {
   #wordWords(k) {
     const { report, truth } = this.shown;
     const { word } = this.layout;
-    const bsic = word.data === 8 && k >= 8 && k < 14 ? ", with the BSIC added" : "";
+    const bsic = word.data === 8 && k >= 8 && k < 14 ? ", XORed with the BSIC" : "";
     const wrong = truth && truth[k] !== report.word[k] ? `, but ${truth[k]} was sent` : "";
     const into = targets(k, this.length).map((c) => `c(${c})`).join(", ");
     return `u(${k}), ${wordBit(k, word)}${bsic}: ${report.word[k]}${wrong}. It is part of ${into}.`;

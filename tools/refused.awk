@@ -1,8 +1,8 @@
-# Says what is wrong with a line that was refused, and marks the column. Standard input is the line. The environment has number and
-# reason as the program gave them, called (the command), own (the forms of its lines), and others (those of all commands, each
-# behind the command's name). In a form | parts words of which one stands, and .. stands for more words like the last.
+# Explains what is wrong with a refused line, and marks the column. Standard input is the line. The environment has number and reason
+# from the program's output, called (the command), own (the forms of its lines), and others (the forms of all commands, each after
+# the command's name). In a form, | separates alternatives, and .. means more words like the last.
 
-# the offset in a word of the first character that is none of these, or 0
+# the position in a word of the first character that is not one of these, or 0
 function stranger(word, digits,   i) {
   for (i = 1; i <= length(word); i++) if (!index(digits, substr(word, i, 1))) return i
   return 0
@@ -14,10 +14,10 @@ function is_one_of(word, choice,   part, i, n) {
   return 0
 }
 
-# a word that a line has as it stands in the form
+# whether a word of a form is a keyword
 function is_fixed(i, type) { return i == 1 || type !~ /[A-Z.]/ }
 
-# splits a form into wanted[], with as many words as the line has where it ends in .., and returns how many
+# splits a form into wanted[] and returns the number of words; a final .. is repeated up to the length of the line
 function fields(form,   n) {
   n = split(form, wanted, " ")
   if (wanted[n] != "..") return n
@@ -25,14 +25,14 @@ function fields(form,   n) {
   return n
 }
 
-# how many words of the line come before the first that the form does not have there, and a half more if the line has the form
+# how many words of the line match the form before the first that does not, and a half more if the line matches the whole form
 function fit(form,   i, n) {
   n = fields(form)
   for (i = 1; i <= n && i <= count; i++) if (is_fixed(i, wanted[i]) && !is_one_of(word[i], wanted[i])) return i - 1
   return n == count ? count + 0.5 : i - 1
 }
 
-# says the fault, shows the line with a mark under this column, if it is above 0, and ends
+# prints the fault and, if the column is above 0, the line with a mark under that column; then exits
 function tell(fault, column,   from, shown, margin) {
   printf "um: line %d was refused (%s): %s\n", number, reason, fault
   if (column > 0) {
@@ -63,15 +63,15 @@ function quoted(text) {
 function tell_of_spaces(   at) {
   if (line ~ /^\357\273\277/) tell("a byte order mark comes before the first word", 1)
   if (line ~ /^(\376\377|\377\376)/ || line ~ /[\001-\010\016-\037].*[\001-\010\016-\037]/)
-    tell("this is no text: is it compressed, binary or UTF-16?", 1)
+    tell("this is not text: is it compressed, binary or UTF-16?", 1)
   if (line ~ /\r$/) tell("the line ends in CR LF; tr -d '\\r' removes the CR", length(line))
-  if (at = index(line, "\t")) tell("words are separated by one space, and this is a tab", at)
+  if (at = index(line, "\t")) tell("words are separated by one space, but this is a tab", at)
   if (line ~ /^ /) tell("there is a space before the first word", 1)
-  if (at = index(line, "  ")) tell("words are separated by one space, and these are two", at + 1)
-  if (line ~ / $/) tell("there is a space behind the last word", length(line))
+  if (at = index(line, "  ")) tell("words are separated by one space, but here are two", at + 1)
+  if (line ~ / $/) tell("there is a space after the last word", length(line))
 }
 
-# the command whose lines begin with the first word, if any
+# the command whose lines start with the first word, if any
 function reader_of(   part, form, i, n) {
   n = split(ENVIRON["others"], part, "\n")
   for (i = 1; i <= n; i++) {
@@ -82,7 +82,7 @@ function reader_of(   part, form, i, n) {
   return ""
 }
 
-# the reason `word`: the line has no form of the command
+# the reason `word`: the line matches no form of the command
 function tell_of_words(   part, i, n, most, best, list, other) {
   tell_of_spaces()
   n = split(ENVIRON["own"], part, "\n")
@@ -96,16 +96,16 @@ function tell_of_words(   part, i, n, most, best, list, other) {
   }
   if (!best) {
     other = reader_of()
-    if (other) tell("um " other " reads such lines, and " called " does not", 1)
+    if (other) tell("um " other " reads such lines, but " called " does not", 1)
     gsub(/\|/, ", ", list)
-    tell(quoted(word[1]) " begins no line of " called "; lines begin with " list, 1)
+    tell(quoted(word[1]) " does not start a line of " called "; lines start with " list, 1)
   }
   n = fields(best)
   if (most < count && most < n) tell(quoted(word[most + 1]) " does not belong here; the form is " best, column_of(most + 1))
-  tell("the line has " count " words and the form " best " has " n, 1)
+  tell("the line has " count " words, but the form " best " has " n, 1)
 }
 
-# what is wrong with a word that stands for digits, if something is; leaves the offset in `at`
+# what is wrong with a word of digits, or nothing; sets `at` to the position
 function fault_of(word, type,   n) {
   at = 1
   n = type
@@ -115,7 +115,7 @@ function fault_of(word, type,   n) {
   if (type ~ /^[CPMF]$/) return word ~ /^[01]$/ ? "" : type " is 0 or 1"
   if (type == "PLACE") {
     if (word !~ /^(0|[1-9][0-9]*)$/ || word > 591) return "a place is a number from 0 to 591"
-    return word in seen ? "this place comes twice" : ""
+    return word in seen ? "this place is given twice" : ""
   }
   if (type ~ /^HEX/) {
     if (type == "HEX" && word == "-") return reason == "length" ? "this frame has at least one octet" : ""
@@ -123,16 +123,16 @@ function fault_of(word, type,   n) {
       return type " has hexadecimal digits only" (word ~ /^0[xX]/ ? ", no 0x" : type == "HEX" ? ", or is - for no octets" : "")
   } else if (at = stranger(word, "01")) return type " has the digits 0 and 1 only"
   at = 1
-  if (n && length(word) != n) return type " has " n " digits, and these are " length(word)
+  if (n && length(word) != n) return type " has " n " digits, but these are " length(word)
   if (type == "HEX" && (word == "" || length(word) % 2))
-    return "each octet has two digits, and these are " length(word) "; - stands for no octets"
-  if (type == "HEX" && reason == "length") return "a frame has at most 20 octets here, and these are " length(word) / 2
+    return "each octet has two digits, but these are " length(word) "; - means no octets"
+  if (type == "HEX" && reason == "length") return "a frame has at most 20 octets here, but these are " length(word) / 2
   if (reason != "soft") return ""
   while (at < n && substr(word, at, 2) != "80") at += 2
-  return at < n ? "80 is -128; soft values are from -127 to 127" : ""
+  return at < n ? "80 is -128; soft bits are from -127 to 127" : ""
 }
 
-# the other reasons: the line has a form, and a word is wrong
+# the other reasons: the line matches a form, but a word is wrong
 function tell_of_values(   part, fault, i, n) {
   n = split(ENVIRON["own"], part, "\n")
   for (i = 1; i < n && fit(part[i]) != count + 0.5; i++);
@@ -155,8 +155,8 @@ END {
   count = split(line, word, / /)
   if (is_told) exit
   if (reason == "order" && NR == 0) tell("the input ends inside a block, which is four lines n, N or lost", 0)
-  if (reason == "order") tell("this line comes inside a block, which is four lines n, N or lost", 1)
-  if (reason == "long") tell("it has more than 4,096 octets; is this a text?", 1)
+  if (reason == "order") tell("this line is inside a block, which is four lines n, N or lost", 1)
+  if (reason == "long") tell("it has more than 4,096 octets; is this text?", 1)
   if (reason == "word") tell_of_words()
   tell_of_values()
 }

@@ -1,6 +1,6 @@
 #!/usr/bin/env python3
-"""Prints the table of crates/fire_code/src/octets.rt, one entry a line: for each octet, whose bit of value 1 is sent first, the forty
-places that complete its bits to a multiple of the Fire code's generator (GSM 05.03 section 4.1.2, today 3GPP TS 45.003)."""
+"""Prints the table of crates/fire_code/src/octets.rt, one entry per line: for each octet, sent least significant bit first, the 40
+bits that complete it to a multiple of the Fire code's generator (GSM 05.03 section 4.1.2, today 3GPP TS 45.003)."""
 
 GENERATOR = sum(1 << power for power in (40, 26, 23, 17, 3, 0))
 

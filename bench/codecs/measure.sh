@@ -1,13 +1,13 @@
 #!/usr/bin/env bash
 # Instructions and nanoseconds a call of the parts of the codecs, one by one.
-# Needs `rt` and valgrind. Instructions repeat; of the times the least of five runs counts, on a quiet machine.
+# Needs `rt` and valgrind. Instruction counts are exact; of the times, the minimum of five runs counts, on an idle machine.
 set -eu
 here=$(cd "$(dirname "$0")" && pwd)
 top=$(cd "$here/../.." && pwd)
 work=$(mktemp -d)
 trap 'rm -rf "$work"' EXIT
 
-# A copy of the crates with a program beside them, which is proved and built like any other.
+# A copy of the crates with an additional program, which is proved and built like the others.
 mkdir -p "$work/copy/crates/codec_parts/src"
 cp "$top/HANDLES" "$work/copy/"
 for crate in um_block $(sed -n 's/^um_block: //p' "$top/crates.txt"); do

@@ -1,7 +1,7 @@
 #!/usr/bin/env bash
 # Nanoseconds a list of 228 bits: `decode` of trellis_decode beside osmo_conv_decode of libosmocoding, in turns. Where valgrind is
 # installed, instructions too; they include the loop around the calls.
-# Needs `rt`, gcc, pkg-config and libosmocore-dev. The least of all rounds counts: other work on the machine only adds.
+# Needs `rt`, gcc, pkg-config and libosmocore-dev. The minimum over all rounds counts, because other load only adds time.
 set -eu
 here=$(cd "$(dirname "$0")" && pwd)
 top=$(cd "$here/../.." && pwd)
@@ -10,7 +10,7 @@ trap 'rm -rf "$work"' EXIT
 
 gcc -O2 -o "$work/peer" "$here/peer.c" $(pkg-config --cflags --libs libosmocoding libosmogsm libosmocore)
 
-# A copy of the crates with a program beside them, which is proved and built like any other.
+# A copy of the crates with an additional program, which is proved and built like the others.
 mkdir -p "$work/copy/crates/bench_decode/src"
 for crate in bit_blocks conv_code trellis_decode; do
 	cp -r "$top/crates/$crate" "$work/copy/crates/"

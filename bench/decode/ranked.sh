@@ -1,13 +1,13 @@
 #!/usr/bin/env bash
 # Nanoseconds for 228 bits: `decode` of trellis_decode, `Ranked` of list_decode with one list given and with 64, in turns. Needs `rt`.
-# The least of all rounds counts: other work on the machine only adds.
+# The minimum over all rounds counts, because other load only adds time.
 set -eu
 here=$(cd "$(dirname "$0")" && pwd)
 top=$(cd "$here/../.." && pwd)
 work=$(mktemp -d)
 trap 'rm -rf "$work"' EXIT
 
-# A copy of the crates with a program beside them, which is proved and built like any other.
+# A copy of the crates with an additional program, which is proved and built like the others.
 mkdir -p "$work/copy/crates/bench_ranked/src" "$work/copy/crates/bench_ranked/proofs/give"
 for crate in bit_blocks conv_code trellis_decode weight_bound list_decode; do
 	cp -r "$top/crates/$crate" "$work/copy/crates/"

@@ -2,13 +2,13 @@
  *
  *   codec BLOCKS SEED
  *
- * Of each strength of noise: how many were tried, how many each received as they were sent, how many one of the two alone accepted, were
- * coded otherwise, were accepted as other octets or with another count of bit errors, and how many that either accepted were not sent.
+ * For each noise level it prints how many were tried, how many each decoder received as sent, how many only one of them accepted, how many
+ * were encoded differently, accepted with different octets or with a different count of bit errors, and how many accepted ones were wrong.
  *
- * Both code the same. Where both accept the same octets, they count the same bit errors. Where several words fit equally well the two may
- * choose differently, so some are accepted by one of the two alone, or as another word: at most one in 100; and no block that libosmocoding
- * accepts fits better than what um reports. Soft values of 0 and lost bursts are among the blocks; all 256 access words go with all 64
- * identity codes. */
+ * Both must encode the same bits. If both accept the same octets, they must count the same bit errors. If several words are equally likely,
+ * the two may choose differently: at most one in 100 may be accepted by only one of them or as another word, and no block that
+ * libosmocoding accepts may be likelier than um's. The blocks include soft bits of 0 and lost bursts; all 256 access words are combined
+ * with all 64 identity codes. */
 #define UM_OSMO_OWN_NAMES
 #include "um_osmo.h"
 #include "draw.h"
@@ -48,7 +48,7 @@ static void add_noise(const ubit_t *bits, sbit_t *soft, int count, double sigma,
 		soft[i] = noisy(bits[i], 60, sigma, seed, stream, (uint64_t)i);
 }
 
-/* Whether the block that libosmocoding accepts fits the soft values better than the word that um reports. */
+/* Whether the block that libosmocoding accepts is likelier than the word that um reports. */
 static bool fits_better(const uint8_t *octets, const sbit_t *soft)
 {
 	ubit_t coded[464];
@@ -98,8 +98,8 @@ static void number_to_bits(uint8_t *bits, unsigned number, int count)
 		bits[i] = number >> (count - 1 - i) & 1;
 }
 
-/* An access burst is 88 places: extended tail 8, synchronisation 41, data 36, tail 3. libosmocoding has the data alone, and takes the
- * eight bits of information from the lowest on. */
+/* An access burst is 88 bits: extended tail 8, synchronisation 41, data 36, tail 3. libosmocoding takes only the data, and the eight bits
+ * of information least significant bit first. */
 static void access_bursts(uint64_t seed, double sigma)
 {
 	struct tally t = { 0 };
@@ -126,7 +126,7 @@ static void access_bursts(uint64_t seed, double sigma)
 	judge("access", sigma, &t, sigma == 0);
 }
 
-/* A synchronisation burst is 148 places: tail 3, data 39, training 64, data 39, tail 3. */
+/* A synchronisation burst is 148 bits: tail 3, data 39, training 64, data 39, tail 3. */
 static void sync_bursts(uint64_t seed, long count, double sigma)
 {
 	struct tally t = { 0 };

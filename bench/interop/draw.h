@@ -1,4 +1,4 @@
-/* Numbers that follow from a seed, a stream and a place alone, so that two runs over the same air meet the same losses and noise. */
+/* Random numbers determined by a seed, a stream and an index, so two runs over the same path have the same losses and noise. */
 #ifndef DRAW_H
 #define DRAW_H
 #include <math.h>
@@ -18,7 +18,7 @@ static inline uint32_t drawn(uint64_t seed, uint64_t stream, uint64_t place)
 	return (uint32_t)(mixed(mixed(mixed(seed) + stream) + place) >> 32);
 }
 
-/* A soft value of a bit sent with this amplitude under Gaussian noise, by the method of Box and Muller. */
+/* The soft bit of a bit sent with this amplitude under Gaussian noise, by the method of Box and Muller. */
 static inline int8_t noisy(int bit, double amplitude, double sigma, uint64_t seed, uint64_t stream, uint64_t place)
 {
 	double a = (drawn(seed, stream, 2 * place) + 0.5) / 4294967296.0, b = (drawn(seed, stream, 2 * place + 1) + 0.5) / 4294967296.0;

@@ -1,10 +1,10 @@
-/* What one T200 costs that expires before the answer could arrive: blocks of a sender of eight messages of twelve segments.
+/* The cost of a T200 that expires before the answer can arrive: blocks sent for eight messages of twelve segments.
  *
  *   early PAIR EXPIRIES DELAY [rr]
  *
- * PAIR as in sessions.c; the mobile sends. Nothing is lost; a block is DELAY slots on its way. EXPIRIES times, every seventh slot, the
- * mobile's T200 expires although an answer is on its way; at no other time does one expire. With `rr` the mobile is given each REJ as an RR
- * of the same N(R): what that would save. */
+ * PAIR as in sessions.c; the mobile sends. Nothing is lost; a block is DELAY slots in transit. EXPIRIES times, every seventh slot, the
+ * mobile's T200 expires although an answer is in transit; it expires at no other time. With `rr` each REJ is passed to the mobile as an RR
+ * with the same N(R), to measure what that saves. */
 #include "side.h"
 #include <stdio.h>
 #include <stdlib.h>

@@ -1,4 +1,4 @@
-/* What is planned for a session of a seed: its losses or noise, its timers, who opens, says and closes what, and when. */
+/* The plan of a session, from a seed: its losses or noise, its timers, and who opens, sends and closes what, and when. */
 #include "session.h"
 #include "draw.h"
 #include <string.h>
@@ -18,7 +18,7 @@ static void fill_message(um_message *m, int count)
 		m->octets[i] = (uint8_t)below(256);
 }
 
-/* Of any length, of one around the room of a frame or of a message, or short. */
+/* A message of any length, of a length near the limit of a frame or a message, or a short one. */
 static int length(void)
 {
 	static const int edges[] = { 1, 2, 17, 18, 19, 20, 21, 36, 37, 40, 41, 160, 240, 241, 250, 251 };

@@ -1,12 +1,12 @@
-/* Scenes of a few frames each, given to an end of um and to one of libosmogsm: what each sends and reports is what the scene says.
+/* Runs scenes of a few frames with an endpoint of um and one of libosmogsm, and compares what each sends and reports with the scene.
  *
  *   scenes [-v] < scenes.txt
  *
- * `scene ROLE CHANNEL TITLE` begins a scene. Steps: `takes HEX`, a block that comes in, filled up with 2b; `open SAPI [HEX]`,
- * `send SAPI HEX`, `unit SAPI HEX`, `close SAPI`, calls; `t200 N`, T200 expires N times; `hold` and `go`, between which frames wait for
- * the air. Behind each step comes `both` with what both do, or a line `um` and a line `osmo`: the frames sent, `>HEX` up to their length
- * and how often in a row, then the reports, of more than 40 octets the first and last four and how many. Only the network reports the
- * information by which a link opened, and neither an acknowledgement, since libosmogsm does not. Blanks in HEX do not count. */
+ * `scene ROLE CHANNEL TITLE` starts a scene. Steps: `takes HEX`, a received block, filled up with 2b; the calls `open SAPI [HEX]`,
+ * `send SAPI HEX`, `unit SAPI HEX` and `close SAPI`; `t200 N`, T200 expires N times; `hold` and `go`, between which frames are queued.
+ * Each step is followed by `both` with the expected result of both, or by a line `um` and a line `osmo`: the frames sent, as `>HEX` without
+ * fill and with a repeat count, then the reports; of more than 40 octets, the first and last four and the count. Only the network reports
+ * the information of the SABM, and neither side reports acknowledgements, since libosmogsm does not. Spaces in HEX are ignored. */
 #include "side.h"
 #include <stdio.h>
 #include <stdlib.h>
@@ -101,7 +101,7 @@ static void add_count(int i)
 	again[i] = 0;
 }
 
-/* The frames that a side sends, without their fill, each once with how often it came in a row. */
+/* The frames that a side sends, without fill, each with its repeat count. */
 static void fetch(int i)
 {
 	uint8_t block[23];

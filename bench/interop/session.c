@@ -1,5 +1,5 @@
-/* Runs a session slot by slot: layer 3 does what is planned, one block goes each way, and what each side reports is compared with what the
- * other was given: a prefix of it, in order, once, with the same octets. */
+/* Runs a session slot by slot: layer 3 follows the plan, and one block goes each way. The messages that each side delivers must be a prefix
+ * of those given to the other side: in order, once, with the same octets. */
 #include "session.h"
 #include "draw.h"
 #include <osmocom/coding/gsm0503_coding.h>
@@ -39,7 +39,7 @@ static void say_fault(const char *what, int role, int link)
 		snprintf(result.fault, sizeof result.fault, "%s, SAPI %d: %s", side_name(role), link ? 3 : 0, what);
 }
 
-/* libosmogsm takes a repeated SABM for a new one: then what it had sent is dropped, and what was said before no longer binds. */
+/* libosmogsm takes a retransmitted SABM for a new one: it then discards what it had sent, and earlier expectations no longer apply. */
 static bool began_anew(int link)
 {
 	for (int r = 0; r < 2; r++)
@@ -83,7 +83,7 @@ static void report(struct side *s, int link, enum event event, const uint8_t *oc
 	case OPENED: opened(role, link, octets, number); break;
 	case GOT: got(role, link, octets, number); break;
 	case UNIT:
-		if (is_um(role)) /* libosmogsm's mobile hands up fill frames of SACCH as units */
+		if (is_um(role)) /* libosmogsm's mobile delivers fill frames of SACCH as units */
 			say_fault("a unit that nobody sent", role, link);
 		break;
 	case ACKED:

@@ -1,4 +1,4 @@
-/* A session between two sides over an air that loses blocks: what is planned for it, and what became of it. */
+/* A session between two sides over a path that loses blocks: its plan and its result. */
 #ifndef SESSION_H
 #define SESSION_H
 #include "side.h"
@@ -26,9 +26,9 @@ enum outcome { WHOLE, EARLY, NOT_OPENED, GIVEN_UP, STANDS_STILL, WRONG, OUTCOMES
 
 struct result {
 	enum outcome outcome;
-	long blocks, lost, i_frames, rejects; /* of the ends; fill frames are not counted */
-	char cause[160];                      /* of a session that did not end well */
-	char fault[160];                      /* what um did that it must not, else empty */
+	long blocks, lost, i_frames, rejects; /* without fill frames */
+	char cause[160];                      /* why a session failed */
+	char fault[160];                      /* a violation by um, else empty */
 };
 
 /* SCENE: "0", SAPI 0; "m3", "n3", "b3", SAPI 3 opened by the mobile, by the network, by both; "all", SAPI 0 and then SAPI 3 by either. */

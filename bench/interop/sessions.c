@@ -1,11 +1,11 @@
-/* Sessions of LAPDm between the ends of um and those of libosmogsm, counted by how they end.
+/* LAPDm sessions between endpoints of um and of libosmogsm, counted by outcome.
  *
  *   sessions PAIR CHANNEL SCENE FIRST COUNT [t200 BLOCKS] [loss THOUSANDTHS]
  *   sessions trace PAIR CHANNEL SCENE SEED [t200 BLOCKS] [loss THOUSANDTHS]
  *
- * PAIR: who plays the mobile and who the network: u (um), p (um with T200 from the call), o (libosmogsm). CHANNEL: sdcch, sacch.
- * SCENE: 0, m3, n3, b3, all (session.h). For each loss a line is printed, then the causes of the sessions that did not end well, and last
- * how many sessions passed: in the others um did what it must not, and each has a line. */
+ * PAIR: the mobile and the network: u (um), p (um with T200 from the call), o (libosmogsm). CHANNEL: sdcch, sacch.
+ * SCENE: 0, m3, n3, b3, all (session.h). It prints a line for each loss rate, then the causes of failed sessions, and last how many
+ * sessions passed; a session in which um violates a requirement does not pass, and has a line of its own. */
 #include "session.h"
 #include <stdio.h>
 #include <stdlib.h>

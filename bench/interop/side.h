@@ -1,4 +1,4 @@
-/* One side of a channel, a mobile or a base station, with its links of SAPI 0 and 3, whichever program plays it. */
+/* One side of a channel, a mobile or a base station, with its links of SAPI 0 and 3, independent of the implementation. */
 #ifndef SIDE_H
 #define SIDE_H
 #include "um.h"
@@ -9,7 +9,7 @@ enum closed { BY_CONTENTION, BY_FAILURE, BY_REFUSAL, BY_RELEASE, CLOSINGS }; /* 
 
 struct side;
 
-/* What a program does as a side. A call answers whether it was taken. */
+/* The operations of a side. Each call returns whether it was accepted. */
 struct player {
 	const char *name;
 	void (*begin)(struct side *);
@@ -18,12 +18,12 @@ struct player {
 	bool (*unit)(struct side *, int link, const um_message *);
 	bool (*close)(struct side *, int link);
 	void (*take)(struct side *, const uint8_t block[23]);
-	bool (*next)(struct side *, uint8_t block[23]); /* the block for the air; false: nothing waits, and it is a fill frame */
+	bool (*next)(struct side *, uint8_t block[23]); /* the block to send; false: nothing is queued, and it is a fill frame */
 	void (*timers)(struct side *);
 	void (*end)(struct side *);
 };
-extern const struct player um_player;    /* um's ends, as bindings/c/examples/event_loop.c keeps them */
-extern const struct player plain_player; /* um's ends with one queue and T200 counted from the call: what um.h warns of */
+extern const struct player um_player;    /* um's endpoints, run as in bindings/c/examples/event_loop.c */
+extern const struct player plain_player; /* um's endpoints with one queue and T200 counted from the call, which um.h warns against */
 extern const struct player osmo_player;  /* libosmogsm's entities */
 
 struct side {
@@ -34,12 +34,12 @@ struct side {
 	/* octets of OPENED, GOT and UNIT, else none; the number of ACKED, of CLOSED (enum closed) or of ERROR (its cause) */
 	void (*report)(struct side *, int link, enum event, const uint8_t *octets, int number);
 	void *own;
-	struct line { uint8_t blocks[LINE_ROOM][23]; unsigned first, count; } line; /* what waits, for those without queues of their own */
+	struct line { uint8_t blocks[LINE_ROOM][23]; unsigned first, count; } line; /* the transmit queue, for sides without their own */
 };
 
 extern long now; /* TDMA frames, set by whoever runs the sides */
 
 void line_add(struct side *, const uint8_t block[23]); /* dropped where 1024 blocks wait */
 bool line_next(struct side *, uint8_t block[23]);
-void quiet_osmo(void); /* libosmocore's log says nothing */
+void quiet_osmo(void); /* silences libosmocore's log */
 #endif

@@ -1,4 +1,4 @@
-/* The ends of um as a side: as the example keeps them, and as a caller would who counts T200 from the call. */
+/* um's endpoints as a side: run as in the example, and run with T200 counted from the call. */
 #define CHANNEL_ALONE
 #include "../../bindings/c/examples/event_loop.c"
 #include "side.h"

@@ -1,5 +1,5 @@
 #!/usr/bin/env python3
-"""Tables of what measure.sh printed:  summary.py [MEASURED]"""
+"""Prints tables of the output of measure.sh:  summary.py [MEASURED]"""
 import collections
 import os
 import re

@@ -1,4 +1,4 @@
-/* um's calls from C beside libosmocoding's on the same blocks: nanoseconds a call, the least of all rounds, in turns.
+/* um's calls from C compared with libosmocoding's on the same blocks: nanoseconds per call, the minimum over alternating rounds.
  *
  *   bench [CALLS [ROUNDS]] */
 #include "um.h"
@@ -29,7 +29,7 @@ static double now(void)
 	return (double)time.tv_sec * 1e9 + (double)time.tv_nsec;
 }
 
-/* Blocks of random octets, sure or with noise on every bit. */
+/* Blocks of random octets, without noise or with noise on every bit. */
 static void fill(int is_noisy)
 {
 	for (int p = 0; p < POOL; p++) {

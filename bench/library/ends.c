@@ -1,5 +1,5 @@
-/* Calls of an end of a link from C: nanoseconds a call, the least of all rounds.
- * Rounds are short and many, so that some of them have the processor to themselves.
+/* Calls of an endpoint from C: nanoseconds per call, the minimum over all rounds.
+ * Rounds are short and many, so that some of them run undisturbed.
  *
  *   ends [CALLS [ROUNDS]] */
 #include "um.h"

@@ -1,14 +1,14 @@
 #!/usr/bin/env bash
 # What steps of a world cost beside the work of the radio by itself. A message goes from the mobile to the network and is
 # answered, by three steps; two of them deliver a block, and one of these two sends one.
-# Needs `rt` and valgrind. Instructions repeat; of the times the least of all turns counts, on a quiet machine.
+# Needs `rt` and valgrind. Instruction counts are exact; of the times, the minimum over all rounds counts, on an idle machine.
 set -eu
 here=$(cd "$(dirname "$0")" && pwd)
 top=$(cd "$here/../.." && pwd)
 work=$(mktemp -d)
 trap 'rm -rf "$work"' EXIT
 
-# A copy of the crates with a program beside them, which is proved and built like any other.
+# A copy of the crates with an additional program, which is proved and built like the others.
 mkdir -p "$work/copy/crates/link_cost/src"
 cp "$top/HANDLES" "$work/copy/"
 for crate in um_link $(sed -n 's/^um_link: //p' "$top/crates.txt"); do

@@ -1,5 +1,5 @@
 #!/usr/bin/env bash
-# What receivers lose over a noisy channel: libosmocoding, um alone, and um among the most likely words.
+# Block loss over a noisy channel: libosmocoding, um, and um with list decoding.
 cd "$(dirname "${BASH_SOURCE[0]}")/../.." || exit 1
 work=$(mktemp -d) || exit 1
 trap 'rm -rf "$work"' EXIT

@@ -1,5 +1,4 @@
-/* What receivers lose: blocks over a noisy channel through libosmocoding and through um, by the most likely word alone and among the
- * 4, 16 and 64 most likely ones.
+/* Block loss over a noisy channel: libosmocoding, um by the most likely word, and um by list decoding with 4, 16 and 64 words.
  *
  *   reach [BLOCKS]       20,000 blocks at each noise
  *
@@ -56,7 +55,7 @@ static void transmit(const uint8_t octets[23], uint8_t tsc, double deviation, bl
 	}
 }
 
-/* Whether a receiver accepts a block, and as which octets. */
+/* Whether a receiver accepts a block, and with which octets. */
 static bool receives(int receiver, block_soft soft, uint8_t octets[23])
 {
 	um_block_report report;
@@ -108,7 +107,7 @@ static void reach(double decibels, int blocks)
 			blocks, taken[r] / blocks / 1000);
 }
 
-/* The least time of a call over so many rounds, in nanoseconds. */
+/* The minimum time of a call over all rounds, in nanoseconds. */
 static double least(int receiver, block_soft *pool, int count)
 {
 	uint8_t octets[23];

@@ -1,13 +1,13 @@
 #!/usr/bin/env bash
-# What the repair of a word costs, in instructions, which repeat: of a word that holds, of one with a burst at its front and one with
-# a burst at its end, and of one that has no repair. Needs `rt` and valgrind.
+# The cost of correcting a word, in instructions: a word whose CRC holds, one with an error burst at its start, one with an error burst at
+# its end, and one that cannot be corrected. Needs `rt` and valgrind.
 set -eu
 here=$(cd "$(dirname "$0")" && pwd)
 top=$(cd "$here/../.." && pwd)
 work=$(mktemp -d)
 trap 'rm -rf "$work"' EXIT
 
-# A copy of the crates with a program beside them, which is proved and built like any other.
+# A copy of the crates with an additional program, which is proved and built like the others.
 mkdir -p "$work/copy/crates/repair_cost/src"
 cp "$top/HANDLES" "$work/copy/"
 for crate in bit_blocks fire_code fire_repair; do

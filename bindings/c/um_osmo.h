@@ -1,15 +1,15 @@
-/* um_osmo.h - the control channel calls of libosmocoding over um, by their own names: xCCH, RACH of 8 bits and SCH. A program tries
- * um by including this header in place of <osmocom/coding/gsm0503_coding.h>, and linking libum.a.
+/* um_osmo.h - libosmocoding's control channel calls (xCCH, RACH of 8 bits, SCH), under the same names, implemented by um. To try um in
+ * a program, include this header in place of <osmocom/coding/gsm0503_coding.h> and link libum.a.
  *
- * Where libosmocoding's header is installed, this one includes it, so that its types and its other calls are declared. Those calls
- * stay libosmocoding's: gsm0503_rach_ext_* (RACH of 11 bits), gsm0503_tch_* (traffic) and gsm0503_pdtch_* (packet data). A program
- * that makes one and does not link -losmocoding gets a link error that names it. Where that header is not installed, this one
- * defines ubit_t and sbit_t, and those calls are undeclared.
+ * If libosmocoding's header is installed, this one includes it, which declares its types and its other calls. Those calls remain
+ * libosmocoding's: gsm0503_rach_ext_* (RACH of 11 bits), gsm0503_tch_* (traffic) and gsm0503_pdtch_* (packet data). A program that
+ * uses one of them without linking -losmocoding gets a link error that names it. If that header is not installed, this one defines
+ * ubit_t and sbit_t, and those calls are undeclared.
  *
- * Bits, return codes and counts are libosmocoding's. A burst of a block is 116 places: 57 coded bits, the two stealing flags, 57
- * coded bits; an access burst is 36 and a synchronisation burst 78, without tails and training. A soft bit of -128 is read as -127.
+ * Bits, return codes and counts follow libosmocoding. A burst of a block is 116 bits: 57 coded bits, two stealing flags, 57 coded bits.
+ * An access burst is 36 coded bits and a synchronisation burst 78, without tail and training bits. A soft bit of -128 is taken as -127.
  *
- * With UM_OSMO_OWN_NAMES defined, only the names um_xcch_encode and so on are there, and gsm0503_* are libosmocoding's. */
+ * If UM_OSMO_OWN_NAMES is defined, this header defines only um_xcch_encode and so on, and leaves gsm0503_* to libosmocoding. */
 #ifndef UM_OSMO_H
 #define UM_OSMO_H
 #include "um.h"
@@ -39,7 +39,7 @@ static inline void um_osmo_soft(int8_t *to, const sbit_t *from, int count)
 		to[i] = from[i] == -128 ? (int8_t)-127 : from[i];
 }
 
-/* The first bit of `bits` is the lowest of `number`, as on the air. */
+/* Least significant bit first, as on the air. */
 static inline void um_osmo_bits(uint8_t *bits, unsigned number, int count)
 {
 	for (int i = 0; i < count; i++)
@@ -54,14 +54,14 @@ static inline unsigned um_osmo_number(const uint8_t *bits, int count)
 	return number;
 }
 
-/* The identity code of a base station, highest bit first. */
+/* A base station's identity code, most significant bit first. */
 static inline void um_osmo_bsic(uint8_t bits[6], uint8_t bsic)
 {
 	for (int i = 0; i < 6; i++)
 		bits[i] = (uint8_t)(bsic >> (5 - i) & 1);
 }
 
-/* Writes the 464 places of a block's four bursts. */
+/* Writes the 464 bits of a block's four bursts. */
 static inline int um_xcch_encode(ubit_t *bursts, const uint8_t *l2_data)
 {
 	uint8_t whole[4][148];
@@ -73,7 +73,7 @@ static inline int um_xcch_encode(ubit_t *bursts, const uint8_t *l2_data)
 	return 0;
 }
 
-/* 0 where the CRC holds, else -1 with l2_data as it was. n_errors counts against the most likely word in both cases. */
+/* 0 if the CRC holds, else -1 with l2_data unchanged. n_errors counts against the most likely word in both cases. */
 static inline int um_xcch_decode(uint8_t *l2_data, const sbit_t *bursts, int *n_errors, int *n_bits_total)
 {
 	int8_t whole[4][148] = { { 0 } };
@@ -93,7 +93,7 @@ static inline int um_xcch_decode(uint8_t *l2_data, const sbit_t *bursts, int *n_
 	return 0;
 }
 
-/* Writes the 36 places of an access burst of 8 bits. */
+/* Writes the 36 coded bits of an access burst of 8 bits. */
 static inline int um_rach_encode(ubit_t *burst, const uint8_t *ra, uint8_t bsic)
 {
 	uint8_t info[8], code[6], whole[88];
@@ -127,7 +127,7 @@ static inline int um_rach_decode(uint8_t *ra, const sbit_t *burst, uint8_t bsic)
 	return um_rach_decode_ber(ra, burst, bsic, 0, 0);
 }
 
-/* Writes the 78 places of a synchronisation burst of 25 bits: three octets and the lowest bit of a fourth. */
+/* Writes the 78 coded bits of a synchronisation burst of 25 bits: three octets and the lowest bit of a fourth. */
 static inline int um_sch_encode(ubit_t *burst, const uint8_t *sb_info)
 {
 	uint8_t info[25], whole[148];
@@ -140,7 +140,7 @@ static inline int um_sch_encode(ubit_t *burst, const uint8_t *sb_info)
 	return 0;
 }
 
-/* 0 where the CRC holds, else -1. The other seven bits of sb_info[3] stay as they were. */
+/* 0 if the CRC holds, else -1. The other seven bits of sb_info[3] are unchanged. */
 static inline int um_sch_decode(uint8_t *sb_info, const sbit_t *burst)
 {
 	int8_t whole[148] = { 0 };

@@ -1,10 +1,10 @@
-/** A list of numbers; what a call says of their range is tested, and a TypeError or RangeError says what was wrong. */
+/** A list of numbers. Each call tests their range, and throws a TypeError or RangeError. */
 export type Numbers = readonly number[] | Uint8Array | Uint8ClampedArray | Int8Array | Uint16Array | Int16Array | Uint32Array | Int32Array;
 /** Octets, integers from 0 to 255. */
 export type Octets = Numbers;
-/** Bits, each 0 or 1, in the order of sending. */
+/** Hard bits, each 0 or 1, in transmission order. */
 export type Bits = Numbers;
-/** Soft bits: integers from -127, a sure 1, to 127, a sure 0; 0 says nothing. Of a block 592, or four bursts of 148. */
+/** Soft bits: integers from -127 (certainly 1) to 127 (certainly 0); 0 means unknown. A block has 592, or four bursts of 148. */
 export type SoftBits = Numbers | readonly Numbers[];
 
 export type Kind = "i" | "rr" | "rnr" | "rej" | "sabm" | "dm" | "ui" | "disc" | "ua";
@@ -22,19 +22,19 @@ export const STATES: readonly State[];
 export const UNREAD: readonly Unread[];
 
 export interface Report {
-  /** The data where the CRC holds: 23 octets of a block, or 8 or 25 bits of a single burst; else null. */
+  /** The data if the CRC holds: 23 octets of a block, or 8 or 25 bits of a single burst; else null. */
   accepted: Uint8Array | null;
-  /** The path metric: the soft bits, each with the sign of its bit in the word. */
+  /** The path metric: sum of the soft bits, each negated where the coded bit is 1. */
   metric: number;
-  /** How many bits of the training sequence differ; a soft bit of 0 counts. */
+  /** Bit errors in the training sequence; a soft bit of 0 counts as an error. */
   wrongTraining: number;
-  /** How many coded bits differ from the word's; a soft bit of 0 counts. */
+  /** Bit errors in the coded bits, against the word re-encoded; a soft bit of 0 counts as an error. */
   wrongCoded: number;
-  /** The word decided for, a bit an octet: data, CRC, tail (184 + 40 + 4, 8 + 6 + 4 or 25 + 10 + 4). */
+  /** The decoded word, one octet per bit: data, CRC, tail (184 + 40 + 4, 8 + 6 + 4 or 25 + 10 + 4). */
   word: Uint8Array;
 }
 export interface BlockReport extends Report {
-  /** The training sequence heard, 0 to 7. */
+  /** The detected training sequence, 0 to 7. */
   tsc: number;
 }
 export interface Frame {
@@ -48,7 +48,7 @@ export interface Frame {
   info: Uint8Array;
   unread?: undefined;
 }
-/** A frame to be written; what is left out is 0, or empty. */
+/** A frame to encode; omitted fields are 0 or empty. */
 export interface FrameFields {
   kind: Kind;
   sapi?: number;
@@ -65,35 +65,35 @@ export type Notice =
   | { kind: "oversize" }
   | { kind: "closed"; reason: "contention" | "failed" | "refused" | "released" };
 export interface Effects {
-  /** The blocks to be sent, in their order. */
+  /** The blocks to send, in order. */
   frames: Uint8Array[];
-  /** What the end reports, in its order. */
+  /** What the endpoint reports, in order. */
   notices: Notice[];
 }
 export interface Variables {
   vs: number;
   va: number;
   vr: number;
-  /** How often the frame that awaits an answer went out again. */
+  /** The number of retransmissions of the frame that awaits an answer. */
   retries: number;
   /** Whether a REJ was sent and no I frame accepted since. */
   rejecting: boolean;
-  /** How many messages are not wholly acknowledged. */
+  /** The number of messages not completely acknowledged. */
   held: number;
-  /** How many messages are wholly acknowledged. */
+  /** The number of messages completely acknowledged. */
   done: bigint;
 }
 
-/** What an end refuses; it is as it was. */
+/** An endpoint refused a call; its state is unchanged. */
 export class Refused extends Error {
   readonly reason: "notidle" | "notopen" | "notrunning" | "empty" | "toolong" | "full" | "noend" | "nocall" | "noframe";
   constructor(reason: Refused["reason"], message: string);
 }
 
-/** Soft bits of hard bits: 127 for a 0, -127 for a 1. */
+/** Converts hard bits to soft bits: 127 for a 0, -127 for a 1. */
 export function soften(bits: Bits): Int8Array;
 
-/** Loads um.wasm: the file beside this module, or what is given. */
+/** Loads um.wasm from the directory of this module, or from `source`. */
 export function load(
   source?: BufferSource | Response | WebAssembly.Module | Promise<BufferSource | Response | WebAssembly.Module>,
 ): Promise<Um>;
@@ -118,7 +118,7 @@ export class Um {
   restoreSide(bytes: Octets): Side;
 }
 
-/** One end of a link; made by `Um.end` and `Um.restoreEnd`. A call that is refused throws Refused. */
+/** An endpoint; created by `Um.end` and `Um.restoreEnd`. A call that is refused throws Refused. */
 export class End {
   private constructor();
   readonly bytes: Uint8Array;
@@ -138,7 +138,7 @@ export class End {
   take(octets: Octets): Effects;
 }
 
-/** Both links of a mobile, or of the network, on one channel; made by `Um.side` and `Um.restoreSide`. */
+/** Both links of a mobile, or of the network, on one channel; created by `Um.side` and `Um.restoreSide`. */
 export class Side {
   private constructor();
   readonly bytes: Uint8Array;

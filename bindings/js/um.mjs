@@ -1,5 +1,5 @@
-// um.mjs - the signalling link of GSM for JavaScript: blocks, bursts, LAPDm frames and ends of a link, by the proved library
-// libum_c as a WebAssembly module, um.wasm. Its calls are those of um.h.
+// um.mjs - GSM's dedicated signalling link for JavaScript: blocks, bursts, LAPDm frames and endpoints, by the proved library libum_c,
+// compiled to WebAssembly (um.wasm). The calls are those of um.h.
 //
 //   import { load, soften } from "um-gsm";
 //   const um = await load();
@@ -7,32 +7,32 @@
 //   const bursts = um.sendBlock(octets, 7); // 592 bits, four bursts of 148
 //   const report = um.receiveBlock(soften(bursts)); // report.accepted holds the 23 octets
 //
-// A bit is 0 or 1. A soft bit is an integer from -127, a sure 1, to 127, a sure 0; 0 says nothing. Every argument is tested here,
-// since WebAssembly would take 256 for 0: a TypeError or RangeError says what was wrong and what was expected.
+// A hard bit is 0 or 1. A soft bit is an integer from -127 (certainly 1) to 127 (certainly 0); 0 means unknown. Every argument is tested
+// here, because WebAssembly would take 256 for 0. A TypeError or RangeError reports the value and what was expected.
 
 export const KINDS = Object.freeze(["i", "rr", "rnr", "rej", "sabm", "dm", "ui", "disc", "ua"]);
 export const CHANNELS = Object.freeze(["sdcch", "sacch"]);
 const SAPIS = [0, 3];
 export const ROLES = Object.freeze(["mobile", "network"]);
 export const STATES = Object.freeze(["idle", "opening", "open", "closing", "closed"]);
-/** Why 23 octets are no frame. */
+/** The reasons for which 23 octets are not a frame. */
 export const UNREAD = Object.freeze(["lpd", "ea", "control", "el", "length", "empty", "more"]);
 
 const NOTICES = ["opened", "got", "unit", "acked", "oversize", "closed"];
 const CLOSED_BY = ["contention", "failed", "refused", "released"];
 const REFUSALS = [
-  ["notidle", "the link was opened before"],
+  ["notidle", "the link was opened already"],
   ["notopen", "the link is not open"],
   ["notrunning", "T200 does not run: no frame awaits an answer"],
   ["empty", "the message is empty; expected at least one octet"],
   ["toolong", "the message is too long"],
-  ["full", "eight messages are not wholly acknowledged yet"],
-  ["noend", "no end has this state"],
-  ["nocall", "on SAPI 0 a mobile opens the link, with information; on SAPI 3 either end does, without"],
-  ["noframe", "the octets are no LAPDm frame; readFrame says why"],
+  ["full", "eight messages are not completely acknowledged yet"],
+  ["noend", "the state is not valid"],
+  ["nocall", "the mobile opens the link of SAPI 0, with information; either end opens the link of SAPI 3, without"],
+  ["noframe", "the octets are not an LAPDm frame; readFrame returns the reason"],
 ];
 
-// octets of the structs of um.h
+// sizes of the structs of um.h, in octets
 const END = 2584;
 const SIDE = 2 * END;
 const EFFECTS = 864;
@@ -41,7 +41,7 @@ const FRAME = 28;
 const BLOCK_OCTETS = 23;
 const BLOCK_BITS = 592;
 
-/** A call that an end of a link refuses; `reason` is one word. The end is as it was. */
+/** An endpoint refused a call; its state is unchanged. `reason` is one word. */
 export class Refused extends Error {
   constructor(reason, message) {
     super(message);
@@ -72,7 +72,7 @@ const place = (name, value, words) => {
 
 const isList = (value) => Array.isArray(value) || (ArrayBuffer.isView(value) && !(value instanceof DataView));
 
-// values: a list of `count` integers from least to most, or of any number of them where count is undefined
+// a list of `count` integers from least to most, or of any number of them if count is undefined
 const integers = (name, values, count, least, most, what) => {
   const wanted = `${count === undefined ? "" : `${count} `}${what}, integers from ${least} to ${most}`;
   if (!isList(values)) throw new TypeError(`${name} is ${shown(values)}; expected an array of ${wanted}`);
@@ -86,14 +86,14 @@ const octetsOf = (name, values, count) => integers(name, values, count, 0, 255, 
 const bitsOf = (name, values, count) => integers(name, values, count, 0, 1, "bits");
 const softOf = (name, values, count) => {
   integers(name, values, count, -127, 127, "soft bits");
-  // a soft bit of 1 beside zeros alone is a bit that was meant
+  // soft bits that are all 0 or 1, with a 1 among them, are hard bits passed by mistake
   if (!values.some((value) => value !== 0 && value !== 1) && values.includes(1)) {
-    throw new RangeError(`${name} has bits, each 0 or 1; expected soft bits from -127 to 127, as soften(bits) makes them`);
+    throw new RangeError(`${name} has hard bits, each 0 or 1; expected soft bits from -127 to 127, as soften(bits) returns them`);
   }
   return values;
 };
 
-// the members of an object, which has no others than these
+// tests that an object has no other members than these
 const membersOf = (name, value, known) => {
   if (typeof value !== "object" || value === null) throw new TypeError(`${name} is ${shown(value)}; expected an object`);
   const other = Object.keys(value).find((key) => !known.includes(key));
@@ -101,12 +101,12 @@ const membersOf = (name, value, known) => {
   return value;
 };
 
-/** Soft bits of hard bits: 127 for a 0, -127 for a 1. */
+/** Converts hard bits to soft bits: 127 for a 0, -127 for a 1. */
 export const soften = (bits) => Int8Array.from(bitsOf("bits", bits), (bit) => (bit ? -127 : 127));
 
 // -- the module's memory --
 
-// One instance of um.wasm. Nothing in it takes memory or grows it, so what lies behind __heap_base is ours and the views stay good.
+// One instance of um.wasm. It never allocates or grows memory, so the memory after __heap_base is free to use and the views stay valid.
 class Machine {
   #module;
   #exports;
@@ -122,7 +122,7 @@ class Machine {
     this.second = this.input + 5184;
     this.output = this.second + 640;
     this.beside = this.output + 896;
-    if (memory.buffer.byteLength < this.beside + 64) throw new Error("um.wasm has too little memory behind its heap base");
+    if (memory.buffer.byteLength < this.beside + 64) throw new Error("um.wasm has too little memory after its heap base");
     this.octets = new Uint8Array(memory.buffer);
     this.signed = new Int8Array(memory.buffer);
     this.view = new DataView(memory.buffer);
@@ -133,7 +133,7 @@ class Machine {
     return this.#exports;
   }
 
-  // An instance that trapped would trap in each later call, so another one takes its place.
+  // An instance that trapped would trap in every later call, so it is replaced.
   call(name, ...values) {
     try {
       return this.#exports[name](...values);
@@ -143,7 +143,7 @@ class Machine {
     }
   }
 
-  // for a call that refuses nothing that the tests here let through
+  // for a call that refuses nothing once the arguments are tested
   told(name, ...values) {
     if (!this.call(name, ...values)) throw new Error(`${name} refused arguments that um.mjs had tested`);
   }
@@ -152,7 +152,7 @@ class Machine {
     return this.octets.slice(at, at + count);
   }
 
-  // soft bits of `count` places: one list, or a list of bursts
+  // `count` soft bits, as one list or as a list of bursts
   putSoft(name, bursts, count) {
     if (bursts instanceof Int8Array && bursts.length === count) {
       this.signed.set(bursts, this.input);
@@ -166,7 +166,7 @@ class Machine {
     this.signed.set(softOf(name, bursts, count), this.input);
   }
 
-  // what the three reports begin with; `at` is the place of `accepted`
+  // the fields common to the three reports; `at` is the offset of `accepted`
   report(at, data, word) {
     const { view, output } = this;
     return {
@@ -182,7 +182,7 @@ class Machine {
     return { ...this.report(13, BLOCK_OCTETS, 228), tsc: this.octets[this.output + 12] };
   }
 
-  // a um_message; the library tests how long it is, and what does not fit its count is too long in any case
+  // writes a um_message, cut at 255 octets, which the library refuses as too long
   putMessage(octets) {
     const count = Math.min(octets.length, 255);
     this.octets[this.second] = count;
@@ -207,7 +207,7 @@ class Machine {
 
 // -- the calls --
 
-/** The calls of the library, over one instance of um.wasm. Made by `load`. */
+/** The calls of the library, on one instance of um.wasm. Created by `load`. */
 export class Um {
   #machine;
 
@@ -215,12 +215,12 @@ export class Um {
     this.#machine = new Machine(module, instance);
   }
 
-  /** The exports of the WebAssembly instance. Calls by them are tested by nobody. */
+  /** The exports of the WebAssembly instance. Nothing tests the arguments of direct calls. */
   get exports() {
     return this.#machine.exports;
   }
 
-  /** The 592 bits of the four normal bursts of a block of 23 octets. */
+  /** Encodes a block of 23 octets into the 592 bits of four normal bursts. */
   sendBlock(octets, tsc) {
     const m = this.#machine;
     m.octets.set(octetsOf("octets", octets, BLOCK_OCTETS), m.input);
@@ -228,7 +228,7 @@ export class Um {
     return m.copy(m.output, BLOCK_BITS);
   }
 
-  /** What four normal bursts are received as: the most likely word. */
+  /** Decodes four normal bursts by maximum likelihood. */
   receiveBlock(bursts) {
     const m = this.#machine;
     m.putSoft("bursts", bursts, BLOCK_BITS);
@@ -236,7 +236,7 @@ export class Um {
     return m.blockReport();
   }
 
-  /** What four normal bursts are received as, where the first of the `most` likeliest words whose CRC holds is taken. */
+  /** Decodes four normal bursts by list decoding: the first of the `most` likeliest words whose CRC holds. */
   receiveBlockAmong(bursts, most) {
     const m = this.#machine;
     m.putSoft("bursts", bursts, BLOCK_BITS);
@@ -244,7 +244,7 @@ export class Um {
     return { ...m.blockReport(), rank: m.view.getUint32(m.beside, true) };
   }
 
-  /** By how much the most likely word fits better than every other, that word, and the next one. */
+  /** Decodes four normal bursts and returns the two most likely words and the margin between them. */
   marginBlock(bursts) {
     const m = this.#machine;
     m.putSoft("bursts", bursts, BLOCK_BITS);
@@ -252,7 +252,7 @@ export class Um {
     return { margin: m.view.getInt32(m.output, true), word: m.copy(m.output + 4, 228), next: m.copy(m.output + 232, 228) };
   }
 
-  /** A word of 224 bits put right where its wrong bits lie within 12 in a row; span 0 where it holds; null where no codeword is so near. */
+  /** Corrects a word of 224 bits with an error burst of at most 12 bits. Span 0: the CRC holds. Null: no codeword is that near. */
   repair(word) {
     const m = this.#machine;
     m.octets.set(bitsOf("word", word, 224), m.input);
@@ -262,7 +262,7 @@ export class Um {
     return { word: m.copy(m.output + 2, 224), first: m.octets[m.output], span: m.octets[m.output + 1] };
   }
 
-  /** The 88 bits of an access burst under a base station's identity code. */
+  /** Encodes eight bits into an access burst of 88 bits for a base station's identity code. */
   sendAccess(info, bsic) {
     const m = this.#machine;
     m.octets.set(bitsOf("info", info, 8), m.input);
@@ -271,7 +271,7 @@ export class Um {
     return m.copy(m.output, 88);
   }
 
-  /** What an access burst is received as under a base station's identity code. */
+  /** Decodes an access burst for a base station's identity code. */
   receiveAccess(burst, bsic) {
     const m = this.#machine;
     m.putSoft("burst", burst, 88);
@@ -280,7 +280,7 @@ export class Um {
     return m.report(12, 8, 18);
   }
 
-  /** The 148 bits of a synchronisation burst. */
+  /** Encodes 25 bits into a synchronisation burst of 148 bits. */
   sendSync(info) {
     const m = this.#machine;
     m.octets.set(bitsOf("info", info, 25), m.input);
@@ -288,7 +288,7 @@ export class Um {
     return m.copy(m.output, 148);
   }
 
-  /** What a synchronisation burst is received as. */
+  /** Decodes a synchronisation burst. */
   receiveSync(burst) {
     const m = this.#machine;
     m.putSoft("burst", burst, 148);
@@ -296,7 +296,7 @@ export class Um {
     return m.report(12, 25, 39);
   }
 
-  /** The LAPDm frame of a block on a channel, or `{ unread }` with the reason why it is none. */
+  /** Decodes the LAPDm frame in a block on a channel. Returns `{ unread }`, with the reason, if the octets are not a frame. */
   readFrame(octets, channel = "sdcch") {
     const m = this.#machine;
     m.octets.set(octetsOf("octets", octets, BLOCK_OCTETS), m.input);
@@ -306,7 +306,7 @@ export class Um {
     return { kind: KINDS[kind], sapi, cr, pf, ns, nr, more, info: m.copy(m.output + 8, count) };
   }
 
-  /** The 23 octets of a frame on a channel, with fill 2b. */
+  /** Encodes a frame into the 23 octets of its block on a channel, with fill octets 2b. */
   writeFrame(frame, channel = "sdcch") {
     const m = this.#machine;
     const members = ["kind", "sapi", "cr", "pf", "ns", "nr", "more", "info"];
@@ -329,7 +329,7 @@ export class Um {
     return m.copy(m.output, BLOCK_OCTETS);
   }
 
-  /** A new end of a link. */
+  /** A new endpoint. */
   end(role, options = {}) {
     const m = this.#machine;
     const { sapi = 0, channel = "sdcch" } = membersOf("options", options, ["sapi", "channel"]);
@@ -349,16 +349,16 @@ export class Um {
     return new Side(m, m.copy(m.input, SIDE));
   }
 
-  /** A side whose state `side.bytes` gave before; refused with the reason "noend" where no side has such a state. */
+  /** Restores a side from `side.bytes`. Throws Refused with the reason "noend" if the state is not valid. */
   restoreSide(bytes) {
     const side = new Side(this.#machine, Uint8Array.from(octetsOf("bytes", bytes, SIDE)));
-    // the fill frame is that of one link, so each is tested by itself
+    // um_side_idle tests only one of the links, so test each by itself
     for (const at of [0, END]) this.restoreEnd(side.bytes.slice(at, at + END));
     side.idle();
     return side;
   }
 
-  /** An end whose state `end.bytes` gave before; refused with the reason "noend" where no end has such a state. */
+  /** Restores an endpoint from `end.bytes`. Throws Refused with the reason "noend" if the state is not valid. */
   restoreEnd(bytes) {
     const end = new End(this.#machine, Uint8Array.from(octetsOf("bytes", bytes, END)));
     end.idle();
@@ -366,7 +366,7 @@ export class Um {
   }
 }
 
-// A state of the library's in octets, and calls that change it.
+// The state of an endpoint or a side, as octets, and the calls that change it.
 class State {
   #machine;
   #bytes;
@@ -376,11 +376,11 @@ class State {
     this.#bytes = bytes;
   }
 
-  /** A copy of the state, to be restored. */
+  /** A copy of the state, for `restoreEnd` or `restoreSide`. */
   get bytes() {
     return this.#bytes.slice();
   }
-  /** Another one in the same state. */
+  /** An independent copy. */
   copy() {
     return new this.constructor(this.#machine, this.bytes);
   }
@@ -391,7 +391,7 @@ class State {
   _octets(from, to) {
     return this.#bytes.subarray(from, to);
   }
-  // puts the state into the module's memory, and calls
+  // copies the state into the module's memory, and calls
   _try(name, ...values) {
     const m = this.#machine;
     m.octets.set(this.#bytes, m.input);
@@ -404,7 +404,7 @@ class State {
     this.#bytes.set(m.octets.subarray(m.input, m.input + this.#bytes.length));
     return m.effects();
   }
-  // a call with a message, behind other values
+  // a call with a message after other values
   _send(name, octets, ...values) {
     this.#machine.putMessage(octetsOf("octets", octets));
     return this._call(name, ...values, this.#machine.SECOND);
@@ -416,8 +416,8 @@ class State {
 }
 
 /**
- * One end of a link in acknowledged mode. It has no timer: its caller sends the `frames` that each call answers, in their order, hands
- * it each block that comes in, and calls `timer` when T200 expires. A call that is refused throws Refused.
+ * An endpoint in acknowledged mode. It has no timer: the caller sends the `frames` that each call returns, in order, passes each
+ * received block to `take`, and calls `timer` on T200 expiry. A call that is refused throws Refused.
  */
 export class End extends State {
   get role() {
@@ -432,18 +432,18 @@ export class End extends State {
   get state() {
     return STATES[this._octets(11)[0]];
   }
-  /** V(S), V(A), V(R), how often a frame went out again, how many messages are held, and how many were acknowledged. */
+  /** V(S), V(A), V(R), the number of retransmissions, of messages held, and of messages acknowledged. */
   get variables() {
     const [retries, vs, va, vr, repeats, rejecting, , held] = this._octets(12, 20);
     const done = new DataView(this.bytes.buffer).getBigUint64(0, true);
     return { vs, va, vr, retries: this.state === "open" ? repeats : retries, rejecting: rejecting !== 0, held, done };
   }
-  /** Whether T200 runs, that is, whether a frame awaits an answer: `timer` is tried, and its effects are dropped. */
+  /** Whether a frame awaits an answer, so that T200 runs. It calls `timer` on a copy. */
   get timerRuns() {
     return this._try("um_end_timer") === 0;
   }
 
-  /** Opens the link: of SAPI 0, by a mobile, with 1 to 20 octets of information (18 on SACCH); of SAPI 3, by either end, without. */
+  /** Opens the link: SAPI 0 at the mobile, with 1 to 20 octets of information (18 on SACCH); SAPI 3 at either end, without. */
   open(info) {
     return info === undefined ? this._call("um_end_open_bare") : this._send("um_end_open", info);
   }
@@ -459,7 +459,7 @@ export class End extends State {
   close() {
     return this._call("um_end_close");
   }
-  /** T200 expired. */
+  /** T200 has expired. */
   timer() {
     return this._call("um_end_timer");
   }
@@ -467,13 +467,13 @@ export class End extends State {
   idle() {
     return this._call("um_end_idle");
   }
-  /** Takes a block of 23 octets that came in. */
+  /** Processes a received block of 23 octets. */
   take(octets) {
     return this._call("um_end_take", this._put(octets));
   }
 }
 
-/** Both links, of SAPI 0 and of SAPI 3, of a mobile or of the network on one channel. Each link has its own T200. */
+/** Both links (SAPI 0 and SAPI 3) of a mobile, or of the network, on one channel. Each link has its own T200. */
 export class Side extends State {
   get role() {
     return ROLES[this._octets(8)[0]];
@@ -481,13 +481,13 @@ export class Side extends State {
   get channel() {
     return CHANNELS[this._octets(10)[0]];
   }
-  /** The end of one of the links as it is now; what is called of it does not change the side. */
+  /** A copy of the endpoint of one link; calls on it do not change the side. */
   end(sapi) {
     const at = END * place("sapi", sapi, SAPIS);
     return new End(this._machine(), this._octets(at, at + END).slice());
   }
 
-  /** Opens the link of SAPI 0, by a mobile, with information; or that of SAPI 3, without. */
+  /** Opens the link of SAPI 0, at the mobile, with information; or the link of SAPI 3, without. */
   open(info) {
     return info === undefined ? this._call("um_side_open_bare") : this._send("um_side_open", info);
   }
@@ -503,7 +503,7 @@ export class Side extends State {
   close(sapi) {
     return this._call("um_side_close", SAPIS[place("sapi", sapi, SAPIS)]);
   }
-  /** T200 of the link of this SAPI expired. */
+  /** T200 of the link of this SAPI has expired. */
   timer(sapi) {
     return this._call("um_side_timer", SAPIS[place("sapi", sapi, SAPIS)]);
   }
@@ -511,7 +511,7 @@ export class Side extends State {
   idle() {
     return this._call("um_side_idle");
   }
-  /** Takes a block that came in: it goes to the end of its SAPI, which is answered beside the effects; a frame of another is ignored. */
+  /** Processes a received block at the endpoint of its SAPI, and returns the SAPI too. A frame of another SAPI is ignored. */
   take(octets) {
     const m = this._machine();
     const effects = this._call("um_side_take", this._put(octets), m.BESIDE);
@@ -527,7 +527,7 @@ const beside = async () => {
   return (await import("node:fs/promises")).readFile(url);
 };
 
-/** Loads um.wasm: the file beside this module, or what is given: its octets, a Response, or a compiled WebAssembly.Module. */
+/** Loads um.wasm from the directory of this module, or from `source`: its octets, a Response, or a compiled WebAssembly.Module. */
 export const load = async (source) => {
   let from = await (source === undefined ? beside() : source);
   if (typeof Response !== "undefined" && from instanceof Response) {

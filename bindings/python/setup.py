@@ -1,7 +1,7 @@
-"""Puts libum.so.0 into the wheel, which is then one of a platform, but of no one Python.
+"""Packs libum.so.0 into the wheel. The wheel depends on the platform, but not on the version of Python.
 
-The library is that of dist/ARCH-linux for this machine, or for the one that UM_WHEEL_ARCH names (x86_64, aarch64); UM_SO names another
-file. The same sources and library give the same wheel, bit for bit."""
+The library comes from dist/ARCH-linux, where ARCH is this machine's or UM_WHEEL_ARCH (x86_64, aarch64); UM_SO overrides the path. Builds
+are reproducible: the same sources and library yield the same wheel, bit for bit."""
 import os
 import pathlib
 import platform
@@ -18,7 +18,7 @@ except ImportError:
 ROOT = pathlib.Path(__file__).resolve().parents[2]
 ARCH = os.environ.get("UM_WHEEL_ARCH", platform.machine())
 LIBRARY = pathlib.Path(os.environ.get("UM_SO", str(ROOT / "dist" / f"{ARCH}-linux" / "libum.so.0")))
-os.environ.setdefault("SOURCE_DATE_EPOCH", "315532800")  # 1980, the earliest time that a wheel can have
+os.environ.setdefault("SOURCE_DATE_EPOCH", "315532800")  # 1980, the earliest timestamp that a wheel can have
 
 
 class WithLibrary(build_py):
@@ -28,8 +28,8 @@ class WithLibrary(build_py):
             return
         if not LIBRARY.exists():
             raise SystemExit(
-                f"um: no {LIBRARY}, which the wheel carries. A release has it in dist/{ARCH}-linux; UM_SO names another file, and "
-                f"bindings/python/um/_library.py says how it is made. pip has to be 21.3 or later, which builds in the checkout.")
+                f"um: {LIBRARY}, which the wheel contains, is missing. A release has it in dist/{ARCH}-linux; UM_SO overrides the path. "
+                f"bindings/python/um/_library.py describes how to build it. pip must be 21.3 or later, which builds in the checkout.")
         for source, name in ((LIBRARY, "libum.so.0"), (ROOT / "LICENSE", "LICENSE")):
             shutil.copyfile(source, os.path.join(self.build_lib, "um", name))
 

@@ -1,11 +1,11 @@
-//! Links libum.a: from the folder that UM_LIB names, from lib/ARCH-linux of a packed crate, or from dist/ARCH-linux of the repository.
+//! Links libum.a from the directory UM_LIB, from lib/ARCH-linux of a packed crate, or from dist/ARCH-linux of the repository.
 use std::{env, path::Path, process::exit};
 
 fn main() {
     println!("cargo:rerun-if-env-changed=UM_LIB");
     let target = env::var("TARGET").expect("cargo names the target");
     let system = env::var("CARGO_CFG_TARGET_OS").unwrap_or_default();
-    // the library needs memcpy, memmove and memset alone, so that one does for every C library of a processor
+    // the library needs only memcpy, memmove and memset, so one archive per processor works with every C library
     let arch = target.split('-').next().unwrap_or_default();
     let here = env::var("CARGO_MANIFEST_DIR").expect("cargo names the crate's folder");
     let folder = env::var("UM_LIB").unwrap_or_else(|_| {
@@ -17,8 +17,8 @@ fn main() {
     let Some(name) = ["um", "um_c"].into_iter().find(|name| Path::new(&library(name)).exists()) else {
         eprintln!(
             "um: no libum.a for {target} in {folder}.\n\
-             A release has it in dist/x86_64-linux and dist/aarch64-linux. In the repository, `rt lib` in crates/um_c makes it as\n\
-             crates/um_c/out/libum_c.a. UM_LIB names the folder that has it."
+             A release has it in dist/x86_64-linux and dist/aarch64-linux. In the repository, `rt lib` in crates/um_c builds it as\n\
+             crates/um_c/out/libum_c.a. Set UM_LIB to the directory that contains it."
         );
         exit(1);
     };

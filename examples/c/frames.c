@@ -1,4 +1,4 @@
-/* Frames are read from blocks of SDCCH and of SACCH, where two octets of layer 1 come first: the ordered power level and timing advance.
+/* Decodes LAPDm frames from blocks of SDCCH and SACCH. On SACCH two layer 1 octets come first: power level and timing advance.
  *
  *   cc -Ibindings/c examples/c/frames.c dist/x86_64-linux/libum.a -o frames && ./frames */
 #include "um.h"
@@ -8,15 +8,15 @@
 static const char *const kinds[] = { "i", "rr", "rnr", "rej", "sabm", "dm", "ui", "disc", "ua" };
 static const char *const readings[] = { "", "lpd", "ea", "control", "el", "length", "empty", "more" };
 
-/* The first octets of each block; fill 2b follows. */
+/* The first octets of each block; fill octets 2b follow. */
 static const struct { uint8_t channel; const char *first; } blocks[] = {
 	{ UM_SDCCH, "013f250524110333198105f4" },                       /* a mobile asks for service */
 	{ UM_SDCCH, "0173250524110333198105f4" },                       /* the network's answer */
 	{ UM_SDCCH, "03200d063501" },                                   /* ciphering mode command */
 	{ UM_SDCCH, "032101" },                                         /* its acknowledgement */
 	{ UM_SACCH, "0803030349061d0102030405060708090a0b0c0d0e0f10" }, /* system information 5 */
-	{ UM_SDCCH, "0803030349061d0102030405060708090a0b0c0d0e0f10" }, /* the same, taken as SDCCH: the address seems to go on */
-	{ UM_SDCCH, "15062100012b" },                                   /* paging on CCCH is no LAPDm frame, but may look like one */
+	{ UM_SDCCH, "0803030349061d0102030405060708090a0b0c0d0e0f10" }, /* the same, read as SDCCH: the address field seems to continue */
+	{ UM_SDCCH, "15062100012b" },                                   /* paging on CCCH is not an LAPDm frame, but can look like one */
 };
 
 static void read_octets(const char *digits, uint8_t octets[23])
@@ -38,7 +38,7 @@ int main(void)
 		printf("%s: ", channel == UM_SACCH ? "SACCH" : "SDCCH");
 		uint8_t reading = um_read_frame(octets, channel, &frame);
 		if (reading != UM_FRAME) {
-			printf("no frame (%s)\n", readings[reading]);
+			printf("not a frame (%s)\n", readings[reading]);
 			continue;
 		}
 		if (channel == UM_SACCH)

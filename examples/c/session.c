@@ -1,8 +1,8 @@
-/* A mobile and a network, an endpoint each, over an air that loses blocks: each block goes out as four bursts with noise and is
- * received again. The mobile opens the link, both send messages, and the mobile closes it.
+/* A mobile and a network over a noisy path that loses blocks: each block is sent as four bursts, with noise, and decoded again. The
+ * mobile opens the link, both send messages, and the mobile releases the link.
  *
- * Time goes by in slots: each endpoint sends one block of SDCCH in 235 ms. T200 counts from when a block that awaits an answer goes on the
- * air, and is longer than the way there and back with the blocks that may wait before it.
+ * Time advances in slots of 235 ms, in which each endpoint sends one SDCCH block. T200 counts from the time at which a block that awaits
+ * an answer goes on the air, and exceeds the round trip with the blocks queued before it.
  *
  *   cc -Ibindings/c examples/c/session.c dist/x86_64-linux/libum.a -o session && ./session */
 #include "air.h"
@@ -16,7 +16,7 @@ typedef struct {
 	const char *name;
 	um_end end;
 	uint8_t queue[16][23];
-	int queued, timer;      /* `timer`: slots until T200 expires, or 0 where it does not run */
+	int queued, timer;      /* `timer`: slots until T200 expires, or 0 if it does not run */
 	int opened, got, acked, closed;
 } side;
 
@@ -43,7 +43,7 @@ static void queue(side *s, const um_effects *effects)
 		else if (notice->kind == UM_GOT)
 			s->got++, printf("got a message of %d octets\n", notice->message.count);
 		else if (notice->kind == UM_ACKED)
-			s->acked++, printf("knows that message %d is there\n", (int)notice->number);
+			s->acked++, printf("has message %d acknowledged\n", (int)notice->number);
 		else if (notice->kind == UM_ENDED)
 			s->closed++, printf(notice->reason == UM_RELEASED ? "is closed\n" : "has failed\n");
 	}
@@ -57,7 +57,7 @@ static void send(side *s, int count)
 		queue(s, &effects);
 }
 
-/* Sends a block through noise; one in four fades. Answers whether it is received, with its octets. */
+/* Sends a block over the noisy path; one in four fades. Returns whether it is received, and writes its octets. */
 static bool is_received(const uint8_t sent[23], uint8_t octets[23])
 {
 	int strength = air_random() >> 30 == 0 ? 250 : 40;
@@ -73,7 +73,7 @@ static bool is_received(const uint8_t sent[23], uint8_t octets[23])
 	return report.accepted;
 }
 
-/* What an endpoint does in a slot: T200 may expire, and the first block that waits goes on the air. */
+/* Runs one slot of an endpoint: T200 may expire, and the first queued block goes on the air. */
 static void slot(side *s, side *other)
 {
 	um_effects effects;
@@ -117,6 +117,6 @@ int main(void)
 			queue(&mobile, &effects);
 	}
 	bool is_well = mobile.closed == 1 && network.closed == 1 && mobile.got == 1 && network.got == 2;
-	printf("%s\n", is_well ? "each message came over once" : "something is missing");
+	printf("%s\n", is_well ? "each message arrived exactly once" : "something is missing");
 	return !is_well;
 }

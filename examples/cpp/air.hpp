@@ -1,4 +1,4 @@
-// A bad air for the examples: bits become soft bits with noise. The numbers are the same in every language's example.
+// A noisy radio path for the examples: converts hard bits to noisy soft bits. Every language's example draws the same numbers.
 #ifndef AIR_HPP
 #define AIR_HPP
 #include <algorithm>
@@ -19,7 +19,7 @@ public:
 		return state;
 	}
 
-	// A bit is sent as 64 or -64 and noise is added, whose standard deviation is `strength`: a sum of four numbers, nearly Gaussian.
+	// Sends a bit as 64 or -64 and adds nearly Gaussian noise, a sum of four numbers, with standard deviation `strength`.
 	std::int8_t soft(std::uint8_t bit, int strength)
 	{
 		int noise = -510;

@@ -1,4 +1,4 @@
-// Frames are read from blocks of SDCCH and of SACCH, where two octets of layer 1 come first: the ordered power level and timing advance.
+// Decodes LAPDm frames from blocks of SDCCH and SACCH. On SACCH two layer 1 octets come first: power level and timing advance.
 //
 //   c++ -std=c++17 -Ibindings/c examples/cpp/frames.cpp dist/x86_64-linux/libum.a -o frames && ./frames
 #include "um.h"
@@ -9,7 +9,7 @@
 
 struct Block {
 	um_channel channel;
-	std::string first; // the first octets; fill 2b follows
+	std::string first; // the first octets; fill octets 2b follow
 };
 
 static const std::vector<Block> blocks = {
@@ -18,8 +18,8 @@ static const std::vector<Block> blocks = {
 	{UM_SDCCH, "03200d063501"},                                   // ciphering mode command
 	{UM_SDCCH, "032101"},                                         // its acknowledgement
 	{UM_SACCH, "0803030349061d0102030405060708090a0b0c0d0e0f10"}, // system information 5
-	{UM_SDCCH, "0803030349061d0102030405060708090a0b0c0d0e0f10"}, // the same, taken as SDCCH: the address seems to go on
-	{UM_SDCCH, "15062100012b"},                                   // paging on CCCH is no LAPDm frame, but may look like one
+	{UM_SDCCH, "0803030349061d0102030405060708090a0b0c0d0e0f10"}, // the same, read as SDCCH: the address field seems to continue
+	{UM_SDCCH, "15062100012b"},                                   // paging on CCCH is not an LAPDm frame, but can look like one
 };
 
 static std::array<std::uint8_t, 23> octets_of(const std::string &digits)
@@ -40,7 +40,7 @@ int main()
 		um_frame frame;
 		std::printf("%s: ", block.channel == UM_SACCH ? "SACCH" : "SDCCH");
 		if (const auto reading = um_read_frame(octets.data(), block.channel, &frame); reading != UM_FRAME) {
-			std::printf("no frame (%s)\n", readings[reading]);
+			std::printf("not a frame (%s)\n", readings[reading]);
 			continue;
 		}
 		if (block.channel == UM_SACCH)

@@ -1,4 +1,4 @@
-// Blocks are coded, sent through noise, and received: by the most likely word, and among the 64 likeliest.
+// Encodes blocks, adds noise and decodes them, once by maximum likelihood and once by list decoding with 64 words.
 //
 //   c++ -std=c++17 -Ibindings/c examples/cpp/noise.cpp dist/x86_64-linux/libum.a -o noise && ./noise
 #include "air.hpp"

@@ -1,8 +1,8 @@
-// A mobile and a network, an endpoint each, over an air that loses blocks: each block goes out as four bursts with noise and is
-// received again. The mobile opens the link, both send messages, and the mobile closes it.
+// A mobile and a network over a noisy path that loses blocks: each block is sent as four bursts, with noise, and decoded again. The
+// mobile opens the link, both send messages, and the mobile releases the link.
 //
-// Time goes by in slots: each endpoint sends one block of SDCCH in 235 ms. T200 counts from when a block that awaits an answer goes on the
-// air, and is longer than the way there and back with the blocks that may wait before it.
+// Time advances in slots of 235 ms, in which each endpoint sends one SDCCH block. T200 counts from the time at which a block that awaits
+// an answer goes on the air, and exceeds the round trip with the blocks queued before it.
 //
 //   c++ -std=c++17 -Ibindings/c examples/cpp/session.cpp dist/x86_64-linux/libum.a -o session && ./session
 #include "air.hpp"
@@ -23,7 +23,7 @@ static um_message message_of(std::uint8_t count)
 	return message;
 }
 
-// Sends a block through noise; one in four fades.
+// Sends a block over the noisy path; one in four fades.
 static std::optional<Octets> received(Air &air, const Octets &sent)
 {
 	const int strength = air.random() >> 30 == 0 ? 250 : 40;
@@ -50,7 +50,7 @@ public:
 	void send(const um_message &message) { done(um_end_send(&end, &message, &effects)); }
 	void close() { done(um_end_close(&end, &effects)); }
 
-	// What an endpoint does in a slot: T200 may expire, and the first block that waits goes on the air.
+	// Runs one slot of an endpoint: T200 may expire, and the first queued block goes on the air.
 	void slot(Air &air, Side &other, int time)
 	{
 		now = other.now = time;
@@ -78,7 +78,7 @@ private:
 	um_end end;
 	um_effects effects;
 	std::deque<Octets> queue;
-	int now = 0, timer = 0; // `timer`: slots until T200 expires, or 0 where it does not run
+	int now = 0, timer = 0; // `timer`: slots until T200 expires, or 0 if it does not run
 
 	void say(const std::string &what) const { std::printf("%5d ms  %-7s %s\n", now, name.c_str(), what.c_str()); }
 
@@ -109,7 +109,7 @@ private:
 			return say("got a message of " + std::to_string(notice.message.count) + " octets");
 		case UM_ACKED:
 			acked++;
-			return say("knows that message " + std::to_string(notice.number) + " is there");
+			return say("has message " + std::to_string(notice.number) + " acknowledged");
 		case UM_ENDED:
 			closed++;
 			return say(notice.reason == UM_RELEASED ? "is closed" : "has failed");
@@ -137,6 +137,6 @@ int main()
 			mobile.close();
 	}
 	const bool is_well = mobile.closed == 1 && network.closed == 1 && mobile.got == 1 && network.got == 2;
-	std::puts(is_well ? "each message came over once" : "something is missing");
+	std::puts(is_well ? "each message arrived exactly once" : "something is missing");
 	return !is_well;
 }

@@ -1,4 +1,4 @@
-"""A bad air for the examples: bits become soft bits with noise. The numbers are the same in every language's example."""
+"""A noisy radio path for the examples: converts hard bits to noisy soft bits. Every language's example draws the same numbers."""
 import array
 
 
@@ -7,7 +7,7 @@ class Air:
         self._state = 2463534242
 
     def random(self):
-        """A random number of 32 bits by xorshift (Marsaglia, 2003)."""
+        """A 32-bit random number by xorshift (Marsaglia, 2003)."""
         state = self._state
         state ^= state << 13 & 0xFFFFFFFF
         state ^= state >> 17
@@ -16,7 +16,7 @@ class Air:
         return state
 
     def soft(self, bit, strength):
-        """A bit is sent as 64 or -64 and noise is added, whose standard deviation is `strength`: a sum of four numbers, nearly Gaussian."""
+        """Sends a bit as 64 or -64 and adds nearly Gaussian noise, a sum of four numbers, with standard deviation `strength`."""
         noise = sum(self.random() >> 24 for _ in range(4)) - 510
         return max(-127, min(127, (-64 if bit else 64) + int(noise * strength / 148)))
 

@@ -1,33 +1,33 @@
 #!/usr/bin/env python3
-"""Both links of a channel at one end, SAPI 0 and SAPI 3: what waits for the air, and when T200 expires.
+"""An event loop for both links of a channel, SAPI 0 and SAPI 3, at one end: the transmit queues and T200.
 
     UM_SO=/path/to/libum.so PYTHONPATH=bindings/python python3 examples/python/event_loop.py
 
-An end has no timer, and its frames leave one at a time: a channel has room for one block each way every 51 TDMA frames on SDCCH, every 102
-on its SACCH.  So the caller keeps a queue for each link and the time at which its T200 expires:
+An endpoint has no timer, and a channel carries one block each way every 51 TDMA frames on SDCCH, every 102 on its SACCH. So the caller
+keeps, for each link, a transmit queue and the time at which T200 expires:
 
-- SAPI 0 goes before SAPI 3.
-- T200 starts when a SABM, a DISC or an I frame goes on the air.  While the block waits, T200 does not run.
-- T200 is longer than the way there and back: the answer takes a block, and so may a frame that waits before it at the other side.  A block
-  of the other link that comes in took the place of the answer, so it puts T200 off by one block.
-- The window is one frame.  So a SABM, a DISC or an I frame replaces the one that still waits, which is its copy or is acknowledged.
-- A REJ is passed to the end as an RR with the same N(R).  With a window of one frame it asks for a frame that T200 repeats anyway, or for
-  the one after a frame that was sent twice, whose repeat would be one too many.  Delivery holds so (law_rr_for_rej of lapdm_link).
-- A later N(R) says all that an earlier one said.  So an RR or a REJ that still waits is dropped when a later one is there to be sent, and
-  an RR is dropped for an I frame too.  One with F = 1 answers a poll and stays.
+- SAPI 0 has priority over SAPI 3.
+- T200 starts when a SABM, DISC or I frame goes on the air. It does not run while the frame is queued.
+- T200 exceeds the round trip: one block for the answer, and one for a frame that the peer may have queued before it. A received block of
+  the other link took the slot of the answer, so it extends T200 by one block.
+- The window is one frame. So a SABM, DISC or I frame replaces the one still queued, which is a copy or already acknowledged.
+- A REJ is passed to the endpoint as an RR with the same N(R). With a window of one frame, a REJ asks for a frame that T200 retransmits
+  anyway, or for the frame after a duplicate, which need not be repeated. Delivery is still guaranteed (law_rr_for_rej of lapdm_link).
+- A later N(R) supersedes an earlier one. So a queued RR or REJ is dropped when a later one is queued, and a queued RR also when an I frame
+  is. A frame with F = 1 answers a poll and stays.
 
-What is dropped from a queue is to the other end like a block lost on the air.  bindings/c/examples/event_loop.c is the same in C.
+To the peer, a frame dropped from the queue looks like a block lost on the air. bindings/c/examples/event_loop.c is the same in C.
 """
 import um
 
 SAPIS = (0, 3)
-LEAST_BLOCKS = 4  # T200: the frame's block, the answer's, one that waits before it, and one to spare
+LEAST_BLOCKS = 4  # T200: one block for the frame, one for the answer, one queued before it, and one in reserve
 SUPERVISORY = ("rr", "rnr", "rej")
 STARTS_T200 = ("i", "sabm", "disc")
 
 
 def is_outdated(old, later):
-    """Whether a frame that waits need not be sent, now that a later one of its link is there, or, without one, all is acknowledged."""
+    """Whether a queued frame need not be sent any more: a later one is queued or, if `later` is None, everything is acknowledged."""
     if later is None:
         return old.kind == "i"
     if old.kind in STARTS_T200:
@@ -37,7 +37,7 @@ def is_outdated(old, later):
 
 
 class Channel:
-    """The two links of one end. Times are TDMA frames, 60/13 ms each."""
+    """Both links of one end. Times are in TDMA frames of 60/13 ms."""
 
     def __init__(self, role, channel=um.SDCCH, t200=204, report=print):
         self.channel, self.report = channel, report
@@ -48,10 +48,10 @@ class Channel:
         self.t200 = max(t200, LEAST_BLOCKS * self.block)
 
     def done(self, sapi, effects):
-        """Carries out what a call of an end answered."""
+        """Applies the effects of a call."""
         for kind, _ in effects.notices:
             if kind in ("acked", "closed"):
-                self._drop_outdated(sapi, None)  # an I frame that still waits is a copy
+                self._drop_outdated(sapi, None)  # an I frame still queued is a copy
         for block in effects.frames:
             frame = um.read_frame(block, self.channel)
             self._drop_outdated(sapi, frame)
@@ -65,7 +65,7 @@ class Channel:
         self.waiting[sapi] = [(frame, block) for frame, block in self.waiting[sapi] if not is_outdated(frame, later)]
 
     def take(self, block):
-        """A block came in; ValueError where it is no frame."""
+        """Processes a received block. ValueError if the octets are not a frame."""
         frame = um.read_frame(block, self.channel)
         fill = frame.kind == "ui" and not frame.info
         if frame.kind == "rej":
@@ -77,7 +77,7 @@ class Channel:
                 self.expiry[sapi] += self.block
 
     def next(self, now):
-        """The frame and the block that go on the air now; None and the fill frame where nothing waits."""
+        """The frame and the block to send now; None and the fill frame if nothing is queued."""
         for sapi in SAPIS:
             if self.waiting[sapi]:
                 frame, block = self.waiting[sapi].pop(0)
@@ -87,18 +87,18 @@ class Channel:
         return None, self.ends[0].idle().frames[0]
 
     def timers(self, now):
-        """To be called before each block."""
+        """Call this before each block."""
         for sapi in SAPIS:
             if self.expiry[sapi] is not None and now >= self.expiry[sapi]:
                 self.expiry[sapi] = None
                 try:
                     self.done(sapi, self.ends[sapi].timer())
                 except ValueError:
-                    pass  # nothing awaits an answer any more
+                    pass  # no frame awaits an answer any more
 
 
 def main():
-    """A mobile and a network over an air that loses every seventh block: a message each way on SAPI 0, a short message on SAPI 3."""
+    """A mobile and a network over a path that loses every seventh block: a message each way on SAPI 0, a short message on SAPI 3."""
     names = {}
 
     def say(channel, sapi, kind, value):

@@ -1,10 +1,10 @@
-"""A recording of soft bits to a table of blocks, and a drawing of it.
+"""Decodes a recording of soft bits, prints a table of its blocks, and draws it.
 
     PYTHONPATH=bindings/python python3 examples/python/recording.py RECORDING [DRAWING.svg]
 
-RECORDING is a .npy array, n x 4 x 148 or n x 592, or a raw file of int8, 592 octets a block: the normal bursts of n blocks, 127 for a
-sure 0, -127 for a sure 1 and 0 for a place of which nothing is known. An array of floats is taken as log-likelihood ratios, ln P(0)/P(1).
-Of the 64 likeliest words of each block the first whose CRC holds is taken. Needs numpy."""
+RECORDING is a .npy array, n x 4 x 148 or n x 592, or a raw file of int8, 592 octets per block: the normal bursts of n blocks, from -127
+(certainly 1) to 127 (certainly 0); 0 means unknown. Floats are taken as log-likelihood ratios, ln P(0)/P(1). Blocks are decoded by list
+decoding with 64 words. Needs numpy."""
 import sys
 
 import numpy
@@ -19,7 +19,7 @@ def read_recording(name):
     if not name.endswith(".npy"):
         values = numpy.fromfile(name, numpy.int8)
         if values.size % 592:
-            sys.exit(f"recording: {name} has {values.size} octets; expected a multiple of 592, which is a block")
+            sys.exit(f"recording: {name} has {values.size} octets; expected a multiple of 592, the size of a block")
         return values.reshape(-1, 4, 148)
     values = numpy.load(name)
     return um.soft_from_llr(values) if values.dtype.kind == "f" else values
@@ -31,13 +31,13 @@ def line_of(number, report):
 
 
 def wrong_places(soft, reports):
-    """The places of the blocks accepted that are not as they were sent."""
+    """The bits of the accepted blocks that were received wrong."""
     sent = um.send_blocks(reports["octets"], reports["tsc"])
     return ((soft > 0) != (sent == 0)) & (soft != 0) & reports["accepted"][:, None, None]
 
 
 def runs(colours):
-    """Each run of one colour: where it begins, how long it is, and the colour."""
+    """Each run of one colour: its start, length and colour."""
     edges = [0, *(numpy.flatnonzero(colours[1:] != colours[:-1]) + 1).tolist(), len(colours)]
     return [(start, end - start, colours[start]) for start, end in zip(edges, edges[1:])]
 
@@ -49,7 +49,7 @@ def draw(soft, reports):
     width, height = LEFT + 4 * (BURST + GAP) + 330, ROW * (len(soft) + 2)
     lines = [f'<svg xmlns="http://www.w3.org/2000/svg" width="{width}" height="{height}" font-family="monospace" font-size="10">',
              f'<rect width="{width}" height="{height}" fill="white"/>',
-             f'<text x="{LEFT}" y="11">four bursts a block: the darker the surer, red where a bit was read wrong, grey where lost</text>']
+             f'<text x="{LEFT}" y="11">four bursts per block: the darker, the more certain; red: wrong bit; grey: unknown</text>']
     for number, report in enumerate(reports):
         top = ROW * (number + 1) + 4
         for burst in range(4):

@@ -1,8 +1,8 @@
-"""A mobile and a network, an endpoint each, over an air that loses blocks: each block goes out as four bursts with noise and is
-received again. The mobile opens the link, both send messages, and the mobile closes it.
+"""A mobile and a network over a noisy path that loses blocks: each block is sent as four bursts, with noise, and decoded again. The
+mobile opens the link, both send messages, and the mobile releases the link.
 
-Time goes by in slots: each endpoint sends one block of SDCCH in 235 ms. T200 counts from when a block that awaits an answer goes on the
-air, and is longer than the way there and back with the blocks that may wait before it.
+Time advances in slots of 235 ms, in which each endpoint sends one SDCCH block. T200 counts from the time at which a block that awaits
+an answer goes on the air, and exceeds the round trip with the blocks queued before it.
 
     PYTHONPATH=bindings/python python3 examples/python/session.py"""
 import collections
@@ -19,7 +19,7 @@ class Side:
         self.name, self.end = role, um.End(role)
         self.queue = collections.deque()
         self.now = 0
-        self.timer = 0  # slots until T200 expires, or 0 where it does not run
+        self.timer = 0  # slots until T200 expires, or 0 if it does not run
         self.told = collections.Counter()
 
     def say(self, what):
@@ -34,12 +34,12 @@ class Side:
             elif kind == "got":
                 self.say(f"got a message of {len(value)} octets")
             elif kind == "acked":
-                self.say(f"knows that message {value} is there")
+                self.say(f"has message {value} acknowledged")
             elif kind == "closed":
                 self.say("is closed" if value == "released" else "has failed")
 
     def slot(self, air, other, now):
-        """What an endpoint does in a slot: T200 may expire, and the first block that waits goes on the air."""
+        """Runs one slot of an endpoint: T200 may expire, and the first queued block goes on the air."""
         self.now = other.now = now
         if self.timer:
             self.timer -= 1
@@ -66,7 +66,7 @@ class Side:
 
 
 def received(air, sent):
-    """Sends a block through noise, of which one in four fades; None where it is lost."""
+    """Sends a block over the noisy path; one in four fades. None if it is lost."""
     strength = 250 if air.random() >> 30 == 0 else 40
     return um.receive_block(air.soften(um.send_block(sent, tsc=7), strength)).accepted
 
@@ -92,5 +92,5 @@ def run():
 
 
 is_well = run()
-print("each message came over once" if is_well else "something is missing")
+print("each message arrived exactly once" if is_well else "something is missing")
 sys.exit(not is_well)

@@ -1,21 +1,22 @@
-/* Both links of a channel at one end, SAPI 0 and SAPI 3: what waits for the air, and when T200 expires.
+/* An event loop for both links of a channel, SAPI 0 and SAPI 3, at one end: the transmit queues and T200.
  *
  *   cc -Ibindings/c bindings/c/examples/event_loop.c dist/x86_64-linux/libum.a -o event_loop && ./event_loop
  *
- * An end has no timer, and its frames leave one at a time: a channel has room for one block each way every 51 TDMA frames on SDCCH,
- * every 102 on its SACCH. So the caller keeps a queue for each link and the time at which its T200 expires:
+ * An endpoint has no timer, and a channel carries one block each way every 51 TDMA frames on SDCCH, every 102 on its SACCH. So the
+ * caller keeps, for each link, a transmit queue and the time at which T200 expires:
  *
- *   - SAPI 0 goes before SAPI 3.
- *   - T200 starts when a SABM, a DISC or an I frame goes on the air. While the block waits, T200 does not run.
- *   - T200 is longer than the way there and back: the answer takes a block, and so may a frame that waits before it at the other side.
- *     A block of the other link that comes in took the place of the answer, so it puts T200 off by one block.
- *   - The window is one frame. So a SABM, a DISC or an I frame replaces the one that still waits, which is its copy or is acknowledged.
- *   - A REJ is passed to the end as an RR with the same N(R). With a window of one frame it asks for a frame that T200 repeats anyway, or
- *     for the one after a frame that was sent twice, whose repeat would be one too many. Delivery holds so (law_rr_for_rej of lapdm_link).
- *   - A later N(R) says all that an earlier one said. So an RR or a REJ that still waits is dropped when a later one is there to be
- *     sent, and an RR is dropped for an I frame too. One with F = 1 answers a poll and stays.
+ *   - SAPI 0 has priority over SAPI 3.
+ *   - T200 starts when a SABM, DISC or I frame goes on the air. It does not run while the frame is queued.
+ *   - T200 exceeds the round trip: one block for the answer, and one for a frame that the peer may have queued before it. A received
+ *     block of the other link took the slot of the answer, so it extends T200 by one block.
+ *   - The window is one frame. So a SABM, DISC or I frame replaces the one still queued, which is a copy or already acknowledged.
+ *   - A REJ is passed to the endpoint as an RR with the same N(R). With a window of one frame, a REJ asks for a frame that T200
+ *     retransmits anyway, or for the frame after a duplicate, which need not be repeated. Delivery is still guaranteed
+ *     (law_rr_for_rej of lapdm_link).
+ *   - A later N(R) supersedes an earlier one. So a queued RR or REJ is dropped when a later one is queued, and a queued RR also when an
+ *     I frame is. A frame with F = 1 answers a poll and stays.
  *
- * What is dropped from a queue is to the other end like a block lost on the air. Times are TDMA frames, 60/13 ms each. */
+ * To the peer, a frame dropped from the queue looks like a block lost on the air. Times are in TDMA frames of 60/13 ms. */
 #include "um.h"
 #include <stdio.h>
 #include <string.h>
@@ -25,15 +26,15 @@ static const uint8_t SAPIS[LINKS] = { 0, 3 };
 
 typedef struct channel {
 	um_end ends[LINKS];
-	uint8_t waiting[LINKS][ROOM][23]; /* blocks that wait for the air, in their order */
+	uint8_t waiting[LINKS][ROOM][23]; /* the transmit queues */
 	int count[LINKS];
 	long expiry[LINKS];               /* when T200 expires; 0 while it does not run */
-	long block, t200;                 /* TDMA frames from a block to the next; T200 */
+	long block, t200;                 /* block interval and T200, in TDMA frames */
 	void (*report)(struct channel *, int link, const um_notice *);
-	void *context;                    /* the caller's */
+	void *context;                    /* for the caller */
 } channel;
 
-/* T200 is at least four blocks: that of the frame, that of the answer, one that waits before it, and one to spare. */
+/* T200 is at least four blocks: one for the frame, one for the answer, one queued before it, and one in reserve. */
 static void channel_new(channel *c, uint8_t role, uint8_t on, long t200, void (*report)(channel *, int, const um_notice *), void *context)
 {
 	memset(c, 0, sizeof *c);
@@ -55,8 +56,8 @@ static bool starts_t200(const um_frame *f)
 	return f->kind == UM_I || f->kind == UM_SABM || f->kind == UM_DISC;
 }
 
-/* Whether a frame that waits need not be sent, now that a later one of its link is there; or, where later is null, now that all is
- * acknowledged. */
+/* Whether a queued frame need not be sent any more because a later one of its link is queued or, if later is null, because everything
+ * is acknowledged. */
 static bool is_outdated(const um_frame *old, const um_frame *later)
 {
 	if (!later)
@@ -88,7 +89,7 @@ static void drop_outdated(channel *c, int link, const um_frame *later)
 	}
 }
 
-/* Queues a block. One that finds the queue full is dropped: it counts as lost on the air. */
+/* Queues a block. If the queue is full, the block is dropped, as if lost on the air. */
 static void wait_for_air(channel *c, int link, const uint8_t block[23])
 {
 	um_frame f = frame_of(c, block);
@@ -99,7 +100,7 @@ static void wait_for_air(channel *c, int link, const uint8_t block[23])
 		memcpy(c->waiting[link][c->count[link]++], block, 23);
 }
 
-/* Carries out what a call of an end wrote. An I frame that still waits when its message is acknowledged, or the link ends, is a copy. */
+/* Applies the effects of a call. An I frame still queued when its message is acknowledged, or when the link closes, is a copy. */
 static void channel_done(channel *c, int link, const um_effects *done)
 {
 	for (int i = 0; i < done->notice_count; i++)
@@ -111,7 +112,7 @@ static void channel_done(channel *c, int link, const um_effects *done)
 		c->report(c, link, &done->notices[i]);
 }
 
-/* A block came in. Answers that of um_end_take for the link that it is of. */
+/* Processes a received block. Returns the answer of um_end_take for its link. */
 static uint8_t channel_take(channel *c, const uint8_t block[23])
 {
 	um_frame f;
@@ -136,7 +137,7 @@ static uint8_t channel_take(channel *c, const uint8_t block[23])
 	return answer;
 }
 
-/* The block that goes on the air now. False where nothing waits: it is the fill frame. */
+/* Writes the block to send now. False: nothing is queued, and the block is the fill frame. */
 static bool channel_next(channel *c, long now, uint8_t block[23])
 {
 	um_effects done;
@@ -154,7 +155,7 @@ static bool channel_next(channel *c, long now, uint8_t block[23])
 	return false;
 }
 
-/* To be called before each block. Where nothing awaits an answer any more, the end says so and nothing happens. */
+/* Call this before each block. If no frame awaits an answer any more, um_end_timer refuses and nothing happens. */
 static void channel_timers(channel *c, long now)
 {
 	um_effects done;
@@ -168,7 +169,7 @@ static void channel_timers(channel *c, long now)
 
 #ifndef CHANNEL_ALONE
 
-/* A mobile and a network over an air that loses every seventh block: a message each way on SAPI 0, a short message on SAPI 3. */
+/* A mobile and a network over a path that loses every seventh block: a message each way on SAPI 0, a short message on SAPI 3. */
 
 static void say(channel *c, int link, const um_notice *n)
 {

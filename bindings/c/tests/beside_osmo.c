@@ -1,8 +1,8 @@
-/* Blocks, access and synchronisation bursts through um and through libosmocoding, with noise: the same bits are coded, and where
- * both accept, the octets are the same, and so is the count of bit errors. A soft bit of 0 is a bit error for both.
+/* Compares um with libosmocoding on noisy blocks, access bursts and synchronisation bursts: both encode the same bits, and if both accept,
+ * the octets and the count of bit errors are the same. Both count a soft bit of 0 as a bit error.
  *
- * Where two words are equally likely the two may choose differently; um takes the first in the order of words. Such cases are few: one
- * in a thousand at most may be accepted by one of the two alone. */
+ * If two words are equally likely, the two may choose differently; um takes the lexicographically first. This is rare: at most one in a
+ * thousand may be accepted by only one of them. */
 #define UM_OSMO_OWN_NAMES
 #define _DEFAULT_SOURCE
 #include "um_osmo.h"
@@ -83,8 +83,8 @@ static void one_sync(struct tally *tally)
 
 static bool is_bad(const char *what, int number, const struct tally *t)
 {
-	printf("library: %d noisy %s beside libosmocoding: coded otherwise %d, accepted by both %d, by um alone %d, "
-		"by libosmocoding alone %d, with other data %d, with another count of errors %d\n",
+	printf("library: %d noisy %s compared with libosmocoding: encoded differently %d, accepted by both %d, by um only %d, "
+		"by libosmocoding only %d, with different data %d, with a different count of errors %d\n",
 		number, what, t->coded, t->both, t->um_alone, t->osmo_alone, t->octets, t->errors);
 	return t->coded || t->octets || t->errors || t->both < number / 2 || t->um_alone + t->osmo_alone > number / 1000;
 }

@@ -1,6 +1,6 @@
-/* Each call of um.h on worked values, what each refuses, and that nothing is written beyond what the header says.
+/* Tests each call of um.h on worked values, its refusals, and that it writes nothing beyond what the header states.
  *
- *   calls CODE.IN CODE.OUT      the vectors of the repository, made by libosmocoding */
+ *   calls CODE.IN CODE.OUT      the repository's vectors, made by libosmocoding */
 #include "um.h"
 #include <stddef.h>
 #include <stdio.h>
@@ -19,7 +19,7 @@ static void check(bool holds, const char *what)
 
 typedef uint8_t block_bursts[4][148], access_burst[88], sync_burst[148], block_octets[23];
 
-/* Memory of a size with sixteen marked octets on either side. */
+/* A value with sixteen marked octets on either side. */
 #define ROOM(type) struct { uint8_t before[16]; type value; uint8_t after[16]; }
 #define MARK(room) memset(&(room), 0xa5, sizeof(room))
 static bool is_marked(const void *memory, size_t count)
@@ -50,13 +50,13 @@ static void blocks(void)
 	memset(octets + 3, 0x2b, 20);
 	MARK(sent);
 	check(!um_send_block(octets, 8, sent.value) && UNTOUCHED(sent), "a training sequence of 8 is refused, and nothing is written");
-	check(um_send_block(octets, 7, sent.value) && AROUND(sent), "a block is sent, and nothing beside its bursts is written");
+	check(um_send_block(octets, 7, sent.value) && AROUND(sent), "a block is encoded, and nothing but its bursts is written");
 	soften(sent.value[0], soft[0], 592);
 	soft[1][10] *= -1;
 	soft[1][20] *= -1;
 	soft[1][30] *= -1;
 	MARK(report);
-	check(um_receive_block((const int8_t (*)[148])soft, &report.value) && AROUND(report), "a block is received");
+	check(um_receive_block((const int8_t (*)[148])soft, &report.value) && AROUND(report), "a block is decoded");
 	check(report.value.metric == 57150 && report.value.wrong_training == 0 && report.value.wrong_coded == 3 && report.value.tsc == 7
 		&& report.value.accepted == 1 && !memcmp(report.value.octets, octets, 23), "the report of three wrong bits");
 	for (int i = 0; i < 224; i++) {
@@ -73,18 +73,18 @@ static void blocks(void)
 	check(!um_margin_block((const int8_t (*)[148])soft, &margin.value) && UNTOUCHED(margin), "a value of -128 is refused");
 	soft[3][147] = 127;
 	check(um_margin_block((const int8_t (*)[148])soft, &margin.value) && AROUND(margin) && margin.value.margin >= 254
-		&& !memcmp(margin.value.word, report.value.word, 228), "three wrong bits leave a margin of 254 at least");
+		&& !memcmp(margin.value.word, report.value.word, 228), "three wrong bits leave a margin of at least 254");
 	soften(sent.value[0], soft[0], 592);
-	check(um_margin_block((const int8_t (*)[148])soft, &margin.value) && margin.value.margin == 7 * 254, "the next word is seven places away");
+	check(um_margin_block((const int8_t (*)[148])soft, &margin.value) && margin.value.margin == 7 * 254, "the next word differs in seven coded bits");
 	memset(soft, 0, sizeof soft);
 	check(um_margin_block((const int8_t (*)[148])soft, &margin.value) && margin.value.margin == 0 && margin.value.word[223] == 0
-		&& margin.value.next[223] == 1, "four lost bursts have no margin, and the next word has a 1 in its last free place");
+		&& margin.value.next[223] == 1, "four lost bursts have margin 0, and the next word has a 1 as its last free bit");
 	check(um_receive_block((const int8_t (*)[148])soft, &report.value) && !report.value.accepted && report.value.metric == 0
 		&& report.value.wrong_training == 104 && report.value.wrong_coded == 456 && report.value.octets[0] == 0, "four lost bursts");
 }
 
-/* Of the seven places at which a block's word and a neighbour of it differ four are as the neighbour has them, so that this is the
- * likelier by one place and the word that was sent is the second. */
+/* The codeword sent and a neighbour differ in seven coded bits, of which four are received as the neighbour has them. So the neighbour
+ * is the likelier by one bit, and the word that was sent is the second. */
 static void among(void)
 {
 	static const uint8_t places[4][2] = { { 0, 3 }, { 0, 131 }, { 1, 115 }, { 1, 129 } };
@@ -102,17 +102,17 @@ static void among(void)
 	MARK(report);
 	MARK(rank);
 	check(!um_receive_block_among((const int8_t (*)[148])soft, 0, &report.value, &rank.value) && UNTOUCHED(report) && UNTOUCHED(rank),
-		"no word to be tried is refused");
+		"a list of 0 words is refused");
 	check(!um_receive_block_among((const int8_t (*)[148])soft, 65, &report.value, &rank.value) && UNTOUCHED(report) && UNTOUCHED(rank),
-		"65 words to be tried are refused");
+		"a list of 65 words is refused");
 	soft[3][147] = -128;
 	check(!um_receive_block_among((const int8_t (*)[148])soft, 64, &report.value, &rank.value) && UNTOUCHED(report) && UNTOUCHED(rank),
 		"a value of -128 is refused");
 	soft[3][147] = sent[3][147] ? -127 : 127;
 	check(um_receive_block_among((const int8_t (*)[148])soft, 1, &report.value, &rank.value) && AROUND(report) && AROUND(rank)
-		&& rank.value == 1 && !report.value.accepted && report.value.metric == 57150, "the most likely word alone does not hold");
+		&& rank.value == 1 && !report.value.accepted && report.value.metric == 57150, "the CRC of the most likely word does not match");
 	check(um_receive_block((const int8_t (*)[148])soft, &alone) && alone.metric == 57150 && alone.wrong_coded == 3
-		&& !alone.accepted && !memcmp(alone.word, report.value.word, 228), "and is that of um_receive_block");
+		&& !alone.accepted && !memcmp(alone.word, report.value.word, 228), "and the word is that of um_receive_block");
 	for (uint32_t most = 2; most <= 64; most += 31)
 		check(um_receive_block_among((const int8_t (*)[148])soft, most, &report.value, &rank.value) && AROUND(report) && AROUND(rank)
 			&& rank.value == 2 && report.value.accepted && !memcmp(report.value.octets, octets, 23) && report.value.metric == 56896
@@ -130,15 +130,15 @@ static void repairs(void)
 
 	memset(word + 184, 1, 40);
 	MARK(report);
-	check(um_repair(word, &report.value) == UM_HOLDS && UNTOUCHED(report), "a word that holds");
+	check(um_repair(word, &report.value) == UM_HOLDS && UNTOUCHED(report), "a word whose CRC holds");
 	word[184] = 0, word[195] = 0;
 	check(um_repair(word, &report.value) == UM_REPAIRED && AROUND(report) && report.value.first == 184 && report.value.span == 12
-		&& report.value.word[184] == 1 && report.value.word[195] == 1 && report.value.word[0] == 0, "a burst of twelve places");
+		&& report.value.word[184] == 1 && report.value.word[195] == 1 && report.value.word[0] == 0, "an error burst of twelve bits");
 	word[192] = 0, word[195] = 1, word[200] = 0;
 	MARK(report);
 	check(um_repair(word, &report.value) == UM_NO_REPAIR && UNTOUCHED(report), "three wrong bits too far apart");
 	word[0] = 2;
-	check(um_repair(word, &report.value) == UM_NO_BITS && UNTOUCHED(report), "an octet that is no bit");
+	check(um_repair(word, &report.value) == UM_NO_BITS && UNTOUCHED(report), "an octet that is not a bit");
 }
 
 static void bursts(void)
@@ -154,7 +154,7 @@ static void bursts(void)
 	MARK(access);
 	check(!um_send_access(bad, ones, access.value) && UNTOUCHED(access), "a bit of 2 is refused");
 	check(!um_send_access(zeros, bad, access.value) && UNTOUCHED(access), "a code with a 2 is refused");
-	check(um_send_access(zeros, zeros, access.value) && AROUND(access), "an access burst is sent");
+	check(um_send_access(zeros, zeros, access.value) && AROUND(access), "an access burst is encoded");
 	for (int i = 0; i < 88; i++)
 		digits[i] = '0' + access.value[i];
 	digits[88] = 0;
@@ -163,8 +163,8 @@ static void bursts(void)
 	MARK(access_report);
 	check(um_receive_access(soft, zeros, &access_report.value) && AROUND(access_report) && access_report.value.accepted == 1
 		&& access_report.value.metric == 4572 && access_report.value.wrong_training == 0 && access_report.value.wrong_coded == 0
-		&& !memcmp(access_report.value.info, zeros, 8) && access_report.value.word[8] == 1, "the access burst is received");
-	check(um_receive_access(soft, ones, &access_report.value) && !access_report.value.accepted, "under another code it is not accepted");
+		&& !memcmp(access_report.value.info, zeros, 8) && access_report.value.word[8] == 1, "the access burst is decoded");
+	check(um_receive_access(soft, ones, &access_report.value) && !access_report.value.accepted, "it is not accepted for another code");
 	MARK(access_report);
 	check(!um_receive_access(soft, bad, &access_report.value) && UNTOUCHED(access_report), "a code with a 2 is refused");
 	soft[0] = -128;
@@ -172,20 +172,20 @@ static void bursts(void)
 
 	MARK(sync);
 	check(!um_send_sync(bad, sync.value) && UNTOUCHED(sync), "a bit of 2 is refused");
-	check(um_send_sync(zeros, sync.value) && AROUND(sync), "a synchronisation burst is sent");
+	check(um_send_sync(zeros, sync.value) && AROUND(sync), "a synchronisation burst is encoded");
 	soften(sync.value, soft, 148);
 	soft[3] = 0;
 	MARK(sync_report);
 	check(um_receive_sync(soft, &sync_report.value) && AROUND(sync_report) && sync_report.value.accepted == 1
 		&& sync_report.value.metric == 9906 - 127 && sync_report.value.wrong_training == 0 && sync_report.value.wrong_coded == 1
 		&& !memcmp(sync_report.value.info, zeros, 25)
-		&& sync_report.value.word[25] == 1, "the synchronisation burst is received");
+		&& sync_report.value.word[25] == 1, "the synchronisation burst is decoded");
 	soft[147] = -128;
 	MARK(sync_report);
 	check(!um_receive_sync(soft, &sync_report.value) && UNTOUCHED(sync_report), "a value of -128 is refused");
 }
 
-/* The first octets of a block, filled up to 23, and what they are read as. */
+/* The first octets of a block, filled up to 23, and the expected reading. */
 static const struct { uint8_t first[3], fill; uint8_t answer; um_frame frame; } readings[] = {
 	{ { 0x01, 0x03, 0x01 }, 0x2b, UM_FRAME, { .kind = UM_UI } },
 	{ { 0x03, 0x03, 0x01 }, 0xff, UM_FRAME, { .kind = UM_UI, .cr = 1 } },
@@ -206,7 +206,7 @@ static void frames(void)
 		memset(block, readings[i].fill, 23);
 		memcpy(block, readings[i].first, 3);
 		MARK(frame);
-		check(um_read_frame(block, UM_SDCCH, &frame.value) == readings[i].answer, "what octets are read as");
+		check(um_read_frame(block, UM_SDCCH, &frame.value) == readings[i].answer, "the reading of a block");
 		if (readings[i].answer == UM_FRAME)
 			check(AROUND(frame) && !memcmp(&frame.value, &readings[i].frame, sizeof frame.value), "the fields of a frame");
 		else
@@ -225,9 +225,9 @@ static void frames(void)
 	MARK(octets);
 	um_frame wrong[] = { i_frame, i_frame, i_frame, i_frame, i_frame, i_frame, i_frame };
 	wrong[0].kind = 9, wrong[1].sapi = 8, wrong[2].ns = 8, wrong[3].nr = 8, wrong[4].count = 21, wrong[5].count = 0;
-	wrong[6].kind = UM_RR; /* which has no information */
+	wrong[6].kind = UM_RR; /* carries no information */
 	for (int i = 0; i < 7; i++)
-		check(!um_write_frame(&wrong[i], UM_SDCCH, octets.value) && UNTOUCHED(octets), "fields that say no frame are refused");
+		check(!um_write_frame(&wrong[i], UM_SDCCH, octets.value) && UNTOUCHED(octets), "fields that describe no frame are refused");
 	i_frame.count = 19;
 	check(!um_write_frame(&i_frame, UM_SACCH, octets.value) && UNTOUCHED(octets), "19 octets do not fit on SACCH");
 	check(!um_write_frame(&i_frame, 2, octets.value) && UNTOUCHED(octets), "there is no channel 2");
@@ -285,13 +285,13 @@ static int vectors(const char *from, const char *to)
 int main(int argc, char **argv)
 {
 	int count = argc == 3 ? vectors(argv[1], argv[2]) : 0;
-	check(count >= 0, "the vectors are not there");
+	check(count >= 0, "the vectors are missing");
 	blocks();
 	among();
 	repairs();
 	bursts();
 	frames();
 	if (!failed)
-		printf("library: each call from C does what the header says; %d vectors\n", count);
+		printf("library: each call from C behaves as the header states; %d vectors\n", count);
 	return failed;
 }

@@ -13,7 +13,7 @@ OTHER_FUNCTIONS = ("test_rach_ext", "test_rach_11bit_sample", "test_fr", "test_h
 
 
 def between(text, start, end):
-    """The text without what lies from `start` up to `end`."""
+    """The text without the part from `start` up to `end`."""
     at = text.index(start)
     return text[:at] + text[text.index(end, at):]
 
@@ -33,7 +33,7 @@ def cut_test(text):
 
 
 def cut_output(lines):
-    """Three blocks and three synchronisation bursts stand before the first frame of speech."""
+    """The expected lines before the first speech frame: three blocks and three synchronisation bursts."""
     starts = [at for at, line in enumerate(lines) if line.startswith("Encoding:")]
     return [line for line in lines[:starts[6]] if not line.startswith("Decoded RA11:")] + ["Success\n"]
 

@@ -1,4 +1,4 @@
-/* Endpoints through um.h: whole sessions on both channels and both SAPIs, each refusal, and states that no end has. */
+/* Tests endpoints through um.h: complete sessions on both channels and both SAPIs, each refusal, and invalid states. */
 #include "um.h"
 #include <stddef.h>
 #include <stdio.h>
@@ -14,7 +14,7 @@ static void check(bool holds, const char *what)
 	}
 }
 
-/* The state and the effects of an end, with marked octets around them. */
+/* The state and the effects of an endpoint, with marked octets around them. */
 typedef struct {
 	uint8_t before[16];
 	um_end end;
@@ -39,7 +39,7 @@ static bool is_around(const place *p)
 static void begin(place *p, uint8_t role, uint8_t sapi, uint8_t channel)
 {
 	memset(p, 0xa5, sizeof *p);
-	check(um_end_new(&p->end, role, sapi, channel) && is_around(p), "an end is made, and nothing beside it is written");
+	check(um_end_new(&p->end, role, sapi, channel) && is_around(p), "an endpoint is initialised, and nothing else is written");
 }
 
 static um_message message_of(const uint8_t *octets, int count)
@@ -51,7 +51,7 @@ static um_message message_of(const uint8_t *octets, int count)
 	return m;
 }
 
-/* The one block sent begins so, behind the two octets of layer 1 on SACCH, and is filled up. */
+/* Exactly one block is sent. It starts with these octets (on SACCH after two layer 1 octets), and fill octets follow. */
 static bool is_sent(const place *p, const uint8_t *octets, size_t count)
 {
 	const uint8_t *block = p->told.frames[0];
@@ -89,17 +89,17 @@ static bool is_quiet(const place *p)
 	return p->told.notice_count == 0 && p->told.notices[0].kind == UM_NO_NOTICE;
 }
 
-/* The call is refused so, and nothing is written. */
+/* The call is refused with this answer, and nothing is written. */
 #define REFUSED(p, call, answer) do { \
 	place old = *(p); \
 	check((call) == (answer) && !memcmp(&old, (p), sizeof old), #call " is refused"); \
 } while (0)
 
-/* The one block that an end sends is taken by the other. */
+/* Passes the one block that an endpoint sends to the other one. */
 static void give(place *to, const place *from)
 {
 	check(from->told.frame_count == 1 && um_end_take(&to->end, from->told.frames[0], &to->told) == UM_END_DONE
-		&& is_around(to), "a block is taken");
+		&& is_around(to), "a block is processed");
 }
 
 static void opened(place *mobile, place *network, uint8_t channel)
@@ -125,7 +125,7 @@ static void opened(place *mobile, place *network, uint8_t channel)
 	check(is_silent(mobile) && is_told(mobile, UM_OPENED, &m), "the UA opens the mobile's end");
 }
 
-/* Another mobile's SABM, sent at the same time: the network's UA closes its link, and the network leaves its SABM. */
+/* Two mobiles send a SABM at the same time: the network ignores the second, whose mobile closes its link on the UA. */
 static void contention(void)
 {
 	static const uint8_t ours[2] = { 1, 2 }, theirs[2] = { 1, 3 };
@@ -135,7 +135,7 @@ static void contention(void)
 	begin(&first, UM_MOBILE, 0, UM_SDCCH);
 	begin(&second, UM_MOBILE, 0, UM_SDCCH);
 	begin(&network, UM_NETWORK, 0, UM_SDCCH);
-	check(um_end_open(&first.end, &a, &first.told) == 0 && um_end_open(&second.end, &b, &second.told) == 0, "two mobiles ask at once");
+	check(um_end_open(&first.end, &a, &first.told) == 0 && um_end_open(&second.end, &b, &second.told) == 0, "two mobiles open at once");
 	give(&network, &first);
 	check(is_told(&network, UM_OPENED, &a), "the first is answered");
 	place answer = network;
@@ -147,7 +147,7 @@ static void contention(void)
 	REFUSED(&second, um_end_open(&second.end, &b, &second.told), UM_END_NOT_IDLE);
 }
 
-/* A message of 251 octets goes over in so many pieces, and is acknowledged as this number. */
+/* A message of 251 octets is sent in this many segments, and acknowledged with this number. */
 static void carry(place *from, place *to, int pieces, uint64_t number)
 {
 	uint8_t octets[251];
@@ -156,16 +156,16 @@ static void carry(place *from, place *to, int pieces, uint64_t number)
 	um_message m = message_of(octets, 251);
 	check(um_end_send(&from->end, &m, &from->told) == UM_END_DONE && is_around(from), "a message of 251 octets");
 	for (int i = 1; i <= pieces; i++) {
-		check(is_quiet(from) && from->told.frame_count == 1, "a piece goes out");
+		check(is_quiet(from) && from->told.frame_count == 1, "a segment is sent");
 		give(to, from);
-		check(i < pieces ? is_quiet(to) : is_told(to, UM_GOT, &m), "the message comes in with its last piece");
+		check(i < pieces ? is_quiet(to) : is_told(to, UM_GOT, &m), "the message is delivered with its last segment");
 		give(from, to);
 	}
 	check(from->told.notice_count == 1 && from->told.notices[0].kind == UM_ACKED && from->told.notices[0].number == number
 		&& is_silent(from), "the message is acknowledged");
 }
 
-/* A frame is lost, and goes out again when the timer has run out. */
+/* A frame is lost, and retransmitted on T200 expiry. */
 static void lost(place *mobile, place *network)
 {
 	static const uint8_t octets[1] = { 0xaa };
@@ -176,12 +176,12 @@ static void lost(place *mobile, place *network)
 	size_t at = mobile->end.channel == UM_SACCH ? 2 : 0;
 	memcpy(before, mobile->told.frames[0] + at, 4);
 	check(before[0] == 0x01 && !(before[1] & 0x11) && before[2] == 0x05 && before[3] == 0xaa, "an I frame with P = 0");
-	check(um_end_timer(&mobile->end, &mobile->told) == UM_END_DONE && mobile->end.repeats == 1, "the timer runs out");
+	check(um_end_timer(&mobile->end, &mobile->told) == UM_END_DONE && mobile->end.repeats == 1, "T200 expires");
 	memcpy(again, mobile->told.frames[0] + at, 4);
 	before[1] |= 0x10;
-	check(!memcmp(before, again, 4), "the I frame goes out again with P = 1");
+	check(!memcmp(before, again, 4), "the I frame is retransmitted with P = 1");
 	give(network, mobile);
-	check(is_told(network, UM_GOT, &m) && (network->told.frames[0][at + 1] & 0x1f) == 0x11, "it is got, and answered by RR with F = 1");
+	check(is_told(network, UM_GOT, &m) && (network->told.frames[0][at + 1] & 0x1f) == 0x11, "it is delivered, and answered by RR with F = 1");
 	give(mobile, network);
 	check(mobile->told.notice_count == 1 && mobile->told.notices[0].kind == UM_ACKED, "and acknowledged");
 	REFUSED(mobile, um_end_timer(&mobile->end, &mobile->told), UM_END_NOT_RUNNING);
@@ -209,7 +209,7 @@ static void full(place *p)
 	REFUSED(p, um_end_send(&p->end, &none, &p->told), UM_END_EMPTY);
 	REFUSED(p, um_end_send(&p->end, &more, &p->told), UM_END_TOO_LONG);
 	for (int i = 0; i < 8; i++)
-		check(um_end_send(&p->end, &one, &p->told) == UM_END_DONE && p->told.frame_count == (i == 0), "eight messages are taken");
+		check(um_end_send(&p->end, &one, &p->told) == UM_END_DONE && p->told.frame_count == (i == 0), "eight messages are accepted");
 	REFUSED(p, um_end_send(&p->end, &one, &p->told), UM_END_FULL);
 }
 
@@ -255,7 +255,7 @@ static void short_messages(void)
 	carry(&mobile, &network, 13, 1);
 }
 
-/* Every call answers that no end has the state, and writes nothing. */
+/* Every call refuses the state as invalid, and writes nothing. */
 static void is_none(const um_end *spoiled, const char *what)
 {
 	static const uint8_t octets[23] = { 1, 3, 1 };
@@ -269,7 +269,7 @@ static void is_none(const um_end *spoiled, const char *what)
 		&& um_end_send(&p.end, &m, &p.told) == UM_END_NONE && um_end_unit(&p.end, &m, &p.told) == UM_END_NONE
 		&& um_end_close(&p.end, &p.told) == UM_END_NONE && um_end_timer(&p.end, &p.told) == UM_END_NONE
 		&& um_end_idle(&p.end, &p.told) == UM_END_NONE && um_end_take(&p.end, octets, &p.told) == UM_END_NONE, what);
-	check(!memcmp(&old, &p, sizeof p), "nothing is written to a state that no end has");
+	check(!memcmp(&old, &p, sizeof p), "nothing is written to an invalid state");
 }
 
 #define SPOILED(from, change, what) do { um_end s = (from).end; change; is_none(&s, what); } while (0)
@@ -293,25 +293,25 @@ static void spoiled(void)
 	SPOILED(mobile, s.state = 5, "state 5");
 	SPOILED(mobile, s.state = UM_IDLE, "a message held before the link is open");
 	SPOILED(mobile, s.vs = 8, "V(S) 8");
-	SPOILED(mobile, s.vs = 2, "two pieces that wait");
+	SPOILED(mobile, s.vs = 2, "two outstanding segments");
 	SPOILED(mobile, s.va = 8, "V(A) 8");
-	SPOILED(mobile, s.va = 2, "a piece acknowledged that was not sent");
+	SPOILED(mobile, s.va = 2, "a segment acknowledged but not sent");
 	SPOILED(mobile, s.vr = 8, "V(R) 8");
-	SPOILED(mobile, s.place = 3, "the fourth of three pieces");
-	SPOILED(mobile, s.place = 1, "a piece passed over without an acknowledgement");
+	SPOILED(mobile, s.place = 3, "the fourth of three segments");
+	SPOILED(mobile, s.place = 1, "a segment skipped without an acknowledgement");
 	SPOILED(mobile, s.held_count = 9, "nine messages held");
-	SPOILED(mobile, s.held_count = 2, "a message without octets");
-	SPOILED(mobile, s.held_count = 0, "a piece that waits of no message");
+	SPOILED(mobile, s.held_count = 2, "an empty message");
+	SPOILED(mobile, s.held_count = 0, "an outstanding segment of no message");
 	SPOILED(mobile, s.held[0].count = 252, "a message of 252 octets held");
 	SPOILED(mobile, s.part = 3, "part 3");
 	SPOILED(mobile, s.joined.count = 252, "252 octets joined");
 	SPOILED(mobile, s.kept.count = 21, "21 octets of information kept");
 	SPOILED(mobile, s.kept.count = 255, "255 octets of information kept");
 	SPOILED(idle, s.done = 1, "a message acknowledged before the link is open");
-	SPOILED(idle, s.vr = 1, "a piece accepted before the link is open");
+	SPOILED(idle, s.vr = 1, "a segment accepted before the link is open");
 	SPOILED(idle, s.joined.count = 1, "a message begun before the link is open");
 	SPOILED(idle, s.part = UM_PART_OVER, "a message too long before the link is open");
-	SPOILED(idle, s.vs = 1, "a piece sent before the link is open");
+	SPOILED(idle, s.vs = 1, "a segment sent before the link is open");
 	SPOILED(bare, s.kept.count = 1, "information kept on SAPI 3");
 	um_effects last;
 	um_end closing = mobile.end;
@@ -319,15 +319,15 @@ static void spoiled(void)
 	place closed;
 	memset(&closed, 0xa5, sizeof closed);
 	closed.end = closing;
-	SPOILED(closed, s.held_count = 0, "a piece that waits of no message, after the link was open");
-	SPOILED(closed, s.place = 1, "a piece passed over, after the link was open");
+	SPOILED(closed, s.held_count = 0, "an outstanding segment of no message, after the link was open");
+	SPOILED(closed, s.place = 1, "a segment skipped, after the link was open");
 
 	memset(&idle, 0xa5, sizeof idle);
 	check(!um_end_new(&idle.end, 2, 0, UM_SDCCH) && !um_end_new(&idle.end, UM_MOBILE, 1, UM_SDCCH)
 		&& !um_end_new(&idle.end, UM_MOBILE, 0, 2)
-		&& is_marked((const uint8_t *)&idle, sizeof idle), "an end of no role, SAPI or channel is refused");
+		&& is_marked((const uint8_t *)&idle, sizeof idle), "an endpoint with an invalid role, SAPI or channel is refused");
 
-	/* octets that mean nothing may be anything */
+	/* unused octets may have any value */
 	memset(mobile.end.held + 1, 0xff, 7 * sizeof(um_message));
 	memset(mobile.end.kept.octets + 2, 0xff, 253);
 	mobile.end.rejecting = 200;
@@ -337,7 +337,7 @@ static void spoiled(void)
 	same.rejecting = 1;
 	check(um_end_timer(&mobile.end, &mobile.told) == UM_END_DONE && um_end_timer(&same, &idle.told) == UM_END_DONE
 		&& !memcmp(&mobile.end, &same, offsetof(um_end, held)) && !memcmp(mobile.end.held, same.held, sizeof same.held)
-		&& mobile.end.rejecting == 1, "octets without meaning");
+		&& mobile.end.rejecting == 1, "unused octets");
 }
 
 int main(void)
@@ -352,6 +352,6 @@ int main(void)
 	short_messages();
 	spoiled();
 	if (!failed)
-		printf("library: endpoints from C: sessions on both channels and SAPIs, each refusal, 29 states that no end has\n");
+		printf("library: endpoints from C: sessions on both channels and SAPIs, each refusal, 29 invalid states\n");
 	return failed;
 }

@@ -1,5 +1,5 @@
-/* The calls of um_osmo.h by libosmocoding's names, over the vectors of the repository, which libosmocoding made: what is coded, what is
- * decoded with erased places and with -128 for a sure 1, the counts, and what a refusal leaves alone.
+/* Tests um_osmo.h, with libosmocoding's names, on the repository's vectors, which libosmocoding made: the encoded bits, decoding with
+ * erased bits and with -128 for a certain 1, the counts, and that a refusal writes nothing.
  *
  *   osmo CODE.IN CODE.OUT */
 #include "um_osmo.h"
@@ -16,7 +16,7 @@ static void check(bool holds, const char *what)
 	}
 }
 
-/* The bits at these places of the next burst of the vectors, whose digits begin at `from` of its line. */
+/* The bits at these positions of the next burst of the vectors, whose digits start at column `from` of the line. */
 static void next_burst(FILE *out, size_t from, int first, int count, ubit_t *bits)
 {
 	char line[400];
@@ -26,7 +26,7 @@ static void next_burst(FILE *out, size_t from, int first, int count, ubit_t *bit
 		bits[i] = (ubit_t)(line[from + (size_t)(first + i)] - '0');
 }
 
-/* A sure 1 is -128, and each seventh place is erased; answers how many are. */
+/* A certain 1 becomes -128, and every seventh bit is erased. Returns the number of erased bits. */
 static int soften(sbit_t *soft, const ubit_t *bits, int count)
 {
 	int erased = 0;
@@ -57,9 +57,9 @@ static void block(const char *digits, FILE *out)
 	check(gsm0503_xcch_encode(bits, octets) == 0 && !memcmp(bits, wanted, 464), "xcch_encode");
 	soften(soft, bits, 464);
 	for (int i = 0; i < 464; i++)
-		erased += soft[i] == 0 && i % 116 != 57 && i % 116 != 58; /* a stealing flag is no coded bit */
+		erased += soft[i] == 0 && i % 116 != 57 && i % 116 != 58; /* a stealing flag is not a coded bit */
 	check(gsm0503_xcch_decode(got, soft, &errors, &total) == 0 && !memcmp(got, octets, 23), "xcch_decode");
-	check(errors == erased && total == 456, "xcch_decode counts each erased place");
+	check(errors == erased && total == 456, "xcch_decode counts each erased bit");
 	memset(soft, 0, 464);
 	memset(got, 0xa5, 23);
 	check(gsm0503_xcch_decode(got, soft, NULL, NULL) == -1 && got[0] == 0xa5 && got[22] == 0xa5, "xcch_decode refuses lost bursts");
@@ -122,7 +122,7 @@ int main(int argc, char **argv)
 	}
 	check(counts[0] && counts[1] && counts[2], "the vectors have each kind of burst");
 	if (!failed)
-		printf("library: libosmocoding's names over %d blocks, %d access and %d synchronisation bursts of the vectors\n",
+		printf("library: libosmocoding's names on %d blocks, %d access and %d synchronisation bursts of the vectors\n",
 			counts[0], counts[1], counts[2]);
 	return failed;
 }

@@ -1,4 +1,4 @@
-// node examples/node.mjs: a block over a noisy channel, and a message over a link that loses a frame
+// node examples/node.mjs: sends a block over a noisy channel, and a message over a link that loses a frame
 import { load, soften } from "um-gsm";
 
 const um = await load();
@@ -16,6 +16,6 @@ const network = um.end("network");
 const [ua] = network.take(mobile.open([1]).frames[0]).frames;
 mobile.take(ua);
 mobile.send([0x41, 0x42]); // its frame is lost
-const [again] = mobile.timer().frames; // T200 expires, so it goes out again
+const [again] = mobile.timer().frames; // T200 expires: retransmit it
 const { notices, frames } = network.take(again);
 console.log("the network got", hex(notices[0].message), "and the mobile then has", mobile.take(frames[0]).notices[0].kind);

@@ -1,4 +1,4 @@
-// A Worker that receives blocks: each message is 592 soft bits, each answer their report.
+// A Worker that decodes blocks: each message is 592 soft bits, each answer the report.
 import { load } from "../um.mjs";
 
 const um = load();

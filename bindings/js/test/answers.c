@@ -1,6 +1,5 @@
-/* The native library's answers, as lines of text, for compare.mjs: 2,000 noisy blocks, then 20,000 calls of ends
- * and 20,000 of sides.
- * Both programs draw the same numbers by xorshift, in integers alone, so that no rounding tells them apart. */
+/* Prints the native library's answers for compare.mjs, one per line: 2,000 noisy blocks, then 20,000 calls of endpoints and 20,000 of
+ * sides. Both programs draw the same random numbers by xorshift and use only integers, so rounding cannot make them differ. */
 #include "um.h"
 #include <stdio.h>
 #include <string.h>
@@ -17,7 +16,7 @@ static uint32_t draw(uint32_t below)
 	return (drawn >> 8) % below;
 }
 
-/* Four words of eight bits added up are noise of a nearly normal distribution. */
+/* The sum of four random octets is nearly Gaussian noise. */
 static int noisy(int bit, int level, int lost)
 {
 	int noise = (int)draw(256) + (int)draw(256) + (int)draw(256) + (int)draw(256) - 510;
@@ -76,7 +75,7 @@ static void block(int number)
 	putchar('\n');
 }
 
-/* What each end sent and the other did not take yet. */
+/* The blocks that each end sent and the other has not received yet. */
 struct air {
 	uint8_t queue[2][QUEUE][23];
 	int queued[2];
@@ -88,7 +87,7 @@ static void add(struct air *air, int who, const um_effects *effects)
 		memcpy(air->queue[who][air->queued[who]++], effects->frames[f], 23);
 }
 
-/* Takes the first block that `from` sent; one in eight is lost, and one in thirty of the others has a wrong bit. */
+/* Receives the first block that `from` sent; one in eight is lost, and one in thirty of the others has a wrong bit. */
 static int arrives(struct air *air, int from, uint8_t octets[23])
 {
 	if (air->queued[from] == 0)

@@ -1,4 +1,4 @@
-// Wrong arguments are refused in JavaScript, with what was wrong and what was expected; and an instance that trapped is discarded.
+// Tests that um.mjs refuses invalid arguments, with messages that state what was expected, and that it discards an instance that trapped.
 import assert from "node:assert/strict";
 import { Refused, soften, Um } from "../um.mjs";
 
@@ -25,12 +25,12 @@ const WRONG = (um) => [
   [() => um.receiveBlock([zeros(148), zeros(148), zeros(147), zeros(148)]), RangeError, "bursts[2] has 147 values; expected 148 soft bits"],
   [() => um.receiveBlock([zeros(148)]), RangeError, "bursts has 1 values; expected 592 soft bits"],
   [() => um.receiveBlock(new Float32Array(592).fill(0.25)), RangeError, "bursts[0] is 0.25"],
-  [() => um.receiveBlock(um.sendBlock(zeros(23), 1)), RangeError, "bursts has bits, each 0 or 1; expected soft bits"],
+  [() => um.receiveBlock(um.sendBlock(zeros(23), 1)), RangeError, "bursts has hard bits, each 0 or 1; expected soft bits"],
   [() => um.end("mobile", 3, "sacch"), TypeError, "options is 3; expected an object"],
   [() => um.end("mobile", { SAPI: 3 }), RangeError, 'options has a member "SAPI"; expected sapi, channel'],
   [() => um.side("mobile", "sacch"), TypeError, 'options is "sacch"; expected an object'],
   [() => um.writeFrame({ kind: "ui", data: [1] }), RangeError, 'frame has a member "data"'],
-  [() => um.restoreSide(change(Array.from(um.side("mobile").bytes), 2584 + 13, 9)), Refused, "no end has this state"],
+  [() => um.restoreSide(change(Array.from(um.side("mobile").bytes), 2584 + 13, 9)), Refused, "the state is not valid"],
   [() => um.receiveBlockAmong(zeros(592), 0), RangeError, "most is 0; expected an integer from 1 to 64"],
   [() => um.receiveBlockAmong(zeros(592), 65), RangeError, "most is 65"],
   [() => um.receiveBlockAmong(zeros(592), 2 ** 32 + 1), RangeError, "most is 4294967297"],

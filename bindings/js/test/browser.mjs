@@ -1,4 +1,4 @@
-// The comparison in a browser: a page imports `run`, and as a Worker this file posts what `run` finds.
+// The comparison in a browser. A page imports `run`; as a Worker, this file posts the result of `run`.
 import { load } from "../um.mjs";
 import { compare, times } from "./compare.mjs";
 

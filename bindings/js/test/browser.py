@@ -1,5 +1,5 @@
 #!/usr/bin/env python3
-"""The module in a browser, in a page and in a Worker, beside the vectors and the native library's answers.
+"""Compares the module in a browser, in a page and in a Worker, with the vectors and the native library's answers.
 
     test/browser.py chromium|firefox-esr WASM ANSWERS [times]
 
@@ -40,7 +40,7 @@ ARGUMENTS = {
 
 
 class Files(http.server.SimpleHTTPRequestHandler):
-    """The repository's files, the page, the module and the answers; and what the page found."""
+    """Serves the repository's files, the page, the module and the answers; receives the page's results."""
 
     given = {}
     found = queue.Queue()
@@ -65,7 +65,7 @@ class Files(http.server.SimpleHTTPRequestHandler):
 
 
 def found_by(name, url):
-    """What the page finds in this browser."""
+    """The page's results in this browser."""
     with tempfile.TemporaryDirectory(ignore_cleanup_errors=True) as profile:
         arguments = [argument.format(profile=profile) for argument in ARGUMENTS[name]]
         browser = subprocess.Popen([name, *arguments, url], stdout=subprocess.DEVNULL, stderr=subprocess.DEVNULL)
@@ -97,7 +97,7 @@ def main():
     version = re.findall(r"(?:Chrome|Firefox)/[\d.]+", found["agent"])[0]
     print(f"js: {version}, also in a Worker: {', '.join(part['name'] for part in found['page']['parts'])}")
     if timed:
-        print(f"js: us a call in {version}: {found['page']['times']}")
+        print(f"js: us per call in {version}: {found['page']['times']}")
 
 
 if __name__ == "__main__":

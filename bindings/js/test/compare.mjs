@@ -1,5 +1,5 @@
-// What the module answers, compared with what others do: the vectors, the repairs, and the native library's answers (answers.c) to
-// 2,000 noisy blocks, 20,000 calls of ends and 20,000 of sides. Used by node and, in a page and in a Worker, by browsers.
+// Compares the module's answers with the vectors, with the repairs, and with the native library's answers (answers.c) to 2,000 noisy
+// blocks, 20,000 calls of endpoints and 20,000 of sides. It runs in node and, in a page and in a Worker, in browsers.
 import { Refused, soften } from "../um.mjs";
 
 const hex = (octets) => Array.from(octets, (octet) => octet.toString(16).padStart(2, "0")).join("");
@@ -58,7 +58,7 @@ const repairs = (um, { repairIn, repairOut }) => {
   return { name: `${wanted.length} repairs`, wrong: lines(repairIn).filter((line, i) => repairedAs(um, line) !== wanted[i]).length };
 };
 
-// -- the native library's answers: the same numbers are drawn as in answers.c --
+// -- the native library's answers; the random numbers are those of answers.c --
 
 let drawn;
 const draw = (below) => {
@@ -187,10 +187,10 @@ const native = (um, answers) => {
   return { name: `${blocks} noisy blocks, ${ends} calls of ends and ${sides} of sides`, wrong: wrong.length, first: wrong[0] };
 };
 
-/** Compares all; `texts` has codeIn, codeOut, repairIn, repairOut and answers. */
+/** Runs all comparisons; `texts` has codeIn, codeOut, repairIn, repairOut and answers. */
 export const compare = (um, texts) => [vectors(um, texts), repairs(um, texts), native(um, texts.answers)];
 
-/** Microseconds a call, the least of `rounds`. */
+/** Microseconds per call, the minimum over `rounds`. */
 export const times = (um, rounds = 15) => {
   drawn = 2463534242 | 0;
   const blocks = Array.from({ length: 500 }, (_, i) => noisyBlock(um, i));

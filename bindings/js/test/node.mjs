@@ -1,4 +1,4 @@
-// node test/node.mjs WASM VECTORS ANSWERS [times]: the module in node, in this thread and in a Worker, beside the vectors and the
+// node test/node.mjs WASM VECTORS ANSWERS [times]: compares the module, in node, in this thread and in a Worker, with the vectors and the
 // native library's answers
 import { readFileSync } from "node:fs";
 import { join } from "node:path";
@@ -28,7 +28,7 @@ if (!isMainThread) {
   const wrong = [...found, ...inWorker].filter((part) => part.wrong);
   for (const part of wrong) console.log("js: node:", JSON.stringify(part));
   if (wrong.length === 0) console.log(`js: node ${process.versions.node}, also in a Worker: ${found.map((part) => part.name).join(", ")}`);
-  console.log(`js: ${tryArguments(um)} wrong calls are refused, and an instance that trapped is discarded`);
-  if (timed) console.log("js: us a call in node:", JSON.stringify(times(um)));
+  console.log(`js: ${tryArguments(um)} invalid calls are refused, and an instance that trapped is discarded`);
+  if (timed) console.log("js: us per call in node:", JSON.stringify(times(um)));
   process.exitCode = wrong.length ? 1 : 0;
 }

@@ -1,4 +1,4 @@
-// What um.d.ts lets pass and what it does not: read by tsc, never run.
+// Tests what um.d.ts allows and forbids: compiled by tsc, never run.
 import { End, Frame, load, Refused, Side, soften, Um } from "um-gsm";
 
 const use = async (): Promise<void> => {

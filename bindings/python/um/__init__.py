@@ -1,4 +1,4 @@
-"""The signalling link of GSM for Python: blocks, bursts, LAPDm frames and endpoints, by a library whose every answer is proved.
+"""GSM's dedicated signalling link for Python: blocks, bursts, LAPDm frames and endpoints. The results of every call are proved.
 
     >>> import um
     >>> octets = um.write_frame(um.Frame("i", ns=5, nr=2, info=b"\\x06\\x01"))
@@ -13,7 +13,7 @@
     >>> um.read_frame(octets)
     Frame(kind='i', sapi=0, cr=0, pf=0, ns=5, nr=2, more=0, info=b'\\x06\\x01')
 
-An endpoint, which has no timer and no I/O of its own:
+An endpoint does no I/O and has no timer:
 
     >>> mobile, network = um.End("mobile"), um.End("network")
     >>> answer = network.take(mobile.open(b"\\1\\2").frames[0])
@@ -23,14 +23,14 @@ An endpoint, which has no timer and no I/O of its own:
     >>> got.notices, mobile.take(got.frames[0]).notices
     ([Notice(kind='got', value=b'hello')], [Notice(kind='acked', value=1)])
 
-A bit is 0 or 1; a soft bit is from -127 for a sure 1 to 127 for a sure 0, and 0 where nothing is known. An argument that does not fit
-raises ValueError or TypeError, which names it:
+A hard bit is 0 or 1. A soft bit is an int from -127 (certainly 1) to 127 (certainly 0); 0 means unknown. An invalid argument raises
+ValueError or TypeError, and the message names the argument:
 
     >>> um.receive_block([[0] * 148] * 3)
     Traceback (most recent call last):
     ValueError: bursts: 3 bursts; expected 4
 
-With numpy, `send_blocks`, `receive_blocks` and `receive_blocks_among` take many blocks in one call."""
+With numpy, `send_blocks`, `receive_blocks` and `receive_blocks_among` process many blocks in one call."""
 from ._version import __version__
 from .blocks import (
     Margin, Repair, Report, margin_block, receive_access, receive_block, receive_block_among, receive_sync, repair, send_access,

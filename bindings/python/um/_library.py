@@ -1,4 +1,4 @@
-"""The shared library: where it is, and its calls for ctypes. A pointer is bytes, a ctypes array or an address (`c_void_p`)."""
+"""Finds and loads the shared library, and declares its calls for ctypes. A pointer is bytes, a ctypes array or an address (`c_void_p`)."""
 import ctypes
 import os
 import platform
@@ -6,11 +6,11 @@ from typing import List
 
 _NAME = "libum.so.0"
 _MAKE = (
-    "\nIt comes with a release, in dist/{arch}-linux, and with the wheel. In the repository, with the Rattle kit on the PATH, make it by"
+    "\nA release has it in dist/{arch}-linux, and the wheel contains it. To build it in the repository, with the Rattle kit on the PATH:"
     "\n    (cd crates/um_c && rt lib)"
     "\n    cc -shared -o bindings/python/um/" + _NAME +
     " -Wl,--whole-archive crates/um_c/out/libum_c.a -Wl,--no-whole-archive"
-    "\nThe environment variable UM_SO names another file."
+    "\nThe environment variable UM_SO overrides the path."
 )
 
 _POINTER, _U8, _U32, _BOOL = ctypes.c_void_p, ctypes.c_uint8, ctypes.c_uint32, ctypes.c_bool
@@ -48,7 +48,7 @@ _CALLS = {
 
 
 def _places() -> List[str]:
-    """Where the library may be: in the package, as a wheel has it; in the repository's dist; where the system's loader looks."""
+    """The paths to try: the package itself (in a wheel), the repository's dist, and the search path of the system's loader."""
     if "UM_SO" in os.environ:
         return [os.environ["UM_SO"]]
     here = os.path.dirname(os.path.abspath(__file__))
@@ -69,7 +69,7 @@ def _load() -> ctypes.CDLL:
     for place in _places():
         try:
             return _declared(place)
-        except (OSError, AttributeError) as error:  # it is not there, or is an older one without a call
+        except (OSError, AttributeError) as error:  # missing, or an older library that lacks a call
             tried.append(f"\n    {place}: {error}")
     raise ImportError("um: no " + _NAME + ". Tried:" + "".join(tried) + _MAKE.format(arch=platform.machine()))
 

@@ -1,22 +1,22 @@
-"""Arguments as the library takes them. What does not fit raises ValueError or TypeError with the argument's name, what came and what was
-expected."""
+"""Converts arguments to what the library expects. An invalid argument raises ValueError or TypeError; the message names the argument, the
+value given and what was expected."""
 import array
 import ctypes
 import operator
 from typing import Any, Iterable, List, Optional, Union
 
-# What the library reads from: bytes, or memory of the caller's that ctypes has taken without a copy.
+# What the library reads from: bytes, or the caller's memory, which ctypes wraps without a copy.
 Pointer = Union[bytes, "ctypes.Array[Any]"]
 
 _NO_SOFT = {
-    "float": "um.soft_from_llr makes soft bits of floats",
-    "bits": "um.soft_from_bits makes soft bits of bits; a view as int8 takes octets in two's complement",
-    "int": "clip to -127..127 and convert to int8, as numpy.clip(x, -127, 127).astype(numpy.int8)",
+    "float": "um.soft_from_llr converts floats to soft bits",
+    "bits": "um.soft_from_bits converts bits to soft bits; view octets in two's complement as int8",
+    "int": "clip to -127..127 and convert to int8, for example numpy.clip(x, -127, 127).astype(numpy.int8)",
 }
 
 
 def name_of(values: Any) -> str:
-    """What came, in a few words."""
+    """A short description of a value, for error messages."""
     shape, dtype = getattr(values, "shape", None), getattr(values, "dtype", None)
     if dtype is not None and shape:
         return f"{dtype} array of shape {tuple(shape)}"
@@ -27,7 +27,7 @@ def name_of(values: Any) -> str:
 
 
 def view_of(values: Any) -> Optional[memoryview]:
-    """The memory of an array or another buffer; None of anything else."""
+    """The memory of an array or another buffer; None if the value has no buffer."""
     try:
         view = memoryview(values)
     except (TypeError, ValueError, BufferError):
@@ -47,7 +47,7 @@ def number(name: str, value: Any, low: int, high: int) -> int:
 
 
 def choice(name: str, value: Any, names: Iterable[str]) -> int:
-    """The place of a name among names."""
+    """The index of a name among names."""
     names = tuple(names)
     if value not in names:
         raise ValueError(f"{name}: {value!r}; expected one of {', '.join(map(repr, names))}")
@@ -55,7 +55,7 @@ def choice(name: str, value: Any, names: Iterable[str]) -> int:
 
 
 def octets(name: str, values: Any, count: Optional[int] = None) -> bytes:
-    """Octets, of which there are so many: bytes, a buffer of unsigned octets, or a list of ints."""
+    """Octets, `count` of them if given, from bytes, a buffer of unsigned octets, or a list of ints."""
     wanted = "octets" if count is None else f"{count} octets"
     if isinstance(values, bytes):
         data = values
@@ -63,7 +63,7 @@ def octets(name: str, values: Any, count: Optional[int] = None) -> bytes:
         view = view_of(values)
         if view is not None:
             if view.format != "B" or view.ndim != 1:
-                raise TypeError(f"{name}: {name_of(values)}; expected {wanted}, in one row of uint8")
+                raise TypeError(f"{name}: {name_of(values)}; expected {wanted}, one-dimensional uint8")
             data = view.tobytes()
         else:
             data = _numbers(name, values, "B", f"{wanted}: bytes, or ints from 0 to 255").tobytes()
@@ -73,7 +73,7 @@ def octets(name: str, values: Any, count: Optional[int] = None) -> bytes:
 
 
 def bits(name: str, values: Any, count: int) -> bytes:
-    """So many bits, an octet each."""
+    """`count` bits, one octet per bit."""
     view = view_of(values)
     if view is not None and view.format in ("?", "b") and view.ndim == 1:
         values = view.tobytes()
@@ -87,7 +87,7 @@ def bits(name: str, values: Any, count: int) -> bytes:
 
 
 def soft(name: str, values: Any, rows: int, places: int) -> Pointer:
-    """Soft bits of so many bursts. C-contiguous int8 memory and bytes are taken without a copy."""
+    """Soft bits: `rows` bursts of `places` each. C-contiguous int8 memory and bytes are not copied."""
     if not isinstance(values, (bytes, bytearray)):
         view = view_of(values)
         if view is not None:
@@ -101,10 +101,10 @@ def soft(name: str, values: Any, rows: int, places: int) -> Pointer:
 
 
 def refuse_bits(name: str, pointer: Pointer) -> None:
-    """Refuses soft bits of which each is 0 or 1 and one is 1: they are bits by mistake."""
+    """Refuses soft bits that are all 0 or 1, with at least one 1: the caller passed hard bits by mistake."""
     data = bytes(pointer)
     if 1 in data and not data.translate(None, b"\0\1"):
-        raise ValueError(f"{name}: each value is 0 or 1, so these are bits; {_NO_SOFT['bits']}")
+        raise ValueError(f"{name}: each value is 0 or 1, so these are hard bits; {_NO_SOFT['bits']}")
 
 
 def refuse_128(name: str, pointer: Pointer, rows: int, places: int) -> ValueError:
@@ -115,7 +115,7 @@ def refuse_128(name: str, pointer: Pointer, rows: int, places: int) -> ValueErro
 
 
 def no_soft(name: str, values: Any, form: str, wanted: str) -> TypeError:
-    """The error for an array of anything else than int8."""
+    """The error for an array whose type is not int8."""
     kind = "float" if form in "efdg" else "bits" if form in "?Bc" else "int"
     return TypeError(f"{name}: {name_of(values)}; expected {wanted} of int8. {_NO_SOFT[kind]}")
 
@@ -128,13 +128,13 @@ def _soft_memory(name: str, values: Any, view: memoryview, rows: int, places: in
     if view.format != "b":
         raise no_soft(name, values, view.format, _shape(rows, places))
     if view.shape != (rows, places) and view.shape != (rows * places,):
-        raise ValueError(f"{name}: {name_of(values)}; expected {_shape(rows, places)}, or {rows * places} in one row")
+        raise ValueError(f"{name}: {name_of(values)}; expected {_shape(rows, places)}, or one row of {rows * places}")
     if not view.c_contiguous:
         return view.tobytes()
     memory = ctypes.c_int8 * (rows * places)
     if not view.readonly:
         return memory.from_buffer(view)
-    if hasattr(values, "__array_interface__"):  # the caller holds the array for as long as the call lasts
+    if hasattr(values, "__array_interface__"):  # the caller keeps the array alive during the call
         return memory.from_address(values.__array_interface__["data"][0])
     return view.obj if isinstance(view.obj, bytes) and len(view.obj) == view.nbytes else view.tobytes()
 
@@ -168,7 +168,7 @@ def _soft_row(name: str, row: Any, places: int) -> bytes:
 
 
 def _numbers(name: str, values: Any, code: str, wanted: str) -> "array.array[int]":
-    """A row of integers in an array of this type code."""
+    """A row of integers, as an array.array of type `code`."""
     if isinstance(values, (str, int, float)) or not hasattr(values, "__iter__"):
         raise TypeError(f"{name}: {name_of(values)}; expected {wanted}")
     numbers: List[Any] = list(values)
@@ -187,4 +187,4 @@ def _wrong_number(name: str, numbers: List[Any], code: str, wanted: str) -> Exce
         except TypeError:
             hint = f". {_NO_SOFT['float']}" if code == "b" and isinstance(value, float) else ""
             return TypeError(f"{name}[{at}]: {name_of(value)}; expected {wanted}{hint}")
-    raise AssertionError("array.array refused these numbers together, and none alone")
+    raise AssertionError("array.array refused the list, but none of its numbers")

@@ -1,2 +1,2 @@
-"""The version, as the repository's VERSION has it."""
+"""The version; equal to the repository's VERSION."""
 __version__ = "0.2.0"

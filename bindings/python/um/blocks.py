@@ -1,4 +1,4 @@
-"""Blocks and bursts: coding, receiving, how sure a word is, and its repair.
+"""Blocks and bursts: encoding, decoding, the decoding margin, and error correction by the CRC.
 
 A bit is 0 or 1 in the order of sending. Soft bits are int8 memory (a numpy array, array('b'), a memoryview), bytes in two's complement,
 or ints, in a row for each burst or all in one row."""
@@ -18,51 +18,51 @@ _REPAIR = struct.Struct("<BB224s")
 
 
 class Report(NamedTuple):
-    """What a block or a burst is received as."""
+    """What the decoder reports for a block or a burst."""
 
     accepted: Optional[bytes]
-    """The octets of a block, or the bits of a burst, where the CRC holds; else None."""
+    """The octets of a block, or the bits of a burst, if the CRC holds; else None."""
     metric: int
-    """The path metric: the soft bits added up, each with the sign of its bit in the word."""
+    """The path metric: sum of the soft bits, each negated where the coded bit is 1."""
     wrong_training: int
-    """Wrong places of the training sequence; a value of 0 counts as wrong."""
+    """Bit errors in the training sequence; a soft bit of 0 counts as an error."""
     wrong_coded: int
-    """Bit errors: coded places that differ from the word; a value of 0 counts as wrong."""
+    """Bit errors in the coded bits, against the word re-encoded; a soft bit of 0 counts as an error."""
     word: bytes
-    """The word, a bit an octet: data, CRC, tail."""
+    """The decoded word, one octet per bit: data, CRC, tail."""
     tsc: Optional[int] = None
-    """The training sequence heard, of a block."""
+    """The detected training sequence; blocks only."""
 
 
 class Margin(NamedTuple):
-    """How sure the word of a block is."""
+    """The decoding margin of a block."""
 
     margin: int
-    """By how much the metric of the word is above that of every other; 0 where another word has the same."""
+    """The metric of the word minus that of the next one; 0 if and only if another word has the same metric."""
     word: bytes
     next: bytes
-    """The most likely of all other words."""
+    """The second most likely word."""
 
 
 class Repair(NamedTuple):
-    """A word that meets its CRC."""
+    """A word whose CRC holds."""
 
     word: bytes
     first: int
-    """The first place that was wrong."""
+    """The index of the first wrong bit."""
     span: int
-    """How many places there are from it to the last that was wrong; 0 where none was."""
+    """The number of bits from the first wrong one to the last, both included; 0 if none was wrong."""
 
 
 def send_block(octets: Any, tsc: int) -> List[bytes]:
-    """The four bursts of a block of 23 octets, each 148 bits, with a training sequence 0 to 7."""
+    """Encodes a block of 23 octets into four bursts of 148 bits, with training sequence 0 to 7."""
     bursts = ctypes.create_string_buffer(592)
     lib.um_send_block(octets_of("octets", octets, 23), number("tsc", tsc, 0, 7), bursts)
     return [bursts.raw[at : at + 148] for at in range(0, 592, 148)]
 
 
 def receive_block(bursts: Any) -> Report:
-    """What four bursts of 148 soft bits are received as: of all words the most likely one, accepted where its CRC holds."""
+    """Decodes four bursts of 148 soft bits by maximum likelihood. The block is accepted if its CRC holds."""
     values, raw = soft("bursts", bursts, 4, 148), ctypes.create_string_buffer(268)
     if not lib.um_receive_block(values, raw):
         raise refuse_128("bursts", values, 4, 148)
@@ -70,8 +70,8 @@ def receive_block(bursts: Any) -> Report:
 
 
 def receive_block_among(bursts: Any, most: int) -> Tuple[Report, int]:
-    """What four bursts are received as where of the `most` likeliest words, 1 to 64, the first whose CRC holds is taken, and the most
-    likely one where none of them holds; with the word's rank, 1 for the most likely one."""
+    """Decodes four bursts by list decoding: the first of the `most` likeliest words (1 to 64) whose CRC holds, or the most likely word
+    if none matches. Returns the report and the word's rank, 1 for the most likely word."""
     values, tried = soft("bursts", bursts, 4, 148), number("most", most, 1, 64)
     raw, rank = ctypes.create_string_buffer(268), ctypes.c_uint32()
     if not lib.um_receive_block_among(values, tried, raw, ctypes.byref(rank)):
@@ -80,7 +80,7 @@ def receive_block_among(bursts: Any, most: int) -> Tuple[Report, int]:
 
 
 def margin_block(bursts: Any) -> Margin:
-    """By how much the most likely word of four bursts is likelier than every other."""
+    """Decodes four bursts and reports the margin between the two most likely words."""
     values, raw = soft("bursts", bursts, 4, 148), ctypes.create_string_buffer(460)
     if not lib.um_margin_block(values, raw):
         raise refuse_128("bursts", values, 4, 148)
@@ -88,8 +88,7 @@ def margin_block(bursts: Any) -> Margin:
 
 
 def repair(word: Any) -> Optional[Repair]:
-    """A word of 224 bits, data and CRC, put right where its wrong bits lie within twelve places in a row; None where no word that
-    meets its CRC is so near."""
+    """Corrects a word of 224 bits, data and CRC, with an error burst of at most twelve bits. None if no codeword is that near."""
     given, raw = bits("word", word, 224), ctypes.create_string_buffer(226)
     answer = lib.um_repair(given, raw)
     if answer == 0:
@@ -101,14 +100,14 @@ def repair(word: Any) -> Optional[Repair]:
 
 
 def send_access(info: Any, bsic: Any) -> bytes:
-    """The access burst, 88 bits, of eight bits under the six bits of a base station's identity code."""
+    """Encodes eight bits into an access burst of 88 bits for a base station's identity code (six bits)."""
     burst = ctypes.create_string_buffer(88)
     lib.um_send_access(bits("info", info, 8), bits("bsic", bsic, 6), burst)
     return burst.raw
 
 
 def receive_access(burst: Any, bsic: Any) -> Report:
-    """What an access burst of 88 soft bits is received as under a base station's identity code."""
+    """Decodes an access burst of 88 soft bits for a base station's identity code."""
     values, raw = soft("burst", burst, 1, 88), ctypes.create_string_buffer(40)
     if not lib.um_receive_access(values, bits("bsic", bsic, 6), raw):
         raise refuse_128("burst", values, 1, 88)
@@ -116,14 +115,14 @@ def receive_access(burst: Any, bsic: Any) -> Report:
 
 
 def send_sync(info: Any) -> bytes:
-    """The synchronisation burst, 148 bits, of 25 bits."""
+    """Encodes 25 bits into a synchronisation burst of 148 bits."""
     burst = ctypes.create_string_buffer(148)
     lib.um_send_sync(bits("info", info, 25), burst)
     return burst.raw
 
 
 def receive_sync(burst: Any) -> Report:
-    """What a synchronisation burst of 148 soft bits is received as."""
+    """Decodes a synchronisation burst of 148 soft bits."""
     values, raw = soft("burst", burst, 1, 148), ctypes.create_string_buffer(80)
     if not lib.um_receive_sync(values, raw):
         raise refuse_128("burst", values, 1, 148)

@@ -1,5 +1,5 @@
-"""Endpoints of LAPDm in acknowledged mode (3GPP TS 44.006, 5), as values without a timer or I/O of their own: of one link, and of both
-links of a channel."""
+"""LAPDm endpoints in acknowledged mode (3GPP TS 44.006, 5), for one link or for both links of a channel. They do no I/O and have no
+timer."""
 import ctypes
 import struct
 from typing import Any, List, NamedTuple, Tuple, Union
@@ -14,17 +14,17 @@ NOTICES = ("opened", "got", "unit", "acked", "oversize", "closed")
 REASONS = ("contention", "failed", "refused", "released")
 ANSWERS = ("not idle", "not open", "not running", "empty", "too long", "full", "no end", "no call", "no frame")
 _WHY = {
-    "not idle": "the link was opened before",
+    "not idle": "the link was opened already",
     "not open": "the link is not open",
     "not running": "no frame awaits an answer",
-    "empty": "the message has no octets",
-    "too long": "send takes at most 251 octets; open and unit take 20, and 18 on SACCH",
-    "full": "eight messages are not wholly acknowledged",
-    "no end": "the state is that of no endpoint",
-    "no call": "a mobile opens the link of SAPI 0, by open; either end opens that of SAPI 3, by open_bare",
+    "empty": "the message is empty",
+    "too long": "send takes at most 251 octets; open and unit take 20, or 18 on SACCH",
+    "full": "eight messages are not completely acknowledged yet",
+    "no end": "the state is not valid",
+    "no call": "the mobile opens the link of SAPI 0 with open; either end opens the link of SAPI 3 with open_bare",
 }
 
-# the structs of um.h: um_end begins with the number of messages, role, SAPI, channel and state
+# the structs of um.h; um_end starts with the number of messages, role, SAPI, channel and state
 _END = struct.Struct("<8x4B")
 _END_SIZE, _END_FIELDS = 2584, 2581
 _NOTICE = struct.Struct("<QBBB255s6x")
@@ -32,25 +32,25 @@ _EFFECTS_SIZE, _COUNTS, _FRAMES = 864, 816, 818
 
 
 class Notice(NamedTuple):
-    """What an end reports."""
+    """An event that an endpoint reports."""
 
     kind: str
     """One of NOTICES."""
     value: Union[bytes, int, str, None]
-    """Octets of opened, got and unit; the number of the message of acked, from 1; one of REASONS of closed; None of oversize."""
+    """The octets for opened, got and unit; the message's number, from 1, for acked; one of REASONS for closed; None for oversize."""
 
 
 class Effects(NamedTuple):
-    """What a call of an end sends, and what it reports."""
+    """The result of a call: blocks to send, and notices."""
 
     frames: List[bytes]
-    """At most two blocks of 23 octets, in the order of sending."""
+    """At most two blocks of 23 octets, in the order in which to send them."""
     notices: List[Notice]
     """At most three."""
 
 
 class Refused(ValueError):
-    """A call of an end is refused, and the end is as it was; `reason` is one of ANSWERS."""
+    """An endpoint refused a call; its state is unchanged. `reason` is one of ANSWERS."""
 
     def __init__(self, call: str, reason: str, why: str):
         super().__init__(f"{call}: {reason}: {why}")
@@ -61,7 +61,7 @@ class Refused(ValueError):
 
 
 class _Endpoint:
-    """The state of so many links in the library's memory, and its calls."""
+    """The state of one or two links as the library lays it out, and the calls on it."""
 
     __slots__ = ("_state",)
     __hash__ = None  # type: ignore[assignment]
@@ -72,13 +72,13 @@ class _Endpoint:
 
     @classmethod
     def from_bytes(cls, octets: bytes) -> Any:
-        """The endpoint of which `to_bytes` gave these octets; ValueError where they are the state of none."""
+        """Restores what `to_bytes` saved. ValueError if the octets are not a valid state."""
         data = octets_of("octets", octets, _END_FIELDS * cls._links)
         end = cls.__new__(cls)
         _Endpoint.__init__(end)
         for link in range(cls._links):
             ctypes.memmove(ctypes.addressof(end._state) + link * _END_SIZE, data[link * _END_FIELDS :], _END_FIELDS)
-        # the fill frame is that of one link, so each is tested by itself
+        # um_side_idle tests only one of the links, so test each by itself
         for link in range(cls._links):
             one = End.__new__(End)
             one._state = ctypes.create_string_buffer(end._state.raw[link * _END_SIZE : (link + 1) * _END_SIZE], _END_SIZE)
@@ -87,7 +87,7 @@ class _Endpoint:
         return end
 
     def to_bytes(self) -> bytes:
-        """The state, to be kept."""
+        """The state, for `from_bytes`."""
         raw = self._state.raw
         return b"".join(raw[at : at + _END_FIELDS] for at in range(0, len(raw), _END_SIZE))
 
@@ -108,7 +108,7 @@ class _Endpoint:
         return Channel(self._numbers()[2])
 
     def idle(self) -> Effects:
-        """The fill frame, to be sent when there is nothing else to send."""
+        """The fill frame, for a block in which nothing else is to be sent."""
         return self._call("idle")
 
     def _numbers(self) -> Tuple[int, ...]:
@@ -131,11 +131,11 @@ class _Endpoint:
 
 
 class End(_Endpoint):
-    """An endpoint: "mobile" or "network", of SAPI 0 (signalling) or 3 (short messages).
+    """The endpoint of a "mobile" or the "network" for SAPI 0 (signalling) or 3 (short messages).
 
-    The caller sends the frames that each call gives, gives `take` each block that comes in, and calls `timer` on expiry of T200. An
-    endpoint is a value: copy, deepcopy and pickle copy it, and endpoints that are alike are equal. A call that is refused raises
-    Refused, a ValueError."""
+    The caller sends the frames that each call returns, passes each received block to `take`, and calls `timer` on T200 expiry. An
+    endpoint is a value: copy, deepcopy and pickle copy it, and endpoints with the same state compare equal. A call that is refused
+    raises Refused, a ValueError."""
 
     __slots__ = ()
     _calls, _links = "um_end_", 1
@@ -158,11 +158,11 @@ class End(_Endpoint):
         return STATES[self._numbers()[3]]
 
     def open(self, info: Any) -> Effects:
-        """Asks the network to open the link of SAPI 0, with 1 to 20 octets of information (18 on SACCH): a mobile's call."""
+        """Opens the link of SAPI 0, at the mobile, with 1 to 20 octets of information (18 on SACCH)."""
         return self._call("open", _message("info", info))
 
     def open_bare(self) -> Effects:
-        """Asks the other end to open the link of SAPI 3."""
+        """Opens the link of SAPI 3, at either end."""
         return self._call("open_bare")
 
     def send(self, message: Any) -> Effects:
@@ -170,26 +170,26 @@ class End(_Endpoint):
         return self._call("send", _message("message", message))
 
     def unit(self, message: Any) -> Effects:
-        """Sends 1 to 20 octets (18 on SACCH) in one unnumbered frame, in any state and unacknowledged."""
+        """Sends 1 to 20 octets (18 on SACCH) in one UI frame, unacknowledged, in any state."""
         return self._call("unit", _message("message", message))
 
     def close(self) -> Effects:
-        """Closes the link. What is not acknowledged is given up."""
+        """Releases the link. Messages not acknowledged are discarded."""
         return self._call("close")
 
     def timer(self) -> Effects:
-        """On expiry of T200: the frame that awaits an answer goes out again, or the link is given up."""
+        """T200 has expired: retransmits the frame that awaits an answer, or gives the link up after N200 retransmissions."""
         return self._call("timer")
 
     def take(self, octets: Any) -> Effects:
-        """Takes a block of 23 octets that came in."""
+        """Processes a received block of 23 octets."""
         return self._call("take", octets_of("octets", octets, 23))
 
 
 class Side(_Endpoint):
-    """The endpoints of both links of a channel, SAPI 0 and SAPI 3, of a "mobile" or the "network".
+    """The endpoints of a "mobile" or the "network" for both links of a channel, SAPI 0 and SAPI 3.
 
-    A call goes to the endpoint of its SAPI, as a call of End does, and the other one stays as it is. Each link has its own T200."""
+    Each call acts on the endpoint of its SAPI, as the call of End does, and leaves the other one unchanged. Each link has its own T200."""
 
     __slots__ = ()
     _calls, _links = "um_side_", 2
@@ -202,17 +202,17 @@ class Side(_Endpoint):
         return f"<um.Side {self.role}, {self.channel.name}, SAPI 0 {self.end(0).state}, SAPI 3 {self.end(3).state}>"
 
     def end(self, sapi: int) -> End:
-        """The endpoint of a SAPI, as a copy."""
+        """A copy of the endpoint of a SAPI."""
         octets = self.to_bytes()
         end: End = End.from_bytes(octets[_END_FIELDS:] if _sapi(sapi) else octets[:_END_FIELDS])
         return end
 
     def open(self, info: Any) -> Effects:
-        """Asks the network to open the link of SAPI 0, with 1 to 20 octets of information (18 on SACCH): a mobile's call."""
+        """Opens the link of SAPI 0, at the mobile, with 1 to 20 octets of information (18 on SACCH)."""
         return self._call("open", _message("info", info))
 
     def open_bare(self) -> Effects:
-        """Asks the other side to open the link of SAPI 3."""
+        """Opens the link of SAPI 3, at either side."""
         return self._call("open_bare")
 
     def send(self, sapi: int, message: Any) -> Effects:
@@ -220,20 +220,20 @@ class Side(_Endpoint):
         return self._call("send", _sapi(sapi), _message("message", message))
 
     def unit(self, sapi: int, message: Any) -> Effects:
-        """Sends 1 to 20 octets (18 on SACCH) in one unnumbered frame of a SAPI, in any state and unacknowledged."""
+        """Sends 1 to 20 octets (18 on SACCH) in one UI frame of a SAPI, unacknowledged, in any state."""
         return self._call("unit", _sapi(sapi), _message("message", message))
 
     def close(self, sapi: int) -> Effects:
-        """Closes the link of a SAPI. What is not acknowledged is given up."""
+        """Releases the link of a SAPI. Messages not acknowledged are discarded."""
         return self._call("close", _sapi(sapi))
 
     def timer(self, sapi: int) -> Effects:
-        """On expiry of T200 of the link of a SAPI."""
+        """T200 of the link of a SAPI has expired."""
         return self._call("timer", _sapi(sapi))
 
     def take(self, octets: Any) -> Tuple[int, Effects]:
-        """Takes a block of 23 octets that came in; the SAPI of the endpoint to which it went, and the effects. A frame of another SAPI
-        than 0 and 3 is ignored: the SAPI is then 0, and the effects are empty."""
+        """Processes a received block of 23 octets. Returns the SAPI of its endpoint, and the effects. A frame of a SAPI other than 0 and 3
+        is ignored: the SAPI is then 0, and the effects are empty."""
         sapi = ctypes.c_uint8()
         effects = self._call("take", octets_of("octets", octets, 23), ctypes.byref(sapi))
         return sapi.value, effects
@@ -246,7 +246,7 @@ def _sapi(sapi: Any) -> int:
 
 
 def _message(name: str, values: Any) -> bytes:
-    """um_message. More octets than it has room for are as many too many as 255 are."""
+    """A um_message. It is cut at 255 octets, which the library refuses as too long."""
     data = octets_of(name, values)[:255]
     return bytes([len(data)]) + data.ljust(255, b"\0")
 

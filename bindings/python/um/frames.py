@@ -1,4 +1,4 @@
-"""Frames of LAPDm, formats A and B (3GPP TS 44.006)."""
+"""LAPDm frames, formats A and B (3GPP TS 44.006)."""
 import ctypes
 import enum
 import struct
@@ -11,18 +11,18 @@ KINDS = ("i", "rr", "rnr", "rej", "sabm", "dm", "ui", "disc", "ua")
 REFUSALS = ("lpd", "ea", "control", "el", "length", "empty", "more")
 _REASONS = {
     "lpd": "another link protocol",
-    "ea": "the address goes on in a second octet, as on SACCH the first octet of layer 1 may seem to",
-    "control": "no such control octet",
-    "el": "the length goes on in a second octet",
-    "length": "more information than fits, or than the kind has",
+    "ea": "the address field continues (EA is 0); is this a block of SACCH, with two layer 1 octets first?",
+    "control": "undefined control octet",
+    "el": "the length field continues (EL is 0)",
+    "length": "more information than fits, or than the kind carries",
     "empty": "an I frame without information",
-    "more": "a kind other than I says that more follows",
+    "more": "M is set in a frame other than I",
 }
 _FRAME = struct.Struct("<8B20s")
 
 
 class Channel(enum.IntEnum):
-    """Where a frame stands in its block: on SACCH two octets of layer 1 come first."""
+    """The channel, which decides where the frame starts in its block: on SACCH two layer 1 octets come first."""
 
     SDCCH = 0
     SACCH = 1
@@ -32,7 +32,7 @@ SDCCH, SACCH = Channel.SDCCH, Channel.SACCH
 
 
 class Frame(NamedTuple):
-    """A frame by its fields. Those that the kind does not have are 0, and `info` is empty."""
+    """The fields of a frame. Fields that the kind does not have are 0, and `info` is empty."""
 
     kind: str
     """One of KINDS."""
@@ -50,10 +50,10 @@ class Frame(NamedTuple):
 
 
 class NoFrame(ValueError):
-    """The octets are no frame; `reason` is one of REFUSALS."""
+    """The octets are not a frame; `reason` is one of REFUSALS."""
 
     def __init__(self, reason: str):
-        super().__init__(f"octets: no LAPDm frame ({reason}): {_REASONS[reason]}")
+        super().__init__(f"octets: not an LAPDm frame ({reason}): {_REASONS[reason]}")
         self.reason = reason
 
     def __reduce__(self) -> Any:
@@ -61,14 +61,14 @@ class NoFrame(ValueError):
 
 
 def channel_number(channel: Any) -> int:
-    """0 or 1, of a Channel."""
+    """The number of a Channel, 0 or 1."""
     if channel not in (0, 1) or isinstance(channel, (bool, float)):
         raise ValueError(f"channel: {channel!r}; expected um.SDCCH or um.SACCH")
     return int(channel)
 
 
 def read_frame(octets: Any, channel: int = SDCCH) -> Frame:
-    """The frame of a block of 23 octets; NoFrame, a ValueError, where there is none."""
+    """Decodes the frame in a block of 23 octets. Raises NoFrame, a ValueError, if the octets are not a frame."""
     raw = ctypes.create_string_buffer(28)
     answer = lib.um_read_frame(octets_of("octets", octets, 23), channel_number(channel), raw)
     if answer:
@@ -78,7 +78,7 @@ def read_frame(octets: Any, channel: int = SDCCH) -> Frame:
 
 
 def write_frame(frame: Frame, channel: int = SDCCH) -> bytes:
-    """The canonical block of a frame: layer 1 octets 00, fill 2b."""
+    """Encodes a frame into its canonical block: layer 1 octets 00, fill octets 2b."""
     kind, room = choice("frame.kind", frame.kind, KINDS), 18 if channel_number(channel) else 20
     limits = {"sapi": 7, "cr": 1, "pf": 1, "ns": 7, "nr": 7, "more": 1}
     fields = [number(f"frame.{name}", getattr(frame, name), 0, most) for name, most in limits.items()]
@@ -87,6 +87,6 @@ def write_frame(frame: Frame, channel: int = SDCCH) -> bytes:
         raise ValueError(f"frame.info: {len(info)} octets; expected at most {room} on {Channel(channel).name}")
     raw = ctypes.create_string_buffer(23)
     if not lib.um_write_frame(_FRAME.pack(kind, *fields, len(info), info), channel_number(channel), raw):
-        wanted = "at least 1 octet" if frame.kind == "i" else f"none, since {frame.kind} has no information"
+        wanted = "at least 1 octet" if frame.kind == "i" else f"none, since {frame.kind} carries no information"
         raise ValueError(f"frame.info: {len(info)} octets; expected {wanted}")
     return raw.raw

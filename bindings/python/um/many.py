@@ -1,4 +1,4 @@
-"""Many blocks in one call, in numpy arrays. Arrays that are C-contiguous are not copied."""
+"""Many blocks in one call, in numpy arrays. C-contiguous arrays are not copied."""
 from itertools import repeat
 from typing import TYPE_CHECKING, Any, Dict, Tuple
 
@@ -10,7 +10,7 @@ if TYPE_CHECKING:
 
     Array = numpy.ndarray[Any, Any]
 
-# the struct of um.h: of each field its form and its place
+# um_block_report of um.h: type and offset of each field
 _FIELDS: Dict[str, Tuple[Any, int]] = {
     "metric": ("<i4", 0),
     "wrong_training": ("<u4", 4),
@@ -24,7 +24,7 @@ _RANKED = {**_FIELDS, "rank": ("<u4", 268)}
 
 
 def send_blocks(octets: Any, tsc: Any) -> "Array":
-    """The bursts of n blocks, n x 4 x 148 bits, of n x 23 octets (uint8), with one training sequence or n of them."""
+    """Encodes n blocks, n x 23 octets (uint8), into n x 4 x 148 bits, with one training sequence for all or one for each."""
     numpy = _numpy()
     data = numpy.asarray(octets)
     if data.dtype != numpy.uint8:
@@ -40,8 +40,8 @@ def send_blocks(octets: Any, tsc: Any) -> "Array":
 
 
 def receive_blocks(bursts: Any) -> "Array":
-    """What n blocks of soft bits (int8, n x 4 x 148 or n x 592) are received as: a structured array with the fields metric,
-    wrong_training, wrong_coded, tsc, accepted, octets (23, zeros where not accepted) and word (228 bits)."""
+    """Decodes n blocks of soft bits (int8, n x 4 x 148 or n x 592). Returns a structured array with the fields metric, wrong_training,
+    wrong_coded, tsc, accepted, octets (23, zeros unless accepted) and word (228 bits)."""
     soft, reports = _taken(bursts, _FIELDS, 268)
     at, to, count = soft.ctypes.data, reports.ctypes.data, len(soft)
     if not _each(lib.um_receive_block, range(at, at + 592 * count, 592), range(to, to + 268 * count, 268)):
@@ -50,8 +50,8 @@ def receive_blocks(bursts: Any) -> "Array":
 
 
 def receive_blocks_among(bursts: Any, most: int) -> "Array":
-    """The same where of the `most` likeliest words, 1 to 64, the first whose CRC holds is taken; the field rank is its place, 1
-    for the most likely word."""
+    """Decodes n blocks as `receive_blocks` does, but by list decoding: the first of the `most` likeliest words (1 to 64) whose CRC
+    matches. The additional field rank is 1 for the most likely word."""
     tried = number("most", most, 1, 64)
     soft, reports = _taken(bursts, _RANKED, 272)
     at, to, count = soft.ctypes.data, reports.ctypes.data, len(soft)
@@ -71,12 +71,12 @@ def _numpy() -> Any:
 
 
 def _each(call: Any, *addresses: Any) -> bool:
-    """Calls with each of the addresses, and answers whether no call refused. The loop is map's, which costs half a microsecond a call."""
+    """Calls once for each set of addresses; whether all calls succeeded. The loop in map costs half a microsecond per call."""
     return all(map(call, *addresses))
 
 
 def _taken(bursts: Any, fields: Dict[str, Tuple[Any, int]], size: int) -> "Tuple[Array, Array]":
-    """The soft bits, and room for the reports."""
+    """The soft bits, and an array for the reports."""
     numpy = _numpy()
     soft = numpy.asarray(bursts)
     if soft.dtype != numpy.int8:

@@ -1,6 +1,6 @@
-"""Soft bits of what a demodulator gives, and of bits.
+"""Converts a demodulator's output, or hard bits, to soft bits.
 
-A soft bit is an int from -127, a sure 1, to 127, a sure 0; 0 is a place of which nothing is known.
+A soft bit is an int from -127 (certainly 1) to 127 (certainly 0); 0 means unknown.
 
     >>> from um.soft import soft_from_llr, soft_from_bits
     >>> soft_from_llr([8.0, -0.5, 0.0, float("inf")])
@@ -19,11 +19,11 @@ from ._values import name_of, number, view_of
 
 
 def soft_from_llr(values: Any, scale: float = 16.0, positive: int = 0) -> Any:
-    """Soft bits of log-likelihood ratios, ln P(0)/P(1), or of other numbers that grow with the sureness of a bit: each times
-    `scale`, rounded, and clipped to -127 to 127. `positive` is the bit that a positive number stands for. Numbers from -1 to 1 take a
-    scale of 127.
+    """Converts log-likelihood ratios, ln P(0)/P(1), or other numbers whose magnitude is the confidence in a bit: multiplies by `scale`,
+    rounds, and clips to -127 to 127. `positive` is the bit that a positive number represents. For numbers from -1 to 1 use a scale of
+    127.
 
-    A numpy array gives an int8 array of its shape; a row gives array('b'), and a list of rows a list of them. NaN raises ValueError."""
+    A numpy array yields an int8 array of its shape; a row yields array('b'), a list of rows a list of them. NaN raises ValueError."""
     if not scale > 0:
         raise ValueError(f"scale: {scale!r}; expected a number above 0")
     factor = -scale if number("positive", positive, 0, 1) else scale
@@ -33,15 +33,15 @@ def soft_from_llr(values: Any, scale: float = 16.0, positive: int = 0) -> Any:
 
 
 def soft_from_bits(bits: Any, sure: int = 127) -> Any:
-    """Soft bits of bits: `sure` for a 0, -`sure` for a 1.
+    """Converts hard bits to soft bits: `sure` for a 0, -`sure` for a 1.
 
-    A numpy array gives an int8 array of its shape; a row gives array('b'), and a list of rows, as `send_block` gives, a list of them."""
+    A numpy array yields an int8 array of its shape; a row yields array('b'), a list of rows (as from `send_block`) a list of them."""
     number("sure", sure, 1, 127)
     if hasattr(bits, "dtype"):
         import numpy
 
         if bits.dtype.kind not in "bui" or numpy.any((bits != 0) & (bits != 1)):
-            raise ValueError(f"bits: {name_of(bits)}; expected 0 and 1 alone")
+            raise ValueError(f"bits: {name_of(bits)}; expected only 0 and 1")
         return numpy.where(bits == 0, numpy.int8(sure), numpy.int8(-sure))
     return _rows("bits", bits, lambda name, row: _soft_row(name, row, sure))
 
@@ -67,7 +67,7 @@ def _scaled_row(name: str, row: Any, factor: float) -> "array.array[int]":
     for at, value in enumerate(row):
         if not isinstance(value, numbers.Real):
             raise TypeError(f"{name}[{at}]: {name_of(value)}; expected a number")
-        # a float, since a small integer of numpy would wrap
+        # as a float: a small numpy integer would overflow
         real = float(value) * factor
         if real != real:
             raise ValueError(f"{name}[{at}]: NaN; expected a number")
@@ -80,7 +80,7 @@ def _scaled_array(values: Any, factor: float) -> Any:
 
     if values.dtype.kind not in "fiu":
         raise TypeError(f"values: {name_of(values)}; expected floats or ints")
-    # floats, since small integers would wrap
+    # as floats: small integers would overflow
     scaled = values.astype(float) * factor
     if numpy.isnan(scaled).any():
         raise ValueError(f"values: NaN at {tuple(map(int, numpy.argwhere(numpy.isnan(scaled))[0]))}; expected numbers")

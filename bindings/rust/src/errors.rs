@@ -1,8 +1,8 @@
-//! Why calls refuse. Each is a [`core::error::Error`].
+//! The reasons for which calls refuse. Each is a [`core::error::Error`].
 
 use core::{error::Error, fmt};
 
-/// Which argument of a call is not what it takes.
+/// The invalid argument of a call.
 #[derive(Clone, Copy, Debug, PartialEq, Eq)]
 pub enum Invalid {
     TrainingSequence,
@@ -10,7 +10,7 @@ pub enum Invalid {
     /// The number of words to try.
     Words,
     Bit,
-    /// The fields are those of no frame that fits the channel.
+    /// The fields describe no frame that fits the channel.
     Frame,
 }
 
@@ -19,82 +19,82 @@ impl fmt::Display for Invalid {
         f.write_str(match self {
             Invalid::TrainingSequence => "a training sequence above 7; expected 0 to 7",
             Invalid::SoftValue => "a soft bit of -128; expected -127 to 127",
-            Invalid::Words => "a number of words outside 1 to 64",
+            Invalid::Words => "an invalid number of words; expected 1 to 64",
             Invalid::Bit => "an octet above 1; expected bits, 0 or 1",
-            Invalid::Frame => "no LAPDm frame that fits the channel has these fields",
+            Invalid::Frame => "the fields describe no LAPDm frame that fits the channel",
         })
     }
 }
 
 impl Error for Invalid {}
 
-/// Why octets are no frame.
+/// Why octets are not a frame.
 #[derive(Clone, Copy, Debug, PartialEq, Eq)]
 pub enum NoFrame {
     /// Another link protocol.
     Lpd,
-    /// The address goes on.
+    /// The address field continues: EA is 0.
     Ea,
-    /// No such control octet.
+    /// An undefined control octet.
     Control,
-    /// The length goes on.
+    /// The length field continues: EL is 0.
     El,
-    /// More information than fits, or than the kind has.
+    /// More information than fits, or than the kind carries.
     Length,
     /// An I frame without information.
     Empty,
-    /// A kind other than I says that more follows.
+    /// M is set in a frame other than I.
     More,
 }
 
 impl fmt::Display for NoFrame {
     fn fmt(&self, f: &mut fmt::Formatter<'_>) -> fmt::Result {
         f.write_str(match self {
-            NoFrame::Lpd => "no LAPDm frame: another link protocol",
-            NoFrame::Ea => "no LAPDm frame: the address goes on in a second octet",
-            NoFrame::Control => "no LAPDm frame: no such control octet",
-            NoFrame::El => "no LAPDm frame: the length goes on in a second octet",
-            NoFrame::Length => "no LAPDm frame: more information than fits, or than the kind has",
-            NoFrame::Empty => "no LAPDm frame: an I frame without information",
-            NoFrame::More => "no LAPDm frame: a kind other than I says that more follows",
+            NoFrame::Lpd => "not an LAPDm frame: another link protocol",
+            NoFrame::Ea => "not an LAPDm frame: the address field continues (EA is 0)",
+            NoFrame::Control => "not an LAPDm frame: undefined control octet",
+            NoFrame::El => "not an LAPDm frame: the length field continues (EL is 0)",
+            NoFrame::Length => "not an LAPDm frame: more information than fits, or than the kind carries",
+            NoFrame::Empty => "not an LAPDm frame: an I frame without information",
+            NoFrame::More => "not an LAPDm frame: M is set in a frame other than I",
         })
     }
 }
 
 impl Error for NoFrame {}
 
-/// Why a call of an end is refused. The end is then as it was.
+/// Why an endpoint refuses a call. Its state is then unchanged.
 #[derive(Clone, Copy, Debug, PartialEq, Eq)]
 pub enum Refused {
-    /// The link was opened before.
+    /// The link was opened already.
     NotIdle,
     /// The link is not open.
     NotOpen,
     /// No frame awaits an answer.
     NotRunning,
-    /// The message has no octets.
+    /// The message is empty.
     Empty,
-    /// The message has too many octets.
+    /// The message is too long.
     TooLong,
-    /// Eight messages are not wholly acknowledged.
+    /// Eight messages are not completely acknowledged yet.
     Full,
-    /// A mobile opens the link of SAPI 0, by `open`; either end opens that of SAPI 3, by `open_bare`.
+    /// The mobile opens the link of SAPI 0 with `open`; either end opens the link of SAPI 3 with `open_bare`.
     NoCall,
-    /// The octets are no frame: [`crate::read_frame`] says why.
+    /// The octets are not a frame: [`crate::read_frame`] returns the reason.
     NoFrame,
 }
 
 impl fmt::Display for Refused {
     fn fmt(&self, f: &mut fmt::Formatter<'_>) -> fmt::Result {
         f.write_str(match self {
-            Refused::NotIdle => "the link was opened before",
+            Refused::NotIdle => "the link was opened already",
             Refused::NotOpen => "the link is not open",
             Refused::NotRunning => "no frame awaits an answer",
-            Refused::Empty => "the message has no octets",
-            Refused::TooLong => "the message has too many octets",
-            Refused::Full => "eight messages are not wholly acknowledged",
-            Refused::NoCall => "the end does not open its link by this call",
-            Refused::NoFrame => "the octets are no LAPDm frame",
+            Refused::Empty => "the message is empty",
+            Refused::TooLong => "the message is too long",
+            Refused::Full => "eight messages are not completely acknowledged yet",
+            Refused::NoCall => "this call cannot open the link of this endpoint",
+            Refused::NoFrame => "the octets are not an LAPDm frame",
         })
     }
 }

@@ -12,8 +12,8 @@
 use crate::ends::{told, Message};
 use crate::{Channel, Effects, End, Refused, Sapi};
 
-/// The endpoints of both links of a channel. A call goes to the endpoint of its SAPI, as a call of [`End`] does, and the other one stays
-/// as it is. Each link has its own T200. It is a value: a copy goes its own way.
+/// The endpoints of both links of a channel. Each call acts on the endpoint of its SAPI, as the call of [`End`] does, and leaves the other
+/// one unchanged. Each link has its own T200. A copy is independent of the original.
 #[repr(C)]
 #[derive(Clone, Copy, Debug, PartialEq, Eq)]
 pub struct Side {
@@ -33,12 +33,12 @@ unsafe extern "C" {
 }
 
 impl Side {
-    /// A mobile's, before its first call.
+    /// A new side at the mobile.
     pub fn mobile(channel: Channel) -> Side {
         Side { link0: End::mobile(Sapi::Signalling, channel), link3: End::mobile(Sapi::ShortMessages, channel) }
     }
 
-    /// The network's, before its first call.
+    /// A new side at the network.
     pub fn network(channel: Channel) -> Side {
         Side { link0: End::network(Sapi::Signalling, channel), link3: End::network(Sapi::ShortMessages, channel) }
     }
@@ -51,12 +51,12 @@ impl Side {
         }
     }
 
-    /// Asks the network to open the link of SAPI 0, with 1 to 20 octets of information (18 on SACCH): a mobile's call.
+    /// Opens the link of SAPI 0, at the mobile, with 1 to 20 octets of information (18 on SACCH).
     pub fn open(&mut self, info: &[u8]) -> Result<Effects, Refused> {
         told(|effects| unsafe { um_side_open(self, &Message::new(info), effects) })
     }
 
-    /// Asks the other side to open the link of SAPI 3.
+    /// Opens the link of SAPI 3, at either side.
     pub fn open_bare(&mut self) -> Result<Effects, Refused> {
         told(|effects| unsafe { um_side_open_bare(self, effects) })
     }
@@ -66,28 +66,28 @@ impl Side {
         told(|effects| unsafe { um_side_send(self, sapi as u8, &Message::new(message), effects) })
     }
 
-    /// Sends 1 to 20 octets (18 on SACCH) in one unnumbered frame of a SAPI, in any state and unacknowledged.
+    /// Sends 1 to 20 octets (18 on SACCH) in one UI frame of a SAPI, unacknowledged, in any state.
     pub fn unit(&self, sapi: Sapi, message: &[u8]) -> Result<Effects, Refused> {
         told(|effects| unsafe { um_side_unit(self, sapi as u8, &Message::new(message), effects) })
     }
 
-    /// Closes the link of a SAPI. What is not acknowledged is given up.
+    /// Releases the link of a SAPI. Messages not acknowledged are discarded.
     pub fn close(&mut self, sapi: Sapi) -> Result<Effects, Refused> {
         told(|effects| unsafe { um_side_close(self, sapi as u8, effects) })
     }
 
-    /// On expiry of T200 of the link of a SAPI.
+    /// T200 of the link of a SAPI has expired.
     pub fn timer(&mut self, sapi: Sapi) -> Result<Effects, Refused> {
         told(|effects| unsafe { um_side_timer(self, sapi as u8, effects) })
     }
 
-    /// The fill frame, which is sent when there is nothing else to send.
+    /// The fill frame, for a block in which nothing else is to be sent.
     pub fn idle(&self) -> Result<Effects, Refused> {
         told(|effects| unsafe { um_side_idle(self, effects) })
     }
 
-    /// Takes a block that came in: the SAPI of the endpoint to which it went, and the effects. A frame of another SAPI than 0 and 3 is
-    /// ignored: the effects are then empty.
+    /// Processes a received block. Returns the SAPI of its endpoint, and the effects. A frame of a SAPI other than 0 and 3 is ignored:
+    /// the effects are then empty.
     pub fn take(&mut self, octets: &[u8; 23]) -> Result<(Sapi, Effects), Refused> {
         let mut sapi = 0;
         let effects = told(|effects| unsafe { um_side_take(self, octets, &mut sapi, effects) })?;

@@ -1,4 +1,4 @@
-//! The calls beside the vectors of the repository, which libosmocoding made, and what each refuses.
+//! Compares the calls with the repository's vectors, which libosmocoding made, and tests what each call refuses.
 use std::error::Error;
 use um::{Body, Channel, End, Frame, Invalid, NoFrame, Notice, Reason, Refused, Repair, Sapi, Side};
 

@@ -1,4 +1,4 @@
--- A test of every number below another, which computes.
+-- A computed test of every number below a bound proves a statement for each of them.
 use Rattle.std.proofs.Common.{◌≡◌, ℕ, zero, suc, ◌<◌, Bool, true, false, ◌&&◌, refl, arith, inl, inr}
 use Rattle.std.proofs.lemmas.Bool.{cases_eq}
 

@@ -1,4 +1,4 @@
--- Sums of bit lists, place by place.
+-- Bitwise sums of bit lists, as loops over the bits build them.
 use Rattle.std.proofs.Common.{◌≡◌, ◌≢◌, ℕ, zero, suc, ◌+◌, ◌%◌, ◌<◌, ◌≤◌, leb, true, List, [], ◌∷◌}
 use Rattle.std.proofs.Common.{◌++◌, length, get_or, refl, ap, sym, subst, ◌∙◌, arith, rules, tests, bit_xor, below_more}
 use Rattle.std.proofs.Common.{get_or-set_other, get_or-set_same}
@@ -9,7 +9,7 @@ use Rattle.std.proofs.lemmas.List.Sums.{AllPass-from_list_all}
 use Rattle.std.proofs.Math.ListN.{set}
 use Rattle.bit_blocks.specs.Bits.{IsBit, AllBits, add_bits}
 
--- the sum of two bits, as the machine adds them without a carry
+-- XOR of two bits is their sum modulo 2
 pub bit_xor-bits : (x y : ℕ) → x ≤ 1 → y ≤ 1 → bit_xor x y ≡ (x + y) % 2
 bit_xor-bits zero zero _ _ = refl
 bit_xor-bits zero (suc zero) _ _ = refl
@@ -39,7 +39,6 @@ get_or-add_bits (x ∷ xs) (y ∷ ys) (suc k) e h =
     let h' : k < length xs = omega arith in
     get_or-add_bits xs ys k e' h'
 
--- one more place of a sum is written
 pub add_bits_more : (sum xs ys : List ℕ) (i : ℕ) → length sum ≡ length xs → length xs ≡ length ys → i < length xs →
     AllBits xs → AllBits ys →
     ((k : ℕ) → k < i → get_or sum k 0 ≡ get_or (add_bits xs ys) k 0) →
@@ -53,7 +52,7 @@ add_bits_more sum xs ys i e e' h bx by below =
     (λ k lt. let ne : k ≢ i = omega arith in rw get_or-set_other (below k lt))
     (rw get_or-set_same (bit_xor-bits _ _ x y ∙ sym (get_or-add_bits xs ys i e' h)))
 
--- what a table holds is found by computing
+-- a constant table holds only bits if the computed test says so
 pub AllBits-table : (table : List ℕ) → list_all (λ bit. leb bit 1) table ≡ true → AllBits table
 AllBits-table table found k d lt =
     let bit = AllPass-from_list_all (λ bit. leb bit 1) table found k d lt in

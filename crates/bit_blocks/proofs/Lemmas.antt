@@ -1,4 +1,4 @@
--- What crates above cite of bits, their sums and multiples, of octets, and of tests that compute.
+-- Lemmas that other crates cite.
 pub use Rattle.bit_blocks.proofs.BitLists.{length-add_bits, get_or-add_bits, bit_xor-bits, AllBits-table, AllBits-append, AllBits-front}
 pub use Rattle.bit_blocks.proofs.BitLists.{AllBits-back}
 pub use Rattle.bit_blocks.proofs.Sums.{AllBits-add_bits, add_bits-append, add_bits-comm, add_bits-zeros, add_bits_again, add_bits_twice}

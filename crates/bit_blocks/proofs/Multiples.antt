@@ -1,4 +1,5 @@
--- What the multiples of a bit polynomial are closed under, and which of them begin with zeros.
+-- Sums, shifts and zero-padding of multiples are multiples, and a multiple of degree less than its generator is 0; so the remainder
+-- of a division is unique, and long division computes it.
 use Rattle.std.proofs.Common.{◌≡◌, ℕ, zero, suc, ◌+◌, ◌-◌, ◌*◌, ◌%◌, ◌≤◌, ◌<◌, List, [], ◌∷◌}
 use Rattle.std.proofs.Common.{◌++◌, length, replicate, get_or, refl, ap, sym, ◌∙◌, arith, append_assoc, below_more}
 use Rattle.std.proofs.lemmas.List.{length-replicate, get_or-replicate, length-append, get_or_past, append-nil, get_or_append_left}
@@ -17,7 +18,6 @@ product_at-zeros zero g m = refl
 product_at-zeros (suc n) g zero = omega arith
 product_at-zeros (suc n) g (suc m) = omega (arith, product_at-zeros n g m)
 
--- one term of a product of a sum
 term_of_sum : (x y k : ℕ) → ((x + y) % 2 * k) % 2 ≡ (x * k + y * k) % 2
 term_of_sum x y k = mul-mod_first (x + y) k 2 ∙ omega arith
 
@@ -33,7 +33,7 @@ product_at-add_bits (x ∷ q) (y ∷ r) g (suc m) e =
     let rest = product_at-add_bits q r g m e' in
     omega arith
 
--- past its last place a product is 0
+-- the coefficients of a product are 0 past its length
 product_at_past : (q g : List ℕ) (m : ℕ) → length q + length g ≤ m + 1 → product_at q g m ≡ 0
 product_at_past [] g m h = refl
 product_at_past (x ∷ q) [] zero h = omega arith
@@ -112,7 +112,7 @@ HasQuotient-add_bits x y g same (q, qx) (r, ry) =
       },
     )
 
--- a factor D
+-- multiplying by D keeps a multiple
 pub HasQuotient-append_zero : (x g : List ℕ) → HasQuotient x g → HasQuotient (x ++ 0 ∷ []) g
 HasQuotient-append_zero x g (q, qx) = (
   q ++ 0 ∷ [],
@@ -138,7 +138,7 @@ HasQuotient-cons_zero x g (q, qx) = (
   },
 )
 
--- zeros before the highest power
+-- leading zeros keep a multiple
 pub HasQuotient-zeros_append : (n : ℕ) (x g : List ℕ) → HasQuotient x g → HasQuotient (replicate n 0 ++ x) g
 HasQuotient-zeros_append zero x g h = h
 HasQuotient-zeros_append (suc n) x g h = HasQuotient-cons_zero (replicate n 0 ++ x) g (HasQuotient-zeros_append n x g h)
@@ -147,7 +147,7 @@ without_zero_term : (x k p : ℕ) → x ≡ 0 → 0 ≡ (x * k + p) % 2 → 0 �
 without_zero_term zero k p e h = omega arith
 without_zero_term (suc x) k p e h = absurd (omega arith)
 
--- zeros at the first places of a product leave no power in the quotient
+-- if as many leading coefficients of a product are 0 as the quotient has, the quotient is 0
 quotient_of_zeros : (k : ℕ) (q t : List ℕ) → length q ≡ k → AllBits q →
     ((m : ℕ) → m < k → 0 ≡ product_at q (1 ∷ t) m % 2) → q ≡ replicate k 0
 quotient_of_zeros zero [] t e b h = refl
@@ -162,7 +162,7 @@ quotient_of_zeros (suc k) (x ∷ q) t e b h =
     (quotient_of_zeros k q t e' (All-tail IsBit x q b)
     (λ m lt. without_zero_term x (get_or t m 0) (product_at q (1 ∷ t) m) none (h (suc m) (omega arith))))
 
--- a multiple has no power below those of its generator alone
+-- a multiple of degree less than its generator is 0
 pub zeros_of_multiple : (k : ℕ) (r t : List ℕ) → length r ≡ length t → HasQuotient (replicate k 0 ++ r) (1 ∷ t) →
     r ≡ replicate (length r) 0
 zeros_of_multiple k r t e (q, qx) =
@@ -179,7 +179,7 @@ zeros_of_multiple k r t e (q, qx) =
     ∙ ap (λ p. p % 2) (product_at-zeros k (1 ∷ t) (k + j))
     ∙ sym (get_or-replicate (length r) j 0 0 lt))
 
--- one list of as many bits as the generator has below its highest power completes a list to a multiple
+-- the remainder is unique: at most one list of as many bits as the generator's degree completes `front` to a multiple
 pub same_remainder : (front r s t : List ℕ) → AllBits r → AllBits s → length r ≡ length t → length s ≡ length t →
     HasQuotient (front ++ r) (1 ∷ t) → HasQuotient (front ++ s) (1 ∷ t) → r ≡ s
 same_remainder front r s t br bs er es mr ms =
@@ -193,8 +193,8 @@ same_remainder front r s t br bs er es mr ms =
     let zeros = zeros_of_multiple (length front) (add_bits r s) t (omega arith) (rw (← split) sum) in
     same_from_zero_sum r s (length r) br bs refl (sym e) (zeros ∙ ap (λ n. replicate n 0) count)
 
--- A step of a division, by as many places as `out` has. What completes the places so far goes on: its first places,
--- and a multiple that begins with their sum with the next places is added.
+-- One step of long division, by as many bits as `out` has: if `out ++ rest` completes `front` to a multiple and `start ++ tail` is a
+-- multiple, then `rest`, shifted, plus `tail` completes `front` and `out` plus `start`.
 pub divided_more : (front out rest next start tail g : List ℕ) → AllBits front → length start ≡ length out →
     length tail ≡ length rest + length out → add_bits out start ≡ next →
     HasQuotient (front ++ (out ++ rest)) g → HasQuotient (start ++ tail) g →

@@ -1,4 +1,4 @@
--- The bits of octets, and the octets of bits.
+-- `bits_of` and `octets_of` undo each other, and how loops extend their results by one octet.
 use Rattle.std.proofs.Common.{◌≡◌, ℕ, zero, suc, ◌+◌, ◌-◌, ◌*◌, ◌/◌, ◌%◌, ◌<◌, ◌≤◌, List, []}
 use Rattle.std.proofs.Common.{◌∷◌, ◌++◌, map, length, get_or, take, drop, refl, ap, ap₂, subst, sym, ◌∙◌, arith}
 use Rattle.std.proofs.Math.ListN.{set}
@@ -31,7 +31,7 @@ length-bits_of (octet ∷ octets) =
     let rest = length-bits_of octets in
     length-append (octet_bits octet) (bits_of octets) ∙ omega arith
 
--- ---- there and back
+-- ---- round trips
 
 of_its_bits : (n : ℕ) → n < 256 →
     n % 2 + 2 * (n / 2 % 2) + 4 * (n / 4 % 2) + 8 * (n / 8 % 2) + 16 * (n / 16 % 2) + 32 * (n / 32 % 2) + 64 * (n / 64 % 2) + 128
@@ -58,7 +58,6 @@ length-octets_of (suc n) (a ∷ b ∷ c ∷ d ∷ f ∷ g ∷ h ∷ i ∷ bits) 
     let fewer : length bits ≡ 8 * n = omega arith in
     ap suc (length-octets_of n bits fewer)
 
--- what bits make are octets
 pub AllOctets-octets_of : (bits : List ℕ) → AllBits bits → AllOctets (octets_of bits)
 AllOctets-octets_of [] all = All-nil IsOctet
 AllOctets-octets_of (a ∷ []) all = All-nil IsOctet
@@ -107,7 +106,7 @@ bits_of-octets_of (a ∷ b ∷ c ∷ d ∷ e ∷ f ∷ g ∷ h ∷ bits) n count
     (all 0 0 (omega arith)) (all 1 0 (omega arith)) (all 2 0 (omega arith)) (all 3 0 (omega arith))
     (all 4 0 (omega arith)) (all 5 0 (omega arith)) (all 6 0 (omega arith)) (all 7 0 (omega arith)) rest
 
--- ---- one octet more at a time
+-- ---- one more octet
 
 pub octets_of-append : (n : ℕ) (xs ys : List ℕ) → length xs ≡ 8 * n → octets_of (xs ++ ys) ≡ octets_of xs ++ octets_of ys
 octets_of-append zero [] ys e = refl
@@ -138,7 +137,7 @@ octets_of-eight (a ∷ b ∷ c ∷ d ∷ f ∷ g ∷ h ∷ []) e = absurd (omega
 octets_of-eight (a ∷ b ∷ c ∷ d ∷ f ∷ g ∷ h ∷ i ∷ []) e = refl
 octets_of-eight (a ∷ b ∷ c ∷ d ∷ f ∷ g ∷ h ∷ i ∷ j ∷ bits) e = absurd (omega arith)
 
--- the octet of eight bits, whose bits they are
+-- the octet of eight bits has these bits
 pub octet_of_eight : (bits : List ℕ) → length bits ≡ 8 → AllBits bits →
     (n : ℕ) × (n < 256) × (octet_bits n ≡ bits) × (octets_of bits ≡ n ∷ [])
 octet_of_eight bits e all =
@@ -149,7 +148,6 @@ octet_of_eight bits e all =
     let same : octet_bits n ++ [] ≡ bits = ap bits_of (sym is) ∙ bits_of-octets_of bits 1 e all in
     (n, small, sym (append-nil (octet_bits n)) ∙ same, is)
 
--- the next octet is written, that of the next eight bits
 pub octets_of_more : (octets bits : List ℕ) (m octet n : ℕ) → m < length octets → length bits ≡ 8 * length octets → n ≡ 8 →
     octets_of (take n (drop (8 * m) bits)) ≡ octet ∷ [] → take m octets ≡ octets_of (take (8 * m) bits) →
     take (m + 1) (set octets m octet) ≡ octets_of (take (8 * (m + 1)) bits)

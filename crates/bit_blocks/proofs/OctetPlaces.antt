@@ -1,4 +1,4 @@
--- The bits of octets, place by place.
+-- Single bits of `bits_of`.
 use Rattle.std.proofs.Common.{◌≡◌, ℕ, zero, suc, ◌+◌, ◌-◌, ◌*◌, ◌%◌, ◌^◌, ◌<◌, ◌≤◌, List, []}
 use Rattle.std.proofs.Common.{◌∷◌, ◌++◌, length, get_or, refl, ap, sym, ◌∙◌, arith}
 use Rattle.std.proofs.Math.Nat.{zero-div}
@@ -20,7 +20,7 @@ get_or-octet_bits octet (suc (suc (suc (suc (suc (suc zero)))))) lt = omega arit
 get_or-octet_bits octet (suc (suc (suc (suc (suc (suc (suc zero))))))) lt = omega arith
 get_or-octet_bits octet (suc (suc (suc (suc (suc (suc (suc (suc i)))))))) lt = absurd (omega arith)
 
--- bit i of octet m
+-- bit i of octet m is bit 8 m + i of the list
 pub get_or-bits_of : (octets : List ℕ) (m i : ℕ) → i < 8 → get_or (bits_of octets) (8 * m + i) 0 ≡ bit_of (get_or octets m 0) i
 get_or-bits_of [] m i lt = sym (bit_of_zero i)
 get_or-bits_of (octet ∷ octets) zero i lt =

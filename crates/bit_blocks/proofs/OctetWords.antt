@@ -1,4 +1,4 @@
--- The eight bits of an octet in one word: the multiplications of the bodies, tried on every octet.
+-- The multiplications that unpack an octet into eight and pack eight into one, checked by computation on all 256 octets.
 use Rattle.std.proofs.Common.{◌≡◌, ℕ, ◌+◌, ◌*◌, ◌/◌, ◌%◌, ◌^◌, ◌<◌, List, [], ◌∷◌, length, get_or}
 use Rattle.std.proofs.Common.{refl, ap, sym, ◌∙◌, bit_and, Bool, true, eqb}
 use Rattle.std.specs.Int.{from_le_bytes, to_le_bytes, w64}
@@ -10,7 +10,7 @@ use Rattle.bit_blocks.specs.Octets.{octet_bits, octets_of}
 use Rattle.bit_blocks.proofs.Below.{passes_below, at_passes_below}
 use Rattle.bit_blocks.proofs.OctetLists.{octet_of_eight}
 
--- the bits of a number, an octet for each
+-- the bits of an octet, one octet for each
 abbrev pub spreading : ℕ → List ℕ
 spreading octet =
     to_le_bytes w64
@@ -29,7 +29,7 @@ unfolding is_spread
 spread_bits octet within =
     (bytes_eq-Decides (spreading octet) (octet_bits octet)).0 (at_passes_below is_spread 256 all_spread octet within)
 
--- the number that eight bits are gathered to
+-- the octet that eight bits are packed into
 abbrev pub gathering : List ℕ → ℕ
 gathering bits =
     (from_le_bytes w64 (get_or bits 0 0 ∷ get_or bits 1 0 ∷ get_or bits 2 0 ∷ get_or bits 3 0 ∷

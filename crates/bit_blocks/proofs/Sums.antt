@@ -1,10 +1,9 @@
--- Sums of bit lists: with zeros, with themselves, part by part.
+-- Bitwise sums: with zeros, with itself, and of concatenated lists.
 use Rattle.std.proofs.Common.{◌≡◌, ℕ, zero, suc, ◌+◌, ◌%◌, ◌≤◌, List, [], ◌∷◌, ◌++◌, length, replicate}
 use Rattle.std.proofs.Common.{refl, ap, sym, ◌∙◌, arith}
 use Rattle.std.proofs.lemmas.List.Elements.{All-head, All-tail, All-cons, All-nil}
 use Rattle.bit_blocks.specs.Bits.{IsBit, AllBits, add_bits}
 
--- two lists by their heads and tails
 same_parts : (x y : ℕ) (xs ys : List ℕ) → x ≡ y → xs ≡ ys → x ∷ xs ≡ y ∷ ys
 same_parts x y xs ys e e' = ap (λ h. h ∷ xs) e ∙ ap (λ t. y ∷ t) e'
 
@@ -51,7 +50,7 @@ add_bits_self [] = refl
 add_bits_self (x ∷ xs) =
     same_parts ((x + x) % 2) 0 (add_bits xs xs) (replicate (length xs) 0) (omega arith) (add_bits_self xs)
 
--- what is added twice is gone
+-- adding a list twice cancels
 pub add_bits_twice : (xs ys : List ℕ) → AllBits xs → length xs ≡ length ys → add_bits (add_bits xs ys) ys ≡ xs
 add_bits_twice xs ys b e =
     add_bits-assoc xs ys ys
@@ -64,7 +63,7 @@ add_bits_again xs ys bits e =
     ∙ add_bits-comm xs (add_bits ys xs)
     ∙ add_bits_twice ys xs bits e
 
--- lists whose sum is zeros are the same
+-- two lists whose sum is zero are equal
 pub same_from_zero_sum : (xs ys : List ℕ) (n : ℕ) → AllBits xs → AllBits ys → length xs ≡ n → length ys ≡ n →
     add_bits xs ys ≡ replicate n 0 → xs ≡ ys
 same_from_zero_sum xs ys n bx by ex ey zeros =

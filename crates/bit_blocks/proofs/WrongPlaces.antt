@@ -1,4 +1,4 @@
--- The wrong places of a list are those of its two parts.
+-- `wrong_places` of a list is the sum of `wrong_places` of its two parts.
 use Rattle.std.proofs.Common.{◌≡◌, ℕ, zero, suc, ◌+◌, ℤ, List, [], ◌∷◌, take, drop, refl, ◌∙◌, zero-add, arith}
 use Rattle.bit_blocks.specs.SoftValues.{wrong_places}
 

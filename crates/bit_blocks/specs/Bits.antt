@@ -2,6 +2,7 @@
 use Rattle.std.specs.Prelude.{ℕ, ◌+◌, ◌%◌, ◌≤◌, List, [], ◌∷◌}
 use Rattle.std.specs.List.{All}
 
+-- a number that is 0 or 1
 abbrev pub IsBit : ℕ → Type 0
 IsBit bit = bit ≤ 1
 
@@ -9,7 +10,7 @@ IsBit bit = bit ≤ 1
 abbrev pub AllBits : List ℕ → Type 0
 AllBits bits = All IsBit bits
 
--- the sum place by place, modulo 2, as far as the shorter list goes
+-- the bitwise sum modulo 2 (XOR) of two lists, as long as the shorter one
 abbrev pub add_bits : List ℕ → List ℕ → List ℕ
 add_bits [] ys = []
 add_bits (x ∷ xs) [] = []

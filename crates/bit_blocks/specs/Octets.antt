@@ -1,7 +1,8 @@
--- The order of the bits of octets on the radio path (GSM 04.04 section 6, which GSM 05.03 section 4.1 takes over).
+-- Octets as bits, least significant bit first, the order of transmission (GSM 04.04 section 6, used by GSM 05.03 section 4.1).
 use Rattle.std.specs.Prelude.{ℕ, ◌<◌, ◌+◌, ◌*◌, ◌/◌, ◌%◌, List, [], ◌∷◌}
 use Rattle.std.specs.List.{All, flat_map}
 
+-- a number below 256
 abbrev pub IsOctet : ℕ → Type 0
 IsOctet octet = octet < 256
 
@@ -9,7 +10,7 @@ IsOctet octet = octet < 256
 abbrev pub AllOctets : List ℕ → Type 0
 AllOctets octets = All IsOctet octets
 
--- the eight bits of an octet, the one of value 1 first
+-- the eight bits of an octet, least significant bit first
 abbrev pub octet_bits : ℕ → List ℕ
 octet_bits octet =
     octet % 2 ∷
@@ -21,11 +22,11 @@ octet_bits octet =
     octet / 64 % 2 ∷
     octet / 128 % 2 ∷ []
 
--- the bits of all octets, one octet after the other
+-- the bits of all octets in order, eight for each, least significant bit first
 abbrev pub bits_of : List ℕ → List ℕ
 bits_of octets = flat_map octet_bits octets
 
--- the octets of bits, eight bits an octet, the one of value 1 first; bits that fill no octet are left out
+-- the octets that bits are packed into, eight to an octet, least significant bit first; left-over bits are dropped
 abbrev pub octets_of : List ℕ → List ℕ
 octets_of (a ∷ b ∷ c ∷ d ∷ e ∷ f ∷ g ∷ h ∷ rest) =
     (a + 2 * b + 4 * c + 8 * d + 16 * e + 32 * f + 64 * g + 128 * h) ∷ octets_of rest

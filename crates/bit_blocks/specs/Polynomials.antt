@@ -1,15 +1,15 @@
--- Bit lists as polynomials over the field of two elements, the highest power first (GSM 05.03 section 4.1.2).
+-- Bit lists as polynomials over GF(2), the coefficient of the highest power first (GSM 05.03 section 4.1.2).
 use Rattle.std.specs.Prelude.{ℕ, ◌≡◌, ◌<◌, ◌≤◌, ◌+◌, ◌*◌, ◌%◌, List, [], ◌∷◌, length, slice_index}
 use Rattle.std.proofs.Common.{zero, suc}
 use Rattle.bit_blocks.specs.Bits.{AllBits}
 
--- the sum of q(i)g(j) over all pairs of places with i + j = m
+-- coefficient m of the product of q and g, before it is reduced modulo 2: the sum of q(i) g(j) over all i + j = m
 abbrev pub product_at : List ℕ → List ℕ → ℕ → ℕ
 product_at [] g m = 0
 product_at (x ∷ q) g zero = x * slice_index g 0
 product_at (x ∷ q) g (suc m) = x * slice_index g (suc m) + product_at q g m
 
--- x is the product of q and g
+-- x is the product of q and g over GF(2)
 pub record IsProduct (x q g : List ℕ) : Type 0 where
   pub count : length q + length g ≡ length x + 1
   pub bits : AllBits q
@@ -19,7 +19,7 @@ pub record IsProduct (x q g : List ℕ) : Type 0 where
 abbrev pub HasQuotient : List ℕ → List ℕ → Type 0
 HasQuotient x g = (q : List ℕ) × IsProduct x q g
 
--- x is a multiple of g, which begins with 1 and is no longer than x
+-- x is a multiple of g, where g has leading coefficient 1 and is no longer than x
 pub record IsMultiple (x g : List ℕ) : Type 0 where
   pub leading : slice_index g 0 ≡ 1
   pub fits : length g ≤ length x

@@ -5,13 +5,13 @@ ghost use Rattle.bit_blocks.specs.Bits.{AllBits, add_bits};
 
 use std::marker::Model;
 
-/// `N` bits, one octet 0 or 1 for each.
+/// `N` bits, each in an octet of its own as 0 or 1.
 #[derive(Clone, Copy, PartialEq, Eq, Debug)]
 pub struct Bits<const N: usize> {
     places: [u8; N],
 }
 
-// Clauses see the list of bits.
+// Contracts see the list of bits.
 impl<const N: usize> Model for Bits<N> {
     ghost Value = { List ℕ };
 
@@ -23,7 +23,7 @@ impl<const N: usize> Model for Bits<N> {
 }
 
 impl<const N: usize> Bits<N> {
-    /// All bits 0.
+    /// `N` zeros.
     pub fn zero() -> Bits<N>
         ensures value { result ≡ replicate N 0 }
         ensures count { length result ≡ N }
@@ -31,7 +31,7 @@ impl<const N: usize> Bits<N> {
         Bits { places: [0; N] }
     }
 
-    /// The bits of a slice, or `None` where its length is not `N` or an octet is neither 0 nor 1.
+    /// The bits of a slice, or `None` if its length is not `N` or an octet is neither 0 nor 1.
     pub fn from_slice(bits: &[u8]) -> Option<Bits<N>>
         ensures found { IsSome result ↔ ((length bits.now ≡ N) × AllBits bits.now) }
         ensures value { IfSome result (λ found. found ≡ bits.now) }
@@ -43,7 +43,7 @@ impl<const N: usize> Bits<N> {
         Some(Bits { places: *places })
     }
 
-    /// The bits that an array holds.
+    /// The bits of an array of zeros and ones.
     pub fn from_array(bits: [u8; N]) -> Bits<N>
         requires { AllBits bits }
         ensures value { result ≡ bits.entry }
@@ -52,7 +52,7 @@ impl<const N: usize> Bits<N> {
         Bits { places: bits }
     }
 
-    /// Bit `i`, the first being bit 0.
+    /// Bit `i`, counted from 0.
     pub fn get(&self, i: usize) -> u8
         requires { i < N }
         ensures value { result ≡ slice_index self.now i }
@@ -61,7 +61,7 @@ impl<const N: usize> Bits<N> {
         self.places[i]
     }
 
-    /// Writes bit `i`; all other bits stay.
+    /// Sets bit `i` to `bit`.
     pub fn set(&mut self, i: usize, bit: u8)
         requires within { i < N }
         requires bit { bit ≤ 1 }
@@ -70,13 +70,13 @@ impl<const N: usize> Bits<N> {
         self.places[i] = bit;
     }
 
-    /// The sum place by place, modulo 2.
+    /// The bitwise sum modulo 2.
     pub fn xor(&self, other: &Bits<N>) -> Bits<N>
         ensures value { result ≡ add_bits self.now other.now }
         ensures count { length result ≡ N }
         ensures bits { AllBits result }
 
-        // What is seen of both is as long, and bits.
+        // Both operands are `N` bits.
         ensures counts { (length self.now ≡ N) × (length other.now ≡ N) }
         ensures operands { AllBits self.now × AllBits other.now }
     {
@@ -87,7 +87,7 @@ impl<const N: usize> Bits<N> {
         Bits { places: sum }
     }
 
-    /// The bits as octets 0 or 1.
+    /// The bits, each as an octet 0 or 1.
     pub fn as_slice(&self) -> &[u8]
         ensures value { result.now ≡ self.now }
         ensures count { length result.now ≡ N }

@@ -1,10 +1,9 @@
-//! The order in which the bits of octets go over the radio path, the lowest first (GSM 04.04, today 3GPP TS 44.004,
-//! section 6).
+//! Octets as bits in the order of transmission, least significant bit first (GSM 04.04, today 3GPP TS 44.004, section 6).
 ghost use Rattle.std.specs.Prelude.{◌≡◌, ℕ, ◌*◌, List, [], ◌∷◌, length};
 ghost use Rattle.bit_blocks.specs.Bits.{AllBits};
 ghost use Rattle.bit_blocks.specs.Octets.{AllOctets, octet_bits, bits_of, octets_of};
 
-/// Writes the bits of octets, of each octet the bit of value 1 first.
+/// Writes the bits of `octets` to `out`, least significant bit of each octet first.
 pub fn from_octets(octets: &[u8], out: &mut [u8])
     requires { length out.old ≡ 8 * length octets.now }
     ensures value { out.new ≡ bits_of octets.now }
@@ -15,7 +14,7 @@ pub fn from_octets(octets: &[u8], out: &mut [u8])
     }
 }
 
-/// Writes the octets of bits, the bit of value 1 first.
+/// Packs `bits` into octets, least significant bit first.
 pub fn to_octets(bits: &[u8], out: &mut [u8])
     requires count { length bits.now ≡ 8 * length out.old }
     requires bits { AllBits bits.now }
@@ -27,7 +26,7 @@ pub fn to_octets(bits: &[u8], out: &mut [u8])
     }
 }
 
-/// Law: octets come back from their bits, and bits that fill octets from these.
+/// Law: `octets_of` and `bits_of` undo each other.
 pub fn law_octets()
     ensures octets { (octets : List ℕ) → AllOctets octets → octets_of (bits_of octets) ≡ octets }
     ensures bits { (bits : List ℕ) (n : ℕ) → length bits ≡ 8 * n → AllBits bits → bits_of (octets_of bits) ≡ bits }
@@ -37,7 +36,7 @@ pub fn law_octets()
 fn bits_of_octet(octet: u8) -> [u8; 8]
     ensures { result ≡ octet_bits octet }
 {
-    // Octet i keeps bit i, and so is not 0 where its sum with 127 has the highest bit.
+    // Octet i of `kept` is bit i alone, in place; adding 127 carries it into the octet's highest bit.
     let kept = u64::from(octet).wrapping_mul(0x0101_0101_0101_0101) & 0x8040_2010_0804_0201;
     ((kept.wrapping_add(0x7f7f_7f7f_7f7f_7f7f) >> 7) & 0x0101_0101_0101_0101).to_le_bytes()
 }
@@ -51,6 +50,6 @@ fn octet_of_bits(bits: &[u8]) -> u8
     let apart = u64::from_le_bytes([
         bits[0], bits[1], bits[2], bits[3], bits[4], bits[5], bits[6], bits[7],
     ]);
-    // The factor moves bit i of octet i to bit 56 + i, and nothing else to the highest octet.
+    // The multiplication moves bit i to bit 56 + i; nothing else reaches the highest octet.
     (apart.wrapping_mul(0x0102_0408_1020_4080) >> 56) as u8
 }

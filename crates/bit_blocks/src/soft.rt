@@ -1,12 +1,12 @@
-//! Soft values, which say of each bit that is received how sure it is.
+//! Counts of soft bits that disagree with decided bits.
 ghost use Rattle.std.specs.Prelude.{◌≡◌, ◌≤◌, length};
 ghost use Rattle.bit_blocks.specs.Bits.{AllBits};
 ghost use Rattle.bit_blocks.specs.SoftValues.{is_wrong, wrong_places};
 
-/// How many soft values are 0 or speak for the other bit.
+/// The number of soft bits that are 0 or have the sign of the other bit.
 pub fn wrong_places(soft: &[i8], bits: &[u8]) -> u32
     requires count { length soft.now ≡ length bits.now }
-    requires few { length soft.now ≤ 456 }
+    requires size { length soft.now ≤ 456 }
     requires bits { AllBits bits.now }
     ensures value { result ≡ wrong_places soft.now bits.now }
     ensures within { result ≤ length soft.now }
@@ -16,10 +16,10 @@ pub fn wrong_places(soft: &[i8], bits: &[u8]) -> u32
     u32::from(wrong_part(first, first_bits)) + u32::from(wrong_part(second, second_bits))
 }
 
-// So few that an octet holds their number, and the compiler counts sixteen places at a time.
+// At most 255 soft bits, so that the count fits an octet and the compiler can count sixteen at a time.
 fn wrong_part(soft: &[i8], bits: &[u8]) -> u8
     requires count { length soft.now ≡ length bits.now }
-    requires few { length soft.now ≤ 255 }
+    requires size { length soft.now ≤ 255 }
     requires bits { AllBits bits.now }
     ensures value { result ≡ wrong_places soft.now bits.now }
     ensures within { result ≤ length soft.now }

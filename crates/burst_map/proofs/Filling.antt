@@ -5,15 +5,14 @@ use Rattle.std.specs.List.{list_all}
 use Rattle.std.proofs.lemmas.List.{take_at, drop_at, drop-drop, drop-replicate, length-append}
 use Rattle.std.proofs.lemmas.List.Elements.{All-append, All-replicate, All-same}
 use Rattle.std.proofs.lemmas.List.Sums.{AllPass-from_list_all}
-use Rattle.bit_blocks.specs.Bits.{IsBit, AllBits}
+use Rattle.training_seq.specs.bit_blocks.Bits.{IsBit, AllBits}
 
--- these bits stand in front, up to this place, and zeros after them
+-- the burst begins with these bits, and zeros follow
 pub record IsFilled (burst front : List ℕ) (at rest : ℕ) : Type 0 where
   pub list : burst ≡ front ++ replicate rest 0
   pub long : length front ≡ at
   pub bits : AllBits front
 
--- the next bits are written
 pub filled_more : {old front : List ℕ} {at rest : ℕ} (new bits : List ℕ) (next left : ℕ) → IsFilled old front at rest → AllBits bits →
     next ≡ at + length bits → rest ≡ length bits + left → new ≡ take at old ++ bits ++ drop (at + length bits) old →
     IsFilled new (front ++ bits) next left

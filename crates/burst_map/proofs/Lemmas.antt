@@ -1,2 +1,2 @@
--- What crates above cite of bursts that are written half by half.
+-- Lemmas that other crates cite.
 pub use Rattle.burst_map.proofs.WrittenHalves.{both_written}

@@ -1,5 +1,5 @@
--- A part of an array is lent as a slice: while it is, the rest of the array stays, and the array ends with the part as it is left.
--- It goes by the logic's rules for lending the elements of a row (`lends_Elements`).
+-- A slice of an array is borrowed mutably: until the borrow ends the rest of the array is unchanged, and the array then holds the slice's
+-- final values. This follows from the logic's rule for borrowing elements of a list (`lends_Elements`).
 use mathlib.Core.Path.{◌≡◌, refl, sym, ap, ◌∙◌}
 use Prim.Native.Nat.{ℕ, ◌+◌, ◌-◌, ◌^◌, ◌<◌, ◌≤◌}
 use native.Mathlib.Omega.{arith}
@@ -44,7 +44,7 @@ module _ {M : Type 1} {𝓤 : Ura M} (𝓛 : Logic 𝓤) (ℓ : Lifetime) (κ : 
   abbrev p : ℕ
   p = from + o
 
-  -- the part under a new name, the token, and what the array ends as
+  -- the slice under a new name, its token, and the array's final value
   abbrev pub part_lent : GName → Item 𝓤
   part_lent δ =
       given (length mid ≡ to - from)

@@ -1,4 +1,4 @@
--- The parts of a list, placed end to end.
+-- A list as the concatenation of its slices.
 use Rattle.std.proofs.Common.{◌≡◌, ℕ, ◌+◌, ◌-◌, ◌≤◌, List, ◌++◌, take, ap, ◌∙◌, sym, arith}
 use Rattle.std.specs.Prelude.{slice_range}
 use Rattle.std.proofs.Math.Seq.{take-add}

@@ -1,4 +1,4 @@
--- The halves of a normal burst are written one after the other.
+-- Writing both halves of a normal burst, in either order, gives the burst of these halves.
 use Rattle.std.proofs.Common.{◌≡◌, ℕ, ◌≤◌, List, [], ◌∷◌, ◌++◌, length, replicate, refl, ap, sym, ◌∙◌}
 use Rattle.std.proofs.Common.{arith, take, drop}
 use Rattle.std.proofs.lemmas.List.{append_assoc, take_at, drop_at, length-append}
@@ -8,7 +8,7 @@ use Rattle.burst_map.specs.NormalBurst.{normal_burst}
 use Rattle.burst_map.specs.Parts.{with_part}
 use Rattle.burst_map.specs.Tails.{tail_bits}
 
--- a part that stands between a front and a back is replaced
+-- replacing the middle of three parts
 with_part-middle : (places front old back part : List ℕ) (from to : ℕ) → places ≡ front ++ (old ++ back) → length front ≡ from →
     length (front ++ old) ≡ to → with_part places from to part ≡ front ++ (part ++ back)
 with_part-middle places front old back part from to is f t =
@@ -17,7 +17,7 @@ with_part-middle places front old back part from to is f t =
     ap (drop to) (is ∙ sym (append_assoc front old back)) ∙ drop_at (front ++ old) back to t in
     ap (λ xs. xs ++ (part ++ drop to places)) before ∙ ap (λ xs. front ++ (part ++ xs)) after
 
--- what stands after the first half, and before the second
+-- the bits after the first half, and those before the second
 abbrev after_first : List ℕ → ℕ → List ℕ
 after_first second tsc = 1 ∷ [] ++ training_sequence tsc ++ 1 ∷ [] ++ second ++ tail_bits
 
@@ -64,7 +64,7 @@ write_second-first first second tsc f s known =
     ap (λ burst. with_part burst 3 60 first) (write_second zeros zeros second tsc refl refl known)
     ∙ write_first zeros first second tsc refl
 
--- what stands when both halves have been written over, one after the other
+-- the burst after both halves are written
 pub both_written : (left burst half other first second : List ℕ) (tsc : ℕ) → length first ≡ 57 → length second ≡ 57 → tsc ≤ 7 →
     burst ≡ normal_burst (replicate 57 0) (replicate 57 0) tsc → half ≡ first → other ≡ second →
     left ≡ with_part (with_part burst 3 60 half) 88 145 other → left ≡ normal_burst first second tsc

@@ -1,3 +1,4 @@
+pub use Rattle.training_seq.specs as training_seq
 pub mod AccessBurst
 pub mod NormalBurst
 pub mod NormalParts

@@ -3,12 +3,14 @@ use Rattle.std.specs.Prelude.{ℕ, ℤ, List, [], ◌∷◌, ◌++◌, slice_ran
 use Rattle.training_seq.specs.Sequences.{training_sequence}
 use Rattle.burst_map.specs.Tails.{tail_bits}
 
--- the burst of two halves, with both stealing flags 1 as on the control channels
+-- the 148 bits of a normal burst with two halves of 57 coded bits and a training sequence code; both stealing flags are 1, as on the
+-- control channels
 abbrev pub normal_burst : (first second : List ℕ) → ℕ → List ℕ
 normal_burst first second tsc =
     tail_bits ++ first ++ 1 ∷ [] ++ training_sequence tsc ++ 1 ∷ [] ++ second ++ tail_bits
 
--- the seven parts of a burst of 148 places, in order
+-- the parts of a normal burst of 148 soft bits: 3 tail bits, 57 coded bits, stealing flag, 26 training bits, stealing flag, 57 coded
+-- bits, 3 tail bits
 abbrev pub head : List ℤ → List ℤ
 head burst = slice_range burst 0 3
 

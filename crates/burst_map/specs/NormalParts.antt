@@ -1,4 +1,4 @@
--- A normal burst that is written half by half (GSM 05.02 section 5.2.3).
+-- A normal burst whose halves are written in place (GSM 05.02 section 5.2.3).
 use Rattle.std.specs.Prelude.{ℕ, List, []}
 use Rattle.std.specs.Borrow.{Lends, MutBor, Fml, GName, Array, u8}
 use mir.Syntax.{named}
@@ -6,19 +6,20 @@ use Rattle.burst_map.specs.declared.normal_parts.NormalParts.{NormalParts}
 use Rattle.burst_map.specs.contracts.normal_parts.NormalParts.{the_row}
 use Rattle.burst_map.specs.Parts.{with_part}
 
--- the burst as it stands
+-- the current bits of the burst
 abbrev pub burst_now : NormalParts → List ℕ
 burst_now parts = parts.burst.now
 
--- which burst it is
+-- the identity of the burst, as the logic names a mutable reference
 abbrev pub burst_name : NormalParts → GName
 burst_name parts = parts.burst.ghost_name
 
--- the same burst with other bits in it
+-- the same reference with other bits in the burst
 abbrev pub with_burst : NormalParts → List ℕ → NormalParts
 with_burst parts burst = record parts { burst = record parts.burst { now = burst } }
 
--- the places of one half are lent, and the burst ends with them as they are left: all else stays
+-- the bits of the burst in from..to are borrowed mutably; when the borrow ends the burst holds their final values there, and is unchanged
+-- elsewhere
 abbrev pub LendsPlaces : MutBor NormalParts → ℕ → ℕ → MutBor (List ℕ) → Fml
 LendsPlaces parts from to half =
     Lends (the_row (record { mir = named 1; lft = [] })) (Array u8 0) parts half

@@ -3,15 +3,15 @@ use Rattle.std.specs.Prelude.{ℕ, ℤ, List, ◌++◌, slice_range, codes}
 use Rattle.training_seq.specs.Sequences.{bits_of_text}
 use Rattle.burst_map.specs.Tails.{tail_bits}
 
--- its 64 training bits
+-- the 64 training bits of a synchronisation burst
 abbrev pub sync_sequence : List ℕ
 sync_sequence = bits_of_text (codes "1011100101100010000001000000111100101101010001010111011000011011")
 
--- the burst of two halves of 39 coded bits
+-- the 148 bits of a synchronisation burst: tail bits, 39 coded bits, training bits, 39 coded bits, tail bits
 abbrev pub sync_burst : (first second : List ℕ) → List ℕ
 sync_burst first second = tail_bits ++ first ++ sync_sequence ++ second ++ tail_bits
 
--- the five parts of a burst of 148 places, in order
+-- the parts of a synchronisation burst of 148 soft bits: 3 tail bits, 39 coded bits, 64 training bits, 39 coded bits, 3 tail bits
 abbrev pub head : List ℤ → List ℤ
 head burst = slice_range burst 0 3
 

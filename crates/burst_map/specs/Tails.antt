@@ -1,6 +1,6 @@
--- The tail bits at both ends of a burst (GSM 05.02 section 5.2).
+-- The tail bits of bursts (GSM 05.02 section 5.2).
 use Rattle.std.specs.Prelude.{ℕ, List, [], ◌∷◌}
 
--- three zeros
+-- the three tail bits, zeros
 abbrev pub tail_bits : List ℕ
 tail_bits = 0 ∷ 0 ∷ 0 ∷ []

@@ -1,6 +1,6 @@
-//! The access burst of 88 bits, by which a mobile asks for a channel (RACH): its training sequence stands first.
+//! The access burst of 88 bits with which a mobile requests a channel (RACH). Its training sequence precedes the coded bits.
 ghost use Rattle.std.specs.Prelude.{◌≡◌, ◌++◌, length};
-ghost use Rattle.bit_blocks.specs.Bits.{AllBits};
+ghost use Rattle.training_seq.specs.bit_blocks.Bits.{AllBits};
 ghost use Rattle.burst_map.specs.AccessBurst.{access_burst, access_sequence};
 ghost use Rattle.burst_map.specs.AccessBurst as parts;
 ghost use Rattle.burst_map.specs.Parts.{LiesAt};
@@ -8,7 +8,7 @@ ghost use Rattle.burst_map.specs.Parts.{LiesAt};
 use crate::place::place;
 use std::marker::Model;
 
-// The extended tail bits and the training bits of the access burst.
+// The extended tail bits, and below them the training bits.
 const ACCESS_HEAD: [u8; 8] = [0, 0, 1, 1, 1, 0, 1, 0];
 
 static ACCESS_TRAINING: [u8; 41] = [
@@ -24,7 +24,7 @@ pub fn access_sequence() -> &'static [u8; 41]
     &ACCESS_TRAINING
 }
 
-/// The access burst of 36 coded bits.
+/// The access burst with these 36 coded bits.
 pub fn access(body: &[u8]) -> [u8; 88]
     requires count { length body.now ≡ 36 }
     requires bits { AllBits body.now }
@@ -44,7 +44,7 @@ pub struct AccessView<'a> {
     burst: &'a [i8; 88],
 }
 
-// Clauses see the burst that is lent.
+// Contracts see the borrowed burst.
 impl<'a> Model for AccessView<'a> {
     ghost use Rattle.std.specs.Prelude.{◌≡◌, List, ℤ, length};
     ghost use Rattle.std.specs.Borrow.{Bor};
@@ -65,7 +65,7 @@ impl<'a> AccessView<'a> {
         AccessView { burst }
     }
 
-    /// The extended tail bits before.
+    /// The eight extended tail bits.
     pub fn head(&self) -> &'a [i8]
         ensures value { result.now ≡ parts.head self.now.now }
         ensures count { length result.now ≡ 8 }
@@ -75,7 +75,7 @@ impl<'a> AccessView<'a> {
         &burst[..8]
     }
 
-    /// The training bits.
+    /// The 41 training bits.
     pub fn training(&self) -> &'a [i8]
         ensures value { result.now ≡ parts.training self.now.now }
         ensures count { length result.now ≡ 41 }
@@ -95,7 +95,7 @@ impl<'a> AccessView<'a> {
         &burst[49..85]
     }
 
-    /// The tail bits after.
+    /// The three tail bits.
     pub fn tail(&self) -> &'a [i8]
         ensures value { result.now ≡ parts.tail self.now.now }
         ensures count { length result.now ≡ 3 }

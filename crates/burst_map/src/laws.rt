@@ -1,9 +1,9 @@
-//! What holds of a burst that is filled half after half.
+//! Properties of bursts as laws: functions with an empty body, called for their contracts.
 ghost use Rattle.std.specs.Prelude.{◌≡◌, ◌≤◌, ℕ, List, length, replicate};
 ghost use Rattle.burst_map.specs.NormalBurst.{normal_burst};
 ghost use Rattle.burst_map.specs.Parts.{with_part};
 
-/// Law: a normal burst of zeros, both halves of which are then written, is the burst of these halves.
+/// Law: writing both halves of a normal burst of zeros, in either order, gives the normal burst of these halves.
 pub fn law_filled()
     ensures first_half_first { (first second : List ℕ) (tsc : ℕ) → length first ≡ 57 → length second ≡ 57 → tsc ≤ 7 →
         with_part (with_part (normal_burst (replicate 57 0) (replicate 57 0) tsc) 3 60 first) 88 145 second

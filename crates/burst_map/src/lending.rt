@@ -1,9 +1,9 @@
-//! A part of a burst, lent for writing.
+//! A mutable slice of a burst.
 ghost use Rattle.std.specs.Prelude.{◌≡◌, ◌≤◌, ◌-◌, length, slice_range};
 ghost use Rattle.std.specs.Borrow.{sem, Lends, Array, u8};
 ghost use Rattle.burst_map.specs.Parts.{with_part};
 
-// The places from one up to another, for writing; all others stay.
+// Borrows `places[from..to]` for writing; the rest is unchanged.
 pub fn part_mut<const N: usize>(places: &mut [u8; N], from: usize, to: usize) -> &mut [u8]
     requires order { from ≤ to }
     requires within { to ≤ N }

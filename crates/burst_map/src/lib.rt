@@ -1,5 +1,5 @@
-//! The layouts of bursts (GSM 05.02 section 5.2, today 3GPP TS 45.002): how a burst is put together around its training
-//! sequence, and the parts of a received one.
+//! The layouts of bursts (GSM 05.02, today 3GPP TS 45.002, section 5.2): builds a burst around its training sequence, and gives the parts
+//! of a received one.
 #![tactic(auto)]
 
 mod access_burst;
@@ -15,6 +15,9 @@ pub use laws::law_filled;
 pub use normal_burst::{NormalView, normal};
 pub use normal_parts::NormalParts;
 pub use sync_burst::{SyncView, sync, sync_sequence};
+
+/// How many bits a normal burst has, and a synchronisation burst too.
+pub const BURST_BITS: usize = 148;
 
 #[cfg(test)]
 mod tests;

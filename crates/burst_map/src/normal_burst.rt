@@ -1,16 +1,17 @@
-//! The normal burst of 148 bits: tail, half of the coded bits, a stealing flag, the midamble, the other flag and half, tail.
+//! The normal burst of 148 bits: tail bits, coded bits, stealing flag, midamble, stealing flag, coded bits, tail bits.
 ghost use Rattle.std.specs.Prelude.{◌≡◌, ◌≤◌, ◌++◌, length};
-ghost use Rattle.bit_blocks.specs.Bits.{AllBits};
+ghost use Rattle.training_seq.specs.bit_blocks.Bits.{AllBits};
 ghost use Rattle.burst_map.specs.NormalBurst.{normal_burst};
 ghost use Rattle.burst_map.specs.NormalBurst as parts;
 ghost use Rattle.burst_map.specs.Parts.{LiesAt};
 
+use crate::BURST_BITS;
 use crate::place::place;
 use std::marker::Model;
 use training_seq::sequence;
 
-/// The burst of two halves of 57 bits, with both stealing flags 1.
-pub fn normal(first: &[u8], second: &[u8], tsc: u8) -> [u8; 148]
+/// The normal burst with two halves of 57 coded bits, both stealing flags 1, and a training sequence code of 0 to 7.
+pub fn normal(first: &[u8], second: &[u8], tsc: u8) -> [u8; BURST_BITS]
     requires first { length first.now ≡ 57 }
     requires first_bits { AllBits first.now }
     requires second { length second.now ≡ 57 }
@@ -19,7 +20,7 @@ pub fn normal(first: &[u8], second: &[u8], tsc: u8) -> [u8; 148]
     ensures value { result ≡ normal_burst first.now second.now tsc }
     ensures bits { AllBits result }
 {
-    let mut burst = [0; 148];
+    let mut burst = [0; BURST_BITS];
     place(&mut burst, 3, first);
     place(&mut burst, 60, &[1]);
     place(&mut burst, 61, &sequence(tsc));
@@ -31,23 +32,24 @@ pub fn normal(first: &[u8], second: &[u8], tsc: u8) -> [u8; 148]
 /// The parts of a received normal burst.
 #[derive(Debug, Drop)]
 pub struct NormalView<'a> {
-    burst: &'a [i8; 148],
+    burst: &'a [i8; BURST_BITS],
 }
 
-// Clauses see the burst that is lent.
+// Contracts see the borrowed burst.
 impl<'a> Model for NormalView<'a> {
     ghost use Rattle.std.specs.Prelude.{◌≡◌, List, ℤ, length};
     ghost use Rattle.std.specs.Borrow.{Bor};
+    ghost use Rattle.burst_map.specs.declared.TheConstants.{BURST_BITS};
 
     ghost Value = { Bor (List ℤ) };
 
     ghost view = { λ parts. parts.burst };
 
-    ghost invariant = { λ parts. length parts.burst.now ≡ 148 };
+    ghost invariant = { λ parts. length parts.burst.now ≡ BURST_BITS };
 }
 
 impl<'a> NormalView<'a> {
-    pub fn new(burst: &'a [i8; 148]) -> NormalView<'a>
+    pub fn new(burst: &'a [i8; BURST_BITS]) -> NormalView<'a>
         ensures value { result.now ≡ burst.now }
         ensures lent { result.ref_ptr ≡ burst.entry.ref_ptr }
         ensures whole { burst.now ≡
@@ -57,7 +59,7 @@ impl<'a> NormalView<'a> {
         NormalView { burst }
     }
 
-    /// The tail bits before.
+    /// The first three tail bits.
     pub fn head(&self) -> &'a [i8]
         ensures value { result.now ≡ parts.head self.now.now }
         ensures count { length result.now ≡ 3 }
@@ -77,7 +79,7 @@ impl<'a> NormalView<'a> {
         &burst[3..60]
     }
 
-    /// The stealing flag below the training sequence.
+    /// The stealing flag before the training sequence, one soft bit.
     pub fn lower(&self) -> &'a [i8]
         ensures value { result.now ≡ parts.lower_flag self.now.now }
         ensures count { length result.now ≡ 1 }
@@ -87,7 +89,7 @@ impl<'a> NormalView<'a> {
         &burst[60..61]
     }
 
-    /// The training sequence.
+    /// The 26 bits of the training sequence.
     pub fn training(&self) -> &'a [i8]
         ensures value { result.now ≡ parts.training self.now.now }
         ensures count { length result.now ≡ 26 }
@@ -97,7 +99,7 @@ impl<'a> NormalView<'a> {
         &burst[61..87]
     }
 
-    /// The stealing flag above the training sequence.
+    /// The stealing flag after the training sequence, one soft bit.
     pub fn upper(&self) -> &'a [i8]
         ensures value { result.now ≡ parts.upper_flag self.now.now }
         ensures count { length result.now ≡ 1 }
@@ -107,7 +109,7 @@ impl<'a> NormalView<'a> {
         &burst[87..88]
     }
 
-    /// The other 57 coded bits.
+    /// The last 57 coded bits.
     pub fn second(&self) -> &'a [i8]
         ensures value { result.now ≡ parts.second_half self.now.now }
         ensures count { length result.now ≡ 57 }
@@ -117,13 +119,13 @@ impl<'a> NormalView<'a> {
         &burst[88..145]
     }
 
-    /// The tail bits after.
+    /// The last three tail bits.
     pub fn tail(&self) -> &'a [i8]
         ensures value { result.now ≡ parts.tail self.now.now }
         ensures count { length result.now ≡ 3 }
         ensures lent { LiesAt 145 self.now result }
     {
         let burst = self.burst;
-        &burst[145..148]
+        &burst[145..BURST_BITS]
     }
 }

@@ -1,21 +1,22 @@
-//! A normal burst whose halves are written where they stand.
+//! Writes the halves of a normal burst in place, in the caller's array.
 ghost use Rattle.std.specs.Prelude.{◌≡◌, ◌≤◌, length, replicate, slice_range};
 ghost use Rattle.std.specs.Borrow.{sem};
 ghost use Rattle.burst_map.specs.NormalBurst.{normal_burst};
 ghost use Rattle.burst_map.specs.NormalParts.{burst_now, burst_name, LendsPlaces};
 
+use crate::BURST_BITS;
 use crate::lending::part_mut;
 use crate::normal_burst::normal;
 
 /// A normal burst whose halves are written in place.
 #[derive(Debug, Drop)]
 pub struct NormalParts<'a> {
-    burst: &'a mut [u8; 148],
+    burst: &'a mut [u8; BURST_BITS],
 }
 
 impl<'a> NormalParts<'a> {
-    /// Writes the tail bits, the flags and the training sequence, and zeros in both halves.
-    pub fn new(burst: &'a mut [u8; 148], tsc: u8) -> NormalParts<'a>
+    /// Writes the tail bits, the stealing flags and the training sequence, and zeros to both halves.
+    pub fn new(burst: &'a mut [u8; BURST_BITS], tsc: u8) -> NormalParts<'a>
         requires { tsc ≤ 7 }
         ensures same_burst { burst.entry.ghost_name ≡ burst_name result }
         ensures value { burst_now result ≡ normal_burst (replicate 57 0) (replicate 57 0) tsc }

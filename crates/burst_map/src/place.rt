@@ -1,7 +1,7 @@
-//! Bits are put where they stand in a burst.
+//! Writing bits into a burst.
 ghost use Rattle.std.specs.Prelude.{◌≡◌, ◌+◌, ◌≤◌, ◌++◌, length, take, drop};
 
-// Writes these bits from a place of a burst on; all else stays.
+// Writes `bits` from index `at` on; the rest is unchanged.
 pub fn place(burst: &mut [u8], at: usize, bits: &[u8])
     requires { at + length bits.now ≤ length burst.old }
     ensures { burst.new ≡ take at burst.old ++ bits.now ++ drop (at + length bits.now) burst.old }

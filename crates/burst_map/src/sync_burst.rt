@@ -1,10 +1,11 @@
-//! The synchronisation burst of 148 bits (SCH): a midamble of 64 bits between two halves.
+//! The synchronisation burst of 148 bits (SCH): a training sequence of 64 bits between two halves of coded bits.
 ghost use Rattle.std.specs.Prelude.{◌≡◌, ◌++◌, length};
-ghost use Rattle.bit_blocks.specs.Bits.{AllBits};
+ghost use Rattle.training_seq.specs.bit_blocks.Bits.{AllBits};
 ghost use Rattle.burst_map.specs.SyncBurst.{sync_burst, sync_sequence};
 ghost use Rattle.burst_map.specs.SyncBurst as parts;
 ghost use Rattle.burst_map.specs.Parts.{LiesAt};
 
+use crate::BURST_BITS;
 use crate::place::place;
 use std::marker::Model;
 
@@ -21,8 +22,8 @@ pub fn sync_sequence() -> &'static [u8; 64]
     &SYNC_TRAINING
 }
 
-/// The synchronisation burst of two halves of 39 coded bits.
-pub fn sync(first: &[u8], second: &[u8]) -> [u8; 148]
+/// The synchronisation burst with two halves of 39 coded bits.
+pub fn sync(first: &[u8], second: &[u8]) -> [u8; BURST_BITS]
     requires first { length first.now ≡ 39 }
     requires first_bits { AllBits first.now }
     requires second { length second.now ≡ 39 }
@@ -30,7 +31,7 @@ pub fn sync(first: &[u8], second: &[u8]) -> [u8; 148]
     ensures value { result ≡ sync_burst first.now second.now }
     ensures bits { AllBits result }
 {
-    let mut burst = [0; 148];
+    let mut burst = [0; BURST_BITS];
     place(&mut burst, 3, first);
     place(&mut burst, 42, &SYNC_TRAINING);
     place(&mut burst, 106, second);
@@ -40,23 +41,24 @@ pub fn sync(first: &[u8], second: &[u8]) -> [u8; 148]
 /// The parts of a received synchronisation burst.
 #[derive(Debug, Drop)]
 pub struct SyncView<'a> {
-    burst: &'a [i8; 148],
+    burst: &'a [i8; BURST_BITS],
 }
 
-// Clauses see the burst that is lent.
+// Contracts see the borrowed burst.
 impl<'a> Model for SyncView<'a> {
     ghost use Rattle.std.specs.Prelude.{◌≡◌, List, ℤ, length};
     ghost use Rattle.std.specs.Borrow.{Bor};
+    ghost use Rattle.burst_map.specs.declared.TheConstants.{BURST_BITS};
 
     ghost Value = { Bor (List ℤ) };
 
     ghost view = { λ parts. parts.burst };
 
-    ghost invariant = { λ parts. length parts.burst.now ≡ 148 };
+    ghost invariant = { λ parts. length parts.burst.now ≡ BURST_BITS };
 }
 
 impl<'a> SyncView<'a> {
-    pub fn new(burst: &'a [i8; 148]) -> SyncView<'a>
+    pub fn new(burst: &'a [i8; BURST_BITS]) -> SyncView<'a>
         ensures value { result.now ≡ burst.now }
         ensures lent { result.ref_ptr ≡ burst.entry.ref_ptr }
         ensures whole { burst.now ≡
@@ -66,7 +68,7 @@ impl<'a> SyncView<'a> {
         SyncView { burst }
     }
 
-    /// The tail bits before.
+    /// The first three tail bits.
     pub fn head(&self) -> &'a [i8]
         ensures value { result.now ≡ parts.head self.now.now }
         ensures count { length result.now ≡ 3 }
@@ -86,7 +88,7 @@ impl<'a> SyncView<'a> {
         &burst[3..42]
     }
 
-    /// The training bits.
+    /// The 64 training bits.
     pub fn training(&self) -> &'a [i8]
         ensures value { result.now ≡ parts.training self.now.now }
         ensures count { length result.now ≡ 64 }
@@ -96,7 +98,7 @@ impl<'a> SyncView<'a> {
         &burst[42..106]
     }
 
-    /// The other 39 coded bits.
+    /// The last 39 coded bits.
     pub fn second(&self) -> &'a [i8]
         ensures value { result.now ≡ parts.second_half self.now.now }
         ensures count { length result.now ≡ 39 }
@@ -106,13 +108,13 @@ impl<'a> SyncView<'a> {
         &burst[106..145]
     }
 
-    /// The tail bits after.
+    /// The last three tail bits.
     pub fn tail(&self) -> &'a [i8]
         ensures value { result.now ≡ parts.tail self.now.now }
         ensures count { length result.now ≡ 3 }
         ensures lent { LiesAt 145 self.now result }
     {
         let burst = self.burst;
-        &burst[145..148]
+        &burst[145..BURST_BITS]
     }
 }

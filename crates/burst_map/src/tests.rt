@@ -1,12 +1,12 @@
 ghost use Rattle.std.specs.Prelude.{◌≡◌, ◌≤◌, length};
-ghost use Rattle.bit_blocks.specs.Bits.{AllBits};
+ghost use Rattle.training_seq.specs.bit_blocks.Bits.{AllBits};
 ghost use Rattle.burst_map.specs.NormalBurst.{normal_burst};
 
-use super::{NormalParts, access, normal, sync};
+use super::{BURST_BITS, NormalParts, access, normal, sync};
 use std::alloc::{AllocError, Global};
 use std::process::Abort;
 
-// The bits of digits 0 and 1, with blanks between them.
+// The bits of a text of digits 0 and 1; blanks are skipped.
 fn bits(alloc: Global, digits: &str) -> Result<Vec<u8>, AllocError> {
     digits
         .bytes()
@@ -24,14 +24,14 @@ fn assert_bits(rt: &impl Abort, bits: &[u8], count: usize)
     assert!(rt; are_bits);
 }
 
-// The same burst as `normal` makes, written half by half.
-fn filled(first: &[u8], second: &[u8], tsc: u8) -> [u8; 148]
+// The burst that `normal` makes, written half by half.
+fn filled(first: &[u8], second: &[u8], tsc: u8) -> [u8; BURST_BITS]
     requires first { length first.now ≡ 57 }
     requires second { length second.now ≡ 57 }
     requires known { tsc ≤ 7 }
     ensures { result ≡ normal_burst first.now second.now tsc }
 {
-    let mut burst = [0; 148];
+    let mut burst = [0; BURST_BITS];
     let mut parts = NormalParts::new(&mut burst, tsc);
     parts.first_mut().copy_from_slice(first);
     parts.second_mut().copy_from_slice(second);
@@ -63,7 +63,7 @@ fn a_normal_burst_has_both_flags_and_its_sequence(rt: HostRuntime) -> Result<(),
     Ok(())
 }
 
-// The burst of eight information bits 0 for the base station identity code 000000.
+// The burst of eight information bits 0 and BSIC 0.
 #[test]
 fn an_access_burst_ends_with_its_coded_bits(rt: HostRuntime) -> Result<(), AllocError> {
     let body = bits(rt.alloc(), "000000000000000011101001101001000011")?;

@@ -1,42 +1,42 @@
--- The definitions at worked values.
+-- The definitions computed at worked examples.
 use Rattle.std.proofs.Common.{◌≡◌, ℕ, ℤ, pos, negsuc, List, [], ◌∷◌, ◌++◌, replicate, refl}
 use Rattle.std.specs.List.{flat_map}
-use Rattle.conv_code.specs.Code.{coded}
+use Rattle.conv_code.specs.Code.{encoding}
 use Rattle.conv_code.specs.Likelihood.{likelihood}
 
--- the access word of eight zeros under a colour code of zeros: parity of six ones
-coded-access : coded (replicate 8 0 ++ replicate 6 1 ++ replicate 4 0) ≡
+-- the RACH information list of eight zeros, BSIC 0: the six CRC bits are ones
+coded-access : encoding (replicate 8 0 ++ replicate 6 1 ++ replicate 4 0) ≡
     replicate 16 0 ++ (1 ∷ 1 ∷ 1 ∷ 0 ∷ 1 ∷ 0 ∷ 0 ∷ 1 ∷ 1 ∷ 0 ∷ 1 ∷ 0 ∷ 0 ∷ 1 ∷ 0 ∷ 0 ∷ 0 ∷ 0 ∷ 1 ∷ 1 ∷ [])
 coded-access = refl
 
--- the block of zeros: parity of forty ones
-coded-block : coded (replicate 184 0 ++ replicate 40 1 ++ replicate 4 0) ≡
+-- the xCCH information list of zeros: the forty Fire code bits are ones
+coded-block : encoding (replicate 184 0 ++ replicate 40 1 ++ replicate 4 0) ≡
     replicate 368 0 ++ (1 ∷ 1 ∷ 1 ∷ 0 ∷ 1 ∷ 0 ∷ 0 ∷ 1 ∷ []) ++ flat_map {X = ℕ} (λ _. 1 ∷ 0 ∷ []) (replicate 36 0) ++
     (0 ∷ 1 ∷ 0 ∷ 0 ∷ 0 ∷ 0 ∷ 1 ∷ 1 ∷ [])
 coded-block = refl
 
-coded-zeros : coded (replicate 228 0) ≡ replicate 456 0
+coded-zeros : encoding (replicate 228 0) ≡ replicate 456 0
 coded-zeros = refl
 
--- one wrong value of strength 7 among 35 right ones of strength 1 outweighs six of them
+-- one wrong soft bit of strength 7 among 35 right ones of strength 1: the zeros lose to two other lists
 abbrev one_strong : List ℤ
 one_strong = negsuc 6 ∷ replicate 35 (pos 1)
 
-likelihood-zeros : likelihood one_strong (coded (replicate 18 0)) ≡ pos 28
+likelihood-zeros : likelihood one_strong (encoding (replicate 18 0)) ≡ pos 28
 likelihood-zeros = refl
 
-likelihood-first_one : likelihood one_strong (coded (1 ∷ replicate 17 0)) ≡ pos 30
+likelihood-first_one : likelihood one_strong (encoding (1 ∷ replicate 17 0)) ≡ pos 30
 likelihood-first_one = refl
 
-likelihood-first_three : likelihood one_strong (coded (replicate 3 1 ++ replicate 15 0)) ≡ pos 30
+likelihood-first_three : likelihood one_strong (encoding (replicate 3 1 ++ replicate 15 0)) ≡ pos 30
 likelihood-first_three = refl
 
--- a last bit of 1 would beat the zeros where the last two values are wrong: an information list may not have it
+-- two wrong soft bits at the end: a last bit 1 would win, but the last four bits of an information list are 0
 abbrev last_two_wrong : List ℤ
 last_two_wrong = replicate 34 (pos 1) ++ replicate 2 (negsuc 0)
 
-likelihood-last_zero : likelihood last_two_wrong (coded (replicate 18 0)) ≡ pos 32
+likelihood-last_zero : likelihood last_two_wrong (encoding (replicate 18 0)) ≡ pos 32
 likelihood-last_zero = refl
 
-likelihood-last_one : likelihood last_two_wrong (coded (replicate 17 0 ++ 1 ∷ [])) ≡ pos 36
+likelihood-last_one : likelihood last_two_wrong (encoding (replicate 17 0 ++ 1 ∷ [])) ≡ pos 36
 likelihood-last_one = refl

@@ -1,4 +1,4 @@
--- The coded list, one place more at a time.
+-- How the encoder's loop extends the coded bits by one pair.
 use Rattle.std.proofs.Common.{◌≡◌, ℕ, zero, suc, ◌+◌, ◌-◌, ◌*◌, ◌%◌, ◌<◌, ◌≤◌, true, false, nat_lt}
 use Rattle.std.proofs.Common.{if◌then◌else◌, List, [], ◌∷◌, ◌++◌, length, get_or, take, ap, ap₂, sym, append_assoc}
 use Rattle.std.proofs.Common.{◌∙◌, arith, bit_xor, inl, inr}
@@ -10,33 +10,33 @@ use Rattle.std.proofs.lemmas.List.{take_more_set, length-set, get_or_past}
 use Rattle.std.proofs.lemmas.Grind.{flat_map-append}
 use Rattle.bit_blocks.specs.Bits.{AllBits}
 use Rattle.bit_blocks.proofs.Lemmas.{bit_xor-bits}
-use Rattle.conv_code.specs.Code.{delayed, first_sum, second_sum, coded_pair}
+use Rattle.conv_code.specs.Code.{delayed_bit, first_sum, second_sum, coded_pair}
 
-pub delayed-more : (u : List ℕ) (k d e : ℕ) → e ≡ d + 1 → delayed u (k + 1) e ≡ delayed u k d
+pub delayed-more : (u : List ℕ) (k d e : ℕ) → e ≡ d + 1 → delayed_bit u (k + 1) e ≡ delayed_bit u k d
 delayed-more u k d e h = grind (arith, nat_tests)
 
-pub delayed-none : (u : List ℕ) (k : ℕ) → delayed u k 0 ≡ get_or u k 0
+pub delayed-none : (u : List ℕ) (k : ℕ) → delayed_bit u k 0 ≡ get_or u k 0
 delayed-none u k = grind (arith, nat_tests)
 
--- from the fourth place on the earlier bits are there
-pub delayed-late : (u : List ℕ) (k d : ℕ) → d ≤ k → delayed u k d ≡ get_or u (k - d) 0
+-- from k = d on, the delayed bit exists
+pub delayed-late : (u : List ℕ) (k d : ℕ) → d ≤ k → delayed_bit u k d ≡ get_or u (k - d) 0
 delayed-late u k d h = grind (arith, nat_tests)
 
--- every place of a list of bits has a bit, past its end too
+-- reading past the end of a bit list gives a bit too
 pub bit_at-most_1 : (u : List ℕ) (k : ℕ) → AllBits u → get_or u k 0 ≤ 1
 bit_at-most_1 u k bits = elim (cases_lt k (length u)) [
   | inl within ↦ bits k 0 within
   | inr past ↦ rw (get_or_past u k 0 past) (omega arith)
 ]
 
-pub delayed-at_most_1 : (u : List ℕ) (k d : ℕ) → AllBits u → delayed u k d ≤ 1
+pub delayed-at_most_1 : (u : List ℕ) (k d : ℕ) → AllBits u → delayed_bit u k d ≤ 1
 delayed-at_most_1 u k d bits =
     elim (nat_lt k d) as (λ early. (if early then 0 else get_or u (k - d) 0) ≤ 1) [
       | true ↦ omega arith
       | false ↦ bit_at-most_1 u (k - d) bits
     ]
 
--- the machine's sums without a carry are the two sums
+-- XOR computes the two sums of the definition
 pub first_by_xor : (x three four : ℕ) → x ≤ 1 → three ≤ 1 → four ≤ 1 →
     bit_xor (bit_xor x three) four ≡ (x + three + four) % 2
 first_by_xor x three four hx h3 h4 =
@@ -56,7 +56,6 @@ range_more a (suc n) last e =
     let e' : a + 1 + n ≡ last = omega arith in
     rw longer (ap (λ rest. a ∷ rest) (range_more (a + 1) n last e'))
 
--- one more place is written
 pub coded_more : (u out : List ℕ) (k a b : ℕ) → 2 * k + 1 < length out →
     take (2 * k) out ≡ flat_map (coded_pair u) (range_with_len 0 k) → a ≡ first_sum u k → b ≡ second_sum u k →
     take (2 * (k + 1)) (set (set out (2 * k) a) (2 * k + 1) b) ≡ flat_map (coded_pair u) (range_with_len 0 (k + 1))

@@ -1,4 +1,4 @@
--- What crates above cite of information lists and coded lists.
+-- Lemmas that other crates cite.
 pub use Rattle.conv_code.proofs.Lists.{IsInformation-tail, AllBits-coded, length-coded}
 pub use Rattle.conv_code.proofs.OneBest.{same_number, same_list, FallsBehind-one_way, IsMostLikely-only}
 pub use Rattle.conv_code.proofs.States.{coded_from_start}

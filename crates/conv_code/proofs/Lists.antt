@@ -1,4 +1,4 @@
--- Information lists that end in the four tail bits, and the lengths and bits of coded lists.
+-- Lists that end in four tail bits are information lists; the length of `coded`, and that it holds bits.
 use Rattle.std.proofs.Common.{◌≡◌, ℕ, zero, suc, ◌+◌, ◌-◌, ◌*◌, ◌<◌, List, [], ◌∷◌, ◌++◌, length, drop}
 use Rattle.std.proofs.Common.{replicate, sym, ap, subst, ◌∙◌, arith, refl}
 use Rattle.std.specs.List.{All, flat_map, range_with_len}
@@ -7,7 +7,7 @@ use Rattle.std.proofs.Math.Seq.{drop-append_seam}
 use Rattle.std.proofs.lemmas.List.Elements.{All-cons, All-nil}
 use Rattle.bit_blocks.specs.Bits.{IsBit, AllBits}
 use Rattle.bit_blocks.proofs.Lemmas.{AllBits-append, AllBits-table}
-use Rattle.conv_code.specs.Code.{coded, coded_pair, first_sum, second_sum, IsInformation}
+use Rattle.conv_code.specs.Code.{encoding, coded_pair, first_sum, second_sum, IsInformation}
 
 abbrev IsZero : ℕ → Type 0
 IsZero bit = bit ≡ 0
@@ -33,8 +33,7 @@ AllBits-pairs u (k ∷ ks) =
     All-cons IsBit (first_sum u k) (second_sum u k ∷ flat_map (coded_pair u) ks) (omega arith)
     (All-cons IsBit (second_sum u k) (flat_map (coded_pair u) ks) (omega arith) (AllBits-pairs u ks))
 
--- a coded list is a list of bits
-pub AllBits-coded : (u : List ℕ) → AllBits (coded u)
+pub AllBits-coded : (u : List ℕ) → AllBits (encoding u)
 AllBits-coded u = AllBits-pairs u (range_with_len 0 (length u))
 
 length-pairs : (u ks : List ℕ) → length (flat_map (coded_pair u) ks) ≡ 2 * length ks
@@ -45,5 +44,5 @@ length-range : (n a : ℕ) → length (range_with_len a n) ≡ n
 length-range zero a = refl
 length-range (suc n) a = ap suc (length-range n (a + 1))
 
-pub length-coded : (u : List ℕ) → length (coded u) ≡ 2 * length u
+pub length-coded : (u : List ℕ) → length (encoding u) ≡ 2 * length u
 length-coded u = length-pairs u (range_with_len 0 (length u)) ∙ ap (λ n. 2 * n) (length-range (length u) 0)

@@ -1,4 +1,4 @@
--- There is at most one most likely information list.
+-- The most likely information list is unique, since no two lists each fall behind the other.
 use Rattle.std.proofs.Common.{◌≡◌, ◌≢◌, ℕ, ◌⊎◌, inl, inr, ℤ, List, [], ◌∷◌, length, get_or, refl, ap, ap₂}
 use Rattle.std.proofs.Common.{sym, ◌∙◌, arith}
 use Rattle.std.proofs.lemmas.Bool.{cases_lt}
@@ -20,7 +20,7 @@ same_list (x ∷ u) (y ∷ v) = elim (same_number x y) [
   | inr other ↦ inr (λ e. other (cc))
 ]
 
--- two lists do not stand before each other
+-- lexicographic order is asymmetric
 IsBefore-one_way : (u v : List ℕ) → IsBefore u v → IsBefore v u → ⊥
 IsBefore-one_way u v h g = elim (cases_lt h.place g.place) [
   | inl earlier ↦ let same = g.same h.place earlier in h.differs (same ∙ h.zero)

@@ -1,4 +1,5 @@
--- The coded bits eight to an octet.
+-- `encode_octets` writes the coded bits. Its operations on single octets are checked by computation on all 256; each octet gives two
+-- groups of four pairs, the first from a window across the boundary to the octet before.
 use Rattle.std.proofs.Common.{◌≡◌, ℕ, zero, suc, ◌+◌, ◌-◌, ◌*◌, ◌/◌, ◌%◌, ◌^◌, ◌<◌, ◌≤◌, Bool}
 use Rattle.std.proofs.Common.{true, ◌&&◌, eqb, List, [], ◌∷◌, ◌++◌, length, length-append, get_or, nat_lt}
 use Rattle.std.proofs.Common.{if◌then◌else◌, zero-add, get_or-set_other, get_or-set_same, refl, ap, ap₂, sym, ◌∙◌, arith}
@@ -14,13 +15,13 @@ use Rattle.std.proofs.lemmas.Nat.{and_mask}
 use Rattle.bit_blocks.specs.Octets.{bits_of}
 use Rattle.bit_blocks.specs.Packed.{ArePacked, bit_of, packed_place}
 use Rattle.bit_blocks.proofs.Lemmas.{passes_below, at_passes_below, both_true, get_or-bits_of, length-bits_of}
-use Rattle.conv_code.specs.Code.{coded, coded_pair, delayed, first_sum, second_sum}
+use Rattle.conv_code.specs.Code.{encoding, coded_pair, delayed_bit, first_sum, second_sum}
 use Rattle.conv_code.specs.Windows.{IsQuad}
 use Rattle.conv_code.proofs.Coding.{delayed-late}
 
--- ---- eight bits
+-- ---- the coded bits of eight information bits
 
--- what the coder makes of eight bits
+-- the octet that `quad` makes of eight bits
 abbrev pub quad_of : ℕ → ℕ
 quad_of window =
     let first = bit_xor (bit_xor (window / 2 ^ 4) (window / 2 ^ 1)) window in
@@ -98,7 +99,6 @@ window_bits x i hx hi =
     }
 
 module _ (before here : ℕ) (hb : before < 256) (hh : here < 256) where
-  -- both halves in one number
   abbrev halves : ℕ
   halves = 16 * (before / 2 ^ 4) + bit_and here 15
 
@@ -171,7 +171,6 @@ module _ (octets : List ℕ) (m : ℕ) where
       let at : 8 * (m + 1) + n ≡ 4 * (2 * m + 1) + 4 + n = omega arith in
       sym (get_or-bits_of octets (m + 1) n hn) ∙ ap (λ j. get_or (bits_of octets) j 0) at
 
--- two octets more are written
 pub quads_more : (bits packed : List ℕ) (m a b : ℕ) → length packed ≡ 64 → m < 32 → IsQuad bits a (2 * m) → IsQuad bits b (2 * m + 1) →
     ((t : ℕ) → t < 2 * m → IsQuad bits (get_or packed t 0) t) →
     (t : ℕ) → t < 2 * (m + 1) → IsQuad bits (get_or (set (set packed (2 * m) a) (2 * m + 1) b) t 0) t
@@ -187,7 +186,7 @@ quads_more bits packed m a b long hm even odd before t ht =
           ])
     ]
 
--- ---- the coded list, place by place
+-- ---- the coded bits, one by one
 
 pairs_first : (u ks : List ℕ) (k : ℕ) → k < length ks → get_or (flat_map (coded_pair u) ks) (2 * k) 0 ≡ first_sum u (get_or ks k 0)
 pairs_first u [] k lt = absurd (omega arith)
@@ -205,17 +204,17 @@ pairs_second u (x ∷ ks) (suc k) lt =
     let at : 2 * suc k + 1 ≡ suc (suc (2 * k + 1)) = omega arith in
     ap (λ n. get_or (flat_map (coded_pair u) (x ∷ ks)) n 0) at ∙ pairs_second u ks k lt'
 
-coded_first : (u : List ℕ) (k : ℕ) → k < length u → get_or (coded u) (2 * k) 0 ≡ first_sum u k
+coded_first : (u : List ℕ) (k : ℕ) → k < length u → get_or (encoding u) (2 * k) 0 ≡ first_sum u k
 coded_first u k lt =
     pairs_first u (range_with_len 0 (length u)) k (omega (arith, length-range_with_len 0 (length u)))
     ∙ ap (first_sum u) (get_or-range_with_len 0 (length u) k 0 lt ∙ zero-add k)
 
-coded_second : (u : List ℕ) (k : ℕ) → k < length u → get_or (coded u) (2 * k + 1) 0 ≡ second_sum u k
+coded_second : (u : List ℕ) (k : ℕ) → k < length u → get_or (encoding u) (2 * k + 1) 0 ≡ second_sum u k
 coded_second u k lt =
     pairs_second u (range_with_len 0 (length u)) k (omega (arith, length-range_with_len 0 (length u)))
     ∙ ap (second_sum u) (get_or-range_with_len 0 (length u) k 0 lt ∙ zero-add k)
 
--- ---- the bits of octets behind eight zeros
+-- ---- the bits of octets after eight zeros
 
 module _ (octets : List ℕ) (k : ℕ) where
   abbrev bits : List ℕ
@@ -234,11 +233,11 @@ module _ (octets : List ℕ) (k : ℕ) where
       let at : j ≡ 8 * 0 + j = omega arith in
       ap (λ n. get_or behind n 0) at ∙ get_or-bits_of (0 ∷ octets) 0 j lt ∙ ap (λ n. n % 2) (zero-div (2 ^ j))
 
-  delayed_is : (d j : ℕ) → d ≤ 8 → k + 8 ≡ j + d → delayed bits k d ≡ get_or behind j 0
+  delayed_is : (d j : ℕ) → d ≤ 8 → k + 8 ≡ j + d → delayed_bit bits k d ≡ get_or behind j 0
   delayed_is d j hd at =
       elim (cases_lt k d) [
         | inl early ↦
-            let none : delayed bits k d ≡ 0 = grind (arith, nat_tests) in
+            let none : delayed_bit bits k d ≡ 0 = grind (arith, nat_tests) in
             none ∙ sym (behind_none j (omega arith))
         | inr late ↦
             let same : 8 + (k - d) ≡ j = omega arith in
@@ -254,7 +253,7 @@ module _ (octets : List ℕ) (k : ℕ) where
       let here = here_is ∙ ea in
       let three = delayed_is 3 (k + 5) (omega arith) (omega arith) ∙ eb in
       let four = delayed_is 4 (k + 4) (omega arith) (omega arith) ∙ ec in
-      is ∙ sym (ap (λ x. (x + delayed bits k 3 + delayed bits k 4) % 2) here ∙ ap₂ (λ y z. (a + y + z) % 2) three four)
+      is ∙ sym (ap (λ x. (x + delayed_bit bits k 3 + delayed_bit bits k 4) % 2) here ∙ ap₂ (λ y z. (a + y + z) % 2) three four)
 
   second_is : (a e b c x : ℕ) → get_or behind (k + 8) 0 ≡ a → get_or behind (k + 7) 0 ≡ e → get_or behind (k + 5) 0 ≡ b →
       get_or behind (k + 4) 0 ≡ c → x ≡ (a + e + b + c) % 2 → x ≡ second_sum bits k
@@ -264,11 +263,11 @@ module _ (octets : List ℕ) (k : ℕ) where
       let three = delayed_is 3 (k + 5) (omega arith) (omega arith) ∙ eb in
       let four = delayed_is 4 (k + 4) (omega arith) (omega arith) ∙ ec in
       is
-      ∙ sym (ap₂ (λ x y. (x + y + delayed bits k 3 + delayed bits k 4) % 2) here one ∙ ap₂ (λ y z. (a + e + y + z) % 2) three four)
+      ∙ sym (ap₂ (λ x y. (x + y + delayed_bit bits k 3 + delayed_bit bits k 4) % 2) here one ∙ ap₂ (λ y z. (a + e + y + z) % 2) three four)
 
--- an octet for four places each
+-- one octet for each four information bits
 pub ArePacked-quads : (octets packed : List ℕ) → length octets ≡ 32 →
-    ((t : ℕ) → t < 64 → IsQuad (bits_of (0 ∷ octets)) (get_or packed t 0) t) → ArePacked 64 (coded (bits_of octets)) packed
+    ((t : ℕ) → t < 64 → IsQuad (bits_of (0 ∷ octets)) (get_or packed t 0) t) → ArePacked 64 (encoding (bits_of octets)) packed
 ArePacked-quads octets packed long quads t r ht hr =
     let quad = quads t ht in
     let i = r / 2 in
@@ -288,23 +287,23 @@ ArePacked-quads octets packed long quads t r ht hr =
           ap (bit_of (get_or packed t 0)) place
           ∙ first_is octets k _ _ _ _ (there _ _ at_8) (there _ _ at_5) (there _ _ at_4) (quad.first i hi)
           ∙ sym (coded_first (bits_of octets) k within)
-          ∙ ap (λ n. get_or (coded (bits_of octets)) n 0) at
+          ∙ ap (λ n. get_or (encoding (bits_of octets)) n 0) at
       | inr odd ↦
           let place : packed_place r ≡ i + 4 = omega arith in
           let at : 2 * k + 1 ≡ 8 * t + r = omega arith in
           ap (bit_of (get_or packed t 0)) place
           ∙ second_is octets k _ _ _ _ _ (there _ _ at_8) (there _ _ at_7) (there _ _ at_5) (there _ _ at_4) (quad.second i hi)
           ∙ sym (coded_second (bits_of octets) k within)
-          ∙ ap (λ n. get_or (coded (bits_of octets)) n 0) at
+          ∙ ap (λ n. get_or (encoding (bits_of octets)) n 0) at
     ]
 
--- ---- the front of a coded list
+-- ---- the first coded bits
 
 module _ (u rest : List ℕ) (k : ℕ) (lt : k < length u) where
   longer : k < length (u ++ rest)
   longer = omega (arith, length-append u rest)
 
-  delayed_front : (d : ℕ) → delayed (u ++ rest) k d ≡ delayed u k d
+  delayed_front : (d : ℕ) → delayed_bit (u ++ rest) k d ≡ delayed_bit u k d
   delayed_front d =
       let within : k - d < length u = omega arith in
       let same = get_or_append_left u rest 0 (k - d) within in
@@ -313,23 +312,23 @@ module _ (u rest : List ℕ) (k : ℕ) (lt : k < length u) where
   here_front : get_or (u ++ rest) k 0 ≡ get_or u k 0
   here_front = get_or_append_left u rest 0 k lt
 
-  front_first : get_or (coded (u ++ rest)) (2 * k) 0 ≡ get_or (coded u) (2 * k) 0
+  front_first : get_or (encoding (u ++ rest)) (2 * k) 0 ≡ get_or (encoding u) (2 * k) 0
   front_first =
       coded_first (u ++ rest) k longer
-      ∙ ap (λ x. (x + delayed (u ++ rest) k 3 + delayed (u ++ rest) k 4) % 2) here_front
+      ∙ ap (λ x. (x + delayed_bit (u ++ rest) k 3 + delayed_bit (u ++ rest) k 4) % 2) here_front
       ∙ ap₂ (λ y z. (get_or u k 0 + y + z) % 2) (delayed_front 3) (delayed_front 4)
       ∙ sym (coded_first u k lt)
 
-  front_second : get_or (coded (u ++ rest)) (2 * k + 1) 0 ≡ get_or (coded u) (2 * k + 1) 0
+  front_second : get_or (encoding (u ++ rest)) (2 * k + 1) 0 ≡ get_or (encoding u) (2 * k + 1) 0
   front_second =
       coded_second (u ++ rest) k longer
-      ∙ ap₂ (λ x y. (x + y + delayed (u ++ rest) k 3 + delayed (u ++ rest) k 4) % 2) here_front (delayed_front 1)
-      ∙ ap₂ (λ y z. (get_or u k 0 + delayed u k 1 + y + z) % 2) (delayed_front 3) (delayed_front 4)
+      ∙ ap₂ (λ x y. (x + y + delayed_bit (u ++ rest) k 3 + delayed_bit (u ++ rest) k 4) % 2) here_front (delayed_front 1)
+      ∙ ap₂ (λ y z. (get_or u k 0 + delayed_bit u k 1 + y + z) % 2) (delayed_front 3) (delayed_front 4)
       ∙ sym (coded_second u k lt)
 
--- a list codes as the front of a longer one
-pub ArePacked-front : (m n : ℕ) (u rest octets : List ℕ) → n ≤ m → 4 * n ≤ length u → ArePacked m (coded (u ++ rest)) octets →
-    ArePacked n (coded u) octets
+-- the coded bits of a list begin the coded bits of each longer list
+pub ArePacked-front : (m n : ℕ) (u rest octets : List ℕ) → n ≤ m → 4 * n ≤ length u → ArePacked m (encoding (u ++ rest)) octets →
+    ArePacked n (encoding u) octets
 ArePacked-front m n u rest octets le long are t r ht hr =
     let k = 4 * t + r / 2 in
     let within : k < length u = omega arith in
@@ -337,8 +336,8 @@ ArePacked-front m n u rest octets le long are t r ht hr =
     ∙ elim (cases_lt (r % 2) 1) [
       | inl even ↦
           let at : 2 * k ≡ 8 * t + r = omega arith in
-          ap (λ n. get_or (coded (u ++ rest)) n 0) (sym at) ∙ front_first u rest k within ∙ ap (λ n. get_or (coded u) n 0) at
+          ap (λ n. get_or (encoding (u ++ rest)) n 0) (sym at) ∙ front_first u rest k within ∙ ap (λ n. get_or (encoding u) n 0) at
       | inr odd ↦
           let at : 2 * k + 1 ≡ 8 * t + r = omega arith in
-          ap (λ n. get_or (coded (u ++ rest)) n 0) (sym at) ∙ front_second u rest k within ∙ ap (λ n. get_or (coded u) n 0) at
+          ap (λ n. get_or (encoding (u ++ rest)) n 0) (sym at) ∙ front_second u rest k within ∙ ap (λ n. get_or (encoding u) n 0) at
     ]

@@ -1,16 +1,16 @@
--- The coded list is that of the machine of sixteen states from state 0 on.
+-- The generator sums give the same coded bits as the state machine from state 0.
 use Rattle.std.proofs.Common.{◌≡◌, ℕ, zero, suc, ◌+◌, ◌*◌, ◌<◌, List, ◌∷◌, length, get_or, drop, refl, ap}
 use Rattle.std.proofs.Common.{ap₂, sym, ◌∙◌, arith}
 use Rattle.std.proofs.Math.Seq.{drop-cons, drop-length}
 use Rattle.std.specs.List.{flat_map, range_with_len}
 use Rattle.bit_blocks.specs.Bits.{AllBits}
-use Rattle.conv_code.specs.Code.{delayed, first_sum, second_sum, coded_pair, coded}
+use Rattle.conv_code.specs.Code.{delayed_bit, first_sum, second_sum, coded_pair, encoding}
 use Rattle.conv_code.specs.States.{next, first_bit, second_bit, coded_from}
 use Rattle.conv_code.proofs.Coding.{delayed-more, delayed-none, delayed-at_most_1, bit_at-most_1}
 
--- the state in which place k finds the coder
+-- the encoder's state before bit k
 pub state_at : List ℕ → ℕ → ℕ
-state_at u k = delayed u k 1 + 2 * delayed u k 2 + 4 * delayed u k 3 + 8 * delayed u k 4
+state_at u k = delayed_bit u k 1 + 2 * delayed_bit u k 2 + 4 * delayed_bit u k 3 + 8 * delayed_bit u k 4
 
 pub next_state : (u : List ℕ) (k : ℕ) → AllBits u → next (state_at u k) (get_or u k 0) ≡ state_at u (k + 1)
 unfolding state_at
@@ -56,6 +56,6 @@ coded_from_place u k (suc n) bits e =
     (rest ∙ ap₂ coded_from (sym (next_state u k bits)) (ap (λ j. drop j u) more))
     ∙ ap (coded_from (state_at u k)) (sym (drop-cons u k 0 within))
 
-pub coded_from_start : (u : List ℕ) → AllBits u → coded u ≡ coded_from 0 u
+pub coded_from_start : (u : List ℕ) → AllBits u → encoding u ≡ coded_from 0 u
 unfolding state_at
 coded_from_start u bits = coded_from_place u 0 (length u) bits (omega arith)

@@ -1,9 +1,9 @@
--- Which information list fits soft values best (this project's own rule; GSM 05.03 leaves decoding open).
+-- The most likely information list for soft bits (this project's own rule; GSM 05.03 leaves decoding open).
 use Rattle.std.specs.Prelude.{ℕ, ◌≡◌, ◌≢◌, ◌<◌, ◌*◌, ◌⊎◌, ℤ, ◌<ℤ◌, List, length, slice_index}
-use Rattle.conv_code.specs.Code.{coded, IsInformation}
+use Rattle.conv_code.specs.Code.{encoding, IsInformation}
 pub use Rattle.bit_blocks.specs.SoftValues.{AllSoft, agreement, likelihood}
 
--- u stands before v in the order of words: u has 0 at the first place where they differ
+-- u precedes v in lexicographic order: at the first index where they differ, u has 0
 pub record IsBefore (u v : List ℕ) : Type 0 where
   pub place : ℕ
   pub within : place < length u
@@ -11,13 +11,14 @@ pub record IsBefore (u v : List ℕ) : Type 0 where
   pub zero : slice_index u place ≡ 0
   pub differs : slice_index v place ≢ 0
 
--- v is less likely than u, or as likely and later in the order of words
+-- for the soft bits s, v has a smaller path metric than u, or an equal one and comes later in lexicographic order
 abbrev pub FallsBehind : List ℤ → List ℕ → List ℕ → Type 0
 FallsBehind s v u =
-    (likelihood s (coded v) <ℤ likelihood s (coded u)) ⊎
-    ((likelihood s (coded v) ≡ likelihood s (coded u)) × IsBefore u v)
+    (likelihood s (encoding v) <ℤ likelihood s (encoding u)) ⊎
+    ((likelihood s (encoding v) ≡ likelihood s (encoding u)) × IsBefore u v)
 
--- u is the most likely information list for s, and the first of those that are equally likely
+-- for the soft bits s, u has the greatest path metric of all information lists of its length, and comes first in lexicographic
+-- order among equals
 pub record IsMostLikely (s : List ℤ) (u : List ℕ) : Type 0 where
   pub information : IsInformation u
   pub count : length s ≡ 2 * length u

@@ -1,8 +1,8 @@
--- Eight bits of an information list at a time.
+-- The coded bits of four information bits, which depend on eight.
 use Rattle.std.specs.Prelude.{ℕ, ◌≡◌, ◌<◌, ◌+◌, ◌*◌, ◌%◌, List, slice_index}
 use Rattle.bit_blocks.specs.Packed.{bit_of}
 
--- the octet holds the coded bits of four places from 4 t on, in a list before which stand eight bits more
+-- the octet holds the coded bits of information bits 4 t to 4 t + 3, where `bits` is eight bits followed by the information list
 pub record IsQuad (bits : List ℕ) (octet t : ℕ) : Type 0 where
   pub first : (i : ℕ) → i < 4 → bit_of octet i ≡
       (slice_index bits (4 * t + 8 + i) + slice_index bits (4 * t + 5 + i) + slice_index bits (4 * t + 4 + i)) % 2

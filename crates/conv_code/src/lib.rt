@@ -1,28 +1,28 @@
-//! The convolutional code of rate one half and constraint length five that the signalling channels, RACH and SCH share
-//! (GSM 05.03 section 4.1.3, today 3GPP TS 45.003), and which information list is the most likely one for soft values.
+//! The convolutional code of rate 1/2 and constraint length 5 of the signalling channels, RACH and SCH (GSM 05.03, today
+//! 3GPP TS 45.003, section 4.1.3), and the definition of the most likely information list for soft bits.
 #![tactic(auto)]
 
 ghost use Rattle.std.specs.Prelude.{◌≡◌, ◌*◌, ◌<◌, length, take};
 ghost use Rattle.std.specs.List.{flat_map, range_with_len};
-ghost use Rattle.conv_code.specs.Code.{coded, coded_pair, delayed, IsInformation};
+ghost use Rattle.conv_code.specs.Code.{encoding, coded_pair, delayed_bit, IsInformation};
 
 mod packed;
 
 pub use packed::encode_octets;
 
-/// Writes the coded list of an information list, two bits for each place.
+/// Writes the coded bits of the information list `u` to `out`, two for each bit.
 ///
-/// The last four bits of `u` are the zeros that bring the coder back to rest.
+/// The last four bits of `u` are the zero tail bits, which return the encoder to state 0.
 pub fn encode(u: &[u8], out: &mut [u8])
     requires information { IsInformation u.now }
     requires count { length out.old ≡ 2 * length u.now }
-    ensures { out.new ≡ coded u.now }
+    ensures { out.new ≡ encoding u.now }
 {
     encode_front(u, out);
     encode_rest(u, out);
 }
 
-/// Writes the pairs of the first four places, before some of which no bit stands.
+/// Writes the first four pairs, whose generators reach before the first bit.
 fn encode_front(u: &[u8], out: &mut [u8])
     requires information { IsInformation u.now }
     requires count { length out.old ≡ 2 * length u.now }
@@ -36,21 +36,20 @@ fn encode_front(u: &[u8], out: &mut [u8])
     }
 }
 
-/// The bit of an earlier place, and 0 before the first place.
+/// The bit `delay` before bit `k`, or 0 before the first bit.
 fn delayed(u: &[u8], k: usize, delay: usize) -> u8
     requires { k < length u.now }
-    ensures { result ≡ delayed u.now k delay }
+    ensures { result ≡ delayed_bit u.now k delay }
 {
     if k < delay { 0 } else { u[k - delay] }
 }
 
-/// Writes the pairs of all places from the fifth on: without a bit that is kept from one place to the next the compiler
-/// makes sixteen pairs at a time.
+/// Writes the pairs from the fifth on. No value is carried from pair to pair, so that the compiler computes sixteen at a time.
 fn encode_rest(u: &[u8], out: &mut [u8])
     requires information { IsInformation u.now }
     requires count { length out.old ≡ 2 * length u.now }
     requires pairs { take 8 out.old ≡ flat_map (coded_pair u.now) (range_with_len 0 4) }
-    ensures { out.new ≡ coded u.now }
+    ensures { out.new ≡ encoding u.now }
 {
     for k in 4..u.len() {
         let first = u[k] ^ u[k - 3] ^ u[k - 4];

@@ -1,20 +1,20 @@
-//! The coder four places at a time, over octets of bits: what it writes are the coded bits eight to an octet.
+//! The encoder over packed bits: four information bits at a time, eight coded bits to an octet.
 ghost use Rattle.std.specs.Prelude.{◌≡◌, ℕ, ◌+◌, ◌*◌, ◌%◌, ◌<◌, slice_index};
 ghost use Rattle.bit_blocks.specs.Octets.{bits_of};
 ghost use Rattle.bit_blocks.specs.Packed.{ArePacked, bit_of};
-ghost use Rattle.conv_code.specs.Code.{coded};
+ghost use Rattle.conv_code.specs.Code.{encoding};
 ghost use Rattle.conv_code.specs.Windows.{IsQuad};
 
-/// The coded bits, eight to an octet, of the bits of octets, the bit of value 1 first in each.
+/// The coded bits of 256 information bits, packed least significant bit first; the result is in the layout of `ArePacked`.
 pub fn encode_octets(octets: &[u8; 32]) -> [u8; 64]
-    ensures { ArePacked 64 (coded (bits_of octets.now)) result }
+    ensures { ArePacked 64 (encoding (bits_of octets.now)) result }
 {
     let mut shifted = [0; 33];
     shifted[1..].copy_from_slice(octets);
     quads(&shifted)
 }
 
-/// The coded bits of four places each. The first octet are the bits before the first place.
+/// The coded bits, one octet for each four information bits. The first octet of `shifted` precedes the information list.
 fn quads(shifted: &[u8; 33]) -> [u8; 64]
     ensures { (t : ℕ) → t < 64 → IsQuad (bits_of shifted.now) (slice_index result t) t }
 {
@@ -26,7 +26,7 @@ fn quads(shifted: &[u8; 33]) -> [u8; 64]
     packed
 }
 
-/// The last four bits of an octet and the first four of the next.
+/// The last four bits of `before`, then the first four of `here`.
 #[inline]
 fn window(before: u8, here: u8) -> u8
     ensures low { (i : ℕ) → i < 4 → bit_of result i ≡ bit_of before (i + 4) }
@@ -35,7 +35,7 @@ fn window(before: u8, here: u8) -> u8
     (before >> 4) | ((here & 15) << 4)
 }
 
-/// The coded bits of the last four of eight places: the four first bits, then the four second bits.
+/// The coded bits of the last four of eight bits: the first bits of the four pairs, then the second bits.
 #[inline]
 fn quad(window: u8) -> u8
     ensures first { (i : ℕ) → i < 4 →

@@ -1,8 +1,8 @@
--- What crates above cite: each information part has exactly one parity part; and registers, with a step of the division.
-pub use Rattle.fire_code.proofs.Parities.{some_xcch_parity, some_rach_parity, some_sch_parity, one_xcch_parity, one_rach_parity}
-pub use Rattle.fire_code.proofs.Parities.{one_sch_parity}
+-- Lemmas that other crates cite.
+pub use Rattle.fire_code.proofs.Parities.{some_xcch_crc, some_rach_crc, some_sch_crc, one_xcch_crc, one_rach_crc}
+pub use Rattle.fire_code.proofs.Parities.{one_sch_crc}
 pub use Rattle.fire_code.proofs.OctetSteps.{taps_of_g40}
-pub use Rattle.fire_code.proofs.ParityParts.{add_after}
+pub use Rattle.fire_code.proofs.CrcParts.{add_after}
 pub use Rattle.fire_code.proofs.RegisterBits.{length-register_bits, AllBits-register_bits, get_or-register_bits, lowest_of_xor, number_of}
 pub use Rattle.fire_code.proofs.RegisterBits.{number_of_within, register_bits-mod}
 pub use Rattle.fire_code.proofs.RegisterBits.{register_bits-number_of, register_bits-suc, register_bits-xor, register_bits-zero}

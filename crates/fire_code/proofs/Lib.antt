@@ -2,7 +2,7 @@ mod OctetBits
 mod OctetSteps
 pub mod Lemmas
 mod Parities
-mod ParityParts
+mod CrcParts
 mod RachWords
 mod RegisterBits
 mod SchWords

@@ -1,4 +1,4 @@
--- Eight bits as a number and apart.
+-- Packing and unpacking of eight bits by one multiplication, checked by computation, and registers built from octets.
 use Rattle.std.proofs.Common.{◌≡◌, ℕ, ◌+◌, ◌-◌, ◌*◌, ◌/◌, ◌%◌, ◌^◌, ◌<◌, List, [], ◌∷◌}
 use Rattle.std.proofs.Common.{◌++◌, length, get_or, take, drop, refl, ap, sym, subst, ◌∙◌, arith, bit_and, bit_or, Bool, true}
 use Rattle.std.proofs.Common.{eqb, append_assoc, length-append}
@@ -16,7 +16,7 @@ use Rattle.fire_code.proofs.Tests.{tested, passed}
 use Rattle.fire_code.proofs.RegisterBits.{octet_bits-register_bits, length-register_bits, register_bits-mod, register_bits-parts}
 use Rattle.fire_code.proofs.RegisterBits.{register_bits_split, register_bits-number_of, number_of, number_of_within}
 
--- the number that eight bits are gathered to
+-- the octet that eight bits are packed into
 abbrev pub gathering : List ℕ → ℕ
 gathering bits =
     (from_le_bytes w64 (get_or bits 0 0 ∷ get_or bits 1 0 ∷ get_or bits 2 0 ∷ get_or bits 3 0 ∷
@@ -40,7 +40,7 @@ gathered_bits bits count all =
     (Decides-eqb (gathering (register_bits 8 octet)) octet).0 (passed is_gathered 256 all_gathered octet within) in
     ap (λ b. register_bits 8 (gathering b)) (sym places) ∙ ap (λ n. register_bits 8 n) same ∙ places
 
--- the bits of a number, an octet for each
+-- the bits of an octet, one octet for each
 abbrev pub spreading : ℕ → List ℕ
 spreading octet =
     to_le_bytes w64
@@ -63,7 +63,6 @@ pub no_places : (register : ℕ) → register_bits 0 register ≡ []
 unfolding register_bits
 no_places register = refl
 
--- eight places more of a register that is put together
 pub put_together : (bits : List ℕ) (m n register octet : ℕ) → m < 5 → n ≡ 8 → octet < 256 → register < 2 ^ (8 * m) →
     register_bits 8 octet ≡ take n (drop (8 * m) bits) → register_bits (8 * m) register ≡ take (8 * m) bits →
     let next = bit_or register (octet * 2 ^ (8 * m) % 2 ^ 64) in
@@ -84,7 +83,6 @@ put_together bits m n register octet within eight small low is before =
       rw (width, pow-add 2 k 8) (mul-add-lt octet (2 ^ k) register 256 small low),
     )
 
--- eight places more of the bits of a register
 pub places_more : (register m : ℕ) (bits octet next : List ℕ) → m < 5 → length bits ≡ 40 →
     octet ≡ register_bits 8 (bit_and (register / 2 ^ (8 * m)) 255) → take (8 * m) bits ≡ register_bits (8 * m) register →
     next ≡ take (8 * m) bits ++ (octet ++ drop (8 * m + 8) bits) →

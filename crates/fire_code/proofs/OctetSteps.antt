@@ -1,4 +1,4 @@
--- Division by whole octets: the table's entries, the gathering of eight bits, and one step.
+-- Table-driven division: one table lookup equals eight steps of the shift register. All 256 entries are checked by computation.
 use Rattle.std.proofs.Common.{◌≡◌, ℕ, ◌+◌, ◌*◌, ◌/◌, ◌^◌, ◌≤◌, ◌<◌, List, [], ◌∷◌, ◌++◌}
 use Rattle.std.proofs.Common.{length, replicate, get_or, take, drop, refl, ap, sym, subst, ◌∙◌, arith, bit_xor, bit_and, Bool, true}
 use Rattle.std.proofs.Common.{eqb, append_assoc}
@@ -24,12 +24,12 @@ pub taps_of_g40 : 1 ∷ register_bits 40 618479558656 ≡ g40
 unfolding register_bits
 taps_of_g40 = refl
 
--- the register that these bits leave
+-- the register after these bits, one step for each
 divided : List ℕ → ℕ → ℕ
 divided [] register = register
 divided (bit ∷ bits) register = divided bits (bit_xor (register / 2) (bit_and (bit_xor register bit) 1 * 618479558656))
 
--- what it leaves of bits completes them
+-- the register is the remainder of the bits
 divided_multiple : (front bits : List ℕ) (register : ℕ) → AllBits front → AllBits bits → register < 2 ^ 40 →
     HasQuotient (front ++ register_bits 40 register) g40 →
     HasQuotient ((front ++ bits) ++ register_bits 40 (divided bits register)) g40 × (divided bits register < 2 ^ 40)
@@ -58,7 +58,7 @@ all_entries = refl
 pub empty_register : HasQuotient (register_bits 40 0) g40
 empty_register = subst (λ r. HasQuotient r g40) (sym (register_bits-zero 40)) (HasQuotient-zeros 40 g40 (omega arith))
 
--- an entry of the table completes its octet
+-- a table entry is the remainder of its octet
 pub entry_multiple : (octet : ℕ) → octet < 256 →
     HasQuotient (register_bits 8 octet ++ register_bits 40 (get_or REMAINDERS octet 0)) g40 × (get_or REMAINDERS octet 0 < 2 ^ 40)
 unfolding is_entry
@@ -69,7 +69,6 @@ entry_multiple octet within =
     (omega arith) empty_register in
     subst (λ r. HasQuotient (register_bits 8 octet ++ register_bits 40 r) g40 × (r < 2 ^ 40)) (sym is) found
 
--- eight places more
 pub octet_more : (front next : List ℕ) (register octet entry : ℕ) → AllBits front → AllBits next → register < 2 ^ 40 →
     register_bits 8 octet ≡ next → HasQuotient (front ++ register_bits 40 register) g40 →
     HasQuotient (register_bits 8 (bit_and (bit_xor register octet) 255) ++ register_bits 40 entry) g40 →
@@ -101,7 +100,6 @@ octet_more front next register octet entry bf bn within is before multiple =
 pub octet_within : (register entry : ℕ) → register < 2 ^ 40 → entry < 2 ^ 40 → bit_xor (register / 2 ^ 8) entry < 2 ^ 40
 octet_within register entry within small = xor_lt 40 (register / 2 ^ 8) entry (omega arith) small
 
--- the same along a list
 pub octet_along : (bits : List ℕ) (m n register octet entry : ℕ) → AllBits bits → n ≡ 8 → register < 2 ^ 40 →
     register_bits 8 octet ≡ take n (drop (8 * m) bits) → HasQuotient (take (8 * m) bits ++ register_bits 40 register) g40 →
     HasQuotient (register_bits 8 (bit_and (bit_xor register octet) 255) ++ register_bits 40 entry) g40 →
@@ -115,7 +113,6 @@ octet_along bits m n register octet entry all eight within is before multiple =
     (octet_more (take (8 * m) bits) next register octet entry (All-take IsBit (8 * m) bits all)
     (All-take IsBit n (drop (8 * m) bits) (All-drop IsBit (8 * m) bits all)) within is before multiple)
 
--- the same along a list of octets
 pub octets_along : (octets : List ℕ) (m register entry : ℕ) → m < length octets → register < 2 ^ 40 →
     HasQuotient (bits_of (take m octets) ++ register_bits 40 register) g40 →
     HasQuotient (register_bits 8 (bit_and (bit_xor register (get_or octets m 0)) 255) ++ register_bits 40 entry) g40 →

@@ -1,4 +1,4 @@
--- Each information part has exactly one parity part.
+-- Each information part has exactly one CRC: division gives one, and the remainder of a division is unique.
 use Rattle.std.proofs.Common.{◌≡◌, ℕ, zero, suc, ◌+◌, ◌*◌, ◌/◌, ◌^◌, ◌<◌, ◌≤◌, List, ◌∷◌}
 use Rattle.std.proofs.Common.{◌++◌, length, take, get_or, drop, replicate, refl, ap, sym, ◌∙◌, arith, subst, length-append}
 use Rattle.std.proofs.Common.{bit_xor, bit_and, lit<}
@@ -10,16 +10,16 @@ use Rattle.bit_blocks.proofs.Lemmas.{AllBits-add_bits, AllBits-back, AllBits-fro
 use Rattle.fire_code.specs.Registers.{register_bits}
 use Rattle.fire_code.specs.Words.{g6, g10, g40, IsXcchWord, IsRachWord, IsSchWord}
 use Rattle.fire_code.proofs.OctetSteps.{taps_of_g40}
-use Rattle.fire_code.proofs.ParityParts.{count_of_sum, quotient_of_parts, same_parity}
+use Rattle.fire_code.proofs.CrcParts.{count_of_sum, quotient_of_parts, same_crc}
 use Rattle.fire_code.proofs.RachWords.{code_added, rach_word}
 use Rattle.fire_code.proofs.RegisterBits.{length-register_bits, AllBits-register_bits, register_bits-zero}
 use Rattle.fire_code.proofs.SchWords.{sch_word}
 use Rattle.fire_code.proofs.Steps.{remainder_along, remainder_within}
 use Rattle.fire_code.proofs.XcchWords.{xcch_word}
 
--- ---- there is one
+-- ---- existence
 
--- what completes the first places of a list to a multiple
+-- a register that completes bits to a multiple of the generator
 record Completed (n taps : ℕ) (front : List ℕ) : Type 0 where
   register : ℕ
   within : register < 2 ^ n
@@ -44,16 +44,16 @@ completed n taps bits positive small all (suc i) h =
       quotient = remainder_along n bits i before.register taps positive here all before.within before.quotient;
     })
 
--- a list that completes the information, with the ones added
-record Parity (n taps : ℕ) (d : List ℕ) : Type 0 where
-  parity : List ℕ
-  count : length parity ≡ n
-  bits : AllBits parity
-  quotient : HasQuotient (d ++ add_bits parity (replicate n 1)) (1 ∷ register_bits n taps)
+-- check bits that, inverted, complete the information bits to a multiple of the generator
+record Crc (n taps : ℕ) (d : List ℕ) : Type 0 where
+  crc : List ℕ
+  count : length crc ≡ n
+  bits : AllBits crc
+  quotient : HasQuotient (d ++ add_bits crc (replicate n 1)) (1 ∷ register_bits n taps)
 
-parity_of : (n taps : ℕ) (d : List ℕ) → 0 < n → taps < 2 ^ n → AllBits d → AllBits (replicate n 1) → length {A = ℕ} (replicate n 1) ≡ n →
-    Parity n taps d
-parity_of n taps d positive small all ones_bits ones_count =
+crc_of : (n taps : ℕ) (d : List ℕ) → 0 < n → taps < 2 ^ n → AllBits d → AllBits (replicate n 1) → length {A = ℕ} (replicate n 1) ≡ n →
+    Crc n taps d
+crc_of n taps d positive small all ones_bits ones_count =
     let ones : List ℕ = replicate n 1 in
     let whole = completed n taps d positive small all (length d) (omega arith) in
     let r = register_bits n whole.register in
@@ -61,34 +61,34 @@ parity_of n taps d positive small all ones_bits ones_count =
     let quotient : HasQuotient (d ++ r) (1 ∷ register_bits n taps) =
     subst (λ front. HasQuotient (front ++ r) (1 ∷ register_bits n taps)) (take-length d) whole.quotient in
     record {
-      parity = add_bits r ones;
+      crc = add_bits r ones;
       count = count_of_sum n r ones long ones_count;
       bits = AllBits-add_bits r ones;
       quotient = subst (λ x. HasQuotient (d ++ x) (1 ∷ register_bits n taps))
           (sym (add_bits_twice r ones (AllBits-register_bits n whole.register) (long ∙ sym ones_count))) quotient;
     }
 
-pub some_rach_parity : (d b : List ℕ) → length d ≡ 8 → AllBits d → length b ≡ 6 → AllBits b → (p : List ℕ) × IsRachWord (d ++ p) b
-some_rach_parity d b ed bd eb bb =
-    let p = parity_of 6 61 d (lit< tt) (lit< tt) bd (AllBits-table (replicate 6 1) refl) refl in
-    (add_bits p.parity b, rach_word d p.parity b ed bd p.count p.bits eb bb p.quotient)
+pub some_rach_crc : (d b : List ℕ) → length d ≡ 8 → AllBits d → length b ≡ 6 → AllBits b → (p : List ℕ) × IsRachWord (d ++ p) b
+some_rach_crc d b ed bd eb bb =
+    let p = crc_of 6 61 d (lit< tt) (lit< tt) bd (AllBits-table (replicate 6 1) refl) refl in
+    (add_bits p.crc b, rach_word d p.crc b ed bd p.count p.bits eb bb p.quotient)
 
-pub some_sch_parity : (d : List ℕ) → length d ≡ 25 → AllBits d → (p : List ℕ) × IsSchWord (d ++ p)
-some_sch_parity d ed bd =
-    let p = parity_of 10 698 d (lit< tt) (lit< tt) bd (AllBits-table (replicate 10 1) refl) refl in
-    (p.parity, sch_word d p.parity ed bd p.count p.bits p.quotient)
+pub some_sch_crc : (d : List ℕ) → length d ≡ 25 → AllBits d → (p : List ℕ) × IsSchWord (d ++ p)
+some_sch_crc d ed bd =
+    let p = crc_of 10 698 d (lit< tt) (lit< tt) bd (AllBits-table (replicate 10 1) refl) refl in
+    (p.crc, sch_word d p.crc ed bd p.count p.bits p.quotient)
 
-pub some_xcch_parity : (d : List ℕ) → length d ≡ 184 → AllBits d → (p : List ℕ) × IsXcchWord (d ++ p)
-some_xcch_parity d ed bd =
-    let p = parity_of 40 618479558656 d (lit< tt) (lit< tt) bd (AllBits-table (replicate 40 1) refl) refl in (
-      p.parity,
-      xcch_word d p.parity ed bd p.count p.bits
-          (subst (λ g. HasQuotient (d ++ add_bits p.parity (replicate 40 1)) g) taps_of_g40 p.quotient),
+pub some_xcch_crc : (d : List ℕ) → length d ≡ 184 → AllBits d → (p : List ℕ) × IsXcchWord (d ++ p)
+some_xcch_crc d ed bd =
+    let p = crc_of 40 618479558656 d (lit< tt) (lit< tt) bd (AllBits-table (replicate 40 1) refl) refl in (
+      p.crc,
+      xcch_word d p.crc ed bd p.count p.bits
+          (subst (λ g. HasQuotient (d ++ add_bits p.crc (replicate 40 1)) g) taps_of_g40 p.quotient),
     )
 
--- ---- there is no other
+-- ---- uniqueness
 
--- the parity under a code, with the code taken off, completes the information to a multiple
+-- with the BSIC removed, the inverted check bits complete the information bits to a multiple
 rach_quotient : (d p b : List ℕ) → length d ≡ 8 → IsRachWord (d ++ p) b →
     HasQuotient (d ++ add_bits (add_bits p b) (replicate 6 1)) g6
 rach_quotient d p b ed word =
@@ -96,30 +96,30 @@ rach_quotient d p b ed word =
     quotient_of_parts 8 6 d (add_bits p b) g6 ed bits
     (subst (λ w. IsMultiple (add_bits w (replicate 8 0 ++ replicate 6 1)) g6) (code_added d p b ed bits) word.multiple)
 
-pub one_rach_parity : (d p p' b : List ℕ) → length d ≡ 8 → IsRachWord (d ++ p) b → IsRachWord (d ++ p') b → p ≡ p'
-one_rach_parity d p p' b ed word word' =
+pub one_rach_crc : (d p p' b : List ℕ) → length d ≡ 8 → IsRachWord (d ++ p) b → IsRachWord (d ++ p') b → p ≡ p'
+one_rach_crc d p p' b ed word word' =
     let ep : length p ≡ 6 = omega (arith, word.count, length-append d p) in
     let ep' : length p' ≡ 6 = omega (arith, word'.count, length-append d p') in
     let same : add_bits p b ≡ add_bits p' b =
-    same_parity 6 d (add_bits p b) (add_bits p' b) (drop 1 g6) refl (AllBits-add_bits p b) (AllBits-add_bits p' b)
+    same_crc 6 d (add_bits p b) (add_bits p' b) (drop 1 g6) refl (AllBits-add_bits p b) (AllBits-add_bits p' b)
     (count_of_sum 6 p b ep word.code_count) (count_of_sum 6 p' b ep' word.code_count)
     (rach_quotient d p b ed word) (rach_quotient d p' b ed word') in
     sym (add_bits_twice p b (AllBits-back d p word.bits) (ep ∙ sym word.code_count))
     ∙ ap (λ x. add_bits x b) same
     ∙ add_bits_twice p' b (AllBits-back d p' word'.bits) (ep' ∙ sym word.code_count)
 
-pub one_sch_parity : (d p p' : List ℕ) → length d ≡ 25 → IsSchWord (d ++ p) → IsSchWord (d ++ p') → p ≡ p'
-one_sch_parity d p p' ed word word' =
+pub one_sch_crc : (d p p' : List ℕ) → length d ≡ 25 → IsSchWord (d ++ p) → IsSchWord (d ++ p') → p ≡ p'
+one_sch_crc d p p' ed word word' =
     let ep : length p ≡ 10 = omega (arith, word.count, length-append d p) in
     let ep' : length p' ≡ 10 = omega (arith, word'.count, length-append d p') in
-    same_parity 10 d p p' (drop 1 g10) refl (AllBits-back d p word.bits) (AllBits-back d p' word'.bits) ep ep'
+    same_crc 10 d p p' (drop 1 g10) refl (AllBits-back d p word.bits) (AllBits-back d p' word'.bits) ep ep'
     (quotient_of_parts 25 10 d p g10 ed (AllBits-front d p word.bits) word.multiple)
     (quotient_of_parts 25 10 d p' g10 ed (AllBits-front d p' word'.bits) word'.multiple)
 
-pub one_xcch_parity : (d p p' : List ℕ) → length d ≡ 184 → IsXcchWord (d ++ p) → IsXcchWord (d ++ p') → p ≡ p'
-one_xcch_parity d p p' ed word word' =
+pub one_xcch_crc : (d p p' : List ℕ) → length d ≡ 184 → IsXcchWord (d ++ p) → IsXcchWord (d ++ p') → p ≡ p'
+one_xcch_crc d p p' ed word word' =
     let ep : length p ≡ 40 = omega (arith, word.count, length-append d p) in
     let ep' : length p' ≡ 40 = omega (arith, word'.count, length-append d p') in
-    same_parity 40 d p p' (drop 1 g40) refl (AllBits-back d p word.bits) (AllBits-back d p' word'.bits) ep ep'
+    same_crc 40 d p p' (drop 1 g40) refl (AllBits-back d p word.bits) (AllBits-back d p' word'.bits) ep ep'
     (quotient_of_parts 184 40 d p g40 ed (AllBits-front d p word.bits) word.multiple)
     (quotient_of_parts 184 40 d p' g40 ed (AllBits-front d p' word'.bits) word'.multiple)

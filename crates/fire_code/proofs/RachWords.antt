@@ -1,4 +1,4 @@
--- Words of an access burst and their parity parts.
+-- RACH words as information bits and check bits.
 use Rattle.std.proofs.Common.{◌≡◌, ℕ, List, [], ◌∷◌, ◌++◌, length, replicate, refl, ap, sym, ◌∙◌, arith, lit≤}
 use Rattle.std.proofs.Common.{subst, length-append}
 use Rattle.std.proofs.lemmas.List.Elements.{All-append}
@@ -7,13 +7,13 @@ use Rattle.bit_blocks.specs.Polynomials.{HasQuotient, IsMultiple}
 use Rattle.bit_blocks.proofs.Lemmas.{AllBits-front, AllBits-back, AllBits-add_bits, add_bits_again, add_bits_twice}
 use Rattle.fire_code.specs.Registers.{register_bits}
 use Rattle.fire_code.specs.Words.{g6, IsRachWord}
-use Rattle.fire_code.proofs.ParityParts.{add_after, multiple_of_word, quotient_of_parts, same_parity, count_of_sum}
+use Rattle.fire_code.proofs.CrcParts.{add_after, multiple_of_word, quotient_of_parts, same_crc, count_of_sum}
 
 taps_of_g6 : 1 ∷ register_bits 6 61 ≡ g6
 unfolding register_bits
 taps_of_g6 = refl
 
--- a code is added to the parity alone
+-- the BSIC is added to the check bits only
 pub code_added : (d p b : List ℕ) → length d ≡ 8 → AllBits d → add_bits (d ++ p) (replicate 8 0 ++ b) ≡ d ++ add_bits p b
 code_added d p b count bits = add_after 8 d p b count bits
 
@@ -32,9 +32,9 @@ rach_word d p b ed bd ep bp eb bb multiple =
           (multiple_of_word 8 6 d p g6 ed ep bd refl (lit≤ tt) multiple');
     }
 
-pub same_rach_parity : (d p p' b : List ℕ) → length d ≡ 8 → length p' ≡ 6 → AllBits p' →
+pub same_rach_crc : (d p p' b : List ℕ) → length d ≡ 8 → length p' ≡ 6 → AllBits p' →
     HasQuotient (d ++ add_bits p' (replicate 6 1)) (1 ∷ register_bits 6 61) → IsRachWord (d ++ p) b → p ≡ add_bits p' b
-same_rach_parity d p p' b ed ep' bp' multiple' word =
+same_rach_crc d p p' b ed ep' bp' multiple' word =
     let bd = AllBits-front d p word.bits in
     let bp = AllBits-back d p word.bits in
     let ep : length p ≡ 6 = omega (arith, word.count, length-append d p) in
@@ -43,11 +43,11 @@ same_rach_parity d p p' b ed ep' bp' multiple' word =
     let multiple = quotient_of_parts 8 6 d (add_bits p b) g6 ed bd
     (subst (λ w. IsMultiple (add_bits w (replicate 8 0 ++ replicate 6 1)) g6) (code_added d p b ed bd) word.multiple) in
     let same : add_bits p b ≡ p' =
-    same_parity 6 d (add_bits p b) p' (1 ∷ 0 ∷ 1 ∷ 1 ∷ 1 ∷ 1 ∷ []) refl (AllBits-add_bits p b) bp'
+    same_crc 6 d (add_bits p b) p' (1 ∷ 0 ∷ 1 ∷ 1 ∷ 1 ∷ 1 ∷ []) refl (AllBits-add_bits p b) bp'
     (count_of_sum 6 p b ep word.code_count) ep' multiple known in
     sym (add_bits_twice p b bp e) ∙ ap (λ x. add_bits x b) same
 
--- the sum of the parity and the last six bits is the code under which these are a word
+-- the sum of the CRC and the last six bits is the BSIC under which the bits are a word
 pub rach_word_of_code : (w d x p b : List ℕ) → w ≡ d ++ x → length d ≡ 8 → AllBits d → length x ≡ 6 → AllBits x →
     length p ≡ 6 → AllBits p → length b ≡ 6 → AllBits b →
     HasQuotient (d ++ add_bits p (replicate 6 1)) (1 ∷ register_bits 6 61) → add_bits p x ≡ b → IsRachWord w b
@@ -58,5 +58,5 @@ rach_word_of_code w d x p b split ed bd ex bx ep bp eb bb multiple same =
 pub code_of_rach_word : (w d x p b : List ℕ) → w ≡ d ++ x → length d ≡ 8 → length p ≡ 6 → AllBits p →
     HasQuotient (d ++ add_bits p (replicate 6 1)) (1 ∷ register_bits 6 61) → IsRachWord w b → add_bits p x ≡ b
 code_of_rach_word w d x p b split ed ep bp multiple word =
-    ap (λ y. add_bits p y) (same_rach_parity d x p b ed ep bp multiple (subst (λ v. IsRachWord v b) split word))
+    ap (λ y. add_bits p y) (same_rach_crc d x p b ed ep bp multiple (subst (λ v. IsRachWord v b) split word))
     ∙ add_bits_again p b word.code_bits (word.code_count ∙ sym ep)

@@ -1,4 +1,4 @@
--- The bits of registers: sums, shifts and what two registers with the same bits are.
+-- The bits of a register: sums, shifts and inversion. Registers with equal bits are equal.
 use Rattle.std.proofs.Common.{◌≡◌, ℕ, zero, suc, ◌+◌, ◌-◌, ◌*◌, ◌/◌, ◌%◌, ◌^◌, ◌≤◌, ◌<◌, List}
 use Rattle.std.proofs.Common.{[], ◌∷◌, ◌++◌, length, replicate, get_or, refl, ap, sym, ◌∙◌, arith, bit_xor, add-one}
 use Rattle.std.proofs.Math.Nat.{pow-suc}
@@ -57,7 +57,7 @@ half_below n number within =
     let within' : number < 2 ^ (n + 1) = rw add-one within in
     shr_below number n 1 within'
 
--- beyond the places of its number a register has zeros
+-- bits past the length of a number are zeros
 pub register_bits_beyond : (n k m number : ℕ) → m ≡ n + k → number < 2 ^ n →
     register_bits m number ≡ register_bits n number ++ replicate k 0
 unfolding register_bits
@@ -89,10 +89,10 @@ lowest_of_mod n number =
     let next : n + 1 ≡ suc n = omega arith in
     ap (λ k. number % 2 ^ k % 2) (sym next) ∙ mod-mod-pow number n 1
 
-turned_over : (bit : ℕ) → bit < 2 → 1 - bit ≡ (bit + 1) % 2
-turned_over bit h = omega arith
+inverted_over : (bit : ℕ) → bit < 2 → 1 - bit ≡ (bit + 1) % 2
+inverted_over bit h = omega arith
 
--- the places of a number and those of its lowest part
+-- the n lowest bits of a number are those of its residue modulo 2 ^ n
 pub register_bits-mod : (n number : ℕ) → register_bits n (number % 2 ^ n) ≡ register_bits n number
 unfolding register_bits
 register_bits-mod zero number = refl
@@ -105,13 +105,13 @@ register_bits-mod (suc n) number =
     ∙ ap (λ rest. number % 2 ∷ register_bits n rest) half
     ∙ ap (λ rest. number % 2 ∷ rest) (register_bits-mod n (number / 2))
 
--- two registers with the same places are the same
+-- registers with equal bits are equal
 pub same_register : (n a b : ℕ) → a < 2 ^ n → b < 2 ^ n → register_bits n a ≡ register_bits n b → a ≡ b
 same_register n a b within within' same =
     same_from_bits_below n a b within within'
     (λ i lt. sym (get_or-register_bits n a i lt) ∙ ap (λ xs. get_or xs i 0) same ∙ get_or-register_bits n b i lt)
 
--- a low part and a high one
+-- the bits of a low part, then those of a high part
 pub register_bits-parts : (k n m low high : ℕ) → m ≡ k + n → low < 2 ^ k →
     register_bits m (high * 2 ^ k + low) ≡ register_bits k low ++ register_bits n high
 register_bits-parts k n m low high count within =
@@ -120,7 +120,7 @@ register_bits-parts k n m low high count within =
     ∙ ap (λ front. front ++ register_bits n high)
     (sym (register_bits-mod k (high * 2 ^ k + low)) ∙ ap (λ x. register_bits k x) (mod_low high k low within))
 
--- a register with each bit turned over
+-- a register inverted
 pub register_bits-not : (n number : ℕ) → n ≤ 64 → number < 2 ^ 64 →
     register_bits n (bit_not w64 number) ≡ add_bits (register_bits n number) (replicate n 1)
 register_bits-not n number small within =
@@ -133,20 +133,20 @@ register_bits-not n number small within =
     let below : i < length (register_bits n number) = omega arith in
     get_or-register_bits n (bit_not w64 number) i lt'
     ∙ bit_at_not w64 number i within (omega arith)
-    ∙ turned_over (bit_at number i) (bit_at-lt number i)
+    ∙ inverted_over (bit_at number i) (bit_at-lt number i)
     ∙ ap (λ bit. (bit + 1) % 2) (sym (get_or-register_bits n number i lt'))
     ∙ ap (λ one. (get_or (register_bits n number) i 0 + one) % 2) (sym (get_or-replicate n i 1 0 lt'))
     ∙ sym (get_or-add_bits (register_bits n number) (replicate n 1) i same below))
 
--- turned over twice
-pub turned_register : (n number : ℕ) (turned : List ℕ) → n ≤ 64 → number < 2 ^ 64 →
-    turned ≡ register_bits n (bit_not w64 number) → add_bits turned (replicate n 1) ≡ register_bits n number
-turned_register n number turned small within is =
+-- a register inverted twice
+pub inverted_register : (n number : ℕ) (inverted : List ℕ) → n ≤ 64 → number < 2 ^ 64 →
+    inverted ≡ register_bits n (bit_not w64 number) → add_bits inverted (replicate n 1) ≡ register_bits n number
+inverted_register n number inverted small within is =
     ap (λ x. add_bits x (replicate n 1)) (is ∙ register_bits-not n number small within)
     ∙ add_bits_twice (register_bits n number) (replicate n 1) (AllBits-register_bits n number)
     (length-register_bits n number ∙ sym (length-replicate n 1))
 
--- the number whose places are these bits
+-- the number that has these bits
 unfoldable pub number_of : List ℕ → ℕ
 number_of [] = 0
 number_of (bit ∷ bits) = bit + 2 * number_of bits

@@ -1,4 +1,4 @@
--- One step of a division by a register.
+-- One step of the linear feedback shift register is one step of long division.
 use Rattle.std.proofs.Common.{◌≡◌, ℕ, zero, suc, ◌+◌, ◌*◌, ◌/◌, ◌%◌, ◌^◌, ◌≤◌, ◌<◌, List, []}
 use Rattle.std.proofs.Common.{◌∷◌, ◌++◌, length, replicate, refl, ap, sym, ◌∙◌, arith, bit_xor, bit_and, subst, get_or}
 use Rattle.std.proofs.Common.{below_more, ◌≢◌, take}
@@ -15,7 +15,7 @@ use Rattle.fire_code.specs.Registers.{register_bits}
 use Rattle.fire_code.proofs.RegisterBits.{length-register_bits, get_or-register_bits, AllBits-register_bits, register_bits-zero}
 use Rattle.fire_code.proofs.RegisterBits.{register_bits_beyond, register_bits-xor, register_bits-suc, half_below, lowest_of_xor}
 
--- the generator or nothing
+-- the generator times the carry bit
 taken_multiple : (n carry taps : ℕ) → carry ≤ 1 → HasQuotient (carry ∷ register_bits n (carry * taps)) (1 ∷ register_bits n taps)
 taken_multiple n zero taps h =
     let g = 1 ∷ register_bits n taps in
@@ -36,7 +36,6 @@ carry_is register bit h = and_mask (bit_xor register bit) 1 ∙ omega (arith, lo
 cancelled : (lowest bit carry : ℕ) → bit ≤ 1 → carry ≡ (lowest + bit) % 2 → (lowest + carry) % 2 ≡ bit
 cancelled lowest bit carry h e = omega arith
 
--- one place more
 pub remainder_more : (n : ℕ) (front : List ℕ) (register bit taps : ℕ) → 0 < n → AllBits front → register < 2 ^ n → bit ≤ 1 →
     HasQuotient (front ++ register_bits n register) (1 ∷ register_bits n taps) →
     HasQuotient ((front ++ bit ∷ []) ++ register_bits n (bit_xor (register / 2) (bit_and (bit_xor register bit) 1 * taps)))
@@ -61,7 +60,6 @@ remainder_more (suc n) front register bit taps positive bits within is_bit befor
     bits refl count next (subst (λ r. HasQuotient (front ++ r) g) split before) (taken_multiple (suc n) carry taps (omega arith)) in
     subst (λ r. HasQuotient ((front ++ bit ∷ []) ++ r) g) rest divided
 
--- the same along a list
 pub remainder_along : (n : ℕ) (bits : List ℕ) (i register taps : ℕ) → 0 < n → i < length bits → AllBits bits → register < 2 ^ n →
     HasQuotient (take i bits ++ register_bits n register) (1 ∷ register_bits n taps) →
     HasQuotient (take (i + 1) bits ++ register_bits n (bit_xor (register / 2) (bit_and (bit_xor register (get_or bits i 0)) 1 * taps)))
@@ -77,7 +75,6 @@ remainder_within n register bit taps within small =
     let carry : bit_and (bit_xor register bit) 1 * taps ≤ 1 * taps = mul-le _ _ 1 taps (and_le_r (bit_xor register bit) 1) (omega arith) in
     xor_lt n (register / 2) (bit_and (bit_xor register bit) 1 * taps) (omega arith) (omega arith)
 
--- one place more is written
 pub place_more : (n register i : ℕ) (bits next : List ℕ) → i < n → length bits ≡ n → AllBits bits →
     ((k : ℕ) → k < i → get_or bits k 0 ≡ get_or (register_bits n register) k 0) →
     next ≡ set bits i (bit_and (register / 2 ^ i) 1) →

@@ -1,8 +1,8 @@
--- Tests of every number below a bound, which compute.
+-- A computed test of every number below a bound proves a statement for each of them.
 use Rattle.std.proofs.Common.{◌≡◌, ℕ, zero, suc, ◌<◌, refl, Bool, true, ◌&&◌}
 use Rattle.std.proofs.lemmas.Bool.Decides.{Decides-below_and}
 
--- whether a test holds of each number below n
+-- whether a test passes for each number below n
 unfoldable pub tested : (ℕ → Bool) → ℕ → Bool
 tested p zero = true
 tested p (suc n) = p n && tested p n

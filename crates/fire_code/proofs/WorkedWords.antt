@@ -1,4 +1,4 @@
--- The definitions at worked values.
+-- The definitions computed at worked examples.
 use Rattle.std.proofs.Common.{◌≡◌, ℕ, zero, suc, ◌+◌, ◌%◌, List, [], ◌∷◌, ◌++◌, replicate, refl, arith, lit≤}
 use Rattle.std.proofs.Common.{ap, subst, get_or}
 use Rattle.bit_blocks.specs.Bits.{AllBits, add_bits}
@@ -7,24 +7,24 @@ use Rattle.bit_blocks.proofs.Lemmas.{AllBits-add_bits, HasQuotient-zeros, HasQuo
 use Rattle.fire_code.specs.Registers.{register_bits}
 use Rattle.fire_code.proofs.RegisterBits.{length-register_bits}
 use Rattle.fire_code.specs.Words.{g40, g6, g10, IsXcchWord, IsRachWord, IsSchWord}
-use Rattle.fire_code.proofs.RachWords.{same_rach_parity}
+use Rattle.fire_code.proofs.RachWords.{same_rach_crc}
 
--- the places m, m + 1 and so on of a product, modulo 2
+-- n coefficients of a product, modulo 2, from index m on
 product_from : List ℕ → List ℕ → ℕ → ℕ → List ℕ
 product_from q g m zero = []
 product_from q g m (suc n) = product_at q g m % 2 ∷ product_from q g (m + 1) n
 
--- (D^23 + 1)(D^17 + D^3 + 1)
+-- the Fire code's generator is (D^23 + 1)(D^17 + D^3 + 1)
 product_of_g40 :
     product_from (1 ∷ replicate 22 0 ++ 1 ∷ []) (1 ∷ replicate 13 0 ++ 1 ∷ 0 ∷ 0 ∷ 1 ∷ []) 0 41 ≡ g40
 unfolding product_from
 product_of_g40 = refl
 
--- a literal is a list of bits where adding zeros to it changes nothing
+-- a literal holds only bits if adding zeros does not change it
 checked_bits : (n : ℕ) (xs : List ℕ) → add_bits xs (replicate n 0) ≡ xs → AllBits xs
 checked_bits n xs same = subst AllBits same (AllBits-add_bits xs (replicate n 0))
 
--- eight zeros and six ones are a word where the code is zeros
+-- eight zeros and six ones are a word under BSIC 0
 zeros_of_rach : IsRachWord (replicate 8 0 ++ replicate 6 1) (replicate 6 0)
 zeros_of_rach = record {
   count = refl;
@@ -34,7 +34,7 @@ zeros_of_rach = record {
   multiple = record { leading = refl; fits = lit≤ tt; quotient = HasQuotient-zeros 14 g6 (omega arith) };
 }
 
--- fourteen zeros are one where it is ones, and none where it is zeros
+-- fourteen zeros are a word under BSIC 63, and not under BSIC 0
 zeros_of_rach_under_ones : IsRachWord (replicate 14 0) (replicate 6 1)
 zeros_of_rach_under_ones = record {
   count = refl;
@@ -49,7 +49,7 @@ not_under_zeros word =
     let zeros : List ℕ = 0 ∷ 0 ∷ 0 ∷ 0 ∷ 0 ∷ 0 ∷ [] in
     let ones : List ℕ = 1 ∷ 1 ∷ 1 ∷ 1 ∷ 1 ∷ 1 ∷ [] in
     let same : zeros ≡ ones =
-    same_rach_parity (replicate 8 0) zeros ones zeros refl refl (checked_bits 6 ones refl)
+    same_rach_crc (replicate 8 0) zeros ones zeros refl refl (checked_bits 6 ones refl)
     (HasQuotient-zeros 14 (1 ∷ register_bits 6 61) (omega (arith, length-register_bits 6 61))) word in
     let first : 0 ≡ 1 = ap (λ (xs : List ℕ). get_or xs 0 0) same in
     omega (arith, first)
@@ -68,7 +68,7 @@ zeros_of_xcch = record {
   multiple = record { leading = refl; fits = lit≤ tt; quotient = HasQuotient-zeros 224 g40 (omega arith) };
 }
 
--- where the last bit alone is 1, the parity is all ones but the places 13, 16, 22, 36 and 39
+-- the Fire code bits of the last information bit alone are ones except bits 13, 16, 22, 36 and 39
 last_of_xcch_word : List ℕ
 last_of_xcch_word =
     replicate 183 0 ++ 1 ∷ replicate 13 1 ++ 0 ∷ 1 ∷ 1 ∷ 0 ∷ replicate 5 1 ++ 0 ∷ replicate 13 1 ++ 0 ∷ 1 ∷ 1 ∷ 0 ∷ []

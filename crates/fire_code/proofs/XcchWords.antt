@@ -1,4 +1,4 @@
--- Words of a control channel's block and their parity parts.
+-- xCCH words as information bits and check bits, and the syndrome of 224 bits.
 use Rattle.std.proofs.Common.{◌≡◌, ℕ, ◌^◌, ◌<◌, List, ◌++◌, length, replicate, refl, ap, sym, ◌∙◌, arith}
 use Rattle.std.proofs.Common.{lit≤, subst, length-append, bit_xor}
 use Rattle.std.specs.Int.Bits.{xor_assoc, xor_self, xor_zero_l, xor_zero_r}
@@ -11,7 +11,7 @@ use Rattle.bit_blocks.proofs.Lemmas.{add_bits_twice, length-add_bits}
 use Rattle.fire_code.specs.Registers.{register_bits}
 use Rattle.fire_code.specs.Words.{g40, IsXcchWord}
 use Rattle.fire_code.proofs.OctetSteps.{same_remainder_of_g40}
-use Rattle.fire_code.proofs.ParityParts.{add_after, multiple_of_word, quotient_of_parts}
+use Rattle.fire_code.proofs.CrcParts.{add_after, multiple_of_word, quotient_of_parts}
 use Rattle.fire_code.proofs.RegisterBits.{length-register_bits, AllBits-register_bits, register_bits-xor, register_bits-zero, same_register}
 
 pub xcch_word : (d p : List ℕ) → length d ≡ 184 → AllBits d → length p ≡ 40 → AllBits p →
@@ -22,31 +22,31 @@ xcch_word d p ed bd ep bp multiple = record {
   multiple = multiple_of_word 184 40 d p g40 ed ep bd refl (lit≤ tt) multiple;
 }
 
--- what completes the information bits is the parity of a word, turned over
-pub turned_parity : (d p r : List ℕ) → length d ≡ 184 → length r ≡ 40 → AllBits r → HasQuotient (d ++ r) g40 →
+-- the inverted check bits of a word are the remainder of its information bits
+pub inverted_crc : (d p r : List ℕ) → length d ≡ 184 → length r ≡ 40 → AllBits r → HasQuotient (d ++ r) g40 →
     IsXcchWord (d ++ p) → add_bits p (replicate 40 1) ≡ r
-turned_parity d p r ed er br multiple word =
+inverted_crc d p r ed er br multiple word =
     let ep : length p ≡ 40 = omega (arith, word.count, length-append d p) in
     same_remainder_of_g40 d (add_bits p (replicate 40 1)) r
     (length-add_bits p (replicate 40 1) ep ∙ ep) (AllBits-add_bits p (replicate 40 1)) er br
     (quotient_of_parts 184 40 d p g40 ed (AllBits-front d p word.bits) word.multiple) multiple
 
-pub same_xcch_parity : (d p p' : List ℕ) (register : ℕ) → length d ≡ 184 → AllBits p' → length p' ≡ 40 →
+pub same_xcch_crc : (d p p' : List ℕ) (register : ℕ) → length d ≡ 184 → AllBits p' → length p' ≡ 40 →
     add_bits p' (replicate 40 1) ≡ register_bits 40 register → HasQuotient (d ++ register_bits 40 register) g40 →
     IsXcchWord (d ++ p) → p ≡ p'
-same_xcch_parity d p p' register ed bp' ep' is multiple word =
+same_xcch_crc d p p' register ed bp' ep' is multiple word =
     let ep : length p ≡ 40 = omega (arith, word.count, length-append d p) in
-    let turned = turned_parity d p (register_bits 40 register) ed (length-register_bits 40 register)
+    let inverted = inverted_crc d p (register_bits 40 register) ed (length-register_bits 40 register)
     (AllBits-register_bits 40 register) multiple word in
     sym (add_bits_twice p (replicate 40 1) (AllBits-back d p word.bits) ep)
-    ∙ ap (λ x. add_bits x (replicate 40 1)) (turned ∙ sym is)
+    ∙ ap (λ x. add_bits x (replicate 40 1)) (inverted ∙ sym is)
     ∙ add_bits_twice p' (replicate 40 1) bp' ep'
 
 forty_ones : register_bits 40 0xffffffffff ≡ replicate 40 1
 unfolding register_bits
 forty_ones = refl
 
--- a word is 184 bits and what completes them, turned over
+-- a word is 184 bits and their inverted remainder
 pub xcch_word_of : (w d p : List ℕ) (register check : ℕ) → w ≡ d ++ p → length d ≡ 184 → AllBits d → length p ≡ 40 → AllBits p →
     register_bits 40 check ≡ p → HasQuotient (d ++ register_bits 40 register) g40 →
     bit_xor register check ≡ 0xffffffffff → IsXcchWord w
@@ -59,27 +59,27 @@ xcch_word_of w d p register check split ed bd ep bp held multiple same =
     ∙ sym (register_bits-xor 40 register check)
     ∙ ap (λ x. register_bits 40 x) same
     ∙ forty_ones in
-    let turned : r ≡ add_bits p (replicate 40 1) =
+    let inverted : r ≡ add_bits p (replicate 40 1) =
     sym (add_bits_again p r (AllBits-register_bits 40 register) (er ∙ sym ep)) ∙ ap (λ x. add_bits p x) sum in
-    subst IsXcchWord (sym split) (xcch_word d p ed bd ep bp (subst (λ x. HasQuotient (d ++ x) g40) turned multiple))
+    subst IsXcchWord (sym split) (xcch_word d p ed bd ep bp (subst (λ x. HasQuotient (d ++ x) g40) inverted multiple))
 
 pub register_of_xcch_word : (w d p : List ℕ) (register check : ℕ) → w ≡ d ++ p → length d ≡ 184 → length p ≡ 40 →
     register_bits 40 check ≡ p → register < 2 ^ 40 → check < 2 ^ 40 → HasQuotient (d ++ register_bits 40 register) g40 →
     IsXcchWord w → bit_xor register check ≡ 0xffffffffff
 register_of_xcch_word w d p register check split ed ep held within within' multiple word =
     let r = register_bits 40 register in
-    let turned : add_bits p (replicate 40 1) ≡ r =
-    turned_parity d p r ed (length-register_bits 40 register) (AllBits-register_bits 40 register) multiple (subst IsXcchWord split word) in
+    let inverted : add_bits p (replicate 40 1) ≡ r =
+    inverted_crc d p r ed (length-register_bits 40 register) (AllBits-register_bits 40 register) multiple (subst IsXcchWord split word) in
     let ones : AllBits (replicate 40 1) = subst AllBits forty_ones (AllBits-register_bits 40 0xffffffffff) in
     same_register 40 (bit_xor register check) 0xffffffffff (xor_lt 40 register check within within') (omega arith)
     (register_bits-xor 40 register check
     ∙ ap (λ x. add_bits r x) held
     ∙ add_bits-comm r p
-    ∙ ap (λ x. add_bits p x) (sym turned)
+    ∙ ap (λ x. add_bits p x) (sym inverted)
     ∙ add_bits_again p (replicate 40 1) ones (sym ep)
     ∙ sym forty_ones)
 
--- what is left of a word: the register that its information bits leave, its parity, and ones
+-- the syndrome, from the remainder of the information bits and the inverted check bits
 unfoldable pub syndrome_of : ℕ → ℕ → ℕ
 syndrome_of register check = bit_xor (bit_xor register check) 0xffffffffff
 
@@ -93,28 +93,28 @@ syndrome_taken_off register check =
     ∙ ap (λ x. bit_xor x register) (xor_self check)
     ∙ xor_zero_l register
 
--- what is left, added at the last places, completes the information bits
+-- adding the syndrome to the check bits gives a word
 pub syndrome_completes : (w d p : List ℕ) (register check : ℕ) → w ≡ d ++ p → length d ≡ 184 → AllBits d →
     register_bits 40 check ≡ p → HasQuotient (d ++ register_bits 40 register) g40 →
     IsXcchWord (add_bits w (replicate 184 0 ++ register_bits 40 (syndrome_of register check)))
 syndrome_completes w d p register check split ed bd held multiple =
     let left = syndrome_of register check in
     let sum = bit_xor check left in
-    let parity : add_bits p (register_bits 40 left) ≡ register_bits 40 sum =
+    let crc : add_bits p (register_bits 40 left) ≡ register_bits 40 sum =
     ap (λ x. add_bits x (register_bits 40 left)) (sym held) ∙ sym (register_bits-xor 40 check left) in
-    let turned : add_bits (register_bits 40 sum) (replicate 40 1) ≡ register_bits 40 register =
+    let inverted : add_bits (register_bits 40 sum) (replicate 40 1) ≡ register_bits 40 register =
     ap (λ x. add_bits (register_bits 40 sum) x) (sym forty_ones)
     ∙ sym (register_bits-xor 40 sum 0xffffffffff)
     ∙ ap (λ x. register_bits 40 x) (syndrome_taken_off register check) in
     let parts : add_bits w (replicate 184 0 ++ register_bits 40 left) ≡ d ++ register_bits 40 sum =
     ap (λ x. add_bits x (replicate 184 0 ++ register_bits 40 left)) split
     ∙ add_after 184 d p (register_bits 40 left) ed bd
-    ∙ ap (λ x. d ++ x) parity in
+    ∙ ap (λ x. d ++ x) crc in
     subst IsXcchWord (sym parts)
     (xcch_word d (register_bits 40 sum) ed bd (length-register_bits 40 sum) (AllBits-register_bits 40 sum)
-    (subst (λ x. HasQuotient (d ++ x) g40) (sym turned) multiple))
+    (subst (λ x. HasQuotient (d ++ x) g40) (sym inverted) multiple))
 
--- where nothing is left, nothing is added
+-- bits with syndrome 0 are a word
 pub word_of_no_syndrome : (w : List ℕ) (syndrome : ℕ) → AllBits w → length w ≡ 224 → syndrome ≡ 0 →
     IsXcchWord (add_bits w (replicate 184 0 ++ register_bits 40 syndrome)) → IsXcchWord w
 word_of_no_syndrome w syndrome bits count none word =

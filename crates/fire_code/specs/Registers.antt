@@ -1,8 +1,8 @@
--- Numbers as registers of bits, for what this crate computes with and what it leaves to the crates above as a number.
+-- Numbers as shift registers.
 use Rattle.std.specs.Prelude.{ℕ, ◌/◌, ◌%◌, List, [], ◌∷◌}
 use Rattle.std.proofs.Common.{zero, suc}
 
--- the n lowest bits of a number, the one of value 1 first
+-- the n lowest bits of a number, least significant first
 unfoldable pub register_bits : ℕ → ℕ → List ℕ
 register_bits zero number = []
 register_bits (suc n) number = number % 2 ∷ register_bits n (number / 2)

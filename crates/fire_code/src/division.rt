@@ -1,5 +1,5 @@
-//! Division by a generator polynomial one bit at a time, in a linear feedback shift register: the usual CRC, reflected, since the
-//! highest power comes first and stands in the bit of value 1. What is left is the parity (GSM 05.03, today 3GPP TS 45.003).
+//! CRC by a linear feedback shift register, one bit at a time (GSM 05.03, today 3GPP TS 45.003). The register is reflected: the first
+//! bit is the highest power of D and the least significant bit of the register.
 ghost use Rattle.std.specs.Prelude.{◌≡◌, ◌<◌, ◌≤◌, ◌^◌, ◌++◌, ◌∷◌, length, replicate};
 ghost use Rattle.bit_blocks.specs.Bits.{AllBits, add_bits};
 ghost use Rattle.bit_blocks.specs.Polynomials.{HasQuotient};
@@ -8,9 +8,9 @@ ghost use Rattle.fire_code.specs.Registers.{register_bits};
 use crate::registers::places;
 use bit_blocks::Bits;
 
-/// The parity of `N` bits under a generator: turned over, it completes the information bits to a multiple.
-/// `taps` is the generator without its highest power, bit `i` of the number standing for place `i`.
-pub(crate) fn parity<const N: usize>(info: &[u8], taps: u64) -> Bits<N>
+/// The `N` check bits of `info`: inverted, they complete it to a multiple of the generator.
+/// `taps` is the generator without its highest power, reflected: bit `i` is the coefficient of D^(N - 1 - i).
+pub(crate) fn crc<const N: usize>(info: &[u8], taps: u64) -> Bits<N>
     requires bits { AllBits info.now }
     requires degree { 0 < N }
     requires fits { N ≤ 64 }
@@ -22,7 +22,7 @@ pub(crate) fn parity<const N: usize>(info: &[u8], taps: u64) -> Bits<N>
     places(!remainder::<N>(info, taps))
 }
 
-/// What completes bits to a multiple of a generator, by a shift register whose bit `i` stands for place `i`.
+/// The register that completes `bits` to a multiple of the generator; its bit `i` is check bit `i`.
 fn remainder<const N: usize>(bits: &[u8], taps: u64) -> u64
     requires bits { AllBits bits.now }
     requires degree { 0 < N }

@@ -1,6 +1,5 @@
-//! The parity of three channel codes of GSM, cyclic codes (CRC) that are sent inverted (GSM 05.03 sections 4.1.2, 4.6 and
-//! 4.7, today 3GPP TS 45.003): the Fire code of the control channels (xCCH), and the codes of the access burst (RACH) and of
-//! the synchronisation burst (SCH).
+//! The three inverted CRCs of GSM's signalling (GSM 05.03, today 3GPP TS 45.003, sections 4.1.2, 4.6 and 4.7): the Fire code of the
+//! control channels (xCCH), and the CRCs of the access burst (RACH) and the synchronisation burst (SCH).
 #![tactic(auto)]
 
 mod division;

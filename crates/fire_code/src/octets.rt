@@ -1,5 +1,5 @@
-//! The Fire code's remainder an octet at a time: the usual CRC over a table of 256 entries, reflected, since the first bit of
-//! an octet is that of value 1.
+//! The Fire code's remainder, an octet at a time: a reflected CRC with a table of 256 entries, since octets are sent least significant
+//! bit first.
 ghost use Rattle.std.specs.Prelude.{◌≡◌, ℕ, ◌*◌, ◌/◌, ◌<◌, ◌^◌, ◌++◌, List, length};
 ghost use Rattle.bit_blocks.specs.Bits.{AllBits};
 ghost use Rattle.bit_blocks.specs.Octets.{octet_bits, bits_of as octets_to_bits};
@@ -10,8 +10,8 @@ ghost use Rattle.fire_code.specs.Words.{g40};
 use crate::registers::{bits_of, gathered};
 use bit_blocks::Bits;
 
-// For each octet what completes its bits to a multiple of the Fire code's generator: bit i of a number is place i.
-// `tools/remainders.py` makes them.
+// The register that completes each octet to a multiple of the Fire code's generator; bit i is check bit i.
+// `tools/remainders.py` prints the table.
 static REMAINDERS: [u64; 256] = [
     0x00_0000_0000,
     0x01_2000_8240,
@@ -271,8 +271,8 @@ static REMAINDERS: [u64; 256] = [
     0xe0_e07e_41c0,
 ];
 
-/// What completes the eight bits of an octet to a multiple of the Fire code's generator
-/// D^40 + D^26 + D^23 + D^17 + D^3 + 1 (GSM 05.03 section 4.1.2). The octet's bit of value 1 is the first.
+/// The forty bits that complete an octet, least significant bit first, to a multiple of the Fire code's generator
+/// D^40 + D^26 + D^23 + D^17 + D^3 + 1 (GSM 05.03 section 4.1.2).
 pub fn octet_remainder(octet: u8) -> Bits<40>
     ensures multiple { IsMultiple (octet_bits octet ++ result) g40 }
     ensures only { (r : List ℕ) → length r ≡ 40 → AllBits r → IsMultiple (octet_bits octet ++ r) g40 → r ≡ result }
@@ -282,7 +282,7 @@ pub fn octet_remainder(octet: u8) -> Bits<40>
     bits_of(entry(octet))
 }
 
-/// What completes whole octets of bits to a multiple of the Fire code's generator, an octet at a time.
+/// The register that completes whole octets of bits to a multiple of the Fire code's generator.
 pub(crate) fn remainder(bits: &[u8]) -> u64
     requires bits { AllBits bits.now }
     requires whole { length bits.now ≡ 8 * (length bits.now / 8) }
@@ -297,7 +297,7 @@ pub(crate) fn remainder(bits: &[u8]) -> u64
     register
 }
 
-/// What completes the bits of octets to a multiple of the Fire code's generator, the bit of value 1 first in each.
+/// The same for packed octets, least significant bit first.
 pub(crate) fn remainder_of_octets(octets: &[u8]) -> u64
     ensures multiple { HasQuotient (octets_to_bits octets.now ++ register_bits 40 result) g40 }
     ensures within { result < 2 ^ 40 }
@@ -309,7 +309,7 @@ pub(crate) fn remainder_of_octets(octets: &[u8]) -> u64
     register
 }
 
-/// What completes an octet.
+/// The table entry of an octet.
 #[inline]
 fn entry(octet: u8) -> u64
     ensures multiple { HasQuotient (register_bits 8 octet ++ register_bits 40 result) g40 }

@@ -1,40 +1,40 @@
-//! The six parity bits of the access burst (RACH), a CRC that is sent inverted and with the base station identity code (BSIC) added,
-//! so that a burst meant for another cell fails its check (GSM 05.03 section 4.6, today 3GPP TS 45.003).
+//! The six check bits of the access burst (RACH), an inverted CRC to which the base station identity code (BSIC) is added, so that a
+//! burst meant for another cell fails its check (GSM 05.03, today 3GPP TS 45.003, section 4.6).
 ghost use Rattle.std.specs.Prelude.{◌≡◌, ◌↔◌, ◌++◌, List, ℕ, length, replicate, IsTrue};
 ghost use Rattle.bit_blocks.specs.Bits.{AllBits, add_bits};
 ghost use Rattle.fire_code.specs.Words.{IsRachWord};
 
-use crate::division::parity;
+use crate::division::crc;
 use bit_blocks::Bits;
 
-// D^5 + D^3 + D^2 + D + 1, the bit of value 1 standing for D^5
+// D^5 + D^3 + D^2 + D + 1; the least significant bit is the coefficient of D^5
 const TAPS: u64 = 0b11_1101;
 
-/// The parity of the eight bits of an access burst, before the base station identity code (BSIC) is added.
+/// The CRC of the eight bits of an access burst, before the BSIC is added.
 ///
-/// The burst carries the sum of this parity and the code (GSM 05.03 section 4.6).
+/// The burst carries the sum of this CRC and the BSIC (GSM 05.03 section 4.6).
 pub fn rach_parity(d: &Bits<8>) -> Bits<6>
     ensures word { IsRachWord (d.now ++ result) (replicate 6 0) }
     ensures only { (p : List ℕ) → IsRachWord (d.now ++ p) (replicate 6 0) → p ≡ result }
 
-    // the same with a code added
+    // the same with a BSIC added
     ensures under_code { (b : List ℕ) → length b ≡ 6 → AllBits b → IsRachWord (d.now ++ add_bits result b) b }
     ensures only_under_code { (p b : List ℕ) → IsRachWord (d.now ++ p) b → p ≡ add_bits result b }
 
     ensures count { length result ≡ 6 }
     ensures bits { AllBits result }
 {
-    parity(d.as_slice(), TAPS)
+    crc(d.as_slice(), TAPS)
 }
 
-/// Whether fourteen bits, eight and their parity with a code added, are a word under this code (BSIC).
+/// Whether eight information bits and six check bits are a word under this BSIC.
 pub fn rach_holds(w: &Bits<14>, bsic: &Bits<6>) -> bool
     ensures { IsTrue result ↔ IsRachWord w.now bsic.now }
 {
     let (info, sum) = w.as_slice().split_at(8);
     let sum = Bits::<6>::from_slice(sum).unwrap();
-    // the one code under which these bits are a word
-    let code = parity::<6>(info, TAPS).xor(&sum);
+    // the one BSIC under which these bits are a word
+    let code = crc::<6>(info, TAPS).xor(&sum);
     code.as_slice() == bsic.as_slice()
 }
 
@@ -44,7 +44,7 @@ mod tests {
     use std::test::Fail;
 
     #[test]
-    fn zeros_have_ones_as_parity(rt: HostRuntime) -> Result<(), Fail> {
+    fn zeros_have_ones_as_crc(rt: HostRuntime) -> Result<(), Fail> {
         assert_eq!(rt; rach_parity(&Bits::zero()).as_slice(), [1; 6].as_slice());
         Ok(())
     }

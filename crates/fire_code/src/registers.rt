@@ -1,5 +1,5 @@
-//! Registers of up to 64 places as one number, the place of the highest power in the bit of value 1, and the lists of bits and the
-//! octets that they stand for: eight bits are spread over eight octets, or gathered from them, by one multiplication.
+//! Registers of up to 64 bits, the coefficient of the highest power in the least significant bit, and their conversion from and to bit
+//! lists and octets. One multiplication unpacks an octet into eight, or packs eight into one.
 ghost use Rattle.std.specs.Prelude.{◌≡◌, ◌+◌, ◌*◌, ◌/◌, ◌<◌, ◌≤◌, ◌^◌, ◌++◌, length, take, drop};
 ghost use Rattle.bit_blocks.specs.Bits.{AllBits};
 ghost use Rattle.bit_blocks.specs.Octets.{octet_bits, bits_of as octets_to_bits};
@@ -7,7 +7,7 @@ ghost use Rattle.fire_code.specs.Registers.{register_bits};
 
 use bit_blocks::Bits;
 
-/// The first `N` places of a register.
+/// The first `N` bits of a register.
 pub(crate) fn places<const N: usize>(register: u64) -> Bits<N>
     requires { N ≤ 64 }
     ensures value { result ≡ register_bits N register }
@@ -21,7 +21,7 @@ pub(crate) fn places<const N: usize>(register: u64) -> Bits<N>
     bits
 }
 
-/// The first forty places of a register, an octet at a time.
+/// The first forty bits of a register.
 pub(crate) fn bits_of(register: u64) -> Bits<40>
     ensures value { result ≡ register_bits 40 register }
     ensures count { length result ≡ 40 }
@@ -34,7 +34,7 @@ pub(crate) fn bits_of(register: u64) -> Bits<40>
     bits
 }
 
-/// The first forty places of a register as octets.
+/// The first forty bits of a register, packed.
 pub(crate) fn octets_of(register: u64) -> [u8; 5]
     ensures { octets_to_bits result ≡ register_bits 40 register }
 {
@@ -47,7 +47,7 @@ pub(crate) fn octets_of(register: u64) -> [u8; 5]
     ]
 }
 
-/// Eight places of a register from place `8 * m` on, the first being the bit of value 1.
+/// Octet `m` of a register.
 fn octet_of(register: u64, m: usize) -> u8
     requires { m < 5 }
     ensures { octet_bits result ≡ register_bits 8 (register / 2 ^ (8 * m)) }
@@ -69,7 +69,7 @@ pub(crate) fn register_of(bits: &[u8]) -> u64
     register
 }
 
-/// Eight bits as one number, the first being its bit of value 1.
+/// Eight bits packed into an octet, least significant bit first.
 #[inline]
 pub(crate) fn gathered(bits: &[u8]) -> u64
     requires count { length bits.now ≡ 8 }
@@ -80,23 +80,23 @@ pub(crate) fn gathered(bits: &[u8]) -> u64
     let apart = u64::from_le_bytes([
         bits[0], bits[1], bits[2], bits[3], bits[4], bits[5], bits[6], bits[7],
     ]);
-    // The factor moves bit i of octet i to bit 56 + i, and nothing else to the highest octet.
+    // The multiplication moves bit i to bit 56 + i; nothing else reaches the highest octet.
     apart.wrapping_mul(0x0102_0408_1020_4080) >> 56
 }
 
-/// The bits of a number apart, the one of value 1 first.
+/// The eight bits of an octet, least significant bit first.
 #[inline]
 fn spread(octet: u64) -> [u8; 8]
     requires { octet < 256 }
     ensures value { result ≡ register_bits 8 octet }
     ensures bits { AllBits result }
 {
-    // Octet i keeps bit i, and so is not 0 where its sum with 127 has the highest bit.
+    // Octet i of `kept` is bit i alone, in place; adding 127 carries it into the octet's highest bit.
     let kept = octet.wrapping_mul(0x0101_0101_0101_0101) & 0x8040_2010_0804_0201;
     ((kept.wrapping_add(0x7f7f_7f7f_7f7f_7f7f) >> 7) & 0x0101_0101_0101_0101).to_le_bytes()
 }
 
-/// Writes eight bits from a place on.
+/// Writes eight bits from index `at` on.
 fn write(bits: &mut Bits<40>, at: usize, octet: &[u8; 8])
     requires count { length bits.old ≡ 40 }
     requires within { at + 8 ≤ 40 }

@@ -1,31 +1,31 @@
-//! The ten parity bits of the synchronisation burst (SCH), a CRC that is sent inverted (GSM 05.03 section 4.7, today 3GPP TS
-//! 45.003). The bits are divided one by one.
+//! The ten check bits of the synchronisation burst (SCH), an inverted CRC (GSM 05.03, today 3GPP TS 45.003, section 4.7), computed
+//! bit by bit.
 ghost use Rattle.std.specs.Prelude.{◌≡◌, ◌↔◌, ◌++◌, List, ℕ, length, IsTrue};
 ghost use Rattle.bit_blocks.specs.Bits.{AllBits};
 ghost use Rattle.fire_code.specs.Words.{IsSchWord};
 
-use crate::division::parity;
+use crate::division::crc;
 use bit_blocks::Bits;
 
-// D^8 + D^6 + D^5 + D^4 + D^2 + 1, the bit of value 1 standing for D^9
+// D^8 + D^6 + D^5 + D^4 + D^2 + 1; the least significant bit is the coefficient of D^9
 const TAPS: u64 = 0b10_1011_1010;
 
-/// The parity of the 25 bits of a synchronisation burst (GSM 05.03 section 4.7).
+/// The CRC of the 25 information bits of a synchronisation burst (GSM 05.03 section 4.7).
 pub fn sch_parity(d: &Bits<25>) -> Bits<10>
     ensures word { IsSchWord (d.now ++ result) }
     ensures only { (p : List ℕ) → IsSchWord (d.now ++ p) → p ≡ result }
     ensures count { length result ≡ 10 }
     ensures bits { AllBits result }
 {
-    parity(d.as_slice(), TAPS)
+    crc(d.as_slice(), TAPS)
 }
 
-/// Whether 35 bits are 25 and their parity.
+/// Whether the last 10 of 35 bits are the CRC of the first 25.
 pub fn sch_holds(w: &Bits<35>) -> bool
     ensures { IsTrue result ↔ IsSchWord w.now }
 {
     let (info, check) = w.as_slice().split_at(25);
-    parity::<10>(info, TAPS).as_slice() == check
+    crc::<10>(info, TAPS).as_slice() == check
 }
 
 #[cfg(test)]
@@ -34,7 +34,7 @@ mod tests {
     use std::test::Fail;
 
     #[test]
-    fn zeros_have_ones_as_parity(rt: HostRuntime) -> Result<(), Fail> {
+    fn zeros_have_ones_as_crc(rt: HostRuntime) -> Result<(), Fail> {
         assert_eq!(rt; sch_parity(&Bits::zero()).as_slice(), [1; 10].as_slice());
         assert!(rt; !sch_holds(&Bits::zero()));
         Ok(())

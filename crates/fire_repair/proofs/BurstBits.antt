@@ -1,4 +1,4 @@
--- The bits of a burst.
+-- The bits of an error burst.
 use Rattle.std.proofs.Common.{◌≡◌, ℕ, ◌+◌, ◌-◌, ◌*◌, ◌/◌, ◌%◌, ◌^◌, ◌<◌, ◌≤◌, get_or, ap, sym}
 use Rattle.std.proofs.Common.{◌∙◌, arith, add-zero}
 use Rattle.std.specs.Int.{bit_at}
@@ -7,7 +7,7 @@ use Rattle.std.proofs.lemmas.Nat.Bits.{bit_at-zero, bit_at_cat_low, bit_at_cat_h
 use Rattle.fire_code.proofs.Lemmas.{get_or-register_bits}
 use Rattle.fire_repair.specs.Bursts.{burst}
 
--- a shape from a place on, at a place before it and from it on
+-- the bits of a shifted shape, below the shift and above it
 pub bit_before : (start shape k : ℕ) → k < start → bit_at (shape * 2 ^ start) k ≡ 0
 bit_before start shape k before =
     ap (λ n. bit_at n k) (sym (add-zero (shape * 2 ^ start))) ∙ bit_at_cat_low shape start 0 k before ∙ bit_at-zero k
@@ -16,7 +16,7 @@ pub bit_from : (start shape k : ℕ) → start ≤ k → bit_at (shape * 2 ^ sta
 bit_from start shape k after =
     ap (λ n. bit_at n k) (sym (add-zero (shape * 2 ^ start))) ∙ bit_at_cat_high shape start 0 k (pow_pos start) after
 
--- a burst has no bit before its first place and none after its twelfth
+-- an error burst has no bit before its start and none from twelve bits later on
 pub burst_before : (start shape k : ℕ) → k < start → k < 224 → get_or (burst start shape) k 0 ≡ 0
 burst_before start shape k before within = get_or-register_bits 224 (shape * 2 ^ start) k within ∙ bit_before start shape k before
 

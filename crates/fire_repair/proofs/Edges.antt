@@ -1,4 +1,4 @@
--- The first and the last bit of a shape.
+-- The first and the last bit of a shape, from its trailing and leading zeros.
 use Rattle.std.proofs.Common.{◌≡◌, ◌≢◌, ℕ, zero, suc, ◌+◌, ◌-◌, ◌*◌, ◌/◌, ◌%◌, ◌^◌, ◌<◌}
 use Rattle.std.proofs.Common.{◌≤◌, ap, sym, ◌∙◌, subst, arith}
 use Rattle.std.specs.Int.{bit_at, trailing_zeros, leading_zeros, w64}
@@ -13,7 +13,6 @@ pub record Edges (shape first last : ℕ) : Type 0 where
   pub within : last < 12
   pub outside : (i : ℕ) → bit_at shape i ≢ 0 → (first ≤ i) × (i ≤ last)
 
--- the bit of the greatest power that a number has
 top_bit : (n m : ℕ) → n < 2 ^ suc m → 2 ^ suc m ≤ 2 * n + 1 → bit_at n m ≡ 1
 top_bit n m below above =
     let double : 2 ^ suc m ≡ 2 ^ m * 2 = pow-suc 2 m in
@@ -23,7 +22,7 @@ top_bit n m below above =
     let one : n / 2 ^ m ≡ 1 = ap (λ x. x / 2 ^ m) parts ∙ shr_high 1 m (n - 2 ^ m) (omega arith) in
     ap (λ x. x % 2) one
 
--- the edges, where the number has its greatest power at place m
+-- the first and last bit of a shape whose most significant bit is bit m
 edges_at : (shape first m clear : ℕ) → shape < 2 ^ 12 → bit_at shape first ≡ 1 → ((i : ℕ) → i < first → bit_at shape i ≡ 0) →
     clear + suc m ≡ 64 → shape < 2 ^ suc m → 2 ^ suc m ≤ 2 * shape + 1 → Edges shape first (63 - clear)
 edges_at shape first m clear small first_bit before count below above =

@@ -1,28 +1,28 @@
--- No two bursts leave the same. By computing, for every shape: nowhere on its way through 212 places does a shape become another
--- one, that is, a register whose first 28 places are 0, but as the same bits one place earlier.
+-- Two different error bursts never have the same syndrome. This is computed for every shape: in up to 212 multiplications by D it never
+-- becomes another shape (a register whose first 28 bits are 0) except by a mere shift of its bits.
 use Rattle.std.proofs.Common.{◌≡◌, ℕ, zero, suc, ◌+◌, ◌-◌, ◌*◌, ◌/◌, ◌%◌, ◌^◌, ◌<◌, ◌≤◌, Bool}
 use Rattle.std.proofs.Common.{true, false, eqb, ◌&&◌, refl, ap, sym, ◌∙◌, arith, eq-eqb, mul_assoc, ◌⊎◌, inl, inr}
 use Rattle.std.proofs.Math.Nat.{pow-suc, mul_comm}
 use Rattle.std.proofs.lemmas.Nat.{pow-add}
 use Rattle.std.proofs.lemmas.Bool.Decides.{Decides-eqb}
 use Rattle.fire_code.proofs.Lemmas.{tested, passed}
-use Rattle.fire_repair.specs.Bursts.{moved_once, moved, left_by}
+use Rattle.fire_repair.specs.Bursts.{shift_once, shift, left_by}
 use Rattle.fire_repair.proofs.Moves.{moved-add, moved_within, same_moved}
 
--- a register with 28 zeros is this whole number, but for the places it was moved
+-- if the first 28 bits are 0, the register times `power` is `whole`: the shape is only shifted
 is_plain : ℕ → ℕ → ℕ → Bool
 is_plain power whole register =
     elim (register % 2) [ zero ↦ elim (eqb (register % 2 ^ 28) 0) [ true ↦ eqb (register * power) whole | false ↦ true ] | suc _ ↦ true ]
 
--- so it is at the next n places
+-- the same at each of the next n bits
 stays_plain : ℕ → ℕ → ℕ → ℕ → Bool
 stays_plain zero power whole register = true
-stays_plain (suc n) power whole register = is_plain power whole register && stays_plain n (2 * power) whole (moved_once register)
+stays_plain (suc n) power whole register = is_plain power whole register && stays_plain n (2 * power) whole (shift_once register)
 
 is_alone : ℕ → Bool
 is_alone shape = stays_plain 213 1 (shape * 2 ^ 28) (shape * 2 ^ 28)
 
--- a thousand shapes at a time
+-- 1,024 shapes at a time
 are_alone : ℕ → Bool
 are_alone part = tested (λ s. is_alone (1024 * part + s)) 1024
 
@@ -68,33 +68,33 @@ both : (a b : Bool) → (a && b) ≡ true → (a ≡ true) × (b ≡ true)
 both true b h = (refl, h)
 both false b h = (let f : false ≡ true = h in cc, let f : false ≡ true = h in cc)
 
-plain_at : (n d power whole register : ℕ) → stays_plain n power whole register ≡ true → d < n → moved d register % 2 ^ 28 ≡ 0 →
-    moved d register * (2 ^ d * power) ≡ whole
-unfolding stays_plain moved
+plain_at : (n d power whole register : ℕ) → stays_plain n power whole register ≡ true → d < n → shift d register % 2 ^ 28 ≡ 0 →
+    shift d register * (2 ^ d * power) ≡ whole
+unfolding stays_plain shift
 plain_at zero d power whole register stays before low = absurd (omega arith)
 plain_at (suc n) zero power whole register stays before low =
     let one : 1 * power ≡ power = omega arith in
     ap (λ p. register * p) one
     ∙ plain_here power whole register
-    (both (is_plain power whole register) (stays_plain n (2 * power) whole (moved_once register)) stays).0 low
+    (both (is_plain power whole register) (stays_plain n (2 * power) whole (shift_once register)) stays).0 low
 plain_at (suc n) (suc d) power whole register stays before low =
-    let next = (both (is_plain power whole register) (stays_plain n (2 * power) whole (moved_once register)) stays).1 in
+    let next = (both (is_plain power whole register) (stays_plain n (2 * power) whole (shift_once register)) stays).1 in
     let powers : 2 ^ suc d * power ≡ 2 ^ d * (2 * power) = ap (λ p. p * power) (pow-suc 2 d) ∙ mul_assoc (2 ^ d) 2 power in
-    ap (λ p. moved d (moved_once register) * p) powers
-    ∙ plain_at n d (2 * power) whole (moved_once register) next (omega arith) low
+    ap (λ p. shift d (shift_once register) * p) powers
+    ∙ plain_at n d (2 * power) whole (shift_once register) next (omega arith) low
 
--- a shape that is moved to a shape is that shape
-same_shape : (d shape shape' : ℕ) → d ≤ 212 → shape < 2 ^ 12 → moved d (shape * 2 ^ 28) ≡ shape' * 2 ^ 28 → shape' * 2 ^ d ≡ shape
+-- a shape that becomes a shape is only shifted
+same_shape : (d shape shape' : ℕ) → d ≤ 212 → shape < 2 ^ 12 → shift d (shape * 2 ^ 28) ≡ shape' * 2 ^ 28 → shape' * 2 ^ d ≡ shape
 unfolding is_alone
 same_shape d shape shape' room small same =
-    let low : moved d (shape * 2 ^ 28) % 2 ^ 28 ≡ 0 = omega arith in
+    let low : shift d (shape * 2 ^ 28) % 2 ^ 28 ≡ 0 = omega arith in
     let plain = plain_at 213 d 1 (shape * 2 ^ 28) (shape * 2 ^ 28) (all_alone shape small) (omega arith) low in
     let whole : shape' * 2 ^ d * 2 ^ 28 ≡ shape * 2 ^ 28 =
     mul_assoc shape' (2 ^ d) (2 ^ 28)
     ∙ ap (λ x. shape' * x) (mul_comm (2 ^ d) (2 ^ 28))
     ∙ sym (mul_assoc shape' (2 ^ 28) (2 ^ d))
     ∙ ap (λ x. x * 2 ^ d) (sym same)
-    ∙ ap (λ x. moved d (shape * 2 ^ 28) * x) (let one : 2 ^ d ≡ 2 ^ d * 1 = omega arith in one)
+    ∙ ap (λ x. shift d (shape * 2 ^ 28) * x) (let one : 2 ^ d ≡ 2 ^ d * 1 = omega arith in one)
     ∙ plain in
     omega arith
 
@@ -103,10 +103,10 @@ ordered : (start start' shape shape' : ℕ) → start ≤ start' → start' ≤ 
 ordered start start' shape shape' order room small small' same =
     let d = start' - start in
     let parts : 212 - start ≡ d + (212 - start') = omega arith in
-    let moved_there : moved (212 - start') (moved d (shape * 2 ^ 28)) ≡ moved (212 - start') (shape' * 2 ^ 28) =
-    sym (moved-add d (212 - start') (shape * 2 ^ 28)) ∙ ap (λ n. moved n (shape * 2 ^ 28)) (sym parts) ∙ same in
-    let there : moved d (shape * 2 ^ 28) ≡ shape' * 2 ^ 28 =
-    same_moved (212 - start') (moved d (shape * 2 ^ 28)) (shape' * 2 ^ 28)
+    let moved_there : shift (212 - start') (shift d (shape * 2 ^ 28)) ≡ shift (212 - start') (shape' * 2 ^ 28) =
+    sym (moved-add d (212 - start') (shape * 2 ^ 28)) ∙ ap (λ n. shift n (shape * 2 ^ 28)) (sym parts) ∙ same in
+    let there : shift d (shape * 2 ^ 28) ≡ shape' * 2 ^ 28 =
+    same_moved (212 - start') (shift d (shape * 2 ^ 28)) (shape' * 2 ^ 28)
     (moved_within d (shape * 2 ^ 28) (omega arith)) (omega arith) moved_there in
     let places : d + start ≡ start' = omega arith in
     ap (λ x. x * 2 ^ start) (sym (same_shape d shape shape' (omega arith) small there))
@@ -118,7 +118,7 @@ either zero b = inl (omega arith)
 either (suc a) zero = inr (omega arith)
 either (suc a) (suc b) = elim (either a b) [ inl h ↦ inl (omega arith) | inr h ↦ inr (omega arith) ]
 
--- bursts that leave the same are the same
+-- error bursts with the same syndrome are the same
 pub same_burst : (start start' shape shape' : ℕ) → start ≤ 212 → start' ≤ 212 → shape < 2 ^ 12 → shape' < 2 ^ 12 →
     left_by start shape ≡ left_by start' shape' → shape * 2 ^ start ≡ shape' * 2 ^ start'
 same_burst start start' shape shape' room room' small small' same =

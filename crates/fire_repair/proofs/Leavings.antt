@@ -1,4 +1,5 @@
--- What a burst leaves under the generator.
+-- The syndrome of an error burst: twelve bits at the end of the word are their own syndrome, and each bit further to the front
+-- multiplies it by D.
 use Rattle.std.proofs.Common.{◌≡◌, ℕ, zero, suc, ◌+◌, ◌-◌, ◌*◌, ◌/◌, ◌%◌, ◌^◌, ◌<◌, ◌≤◌, List}
 use Rattle.std.proofs.Common.{[], ◌∷◌, ◌++◌, length, length-append, replicate, get_or, refl, ap, ap₂, sym, ◌∙◌, subst}
 use Rattle.std.proofs.Common.{arith, bit_xor, bit_and, lit≤, add-zero, mul_assoc}
@@ -13,14 +14,14 @@ use Rattle.fire_code.specs.Registers.{register_bits}
 use Rattle.fire_code.specs.Words.{g40}
 use Rattle.fire_code.proofs.Lemmas.{taps_of_g40, length-register_bits, AllBits-register_bits, register_bits-mod, register_bits-suc}
 use Rattle.fire_code.proofs.Lemmas.{register_bits-zero, register_bits_split, lowest_of_xor, carry_is, remainder_more}
-use Rattle.fire_repair.specs.Bursts.{moved_once, moved, left_by}
+use Rattle.fire_repair.specs.Bursts.{shift_once, shift, left_by}
 use Rattle.fire_repair.proofs.Moves.{moved_once_within}
 
 drop_term : (y k p z : ℕ) → y ≡ 0 → z ≡ (y * k + p) % 2 → z ≡ p % 2
 drop_term zero k p z e h = omega arith
 drop_term (suc y) k p z e h = absurd (omega arith)
 
--- a first place that is 0 takes nothing from the quotient
+-- a leading zero of a multiple can be dropped
 HasQuotient-uncons : (x t : List ℕ) → length t ≤ length x → HasQuotient (0 ∷ x) (1 ∷ t) → HasQuotient x (1 ∷ t)
 HasQuotient-uncons x t room ([], p) = absurd (let c = p.count in omega arith)
 HasQuotient-uncons x t room (y ∷ q, p) =
@@ -35,14 +36,14 @@ HasQuotient-uncons x t room (y ∷ q, p) =
       },
     )
 
--- the 224 bits of a number leave this register
+-- the 224 bits of a number have this syndrome
 abbrev pub Leaves : ℕ → ℕ → Type 0
 Leaves number register = HasQuotient (register_bits 184 number ++ register_bits 40 (bit_xor (number / 2 ^ 184) register)) g40
 
--- what is left one place later: the lowest bit of what is read cancels out of the carry
+-- the syndrome one bit further to the front; the bit shifted out cancels in the carry
 next_left : (last register : ℕ) →
     bit_xor (bit_xor last register / 2) (bit_and (bit_xor (bit_xor last register) (last % 2)) 1 * 618479558656)
-    ≡ bit_xor (last / 2) (moved_once register)
+    ≡ bit_xor (last / 2) (shift_once register)
 next_left last register =
     let sum = lowest_of_xor last register in
     let carry : bit_and (bit_xor (bit_xor last register) (last % 2)) 1 ≡ register % 2 =
@@ -50,24 +51,24 @@ next_left last register =
     ap₂ (λ half bit. bit_xor half (bit * 618479558656)) (xor_shr last register 1) carry
     ∙ xor_assoc (last / 2) (register / 2) (register % 2 * 618479558656)
 
--- of a burst the last forty places are a number of forty bits
+-- the last forty bits of an error burst, as a number
 last_of_burst : (start shape : ℕ) → shape < 2 ^ 12 → start ≤ 212 → shape * 2 ^ start / 2 ^ 184 < 2 ^ 40
 last_of_burst start shape small room =
     let within : shape * 2 ^ start < 2 ^ (12 + start) = shl_below shape 12 start small in
     let most : 2 ^ (12 + start) ≤ 2 ^ 224 = pow-le-pow_right {n = 2} (omega arith) {i = 12 + start} {j = 224} (omega arith) in
     shr_below (shape * 2 ^ start) 40 184 (omega arith)
 
--- a burst one place earlier
+-- an error burst one bit further to the front
 one_place : (number : ℕ) → register_bits 1 number ≡ number % 2 ∷ []
 unfolding register_bits
 one_place number = refl
 
 leaves_earlier : (number register : ℕ) → number / 2 ^ 184 < 2 ^ 40 → number % 2 ≡ 0 → register < 2 ^ 40 →
-    Leaves number register → Leaves (number / 2) (moved_once register)
+    Leaves number register → Leaves (number / 2) (shift_once register)
 leaves_earlier number register last_within even within left =
     let last = number / 2 ^ 184 in
     let front = register_bits 184 number in
-    let next = register_bits 40 (bit_xor (last / 2) (moved_once register)) in
+    let next = register_bits 40 (bit_xor (last / 2) (shift_once register)) in
     let more : HasQuotient ((front ++ last % 2 ∷ []) ++ next) g40 =
     subst (λ r. HasQuotient ((front ++ last % 2 ∷ []) ++ register_bits 40 r) g40) (next_left last register)
     (subst (λ g. HasQuotient ((front ++ last % 2 ∷ []) ++ register_bits 40
@@ -84,14 +85,14 @@ leaves_earlier number register last_within even within left =
     let long : length (rest ++ next) ≡ 224 =
     length-append rest next
     ∙ ap₂ (λ a b. a + b) (length-register_bits 184 (number / 2))
-    (length-register_bits 40 (bit_xor (last / 2) (moved_once register))) in
-    subst (λ x. HasQuotient (rest ++ register_bits 40 (bit_xor x (moved_once register))) g40) halved
+    (length-register_bits 40 (bit_xor (last / 2) (shift_once register))) in
+    subst (λ x. HasQuotient (rest ++ register_bits 40 (bit_xor x (shift_once register))) g40) halved
     (subst (λ g. HasQuotient (rest ++ next) g) taps_of_g40
     (HasQuotient-uncons (rest ++ next) (register_bits 40 618479558656) (omega (arith, length-register_bits 40 618479558656))
     (subst (λ g. HasQuotient (0 ∷ (rest ++ next)) g) (sym taps_of_g40)
     (subst (λ x. HasQuotient (x ++ next) g40) begins more))))
 
--- a shape whose twelve places are the last leaves itself
+-- the last twelve bits are their own syndrome
 leaves_itself : (shape : ℕ) → shape < 2 ^ 12 → Leaves (shape * 2 ^ 212) (shape * 2 ^ 28)
 leaves_itself shape small =
     let number : shape * 2 ^ 212 ≡ shape * 2 ^ 28 * 2 ^ 184 = sym (mul_assoc shape (2 ^ 28) (2 ^ 184)) in
@@ -106,10 +107,10 @@ leaves_itself shape small =
     ∙ register_bits-zero 40 in
     subst (λ x. HasQuotient x g40) (sym (ap₂ (λ a b. a ++ b) front back)) (HasQuotient-zeros 224 g40 (lit≤ tt))
 
--- and from an earlier place on it leaves what this is moved to
+-- j bits further to the front, the syndrome is multiplied by D^j
 leaves_moved : (j start shape register : ℕ) → shape < 2 ^ 12 → start + j ≤ 212 → register < 2 ^ 40 →
-    Leaves (shape * 2 ^ (start + j)) register → Leaves (shape * 2 ^ start) (moved j register)
-unfolding moved
+    Leaves (shape * 2 ^ (start + j)) register → Leaves (shape * 2 ^ start) (shift j register)
+unfolding shift
 leaves_moved zero start shape register small room within left = subst (λ n. Leaves (shape * 2 ^ n) register) (add-zero start) left
 leaves_moved (suc j) start shape register small room within left =
     let number = shape * 2 ^ (start + suc j) in
@@ -118,11 +119,11 @@ leaves_moved (suc j) start shape register small room within left =
     ap (λ n. shape * 2 ^ n) next ∙ ap (λ x. shape * x) (pow-suc 2 (start + j)) ∙ sym (mul_assoc shape (2 ^ (start + j)) 2) in
     let half : number / 2 ≡ shape * 2 ^ (start + j) = omega arith in
     let even : number % 2 ≡ 0 = omega arith in
-    leaves_moved j start shape (moved_once register) small (omega arith) (moved_once_within register within)
-    (subst (λ n. Leaves n (moved_once register)) half
+    leaves_moved j start shape (shift_once register) small (omega arith) (moved_once_within register within)
+    (subst (λ n. Leaves n (shift_once register)) half
     (leaves_earlier number register (last_of_burst (start + suc j) shape small room) even within left))
 
--- what a burst leaves
+-- the syndrome of an error burst
 pub leaves_left : (start shape : ℕ) → start ≤ 212 → shape < 2 ^ 12 → Leaves (shape * 2 ^ start) (left_by start shape)
 leaves_left start shape room small =
     let last : start + (212 - start) ≡ 212 = omega arith in

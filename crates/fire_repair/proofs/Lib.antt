@@ -6,6 +6,6 @@ pub mod Lemmas
 mod Moves
 mod Nearness
 mod Repairing
-mod Turning
+mod Flipping
 mod Walks
 mod Words

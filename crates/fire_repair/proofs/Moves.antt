@@ -1,19 +1,19 @@
--- A register moved by D and back.
+-- Multiplication of a register by D modulo the generator is invertible.
 use Rattle.std.proofs.Common.{◌≡◌, ℕ, zero, suc, ◌+◌, ◌*◌, ◌/◌, ◌%◌, ◌^◌, ◌<◌, ◌≤◌, refl, ap, ap₂}
 use Rattle.std.proofs.Common.{sym, ◌∙◌, arith, bit_xor, zero-add}
 use Rattle.std.specs.Int.Bits.{xor_assoc, xor_self, xor_zero_r}
 use Rattle.std.proofs.lemmas.Nat.{xor_shr, xor_lt}
 use Rattle.fire_code.proofs.Lemmas.{lowest_of_xor}
-use Rattle.fire_repair.specs.Bursts.{moved_once, moved}
+use Rattle.fire_repair.specs.Bursts.{shift_once, shift}
 
--- the register that walks back: it divides by D
+-- the register divided by D
 abbrev pub walked : ℕ → ℕ
 walked register = bit_xor (2 * register) (register / 2 ^ 39 * 1236959117313)
 
 same_halves : (x y : ℕ) → x / 2 ≡ y / 2 → x % 2 ≡ y % 2 → x ≡ y
 same_halves x y half lowest = omega arith
 
--- the half and the lowest bit of what has walked back; the carry is the highest bit
+-- the upper bits and the lowest bit of a register divided by D; the carry is its highest bit
 half_of_walked : (register carry : ℕ) → bit_xor (2 * register) (carry * 1236959117313) / 2 ≡ bit_xor register (carry * 1236959117313 / 2)
 half_of_walked register carry =
     let half : 2 * register / 2 ≡ register = omega arith in
@@ -28,7 +28,7 @@ half_of_generator carry small = omega arith
 taken_twice : (a b : ℕ) → bit_xor (bit_xor a b) b ≡ a
 taken_twice a b = xor_assoc a b b ∙ ap (λ x. bit_xor a x) (xor_self b) ∙ xor_zero_r a
 
-pub moved_once-walked : (register : ℕ) → register < 2 ^ 40 → moved_once (walked register) ≡ register
+pub moved_once-walked : (register : ℕ) → register < 2 ^ 40 → shift_once (walked register) ≡ register
 moved_once-walked register within =
     let carry = register / 2 ^ 39 in
     let small : carry ≤ 1 = omega arith in
@@ -37,7 +37,7 @@ moved_once-walked register within =
     (lowest_of_walked register carry small)
     ∙ taken_twice register (carry * 618479558656)
 
--- moved once, the lowest bit has become the highest
+-- multiplication by D turns the lowest bit into the highest
 highest_of_moved : (half carry : ℕ) → half < 2 ^ 39 → carry ≤ 1 → bit_xor half (carry * 618479558656) / 2 ^ 39 ≡ carry
 highest_of_moved half zero within small = omega (arith, xor_zero_r half)
 highest_of_moved half (suc zero) within small =
@@ -45,11 +45,11 @@ highest_of_moved half (suc zero) within small =
     xor_shr half (1 * 618479558656) 39 ∙ ap (λ x. bit_xor x 1) none
 highest_of_moved half (suc (suc carry)) within small = absurd (omega arith)
 
-pub walked-moved_once : (register : ℕ) → register < 2 ^ 40 → walked (moved_once register) ≡ register
+pub walked-moved_once : (register : ℕ) → register < 2 ^ 40 → walked (shift_once register) ≡ register
 walked-moved_once register within =
     let half = register / 2 in
     let carry = register % 2 in
-    let once = moved_once register in
+    let once = shift_once register in
     let small : carry ≤ 1 = omega arith in
     let highest : once / 2 ^ 39 ≡ carry = highest_of_moved half carry (omega arith) small in
     ap (λ top. bit_xor (2 * once) (top * 1236959117313)) highest
@@ -59,7 +59,7 @@ walked-moved_once register within =
     ∙ taken_twice half (carry * 618479558656))
     (lowest_of_walked once carry small)
 
-pub moved_once_within : (register : ℕ) → register < 2 ^ 40 → moved_once register < 2 ^ 40
+pub moved_once_within : (register : ℕ) → register < 2 ^ 40 → shift_once register < 2 ^ 40
 moved_once_within register within = xor_lt 40 (register / 2) (register % 2 * 618479558656) (omega arith) (omega arith)
 
 -- the highest bits cancel
@@ -76,22 +76,22 @@ within_of_walked register (suc (suc carry)) within e = absurd (omega arith)
 pub walked_within : (register : ℕ) → register < 2 ^ 40 → walked register < 2 ^ 40
 walked_within register within = within_of_walked register (register / 2 ^ 39) within refl
 
-pub moved_within : (n register : ℕ) → register < 2 ^ 40 → moved n register < 2 ^ 40
-unfolding moved
+pub moved_within : (n register : ℕ) → register < 2 ^ 40 → shift n register < 2 ^ 40
+unfolding shift
 moved_within zero register within = within
-moved_within (suc n) register within = moved_within n (moved_once register) (moved_once_within register within)
+moved_within (suc n) register within = moved_within n (shift_once register) (moved_once_within register within)
 
--- registers that are moved to the same are the same
-pub same_moved : (n a b : ℕ) → a < 2 ^ 40 → b < 2 ^ 40 → moved n a ≡ moved n b → a ≡ b
-unfolding moved
+-- multiplication by D^n is injective
+pub same_moved : (n a b : ℕ) → a < 2 ^ 40 → b < 2 ^ 40 → shift n a ≡ shift n b → a ≡ b
+unfolding shift
 same_moved zero a b within within' same = same
 same_moved (suc n) a b within within' same =
-    let once = same_moved n (moved_once a) (moved_once b) (moved_once_within a within) (moved_once_within b within') same in
+    let once = same_moved n (shift_once a) (shift_once b) (moved_once_within a within) (moved_once_within b within') same in
     sym (walked-moved_once a within) ∙ ap walked once ∙ walked-moved_once b within'
 
-pub moved-add : (m n register : ℕ) → moved (m + n) register ≡ moved n (moved m register)
-unfolding moved
-moved-add zero n register = ap (λ k. moved k register) (zero-add n)
+pub moved-add : (m n register : ℕ) → shift (m + n) register ≡ shift n (shift m register)
+unfolding shift
+moved-add zero n register = ap (λ k. shift k register) (zero-add n)
 moved-add (suc m) n register =
     let next : suc m + n ≡ suc (m + n) = omega arith in
-    ap (λ k. moved k register) next ∙ moved-add m n (moved_once register)
+    ap (λ k. shift k register) next ∙ moved-add m n (shift_once register)

@@ -1,4 +1,4 @@
--- Words that differ within twelve places differ by a burst.
+-- Words that differ only within twelve consecutive bits differ by an error burst.
 use Rattle.std.proofs.Common.{◌≡◌, ◌≢◌, ℕ, zero, suc, ◌+◌, ◌-◌, ◌*◌, ◌/◌, ◌%◌, ◌^◌, ◌<◌}
 use Rattle.std.proofs.Common.{◌≤◌, List, length, get_or, min, refl, ap, sym, ◌∙◌, subst, arith, ◌⊎◌, inl, inr}
 use Rattle.std.specs.Int.{bit_at}
@@ -23,7 +23,7 @@ sum_of_same (suc a) zero _ _ same = absurd (same (λ e. omega (arith, e)))
 sum_of_same (suc (suc a)) b h _ same = absurd (omega arith)
 sum_of_same (suc a) (suc (suc b)) _ h same = absurd (omega arith)
 
--- a number with bits at twelve places alone is a shape from the first of them on
+-- a number with no bit below `start` is a shifted number
 number_is : (number start : ℕ) → ((k : ℕ) → k < start → bit_at number k ≡ 0) → number / 2 ^ start * 2 ^ start ≡ number
 number_is number start before =
     same_from_bits (number / 2 ^ start * 2 ^ start) number (λ k.
@@ -42,7 +42,7 @@ shape_small number start after =
     ∙ after (start + (12 + i)) (omega arith) ∙ sym (bit_at-zero i)) in
     omega arith
 
--- v is w with a shape from a place on added
+-- v is w plus an error burst
 pub record IsBurst (w v : List ℕ) : Type 0 where
   pub start : ℕ
   pub shape : ℕ

@@ -1,4 +1,5 @@
--- What a burst makes of a word, that no other word is so near, and that one answer is due.
+-- Adding an error burst with the word's syndrome gives a codeword. Since different error bursts have different syndromes, there is at
+-- most one such codeword, and the answer is unique.
 use Rattle.std.proofs.Common.{◌≡◌, ◌≢◌, ℕ, zero, suc, ◌+◌, ◌-◌, ◌*◌, ◌%◌, ◌^◌, ◌<◌, ◌≤◌, List}
 use Rattle.std.proofs.Common.{◌++◌, length, replicate, get_or, Option, Some, None, refl, ap, sym, ◌∙◌, subst, arith}
 use Rattle.std.specs.Int.{bit_at, trailing_zeros, leading_zeros, w64}
@@ -22,9 +23,9 @@ use Rattle.fire_repair.proofs.Leavings.{Leaves, leaves_left}
 use Rattle.fire_repair.proofs.Moves.{moved_within}
 use Rattle.fire_repair.proofs.Nearness.{IsBurst, burst_between}
 use Rattle.fire_repair.proofs.Walks.{Says, find_from, said_of}
-use Rattle.fire_repair.proofs.Words.{at_parity, some_syndrome, same_syndrome, word_with_number, word_with_register}
+use Rattle.fire_repair.proofs.Words.{at_crc, some_syndrome, same_syndrome, word_with_number, word_with_register}
 
--- ---- the word with a burst added
+-- ---- a word plus an error burst
 
 module _ (w : List ℕ) (ew : length w ≡ 224) (bw : AllBits w) (start shape : ℕ) (room : start ≤ 212) (small : shape < 2 ^ 12) where
   sum : List ℕ
@@ -42,7 +43,7 @@ module _ (w : List ℕ) (ew : length w ≡ 224) (bw : AllBits w) (start shape : 
   changed : (a b s : ℕ) → a ≤ 1 → s ≡ (a + b) % 2 → b ≡ 1 → a ≡ s → ⊥
   changed a b s bit is one same = omega arith
 
-  -- where it differs the burst has a bit
+  -- the sum differs from the word only where the burst has a bit
   pub differing : (k : ℕ) → get_or w k 0 ≢ get_or (add_bits w (burst start shape)) k 0 → (k < 224) × (get_or (burst start shape) k 0 ≢ 0)
   differing k differs =
       let within : k < 224 = lt_of_not-le {n = 224} {m = k} (λ past.
@@ -80,24 +81,24 @@ module _ (w : List ℕ) (ew : length w ≡ 224) (bw : AllBits w) (start shape : 
             (omega (arith, inside.0, near.0), omega (arith, inside.1, near.0));
       }
 
-  -- where it leaves what is left of a word, it makes it a word of the code
-  pub word_of : (syndrome : ℕ) → left_by start shape ≡ syndrome → IsXcchWord (add_bits w (at_parity syndrome)) →
+  -- if the burst has the word's syndrome, the sum is a codeword
+  pub word_of : (syndrome : ℕ) → left_by start shape ≡ syndrome → IsXcchWord (add_bits w (at_crc syndrome)) →
       IsXcchWord (add_bits w (burst start shape))
   word_of syndrome same word =
       word_with_number w (shape * 2 ^ start) syndrome ew
       (subst (λ s. Leaves (shape * 2 ^ start) s) same (leaves_left start shape room small)) word
 
-  pub left_of : IsXcchWord (add_bits w (burst start shape)) → IsXcchWord (add_bits w (at_parity (left_by start shape)))
+  pub left_of : IsXcchWord (add_bits w (burst start shape)) → IsXcchWord (add_bits w (at_crc (left_by start shape)))
   left_of word = word_with_register w (shape * 2 ^ start) (left_by start shape) ew (leaves_left start shape room small) word
 
   left_within : left_by start shape < 2 ^ 40
   left_within = moved_within (212 - start) (shape * 2 ^ 28) (omega arith)
 
-  pub left_is : (syndrome : ℕ) → syndrome < 2 ^ 40 → IsXcchWord (add_bits w (at_parity syndrome)) →
+  pub left_is : (syndrome : ℕ) → syndrome < 2 ^ 40 → IsXcchWord (add_bits w (at_crc syndrome)) →
       IsXcchWord (add_bits w (burst start shape)) → left_by start shape ≡ syndrome
   left_is syndrome within word word' = same_syndrome w (left_by start shape) syndrome ew bw left_within within (left_of word') word
 
-  pub repair_of : (syndrome : ℕ) → (IsXcchWord w → ⊥) → left_by start shape ≡ syndrome → IsXcchWord (add_bits w (at_parity syndrome)) →
+  pub repair_of : (syndrome : ℕ) → (IsXcchWord w → ⊥) → left_by start shape ≡ syndrome → IsXcchWord (add_bits w (at_crc syndrome)) →
       IsRepair w (add_bits w (burst start shape))
   repair_of syndrome broken same word = record {
     count = ew;
@@ -108,7 +109,7 @@ module _ (w : List ℕ) (ew : length w ≡ 224) (bw : AllBits w) (start shape : 
     near = differs_near;
   }
 
--- the shape of no bit changes nothing
+-- a shape that makes a codeword of another word is not 0
 pub some_shape : (w : List ℕ) (start shape : ℕ) → length w ≡ 224 → AllBits w → (IsXcchWord w → ⊥) →
     IsXcchWord (add_bits w (burst start shape)) → 0 < shape
 some_shape w start zero ew bw broken word =
@@ -118,7 +119,7 @@ some_shape w start zero ew bw broken word =
     absurd (broken (subst IsXcchWord same word))
 some_shape w start (suc shape) ew bw broken word = omega arith
 
--- ---- one repair
+-- ---- at most one repair
 
 burst_of : (w v : List ℕ) → IsRepair w v → IsBurst w v
 burst_of w v r = burst_between w v r.start r.count r.bits r.word.count r.word.bits r.near
@@ -139,14 +140,14 @@ one_repair w v v' r r' =
     ∙ ap (λ n. add_bits w (register_bits 224 n)) (same_burst b.start b'.start b.shape b'.shape b.room b'.room b.small b'.small left)
     ∙ sym b'.sum
 
-pub no_repair : (w v : List ℕ) (syndrome : ℕ) → syndrome < 2 ^ 40 → IsXcchWord (add_bits w (at_parity syndrome)) →
+pub no_repair : (w v : List ℕ) (syndrome : ℕ) → syndrome < 2 ^ 40 → IsXcchWord (add_bits w (at_crc syndrome)) →
     Says 213 syndrome None → IsRepair w v → ⊥
 no_repair w v syndrome within word none r =
     let b = burst_of w v r in
     none b.start b.shape (let room = b.room in omega arith) b.small
     (left_is w r.count r.bits b.start b.shape b.room b.small syndrome within word (word_of_burst w v r b))
 
--- ---- one answer
+-- ---- at most one answer
 
 same_span : (w v : List ℕ) (first first' span span' : ℕ) → IsSpan w v first span → IsSpan w v first' span' →
     (first ≡ first') × (span ≡ span')
@@ -179,16 +180,16 @@ one_answer w NoRepair Holds x y = absurd (x.0 y)
 one_answer w NoRepair (Repaired word first span) x y = absurd (x.1 word y.0)
 one_answer w NoRepair NoRepair x y = refl
 
--- ---- some answer
+-- ---- existence of an answer
 
--- where nothing is left, nothing is added
-nothing_added : (w : List ℕ) → length w ≡ 224 → AllBits w → add_bits w (at_parity 0) ≡ w
+-- adding syndrome 0 changes nothing
+nothing_added : (w : List ℕ) → length w ≡ 224 → AllBits w → add_bits w (at_crc 0) ≡ w
 nothing_added w ew bw =
-    let zeros : at_parity 0 ≡ replicate 224 0 = ap (λ x. replicate 184 0 ++ x) (register_bits-zero 40) in
+    let zeros : at_crc 0 ≡ replicate 224 0 = ap (λ x. replicate 184 0 ++ x) (register_bits-zero 40) in
     ap (λ x. add_bits w x) zeros ∙ add_bits-zeros w 224 bw ew
 
 answer_by_walk : (w : List ℕ) (syndrome : ℕ) (answer : Option Burst) → length w ≡ 224 → AllBits w → syndrome < 2 ^ 40 →
-    (IsXcchWord w → ⊥) → IsXcchWord (add_bits w (at_parity syndrome)) → Says 213 syndrome answer → (a : RepairAnswer) × IsAnswer w a
+    (IsXcchWord w → ⊥) → IsXcchWord (add_bits w (at_crc syndrome)) → Says 213 syndrome answer → (a : RepairAnswer) × IsAnswer w a
 answer_by_walk w syndrome None ew bw within broken word says =
     (NoRepair, (broken, λ v r. no_repair w v syndrome within word says r))
 answer_by_walk w syndrome (Some found) ew bw within broken word says =
@@ -204,7 +205,7 @@ answer_by_walk w syndrome (Some found) ew bw within broken word says =
     )
 
 answer_by : (w : List ℕ) (syndrome : ℕ) → length w ≡ 224 → AllBits w → syndrome < 2 ^ 40 →
-    IsXcchWord (add_bits w (at_parity syndrome)) → (a : RepairAnswer) × IsAnswer w a
+    IsXcchWord (add_bits w (at_crc syndrome)) → (a : RepairAnswer) × IsAnswer w a
 answer_by w zero ew bw within word = (Holds, subst IsXcchWord (nothing_added w ew bw) word)
 answer_by w (suc left) ew bw within word =
     let broken : IsXcchWord w → ⊥ = λ holds.
@@ -212,7 +213,6 @@ answer_by w (suc left) ew bw within word =
     answer_by_walk w (suc left) (find_from 213 (suc left)) ew bw within broken word
     (said_of (suc left) (find_from 213 (suc left)) within refl)
 
--- an answer is due to every word
 pub some_answer : (w : List ℕ) → length w ≡ 224 → AllBits w → (a : RepairAnswer) × IsAnswer w a
 some_answer w ew bw =
     let found = some_syndrome w ew bw in

@@ -1,13 +1,14 @@
--- The walk back along a word, which finds a burst or shows that there is none.
+-- The search divides the syndrome by D until its first 28 bits are 0. Division by D inverts multiplication, so it finds the last error
+-- burst with this syndrome or shows that there is none.
 use Rattle.std.proofs.Common.{◌≡◌, ℕ, zero, suc, ◌-◌, ◌*◌, ◌/◌, ◌%◌, ◌^◌, ◌<◌, ◌≤◌, Option, Some}
 use Rattle.std.proofs.Common.{None, Bool, true, false, eqb, refl, ap, sym, ◌∙◌, subst, arith, eq-eqb, ne_eqb, below_more, bit_and}
 use Rattle.std.proofs.lemmas.Bool.Decides.{Decides-eqb}
 use Rattle.std.proofs.lemmas.Nat.{and_mask}
-use Rattle.fire_repair.specs.Bursts.{moved, left_by}
+use Rattle.fire_repair.specs.Bursts.{shift, left_by}
 use Rattle.fire_repair.specs.declared.bursts.Burst.{Burst}
 use Rattle.fire_repair.proofs.Moves.{walked, walked_within, moved_once-walked, same_moved}
 
--- the burst that begins last of those that begin before place k, where this register is left k places on
+-- the last error burst that starts before bit k, where `register` is the syndrome divided by D^(213 - k)
 unfoldable pub find_from : ℕ → ℕ → Option Burst
 find_from zero register = None
 find_from (suc k) register =
@@ -16,7 +17,7 @@ find_from (suc k) register =
       | false ↦ find_from k (walked register)
     ]
 
--- what an answer says of the bursts that begin before place k
+-- what a search result says about error bursts that start before bit k
 abbrev pub Says : ℕ → ℕ → Option Burst → Type 0
 Says k syndrome (Some found) = (found.start < k) × (found.shape < 2 ^ 12) × (left_by found.start found.shape ≡ syndrome)
 Says k syndrome None = (start shape : ℕ) → start < k → shape < 2 ^ 12 → left_by start shape ≡ syndrome → ⊥
@@ -29,19 +30,19 @@ further k syndrome None here says = λ start shape before small same.
     (λ s lt shape small same. says s shape lt small same) here start (omega arith) shape small same
 
 one_step : (k register : ℕ) (ends : Bool) → k ≤ 212 → register < 2 ^ 40 → ends ≡ eqb (register % 2 ^ 28) 0 →
-    Says k (moved (213 - k) (walked register)) (find_from k (walked register)) →
-    Says (suc k) (moved (212 - k) register)
+    Says k (shift (213 - k) (walked register)) (find_from k (walked register)) →
+    Says (suc k) (shift (212 - k) register)
     (elim ends [ true ↦ Some (record { start = k; shape = register / 2 ^ 28 }) | false ↦ find_from k (walked register) ])
-unfolding moved
+unfolding shift
 one_step k register true within small is rest =
     let low : register % 2 ^ 28 ≡ 0 = (Decides-eqb (register % 2 ^ 28) 0).0 (sym is) in
     let whole : register / 2 ^ 28 * 2 ^ 28 ≡ register = omega arith in
-    (omega arith, omega arith, ap (λ r. moved (212 - k) r) whole)
+    (omega arith, omega arith, ap (λ r. shift (212 - k) r) whole)
 one_step k register false within small is rest =
     let count : 213 - k ≡ suc (212 - k) = omega arith in
-    let same : moved (213 - k) (walked register) ≡ moved (212 - k) register =
-    ap (λ n. moved n (walked register)) count ∙ ap (λ r. moved (212 - k) r) (moved_once-walked register small) in
-    further k (moved (212 - k) register) (find_from k (walked register))
+    let same : shift (213 - k) (walked register) ≡ shift (212 - k) register =
+    ap (λ n. shift n (walked register)) count ∙ ap (λ r. shift (212 - k) r) (moved_once-walked register small) in
+    further k (shift (212 - k) register) (find_from k (walked register))
     (λ shape shape_small left.
     let begins : shape * 2 ^ 28 ≡ register = same_moved (212 - k) (shape * 2 ^ 28) register (omega arith) small left in
     let low : register % 2 ^ 28 ≡ 0 = omega arith in
@@ -49,16 +50,15 @@ one_step k register false within small is rest =
     cc)
     (subst (λ m. Says k m (find_from k (walked register))) same rest)
 
-pub said : (k register : ℕ) → k ≤ 213 → register < 2 ^ 40 → Says k (moved (213 - k) register) (find_from k register)
+pub said : (k register : ℕ) → k ≤ 213 → register < 2 ^ 40 → Says k (shift (213 - k) register) (find_from k register)
 unfolding find_from
 said zero register within small = λ start shape before _ _. absurd (omega arith)
 said (suc k) register within small =
     let count : 213 - suc k ≡ 212 - k = omega arith in
-    subst (λ n. Says (suc k) (moved n register) (find_from (suc k) register)) (sym count)
+    subst (λ n. Says (suc k) (shift n register) (find_from (suc k) register)) (sym count)
     (one_step k register (eqb (register % 2 ^ 28) 0) (omega arith) small refl
     (said k (walked register) (omega arith) (walked_within register small)))
 
--- one step of the walk
 pub found_here : (start register : ℕ) → 0 < start → bit_and register 0xfffffff ≡ 0 →
     find_from start register ≡ Some (record { start = start - 1; shape = register / 2 ^ 28 })
 unfolding find_from
@@ -82,7 +82,7 @@ unfolding find_from
 found_nowhere zero register none = refl
 found_nowhere (suc k) register none = absurd (omega arith)
 
--- what the whole walk from a syndrome says
+-- the result of the whole search
 pub said_of : (syndrome : ℕ) (answer : Option Burst) → syndrome < 2 ^ 40 → find_from 213 syndrome ≡ answer → Says 213 syndrome answer
-unfolding moved
+unfolding shift
 said_of syndrome answer within is = subst (λ a. Says 213 syndrome a) is (said 213 syndrome (omega arith) within)

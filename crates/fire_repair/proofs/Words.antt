@@ -1,4 +1,4 @@
--- What is added to 224 bits to make a word of the code.
+-- What, added to 224 bits, gives a codeword: the syndrome at the check bits, or any bits that have this syndrome.
 use Rattle.std.proofs.Common.{◌≡◌, ℕ, ◌+◌, ◌/◌, ◌%◌, ◌^◌, ◌<◌, List, [], ◌++◌, length, length-append}
 use Rattle.std.proofs.Common.{replicate, take, drop, get_or, refl, ap, sym, ◌∙◌, subst, arith, bit_xor}
 use Rattle.std.proofs.lemmas.Grind.{same_number_lists}
@@ -11,7 +11,7 @@ use Rattle.bit_blocks.proofs.Lemmas.{length-add_bits}
 use Rattle.fire_code.specs.Registers.{register_bits}
 use Rattle.fire_code.specs.Words.{g40, IsXcchWord}
 use Rattle.fire_code.proofs.Lemmas.{add_after, length-register_bits, AllBits-register_bits, register_bits-xor, register_bits_split}
-use Rattle.fire_code.proofs.Lemmas.{same_register, one_xcch_parity, some_xcch_parity, number_of, number_of_within}
+use Rattle.fire_code.proofs.Lemmas.{same_register, one_xcch_crc, some_xcch_crc, number_of, number_of_within}
 use Rattle.fire_code.proofs.Lemmas.{register_bits-number_of}
 use Rattle.fire_repair.proofs.Leavings.{Leaves}
 
@@ -25,7 +25,7 @@ HasQuotient-sum x y g same hx hy =
 taken_off : (a b c d e f g : ℕ) → e ≡ (a + b) % 2 → f ≡ (e + d) % 2 → g ≡ (c + b) % 2 → (f + g) % 2 ≡ ((a + c) % 2 + d) % 2
 taken_off a b c d e f g he hf hg = omega arith
 
--- a multiple x + y changes what is added from x to y
+-- if y + x is a multiple, x may be replaced by y
 swapped : (w x y o : List ℕ) → length x ≡ length w → length y ≡ length w → length o ≡ length w →
     add_bits (add_bits (add_bits w x) o) (add_bits y x) ≡ add_bits (add_bits w y) o
 swapped w x y o ex ey eo =
@@ -68,65 +68,65 @@ word_by_multiple w x y ew ex ey multiple word =
       };
     }
 
--- the places of a register, as they are added to a word's parity
-abbrev pub at_parity : ℕ → List ℕ
-at_parity register = replicate 184 0 ++ register_bits 40 register
+-- a register at the check bits of a word
+abbrev pub at_crc : ℕ → List ℕ
+at_crc register = replicate 184 0 ++ register_bits 40 register
 
-length-at_parity : (register : ℕ) → length (at_parity register) ≡ 224
-length-at_parity register = length-append (replicate 184 0) (register_bits 40 register)
+length-at_crc : (register : ℕ) → length (at_crc register) ≡ 224
+length-at_crc register = length-append (replicate 184 0) (register_bits 40 register)
     ∙ ap (λ n. 184 + n) (length-register_bits 40 register)
 
--- a number that leaves a register makes a multiple with it
-multiple_left : (number register : ℕ) → Leaves number register → HasQuotient (add_bits (register_bits 224 number) (at_parity register)) g40
+-- a number plus its syndrome at the check bits is a multiple
+multiple_left : (number register : ℕ) → Leaves number register → HasQuotient (add_bits (register_bits 224 number) (at_crc register)) g40
 multiple_left number register left =
     let front = register_bits 184 number in
     let back = register_bits 40 (number / 2 ^ 184) in
-    let parts : add_bits (register_bits 224 number) (at_parity register) ≡ front ++ register_bits 40 (bit_xor (number / 2 ^ 184) register) =
-    ap (λ x. add_bits x (at_parity register)) (register_bits_split 184 40 224 number refl)
+    let parts : add_bits (register_bits 224 number) (at_crc register) ≡ front ++ register_bits 40 (bit_xor (number / 2 ^ 184) register) =
+    ap (λ x. add_bits x (at_crc register)) (register_bits_split 184 40 224 number refl)
     ∙ add_after 184 front back (register_bits 40 register) (length-register_bits 184 number) (AllBits-register_bits 184 number)
     ∙ ap (λ x. front ++ x) (sym (register_bits-xor 40 (number / 2 ^ 184) register)) in
     subst (λ z. HasQuotient z g40) (sym parts) left
 
--- what completes a word: a register at its parity, or a number that leaves the register
+-- a register at the check bits may be replaced by a number with this syndrome
 pub word_with_number : (w : List ℕ) (number register : ℕ) → length w ≡ 224 → Leaves number register →
-    IsXcchWord (add_bits w (at_parity register)) → IsXcchWord (add_bits w (register_bits 224 number))
+    IsXcchWord (add_bits w (at_crc register)) → IsXcchWord (add_bits w (register_bits 224 number))
 word_with_number w number register ew left word =
-    word_by_multiple w (at_parity register) (register_bits 224 number) ew (length-at_parity register) (length-register_bits 224 number)
+    word_by_multiple w (at_crc register) (register_bits 224 number) ew (length-at_crc register) (length-register_bits 224 number)
     (multiple_left number register left) word
 
 pub word_with_register : (w : List ℕ) (number register : ℕ) → length w ≡ 224 → Leaves number register →
-    IsXcchWord (add_bits w (register_bits 224 number)) → IsXcchWord (add_bits w (at_parity register))
+    IsXcchWord (add_bits w (register_bits 224 number)) → IsXcchWord (add_bits w (at_crc register))
 word_with_register w number register ew left word =
-    word_by_multiple w (register_bits 224 number) (at_parity register) ew (length-register_bits 224 number) (length-at_parity register)
-    (subst (λ z. HasQuotient z g40) (add_bits-comm (register_bits 224 number) (at_parity register)) (multiple_left number register left))
+    word_by_multiple w (register_bits 224 number) (at_crc register) ew (length-register_bits 224 number) (length-at_crc register)
+    (subst (λ z. HasQuotient z g40) (add_bits-comm (register_bits 224 number) (at_crc register)) (multiple_left number register left))
     word
 
--- a register at the parity of a word
+-- a word with a register added to its check bits
 parts_of : (w : List ℕ) (register : ℕ) → length w ≡ 224 → AllBits w →
-    add_bits w (at_parity register) ≡ take 184 w ++ add_bits (drop 184 w) (register_bits 40 register)
+    add_bits w (at_crc register) ≡ take 184 w ++ add_bits (drop 184 w) (register_bits 40 register)
 parts_of w register ew bw =
-    ap (λ x. add_bits x (at_parity register)) (sym (take-append-drop 184 w))
+    ap (λ x. add_bits x (at_crc register)) (sym (take-append-drop 184 w))
     ∙ add_after 184 (take 184 w) (drop 184 w) (register_bits 40 register) (length-take-le 184 w (omega arith)) (All-take IsBit 184 w bw)
 
--- one register completes a word
+-- the syndrome is unique
 pub same_syndrome : (w : List ℕ) (a b : ℕ) → length w ≡ 224 → AllBits w → a < 2 ^ 40 → b < 2 ^ 40 →
-    IsXcchWord (add_bits w (at_parity a)) → IsXcchWord (add_bits w (at_parity b)) → a ≡ b
+    IsXcchWord (add_bits w (at_crc a)) → IsXcchWord (add_bits w (at_crc b)) → a ≡ b
 same_syndrome w a b ew bw within within' word word' =
     let p = drop 184 w in
     let ep : length p ≡ 40 = length-drop 184 w ∙ omega arith in
     let same : add_bits p (register_bits 40 a) ≡ add_bits p (register_bits 40 b) =
-    one_xcch_parity (take 184 w) (add_bits p (register_bits 40 a)) (add_bits p (register_bits 40 b)) (length-take-le 184 w (omega arith))
+    one_xcch_crc (take 184 w) (add_bits p (register_bits 40 a)) (add_bits p (register_bits 40 b)) (length-take-le 184 w (omega arith))
     (subst IsXcchWord (parts_of w a ew bw) word) (subst IsXcchWord (parts_of w b ew bw) word') in
     same_register 40 a b within within'
     (sym (add_bits_again p (register_bits 40 a) (AllBits-register_bits 40 a) (length-register_bits 40 a ∙ sym ep))
     ∙ ap (λ x. add_bits p x) same
     ∙ add_bits_again p (register_bits 40 b) (AllBits-register_bits 40 b) (length-register_bits 40 b ∙ sym ep))
 
--- and there is one
+-- the syndrome exists
 pub record HasSyndrome (w : List ℕ) : Type 0 where
   pub register : ℕ
   pub within : register < 2 ^ 40
-  pub word : IsXcchWord (add_bits w (at_parity register))
+  pub word : IsXcchWord (add_bits w (at_crc register))
 
 pub some_syndrome : (w : List ℕ) → length w ≡ 224 → AllBits w → HasSyndrome w
 some_syndrome w ew bw =
@@ -134,12 +134,12 @@ some_syndrome w ew bw =
     let p = drop 184 w in
     let ed : length d ≡ 184 = length-take-le 184 w (omega arith) in
     let ep : length p ≡ 40 = length-drop 184 w ∙ omega arith in
-    let found = some_xcch_parity d ed (All-take IsBit 184 w bw) in
-    let parity = found.0 in
-    let long : length parity ≡ 40 = omega (arith, found.1.count, length-append d parity) in
-    let sum = add_bits p parity in
-    let forty : length sum ≡ 40 = length-add_bits p parity (ep ∙ sym long) ∙ ep in
-    let bits : AllBits sum = AllBits-add_bits p parity in
+    let found = some_xcch_crc d ed (All-take IsBit 184 w bw) in
+    let crc = found.0 in
+    let long : length crc ≡ 40 = omega (arith, found.1.count, length-append d crc) in
+    let sum = add_bits p crc in
+    let forty : length sum ≡ 40 = length-add_bits p crc (ep ∙ sym long) ∙ ep in
+    let bits : AllBits sum = AllBits-add_bits p crc in
     let places : register_bits 40 (number_of sum) ≡ sum =
     ap (λ n. register_bits n (number_of sum)) (sym forty) ∙ register_bits-number_of sum bits in
     record {
@@ -147,6 +147,6 @@ some_syndrome w ew bw =
       within = subst (λ n. number_of sum < 2 ^ n) forty (number_of_within sum bits);
       word = subst IsXcchWord
           (ap (λ x. d ++ x)
-          (sym (ap (λ x. add_bits p x) places ∙ add_bits_again p parity (AllBits-back d parity found.1.bits) (long ∙ sym ep)))
+          (sym (ap (λ x. add_bits p x) places ∙ add_bits_again p crc (AllBits-back d crc found.1.bits) (long ∙ sym ep)))
           ∙ sym (parts_of w (number_of sum) ew bw)) found.1;
     }

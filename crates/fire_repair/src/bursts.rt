@@ -1,4 +1,4 @@
-//! Bursts of twelve places: how they are found and taken away.
+//! Error bursts of at most twelve bits: search and correction.
 
 ghost use Rattle.std.specs.Prelude.{◌≡◌, ◌≢◌, ℕ, ◌+◌, ◌*◌, ◌/◌, ◌%◌, ◌<◌, ◌≤◌, ◌^◌, List};
 ghost use Rattle.std.specs.Prelude.{length, IfSome, IsNone};
@@ -8,17 +8,17 @@ ghost use Rattle.fire_repair.specs.Bursts.{burst, left_by};
 
 use bit_blocks::Bits;
 
-// D^40 + D^26 + D^23 + D^17 + D^3 + 1, the bit of value 1 standing for D^40
+// D^40 + D^26 + D^23 + D^17 + D^3 + 1; the least significant bit is the coefficient of D^40
 const GENERATOR: u64 = 0x120_0082_4001;
 
-/// Wrong bits within twelve places from a place on: bit `i` of the shape stands for place `start + i`.
+/// An error burst within twelve bits: bit `i` of `shape` is the error at bit `start + i` of the word.
 #[derive(Clone, Copy)]
 pub(crate) struct Burst {
     pub(crate) start: usize,
     pub(crate) shape: u64,
 }
 
-/// The last burst that leaves the same as a word does, or `None` where there is none.
+/// The last error burst with this syndrome, or `None` if there is none.
 pub(crate) fn find_burst(syndrome: u64) -> Option<Burst>
     requires { syndrome < 2 ^ 40 }
     ensures start { IfSome result (λ found. found.start ≤ 212) }
@@ -39,8 +39,8 @@ pub(crate) fn find_burst(syndrome: u64) -> Option<Burst>
     None
 }
 
-/// The word with the bits of a burst turned over.
-pub(crate) fn turned(w: &Bits<224>, found: Burst) -> Bits<224>
+/// The word with the bits of the error burst inverted.
+pub(crate) fn flip_burst(w: &Bits<224>, found: Burst) -> Bits<224>
     requires count { length w.now ≡ 224 }
     requires bits { AllBits w.now }
     requires start { found.start ≤ 212 }
@@ -55,7 +55,7 @@ pub(crate) fn turned(w: &Bits<224>, found: Burst) -> Bits<224>
     word
 }
 
-/// The first and the last of the twelve places that are wrong.
+/// The first and the last wrong bit of a shape, each 0 to 11.
 pub(crate) fn edges(shape: u64) -> (u32, u32)
     requires some { 0 < shape }
     requires twelve { shape < 2 ^ 12 }

@@ -1,8 +1,8 @@
-//! What holds of every repair. A law does nothing: it is called for its contract.
+//! Properties of repairs as laws: functions with an empty body, called for their contracts.
 
 ghost use Rattle.fire_repair.specs.Repairs.{OneRepair};
 
-/// Law: at most one word of the code is so near to a word.
+/// Law: each word has at most one repair.
 pub fn law_one_repair()
     ensures { OneRepair }
 {}

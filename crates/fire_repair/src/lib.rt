@@ -1,8 +1,7 @@
-//! Repair of words of the control channels whose wrong bits lie close together: their code is the Fire code, which is made for that.
+//! Repair of short error bursts on the control channels, for which the Fire code is made.
 //!
-//! What is left of a word under the generator is walked back one place after the other, by a register that divides by D. Where its
-//! first 28 places are 0, the other twelve are the wrong bits of a burst that ends as many places before the last as were walked.
-//! (Error trapping: P. Fire, 1959; W. W. Peterson and E. J. Weldon, "Error-Correcting Codes".)
+//! Error trapping (P. Fire, 1959; W. W. Peterson and E. J. Weldon, "Error-Correcting Codes"): the syndrome is divided by D step by
+//! step. When its first 28 bits are 0, the other twelve are the error burst; it ends as many bits before the last as there were steps.
 #![tactic(auto)]
 
 mod bursts;

@@ -1,18 +1,18 @@
-//! What is answered of a word: that it holds, its repair, or that it has none.
+//! The repair of one word.
 ghost use Rattle.std.specs.Prelude.{◌≡◌};
 ghost use Rattle.fire_repair.specs.Answers.{IsAnswer};
 
-use crate::bursts::{edges, find_burst, turned};
+use crate::bursts::{edges, find_burst, flip_burst};
 use bit_blocks::Bits;
 use fire_code::xcch_syndrome;
 
-/// What `repair` finds.
+/// The result of `repair`.
 #[derive(Clone, Copy)]
 pub enum RepairAnswer {
-    /// The word meets its parity.
+    /// The word is a codeword.
     Holds,
-    /// The one word of the code that differs within twelve consecutive places, the first place that differs, and how many places
-    /// there are from it to the last.
+    /// The only codeword that differs within twelve consecutive bits, with the first bit that differs and the number of bits from
+    /// there to the last.
     Repaired {
         word: Bits<224>,
         first: u8,
@@ -22,8 +22,8 @@ pub enum RepairAnswer {
     NoRepair,
 }
 
-/// Puts a word of a control channel right, 184 bits and their parity, where its wrong bits lie within twelve consecutive places.
-/// Places do not go on from the last to the first.
+/// Repairs 184 information bits and their 40 Fire code bits if the errors lie within twelve consecutive bits. An error burst does not
+/// wrap from the last bit to the first.
 pub fn repair(w: &Bits<224>) -> RepairAnswer
     ensures answer { IsAnswer w.now result }
     ensures only { (other : RepairAnswer) → IsAnswer w.now other → other ≡ result }
@@ -37,7 +37,7 @@ pub fn repair(w: &Bits<224>) -> RepairAnswer
         Some(found) => {
             let (first, last) = edges(found.shape);
             RepairAnswer::Repaired {
-                word: turned(w, found),
+                word: flip_burst(w, found),
                 first: (found.start + first as usize) as u8,
                 span: (last - first + 1) as u8,
             }

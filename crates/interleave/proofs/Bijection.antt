@@ -1,4 +1,4 @@
--- Coded bits and places of bursts belong to each other one by one, so that each list is known by the other.
+-- Interleaving is a bijection between coded bits and burst positions, so the coded bits and the bursts determine each other.
 use Rattle.std.proofs.Common.{◌≡◌, ℕ, ◌<◌, List, [], All, length, get_or, ap, sym, ◌∙◌}
 use Rattle.std.proofs.lemmas.List.{same_lists, get_or_default}
 use Rattle.bit_blocks.specs.Bits.{AllBits}
@@ -7,14 +7,14 @@ use Rattle.interleave.specs.Places.{burst_of, place_of}
 use Rattle.interleave.specs.ColumnPlaces.{bit_at}
 use Rattle.interleave.proofs.Rows.{bit_at-stands}
 
--- the coded bit that stands at a place of a burst
+-- the coded bit at position j of burst b
 pub coded_bit_at : (b j : ℕ) → b < 4 → j < 114 → (k : ℕ) × (k < 456) × (burst_of k ≡ b) × (place_of k ≡ j)
 coded_bit_at b j hb hj =
     let stands = bit_at-stands b j hb hj in
     (bit_at b j, stands.within, stands.burst, stands.place)
 
 module _ {X : Type 0} where
-  -- the value at a place of the bursts is that of some coded bit
+  -- each value in the bursts is that of a coded bit
   pub from_coded : (coded : List X) (bursts : List (List X)) → IsInterleaved coded bursts → (b j : ℕ) (d : X) → b < 4 → j < 114 →
       (k : ℕ) × (k < 456) × (burst_of k ≡ b) × (place_of k ≡ j) × (get_or (get_or bursts b []) j d ≡ get_or coded k d)
   from_coded coded bursts whole b j d hb hj =

@@ -1,4 +1,4 @@
--- The places of coded bits among the 592 of a block's bursts.
+-- The position of a coded bit among the 592 bits of four bursts determines it.
 use Rattle.std.proofs.Common.{◌≡◌, ℕ, ◌+◌, ◌*◌, ◌<◌, ◌≤◌, inl, inr, arith}
 use Rattle.std.proofs.lemmas.Bool.{cases_lt}
 use Rattle.std.proofs.lemmas.Bool.Decides.{nat_tests}
@@ -6,12 +6,12 @@ use Rattle.interleave.specs.Places.{burst_of, place_of, burst_place}
 use Rattle.interleave.proofs.Rows.{same_coded_bit}
 use Rattle.interleave.proofs.WholeBursts.{burst_of-below, place_of-below}
 
--- in the first half three tail bits stand before it
+-- the first half follows three tail bits
 pub burst_place-lower : (k : ℕ) → place_of k < 57 → burst_place k ≡ 148 * burst_of k + place_of k + 3
 unfolding burst_place
 burst_place-lower k h = grind (arith, nat_tests)
 
--- in the second half 28 more places
+-- the second half follows 28 more bits
 pub burst_place-upper : (k : ℕ) → 57 ≤ place_of k → burst_place k ≡ 148 * burst_of k + place_of k + 31
 unfolding burst_place
 burst_place-upper k h = grind (arith, nat_tests)
@@ -25,7 +25,7 @@ burst_place-below k =
       | inr upper ↦ omega (arith, burst_place-upper k upper)
     ]
 
--- the burst and the place in it, from a place among the 592
+-- k and l have the same burst and the same position in it
 pub record SameBurstAndPlace (k l : ℕ) : Type 0 where
   pub burst : burst_of k ≡ burst_of l
   pub place : place_of k ≡ place_of l

@@ -1,4 +1,4 @@
--- The table of coded bits against the formula by rows, found by computing.
+-- The entries of `HALVES` equal `bit_at`, checked by computation.
 use Rattle.std.proofs.Common.{◌≡◌, ℕ, ◌+◌, ◌*◌, ◌/◌, ◌%◌, ◌<◌, ◌≤◌, Bool, true, eqb, [], get_or, refl}
 use Rattle.std.proofs.Common.{ap₂, ◌∙◌, arith}
 use Rattle.std.proofs.lemmas.Bool.Decides.{Decides-eqb}

@@ -1,4 +1,4 @@
--- The columns of a block, and a burst of them.
+-- `Columns` holds the coded bits by columns, and each row of a burst is one bit of consecutive columns.
 use Rattle.std.proofs.Common.{◌≡◌, ℕ, ◌+◌, ◌-◌, ◌*◌, ◌/◌, ◌%◌, ◌^◌, ◌<◌, ◌≤◌, List, ◌++◌}
 use Rattle.std.proofs.Common.{map, length, length-append, get_or, take, drop, replicate, bit_and, sym, ap, ap₂, ◌∙◌, arith, inl}
 use Rattle.std.proofs.Common.{inr, zero-add}
@@ -17,7 +17,7 @@ use Rattle.interleave.proofs.JoinedLanes.{lane_by}
 
 -- ---- the columns
 
--- which octet each column is
+-- the octet that holds each column
 abbrev order : List ℕ
 order = map (λ q. 8 * q % 57) (range_with_len 0 64)
 
@@ -31,7 +31,7 @@ in_order packed long q hq =
     ∙ ap (λ k. get_or (packed ++ packed) k 0) at
     ∙ get_or_append_left packed packed 0 (8 * q % 57) within
 
--- a list is written over from a place within it on
+-- a list overwritten from index n on
 module _ (n m : ℕ) (first rest second : List ℕ) (within : n ≤ length first) where
   pub written_before : (q : ℕ) → q < n → get_or (put_mid n m (first ++ rest) second) q 0 ≡ get_or first q 0
   written_before q hq =
@@ -72,7 +72,7 @@ AreColumns-twice coded packed columns octets are ordered front back = record {
 
 -- ---- a burst
 
--- a row goes on by one column from one of its places to the next
+-- the next position of a row is the next column
 pub row_bit : (coded columns : List ℕ) (b place p : ℕ) → AreColumns coded columns → b < 4 → place ≤ 90 → p < 16 →
     let row = b + 4 * (place % 2) in
     bit_of (get_or columns (8 * row + place / 2 + p) 0) (packed_place row) ≡ get_or coded (bit_at b (place + 2 * p)) 0
@@ -83,7 +83,7 @@ row_bit coded columns b place p are hb hj hp =
     let column : 8 * row + place / 2 + p ≡ 8 * (b + 4 * ((place + 2 * p) % 2)) + (place + 2 * p) / 2 = omega arith in
     are.each (8 * row + place / 2 + p) row (omega arith) (omega arith) ∙ ap (λ k. get_or coded k 0) (ap₂ column_bit column same)
 
--- one bit of each of sixteen octets
+-- bit i of each of sixteen octets
 module _ (octets : List ℕ) (i : ℕ) (long : length octets ≡ 16) where
   abbrev lanes : List ℕ
   lanes = zip2 bit_and (zip2 (λ a b. a / 2 ^ b) (chunk 0 16 octets) (replicate 16 i)) (replicate 16 1)
@@ -106,7 +106,7 @@ module _ (octets : List ℕ) (i : ℕ) (long : length octets ≡ 16) where
       (lane_by (λ a b. a / 2 ^ b) (chunk 0 16 octets) 16 i p read hp
       ∙ ap (λ a. a / 2 ^ i) (get_or-chunk 0 16 octets p 0 hp ∙ ap (λ k. get_or octets k 0) (zero-add p)))
 
--- two vectors of sixteen lanes in turns
+-- two vectors of sixteen lanes, interleaved
 abbrev turns : List ℕ
 turns = map (λ i. i / 2 + 16 * (i % 2)) (range_with_len 0 32)
 
@@ -117,13 +117,13 @@ in_turns first second i hi =
     get_or-map (λ k. get_or (first ++ second) k 0) turns i 0 0 (omega (arith, length-map-range_with_len (λ i. i / 2 + 16 * (i % 2)) 0 32))
     ∙ ap (λ k. get_or (first ++ second) k 0) at
 
--- a vector is written over a list of its length
+-- a list of the vector's length is overwritten whole
 pub written_whole : (old lanes : List ℕ) (i : ℕ) → length old ≡ 32 → length lanes ≡ 32 → i < 32 →
     get_or (put_chunk 0 old lanes) i 0 ≡ get_or lanes i 0
 written_whole old lanes i o l hi =
     ap (λ xs. get_or xs i 0) (put_chunk_is 0 old lanes (omega arith)) ∙ get_or_append_left lanes _ 0 i (omega arith)
 
--- what two rows hold is what a burst holds
+-- two rows interleaved are consecutive positions of a burst
 pub turned_places : (coded first second : List ℕ) (b from i : ℕ) → length first ≡ 16 → i < 32 →
     ((p : ℕ) → p < 16 → get_or first p 0 ≡ get_or coded (bit_at b (from + 2 * p)) 0) →
     ((p : ℕ) → p < 16 → get_or second p 0 ≡ get_or coded (bit_at b (from + 1 + 2 * p)) 0) →
@@ -147,7 +147,7 @@ turned_places coded first second b from i long hi even odd =
           ∙ ap (λ j. get_or coded (bit_at b j) 0) place
     ]
 
--- the places 0 to 31 of a half are written, and then those from 32 on
+-- a half is written as positions 0 to 31, then from 32 on
 pub half_place : (coded front rest back : List ℕ) (b half m i : ℕ) → length front ≡ 32 → length back ≡ 32 → i < 57 →
     ((j : ℕ) → j < 32 → get_or front j 0 ≡ get_or coded (bit_at b (57 * half + j)) 0) →
     ((j : ℕ) → j < 32 → get_or back j 0 ≡ get_or coded (bit_at b (57 * half + 32 + j)) 0) →

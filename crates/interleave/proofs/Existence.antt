@@ -1,4 +1,4 @@
--- Every coded list can be spread over bursts, and of every four bursts one can be gathered.
+-- Every list of 456 coded bits can be interleaved, and every four bursts can be deinterleaved.
 use Rattle.std.proofs.Common.{◌≡◌, ℕ, ◌<◌, List, [], map, length, get_or, ap, sym, ◌∙◌, arith, subst}
 use Rattle.std.specs.List.{All, range_with_len}
 use Rattle.std.proofs.lemmas.List.{get_or_default, get_or-map, length-map}
@@ -9,9 +9,9 @@ use Rattle.interleave.specs.ColumnPlaces.{bit_at}
 use Rattle.interleave.proofs.Rows.{bit_at-of}
 use Rattle.interleave.proofs.WholeBursts.{burst_of-below, place_of-below}
 
--- ---- spread
+-- ---- interleaving
 
--- the coded bits of a burst in the order of their places
+-- the coded bits of burst b, by position
 part_of : List ℕ → ℕ → List ℕ
 part_of c b = map (λ j. get_or c (bit_at b j) 0) (range_with_len 0 114)
 
@@ -40,10 +40,10 @@ some_spread c count = (
   },
 )
 
--- ---- gathered
+-- ---- deinterleaving
 
 module _ {X : Type 0} (none : X) (parts : List (List X)) (four : length parts ≡ 4) (each : All (λ part. length part ≡ 114) parts) where
-  -- the value that coded bit k has in the bursts
+  -- the value of coded bit k in the bursts
   held : ℕ → X
   held k = get_or (get_or parts (burst_of k) []) (place_of k) none
 
@@ -64,9 +64,9 @@ module _ {X : Type 0} (none : X) (parts : List (List X)) (four : length parts �
     },
   )
 
--- ---- what holds of a list holds of the other
+-- ---- properties of values carry over
 
--- values in place of coded bits, one for each
+-- interleaving commutes with a map of the values
 pub IsInterleaved-map : {X Y : Type 0} (f : X → Y) (none : X) (c : List X) (parts : List (List X)) → IsInterleaved c parts →
     IsInterleaved (map f c) (map (map f) parts)
 IsInterleaved-map f none c parts spread = record {
@@ -89,7 +89,7 @@ IsInterleaved-map f none c parts spread = record {
       ∙ sym (get_or-map f c k none d here);
 }
 
--- what holds of all values of the bursts holds of the gathered ones
+-- what holds for each value of the bursts holds for each deinterleaved value
 pub All-interleaved : {X : Type 0} (P : X → Type 0) (c : List X) (parts : List (List X)) → IsInterleaved c parts →
     All (All P) parts → All P c
 All-interleaved P c parts spread all k d h =

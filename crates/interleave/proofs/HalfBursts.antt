@@ -1,4 +1,4 @@
--- Half bursts are read and written, one place more at a time.
+-- How the loops over half a burst read and write one more value by the table.
 use Rattle.std.proofs.Common.{◌≡◌, ℕ, ◌+◌, ◌*◌, ◌<◌, ◌≤◌, List, [], length, get_or, sym, ◌∙◌, arith}
 use Rattle.std.proofs.Common.{◌≢◌, ℤ, pos, below_more, get_or-set_other, get_or-set_same, ap}
 use Rattle.std.specs.Prelude.{slice_range}
@@ -11,14 +11,14 @@ use Rattle.interleave.specs.Places.{place_of}
 use Rattle.interleave.proofs.Rows.{StandsAt, bit_at-stands}
 
 module _ (b half : ℕ) (hb : b < 4) (hh : half ≤ 1) where
-  -- the coded bit at a place of the half
+  -- the coded bit at position i of the half
   abbrev pub bit_of_half : ℕ → ℕ
   bit_of_half i = bit_at b (57 * half + i)
 
   pub half-stands : (i : ℕ) → i < 57 → StandsAt (bit_of_half i) b (57 * half + i)
   half-stands i hi = bit_at-stands b (57 * half + i) hb (omega arith)
 
-  -- what was read of the coded bits is what the bursts hold
+  -- the coded bits read by the table are the half of the burst
   pub half_of_bursts : (coded : List ℕ) (bursts : List (List ℕ)) (out : List ℕ) → IsInterleaved coded bursts → length out ≡ 57 →
       ((i : ℕ) → i < 57 → get_or out i 0 ≡ get_or coded (bit_of_half i) 0) →
       out ≡ slice_range (get_or bursts b []) (57 * half) (57 * half + 57)
@@ -42,7 +42,7 @@ module _ (b half : ℕ) (hb : b < 4) (hh : half ≤ 1) where
       let places : 57 * half + i ≡ 57 * half + j = sym (half-stands i hi).place ∙ ap place_of same ∙ (half-stands j hj).place in
       other (omega arith)
 
-  -- one more value is written: those written before stay, and so do all that the half does not have
+  -- one more value is written; earlier ones and those of the other half stay
   module _ (soft old values : List ℤ) (i : ℕ) (value : ℤ) (hi : i < 57) (full : length soft ≡ 456)
       (read : value ≡ get_or values i (pos 0)) where
     pub own-more : ((j : ℕ) → j < i → get_or soft (bit_of_half j) (pos 0) ≡ get_or values j (pos 0)) →

@@ -1,4 +1,4 @@
--- Each coded bit stands in one column.
+-- Coded bit k is in column 50 (k / 8) mod 57, since 50 is the inverse of 8 modulo 57.
 use Rattle.std.proofs.Common.{◌≡◌, ℕ, ◌*◌, ◌/◌, ◌%◌, ◌<◌, arith}
 use Rattle.interleave.specs.ColumnPlaces.{column_bit, column_place}
 use Rattle.interleave.specs.Places.{burst_of, place_of}

@@ -1,4 +1,5 @@
--- Vectors whose lanes stand in turns, and are read as lanes of twice the width.
+-- Interleaving the lanes of two vectors and reading them at twice the width joins lanes in pairs: three such steps transpose eight rows
+-- of eight octets.
 use Rattle.std.proofs.Common.{◌≡◌, ℕ, zero, suc, ◌+◌, ◌*◌, ◌/◌, ◌%◌, ◌^◌, ◌<◌, List, [], ◌∷◌}
 use Rattle.std.proofs.Common.{◌++◌, length, get_or, refl, ap, ap₂, sym, subst, ◌∙◌, arith, bit_and, Fits, ◌-◌, ◌≤◌}
 use Rattle.std.proofs.Common.{replicate, w8, w16, zero-add}
@@ -14,14 +15,12 @@ use Rattle.std.proofs.lemmas.Simd.{get_or-chunk, chunk-fits, length-chunk, Each1
 use borrow.Rule.Slice.PartMut.{mid_of}
 use lib.Lanes.{Each1, zip2, chunk, number_l, digits_l, pick_l}
 
--- a number of two digits
 pub number-two : (p : ℕ) (xs : List ℕ) (i : ℕ) → suc i < length xs → number_l p (chunk i 2 xs) ≡ get_or xs i 0 + p * get_or xs (suc i) 0
 number-two p [] i h = absurd (omega arith)
 number-two p (x ∷ []) i h = absurd (omega arith)
 number-two p (x ∷ y ∷ xs) zero h = grind arith
 number-two p (x ∷ y ∷ xs) (suc i) h = let h' : suc i < length (y ∷ xs) = omega arith in number-two p (y ∷ xs) i h'
 
--- the digits of a number make it again
 number-digits : (n x : ℕ) → x < 256 ^ n → number_l 256 (digits_l 256 n x) ≡ x
 number-digits zero x h = omega arith
 number-digits (suc n) x h =
@@ -33,7 +32,6 @@ number-below : (p : ℕ) (xs : List ℕ) → Each1 (λ x. x < p) xs → number_l
 number-below p [] h = omega (arith, pow-zero p)
 number-below p (x ∷ xs) h = omega (arith, digits_lt (number-below p xs h.1) h.0, mul_comm p (number_l p xs), pow-suc p (length xs))
 
--- the octets of a number that is joined of pairs and fours
 pub joined_octet : (e : ℕ → ℕ) → ((r : ℕ) → e r < 256) → (r : ℕ) → r < 8 →
     (e 0 + 256 * e 1 + 65536 * (e 2 + 256 * e 3) + 2 ^ 32 * (e 4 + 256 * e 5 + 65536 * (e 6 + 256 * e 7))) / 256 ^ r % 256 ≡ e r
 joined_octet e h zero lt = omega arith
@@ -46,7 +44,7 @@ joined_octet e h (suc (suc (suc (suc (suc (suc zero)))))) lt = omega arith
 joined_octet e h (suc (suc (suc (suc (suc (suc (suc zero))))))) lt = omega arith
 joined_octet e h (suc (suc (suc (suc (suc (suc (suc (suc r)))))))) lt = absurd (omega arith)
 
--- two lanes in one of twice the width
+-- two lanes read as one of twice the width
 joined_lane : (p q n : ℕ) (lanes : List ℕ) → q ≡ p ^ 2 → p ^ length lanes ≡ 256 ^ 16 → Each1 (λ x. x < p) lanes →
     (j : ℕ) → j < n → suc (2 * j) < length lanes →
     get_or (digits_l q n (number_l 256 (digits_l 256 16 (number_l p lanes)))) j 0
@@ -71,7 +69,7 @@ module _ (p : ℕ) (some : 0 < p) where
   below-picked xs h [] = tt
   below-picked xs h (k ∷ ks) = (below_at xs h k, below-picked xs h ks)
 
--- lane s of two vectors one after the other
+-- lane s of two concatenated vectors
 side_by_side : (p n : ℕ) (x y : List ℕ) → length x ≡ n → (s : ℕ) → s < n →
     get_or (x ++ y) s 0 + p * get_or (x ++ y) (n + s) 0 ≡ get_or x s 0 + p * get_or y s 0
 side_by_side p n x y long s h =
@@ -80,7 +78,7 @@ side_by_side p n x y long s h =
     ap₂ (λ a b. a + p * b) (get_or_append_left x y 0 s here)
     (get_or-append_right x y n (n + s) 0 long (omega arith) ∙ ap (λ k. get_or y k 0) after)
 
--- what two vectors hold, lane s of one beside lane s of the other, is read as one lane of twice the width
+-- lane s of both vectors, shuffled next to each other, read as one lane of twice the width
 pub turned_lane : (w : Width) (q n m : ℕ) (x y : List ℕ) (order : List ℕ) (j s : ℕ) →
     q ≡ (2 ^ bits w) ^ 2 → (2 ^ bits w) ^ length order ≡ 256 ^ 16 →
     length x ≡ m → Each1 (Fits w) x → Each1 (Fits w) y → j < n → suc (2 * j) < length order → s < m →
@@ -100,14 +98,13 @@ turned_lane w q n m x y order j s square whole long fits_x fits_y h within hs fi
     (at (suc (2 * j)) within ∙ ap (λ k. get_or (x ++ y) k 0) second)
     ∙ side_by_side p m x y long s hs
 
--- lanes by one operation with the same number in each lane
+-- an operation with a constant vector, in one lane
 pub lane_by : (f : ℕ → ℕ → ℕ) (x : List ℕ) (m n s : ℕ) → length x ≡ m → s < m → get_or (zip2 f x (replicate m n)) s 0 ≡ f (get_or x s 0) n
 lane_by f x m n s long h =
     get_or-zip2 f x (replicate m n) s 0 0 0 (omega arith) (omega (arith, length-replicate m n))
     ∙ ap (f (get_or x s 0)) (get_or-replicate m s n 0 h)
 
 module _ (x y : List ℕ) (long_x : length x ≡ 8) (long_y : length y ≡ 8) where
-  -- the sums of eight lanes
   sum_lane : (f g : ℕ → ℕ → ℕ) (m n s : ℕ) → s < 8 →
       get_or (zip2 (λ a b. (a + b) % 2 ^ 16) (zip2 f x (replicate 8 m)) (zip2 g y (replicate 8 n))) s 0
       ≡ (f (get_or x s 0) m + g (get_or y s 0) n) % 2 ^ 16
@@ -142,7 +139,7 @@ module _ (x y : List ℕ) (long_x : length x ≡ 8) (long_y : length y ≡ 8) wh
       let long_g : length (zip2 g y (replicate 8 n)) ≡ 8 = length-zip2 g y (replicate 8 n) long_y ∙ long_y in
       length-zip2 (λ a b. (a + b) % 2 ^ 16) (zip2 f x (replicate 8 m)) (zip2 g y (replicate 8 n)) (long_f ∙ sym long_g) ∙ long_f
 
--- the octets from a place on in pairs
+-- octets read as 16-bit lanes
 pub pair_lane : (octets : List ℕ) (from s : ℕ) → from + 16 ≤ length octets → ((k : ℕ) → Fits w8 (get_or octets k 0)) → s < 8 →
     get_or (digits_l 65536 8 (number_l 256 (chunk 0 16 (mid_of from (from + 16 - from) octets)))) s 0
     ≡ get_or octets (from + 2 * s) 0 + 256 * get_or octets (from + suc (2 * s)) 0

@@ -1,4 +1,4 @@
--- What crates above cite of the places of coded bits, and of coded lists and bursts that hold each other.
+-- Lemmas that other crates cite.
 pub use Rattle.interleave.proofs.Bijection.{same_coded, same_bursts, AllBits-bursts}
 pub use Rattle.interleave.proofs.BurstPlaces.{burst_place-lower, burst_place-upper, burst_place-below, burst_place-differs}
 pub use Rattle.interleave.proofs.Existence.{some_spread, some_gathered, IsInterleaved-map, All-interleaved}

@@ -1,4 +1,4 @@
--- Bursts that are gathered in any order.
+-- Bursts may be deinterleaved in any order: each writes only its own coded bits.
 use Rattle.std.proofs.Common.{◌≡◌, ◌≢◌, ℕ, zero, suc, ◌<◌, inl, inr, List, [], ◌∷◌, All, Contains, length, get_or}
 use Rattle.std.proofs.Common.{ap, sym, ◌∙◌, arith}
 use Rattle.std.proofs.lemmas.Bool.{cases_eq}
@@ -11,7 +11,7 @@ Contains-tail b x order (zero, h, e) other = absurd (other (sym e))
 Contains-tail b x order (suc n, h, e) other = (n, omega arith, e)
 
 module _ {X : Type 0} (bursts : List (List X)) (k : ℕ) (d : X) (hk : k < 456) where
-  -- the value that the bursts hold for this coded bit
+  -- the value of this coded bit in the bursts
   abbrev held : X
   held = get_or (get_or bursts (burst_of k) []) (place_of k) d
 
@@ -19,7 +19,7 @@ module _ {X : Type 0} (bursts : List (List X)) (k : ℕ) (d : X) (hk : k < 456) 
   gathered_own b old new step same =
       step.own k d hk same ∙ ap (λ n. get_or (get_or bursts n []) (place_of k) d) (sym same)
 
-  -- what is there stays there
+  -- a value once written stays
   gathered_keeps : (order : List ℕ) (old new : List X) → AreGathered bursts order old new → get_or old k d ≡ held → get_or new k d ≡ held
   gathered_keeps [] old new same there = ap (λ xs. get_or xs k d) (sym same) ∙ there
   gathered_keeps (b ∷ order) old new (next, step, rest) there =

@@ -1,11 +1,11 @@
--- Which coded bit stands at each place, found by computing.
+-- `bit_at` is the inverse of `burst_of` and `place_of`, checked by computation for all 456 coded bits.
 use Rattle.std.proofs.Common.{◌≡◌, ℕ, ◌+◌, ◌*◌, ◌/◌, ◌%◌, ◌<◌, Bool, true, ◌&&◌, eqb, ltb, refl, rules}
 use Rattle.std.proofs.Common.{tests}
 use Rattle.bit_blocks.proofs.Lemmas.{passes_below, at_passes_below, both_true}
 use Rattle.interleave.specs.ColumnPlaces.{column_bit, bit_at}
 use Rattle.interleave.specs.Places.{burst_of, place_of}
 
--- coded bit k stands at place j of burst b
+-- coded bit k is at position j of burst b
 pub record StandsAt (k b j : ℕ) : Type 0 where
   pub within : k < 456
   pub burst : burst_of k ≡ b
@@ -44,13 +44,12 @@ bit_at-of k hk =
     let found = at_passes_below is_found 456 every_coded_bit_is_found k hk in
     search (rules, tests)
 
--- a coded bit is known by its burst and its place
+-- burst and position determine the coded bit
 pub same_coded_bit : (k l : ℕ) → k < 456 → l < 456 → burst_of k ≡ burst_of l → place_of k ≡ place_of l → k ≡ l
 same_coded_bit k l hk hl burst place =
     let at_k = bit_at-of k hk in
     let at_l = bit_at-of l hl in
     cc
 
--- the coded bit that has this place
 pub bit_at-is : (k b j : ℕ) → k < 456 → burst_of k ≡ b → place_of k ≡ j → bit_at b j ≡ k
 bit_at-is k b j hk burst place = let found = bit_at-of k hk in cc

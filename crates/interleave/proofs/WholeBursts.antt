@@ -1,4 +1,4 @@
--- Whole bursts of two halves.
+-- Bursts as two halves.
 use Rattle.std.proofs.Common.{◌≡◌, ℕ, ◌+◌, ◌*◌, ◌-◌, ◌<◌, inl, inr, List, [], ◌++◌, length, get_or, take}
 use Rattle.std.proofs.Common.{drop, ap, ◌∙◌, arith}
 use Rattle.std.proofs.lemmas.Bool.{cases_lt}
@@ -14,7 +14,7 @@ pub place_of-below : (k : ℕ) → place_of k < 114
 unfolding place_of
 place_of-below k = omega arith
 
--- what holds of both halves holds of the burst
+-- what holds in both halves holds in the burst
 pub halves-at : {X : Type 0} (first second : List X) (k : ℕ) (d value : X) → length first ≡ 57 →
     ((i : ℕ) → i < 57 → place_of k ≡ 57 * 0 + i → get_or first i d ≡ value) →
     ((i : ℕ) → i < 57 → place_of k ≡ 57 * 1 + i → get_or second i d ≡ value) →
@@ -29,7 +29,6 @@ halves-at first second k d value long in_first in_second =
           get_or-append_right first second 57 (place_of k) d long upper ∙ in_second (place_of k - 57) (omega arith) (omega arith)
     ]
 
--- the second half is written behind the first
 pub put_mid-halves : {X : Type 0} (first old second : List X) → length first ≡ 57 → length old ≡ 57 → length second ≡ 57 →
     put_mid 57 57 (first ++ old) second ≡ first ++ second
 put_mid-halves first old second f o s =

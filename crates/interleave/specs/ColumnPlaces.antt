@@ -1,17 +1,15 @@
--- The columns in which the coded bits of a block are held, eight bits each. Bit r of column q is coded bit 8 (8q mod 57) + r.
--- It stands in row r, which is every other place of a burst: there column q follows on column q - 1, since modulo 57 a place
--- is 49 times its coded bit, and 49 times 8 times 8 is 1.
+-- Columns of eight coded bits: bit r of column q is coded bit 8 (8 q mod 57) + r. The coded bits k = r (mod 8), row r, are every other
+-- position of one burst, and there column q + 1 follows column q: the position is 49 k modulo 57, and 49 * 8 * 8 = 1 modulo 57.
 use Rattle.std.specs.Prelude.{ℕ, ◌+◌, ◌*◌, ◌/◌, ◌%◌}
 
--- bit r of column q, as a coded bit
+-- the coded bit that is bit r of column q
 unfoldable pub column_bit : ℕ → ℕ → ℕ
 column_bit q r = 8 * (8 * q % 57) + r
 
--- its place in its burst, which is r mod 4
+-- the position of bit r of column q in its burst, which is burst r mod 4
 unfoldable pub column_place : ℕ → ℕ → ℕ
 column_place q r = 2 * ((q + 49 * r) % 57) + r / 4
 
--- the coded bit at place j of burst b: row b has the even places and row b + 4 the odd ones, and row r begins with column 8r,
--- since modulo 57 49 is -8
+-- the coded bit at position j of burst b: row b holds the even positions and row b + 4 the odd ones, and row r begins with column 8 r
 unfoldable pub bit_at : ℕ → ℕ → ℕ
 bit_at b j = let row = b + 4 * (j % 2) in column_bit (8 * row + j / 2) row

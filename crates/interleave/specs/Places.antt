@@ -1,15 +1,15 @@
--- Where the 456 coded bits of a block stand in its four bursts (GSM 05.03 section 4.1.4).
+-- The positions of a block's 456 coded bits in its four bursts (GSM 05.03 section 4.1.4).
 use Rattle.std.specs.Prelude.{ℕ, ◌+◌, ◌*◌, ◌/◌, ◌%◌, nat_le, if◌then◌else◌}
 
 -- the burst of coded bit k, 0 to 3
 unfoldable pub burst_of : ℕ → ℕ
 burst_of k = k % 4
 
--- its place among the 114 coded bits of that burst
+-- the position of coded bit k among the 114 coded bits of its burst
 unfoldable pub place_of : ℕ → ℕ
 place_of k = 2 * (49 * k % 57) + k % 8 / 4
 
--- its place among the 592 bits of the four bursts: three tail bits stand before the first 57 coded bits of a burst,
--- and two flags and the training sequence before the other 57 (GSM 05.02 section 5.2.3)
+-- the position of coded bit k among the 592 bits of the four bursts: three tail bits precede the first 57 coded bits of a burst, and two
+-- stealing flags and the training sequence the other 57 (GSM 05.02 section 5.2.3)
 unfoldable pub burst_place : ℕ → ℕ
 burst_place k = 148 * burst_of k + place_of k + (if nat_le (place_of k) 56 then 3 else 31)

@@ -1,5 +1,4 @@
-//! From the coded bits eight to an octet to the bursts, without a look at each place: a burst takes each of its two rows from
-//! 57 octets in turn, one bit of each, sixteen octets at a time.
+//! Interleaving from packed coded bits: each row of a burst is one bit of consecutive octets, read sixteen octets at a time.
 ghost use Rattle.std.specs.Prelude.{◌≡◌, ℕ, ◌+◌, ◌*◌, ◌/◌, ◌%◌, ◌<◌, ◌≤◌, ◌++◌, List, [], length};
 ghost use Rattle.std.specs.Prelude.{slice_index, slice_index_or, slice_range};
 ghost use Rattle.bit_blocks.specs.Packed.{ArePacked, bit_of};
@@ -9,7 +8,7 @@ ghost use Rattle.interleave.specs.Columns.{AreColumns};
 
 use std::simd::prelude::*;
 
-/// The coded bits of a block in columns of eight, in the order in which bursts take them.
+/// The coded bits of a block packed by columns, in the order in which bursts use them.
 #[derive(Clone, Copy)]
 pub struct Columns {
     octets: [u8; 128],
@@ -22,14 +21,14 @@ const ORDER: [usize; 64] = [
     50, 1, 9, 17, 25, 33, 41, 49, 0, 8, 16, 24, 32, 40, 48,
 ];
 
-// Two vectors of sixteen lanes in turns.
+// Interleaves two vectors of sixteen lanes.
 const TURNS: [usize; 32] = [
     0, 16, 1, 17, 2, 18, 3, 19, 4, 20, 5, 21, 6, 22, 7, 23, 8, 24, 9, 25, 10, 26, 11, 27, 12, 28,
     13, 29, 14, 30, 15, 31,
 ];
 
 impl Columns {
-    /// The columns of coded bits that stand eight to an octet. The last seven octets count for nothing.
+    /// The columns of coded bits packed eight to an octet (`ArePacked`). The last seven octets of `packed` are not used.
     pub fn new(packed: &[u8; 64]) -> Columns
         ensures { (coded : List ℕ) → ArePacked 57 coded packed.now → AreColumns coded result.octets }
     {
@@ -38,7 +37,7 @@ impl Columns {
         }
     }
 
-    /// Writes one half of burst `b`: the places 0 to 56 where `half` is 0, and 57 to 113 where it is 1.
+    /// Writes one half of burst `b`, 57 bits: positions 0 to 56 if `half` is 0, and 57 to 113 if it is 1.
     pub fn write_half(&self, b: usize, half: usize, out: &mut [u8])
         requires burst { b < 4 }
         requires half { half ≤ 1 }
@@ -46,14 +45,14 @@ impl Columns {
         ensures { (coded : List ℕ) (bursts : List (List ℕ)) → AreColumns coded self.now.octets → IsInterleaved coded bursts →
             out.new ≡ slice_range (slice_index_or bursts b []) (57 * half) (57 * half + 57) }
     {
-        // Whole vectors, of which the last seven places belong to no half.
+        // Whole vectors are written; the last seven bits are not used.
         let mut bits = [0; 64];
         self.write_places(b, 57 * half, &mut bits[..32]);
         self.write_places(b, 57 * half + 32, &mut bits[32..]);
         out.copy_from_slice(&bits[..57]);
     }
 
-    /// Writes the 32 places of burst `b` from one on.
+    /// Writes 32 positions of burst `b` from `from` on.
     fn write_places(&self, b: usize, from: usize, out: &mut [u8])
         requires burst { b < 4 }
         requires from { from ≤ 89 }
@@ -64,7 +63,7 @@ impl Columns {
         in_turns(self.row_part(b, from), self.row_part(b, from + 1)).copy_to_slice(out);
     }
 
-    /// The bits of burst `b` at every other place from this one on, which are one bit each of sixteen columns.
+    /// The bits of burst `b` at every other position from `place` on: one bit of each of sixteen columns.
     fn row_part(&self, b: usize, place: usize) -> u8x16
         requires burst { b < 4 }
         requires place { place ≤ 90 }
@@ -79,7 +78,7 @@ impl Columns {
     }
 }
 
-/// The columns 0 to 63.
+/// The columns in order: column q is octet 8q mod 57 of `packed`; columns 57 to 63 repeat columns 0 to 6.
 fn in_order(packed: &[u8; 64]) -> u8x64
     ensures each { (q : ℕ) → q < 64 → slice_index result q ≡ slice_index packed.now (8 * q % 57) }
     ensures count { length result ≡ 64 }
@@ -87,7 +86,7 @@ fn in_order(packed: &[u8; 64]) -> u8x64
     u8x64::from_array(*packed).swizzle::<64>(ORDER)
 }
 
-/// The columns 0 to 120, where those behind column 56 begin again.
+/// Columns 0 to 56, then columns 0 to 63 again.
 fn twice(columns: &[u8; 64]) -> [u8; 128]
     ensures front { (q : ℕ) → q < 57 → slice_index result q ≡ slice_index columns.now q }
     ensures back { (q : ℕ) → q < 64 → slice_index result (57 + q) ≡ slice_index columns.now q }
@@ -108,7 +107,7 @@ fn bit_of_each(octets: &[u8], i: usize) -> u8x16
     (u8x16::from_slice(octets) >> u8x16::splat(i as u8)) & u8x16::splat(1)
 }
 
-/// The lanes of both in turns.
+/// The lanes of both, interleaved.
 fn in_turns(first: u8x16, second: u8x16) -> u8x32
     requires first { length first ≡ 16 }
     requires second { length second ≡ 16 }

@@ -1,4 +1,4 @@
-//! From the soft values of the bursts back to the order of the coded list.
+//! Deinterleaving: from the soft bits of the bursts to those of the coded bits.
 ghost use Rattle.std.specs.Prelude.{◌≡◌, ◌≢◌, ℕ, ℤ, pos, ◌+◌, ◌*◌, ◌/◌, ◌%◌, ◌^◌, ◌<◌, ◌≤◌};
 ghost use Rattle.std.specs.Prelude.{◌++◌, List, [], map, length, slice_index, slice_index_or};
 ghost use Rattle.std.specs.Int.{cast_signed, w8};
@@ -8,9 +8,10 @@ ghost use Rattle.interleave.specs.Places.{burst_of, place_of};
 
 use crate::joining::eight_columns;
 use crate::table::coded_bits;
+use bit_blocks::CODED_BITS;
 
-/// The soft values of a block's coded bits, from those of its four bursts.
-pub fn gather(parts: &[[i8; 114]; 4]) -> [i8; 456]
+/// Deinterleaves four bursts of 114 soft bits.
+pub fn gather(parts: &[[i8; 114]; 4]) -> [i8; CODED_BITS]
     ensures interleaved { IsInterleaved result parts.now }
     ensures only { (coded : List ℤ) → IsInterleaved coded parts.now → coded ≡ result }
 {
@@ -20,7 +21,7 @@ pub fn gather(parts: &[[i8; 114]; 4]) -> [i8; 456]
         octets_of(&parts[2]),
         octets_of(&parts[3]),
     ];
-    let mut soft = [0; 456];
+    let mut soft = [0; CODED_BITS];
     for group in 0..7 {
         write_columns(&eight_columns(&octets, group), group, &mut soft);
     }
@@ -28,7 +29,7 @@ pub fn gather(parts: &[[i8; 114]; 4]) -> [i8; 456]
     soft
 }
 
-/// Soft values as octets, so that they can be moved in vectors.
+/// Soft bits reinterpreted as octets, for vector operations.
 fn octets_of(part: &[i8; 114]) -> [u8; 114]
     ensures count { length part.now ≡ 114 }
     ensures value { map (cast_signed w8) result ≡ part.now }
@@ -40,7 +41,7 @@ fn octets_of(part: &[i8; 114]) -> [u8; 114]
     octets
 }
 
-/// Column 56, which is left over.
+/// Column 56, which is in no group of eight.
 fn last_column(parts: &[[u8; 114]; 4]) -> [u8; 8]
     ensures { (r : ℕ) → r < 8 →
         slice_index result r ≡ slice_index (slice_index_or parts.now (r % 4) []) (column_place 56 r) }
@@ -57,8 +58,8 @@ fn last_column(parts: &[[u8; 114]; 4]) -> [u8; 8]
     ]
 }
 
-/// Writes the eight columns from 8 `group` on.
-fn write_columns(columns: &[u64; 8], group: usize, soft: &mut [i8; 456])
+/// Writes the eight columns from `8 * group` on.
+fn write_columns(columns: &[u64; 8], group: usize, soft: &mut [i8; CODED_BITS])
     requires { group < 7 }
     ensures own { (s r : ℕ) → s < 8 → r < 8 →
         slice_index_or soft.new (column_bit (8 * group + s) r) (pos 0)
@@ -72,7 +73,7 @@ fn write_columns(columns: &[u64; 8], group: usize, soft: &mut [i8; 456])
 }
 
 /// Writes column `q`.
-fn write_column(octets: &[u8; 8], q: usize, soft: &mut [i8; 456])
+fn write_column(octets: &[u8; 8], q: usize, soft: &mut [i8; CODED_BITS])
     requires { q < 57 }
     ensures own { (r : ℕ) → r < 8 →
         slice_index_or soft.new (column_bit q r) (pos 0) ≡ cast_signed w8 (slice_index octets.now r) }
@@ -85,8 +86,8 @@ fn write_column(octets: &[u8; 8], q: usize, soft: &mut [i8; 456])
     }
 }
 
-/// Writes the 114 soft values of burst `b`, which come in two halves.
-pub fn gather_burst(b: usize, first: &[i8], second: &[i8], soft: &mut [i8; 456])
+/// Writes the 114 soft bits of burst `b`, given in two halves.
+pub fn gather_burst(b: usize, first: &[i8], second: &[i8], soft: &mut [i8; CODED_BITS])
     requires burst { b < 4 }
     requires first { length first.now ≡ 57 }
     requires second { length second.now ≡ 57 }
@@ -96,13 +97,13 @@ pub fn gather_burst(b: usize, first: &[i8], second: &[i8], soft: &mut [i8; 456])
     gather_half(b, 1, second, soft);
 }
 
-fn gather_half(b: usize, half: usize, values: &[i8], soft: &mut [i8; 456])
+fn gather_half(b: usize, half: usize, values: &[i8], soft: &mut [i8; CODED_BITS])
     requires burst { b < 4 }
     requires half { half ≤ 1 }
     requires count { length values.now ≡ 57 }
-    ensures own { (k i : ℕ) → k < 456 → burst_of k ≡ b → i < 57 → place_of k ≡ 57 * half + i →
+    ensures own { (k i : ℕ) → k < CODED_BITS → burst_of k ≡ b → i < 57 → place_of k ≡ 57 * half + i →
         slice_index_or soft.new k (pos 0) ≡ slice_index_or values.now i (pos 0) }
-    ensures others { (k : ℕ) → k < 456 → (burst_of k ≡ b → (i : ℕ) → i < 57 → place_of k ≢ 57 * half + i) →
+    ensures others { (k : ℕ) → k < CODED_BITS → (burst_of k ≡ b → (i : ℕ) → i < 57 → place_of k ≢ 57 * half + i) →
         slice_index_or soft.new k (pos 0) ≡ slice_index_or soft.old k (pos 0) }
 {
     for (i, k) in coded_bits(b, half).iter().enumerate() {

@@ -1,13 +1,12 @@
-//! Eight columns of a block at once. A row holds one octet of each column, and the columns one after the other: so eight rows
-//! from eight places on are turned round, as octets are joined to pairs, pairs to fours, and fours to the eight octets of a
-//! column.
+//! Eight columns at once. A row holds one octet of each column, in the order of the columns, so the columns are the transpose of eight
+//! rows: octets are joined to pairs, pairs to fours, and fours to the eight octets of a column.
 ghost use Rattle.std.specs.Prelude.{◌≡◌, ℕ, ◌+◌, ◌*◌, ◌/◌, ◌%◌, ◌^◌, ◌<◌, ◌≤◌, [], length};
 ghost use Rattle.std.specs.Prelude.{slice_index, slice_index_or};
 ghost use Rattle.interleave.specs.ColumnPlaces.{column_place};
 
 use std::simd::prelude::*;
 
-/// The columns from 8 `group` on, each as one number whose lowest octet comes first.
+/// The columns from `8 * group` on, each as one number, least significant octet first.
 pub(crate) fn eight_columns(parts: &[[u8; 114]; 4], group: usize) -> [u64; 8]
     requires { group < 7 }
     ensures { (s r : ℕ) → s < 8 → r < 8 →
@@ -39,12 +38,12 @@ pub(crate) fn eight_columns(parts: &[[u8; 114]; 4], group: usize) -> [u64; 8]
     [first, second, third, fourth, fifth, sixth, seventh, eighth]
 }
 
-/// Where the columns from 8 `group` on begin in a row.
+/// The index in a row at which column `8 * group` is.
 fn start(group: usize, row: usize) -> usize
     requires group { group < 7 }
     requires row { row < 8 }
     ensures place { result ≡ (8 * group + 49 * row) % 57 }
-    ensures room { result ≤ 49 }
+    ensures space { result ≤ 49 }
 {
     if group >= row {
         8 * (group - row)
@@ -53,7 +52,7 @@ fn start(group: usize, row: usize) -> usize
     }
 }
 
-/// Eight pairs of octets of a burst, the even one in the lower half.
+/// Eight pairs of octets of a burst, the even positions in the lower halves.
 fn pairs(part: &[u8], from: usize) -> u16x8
     requires { 2 * from + 16 ≤ length part.now }
     ensures count { length result ≡ 8 }
@@ -63,7 +62,7 @@ fn pairs(part: &[u8], from: usize) -> u16x8
     u16x8::from_le_bytes(u8x16::from_slice(&part[2 * from..2 * from + 16]))
 }
 
-/// The lower halves of both in pairs.
+/// The lower octets of both, joined lane by lane.
 fn lower_octets(x: u16x8, y: u16x8) -> u16x8
     requires x { length x ≡ 8 }
     requires y { length y ≡ 8 }
@@ -73,7 +72,7 @@ fn lower_octets(x: u16x8, y: u16x8) -> u16x8
     (x & u16x8::splat(255)) + (y << u16x8::splat(8))
 }
 
-/// The upper halves of both in pairs.
+/// The upper octets of both, joined lane by lane.
 fn upper_octets(x: u16x8, y: u16x8) -> u16x8
     requires x { length x ≡ 8 }
     requires y { length y ≡ 8 }
@@ -83,7 +82,7 @@ fn upper_octets(x: u16x8, y: u16x8) -> u16x8
     (x >> u16x8::splat(8)) + (y & u16x8::splat(0xff00))
 }
 
-/// Both side by side, the first four lanes and the last four.
+/// The lanes of both joined, first four and last four.
 fn join_pairs(x: u16x8, y: u16x8) -> (u32x4, u32x4)
     requires x { length x ≡ 8 }
     requires y { length y ≡ 8 }
@@ -100,7 +99,7 @@ fn join_pairs(x: u16x8, y: u16x8) -> (u32x4, u32x4)
     )
 }
 
-/// Both side by side.
+/// The lanes of both joined.
 fn join_fours(x: u32x4, y: u32x4) -> [u64; 4]
     requires x { length x ≡ 4 }
     requires y { length y ≡ 4 }

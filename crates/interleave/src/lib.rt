@@ -1,5 +1,5 @@
-//! The block rectangular interleaving of a block's 456 coded bits over four bursts (GSM 05.03 section 4.1.4, today 3GPP TS
-//! 45.003): coded bit k goes to burst k mod 4, and there to place 2(49k mod 57) + (k mod 8) / 4.
+//! The block rectangular interleaving of 456 coded bits over four bursts (GSM 05.03, today 3GPP TS 45.003, section 4.1.4): coded bit k
+//! goes to position 2 (49 k mod 57) + (k mod 8) / 4 of burst k mod 4.
 #![tactic(auto)]
 
 mod columns;
@@ -11,18 +11,19 @@ mod table;
 
 pub use columns::Columns;
 pub use gathering::{gather, gather_burst};
-pub use laws::{law_any_order, law_places};
+pub use laws::{law_gather_any_order, law_places};
 pub use spreading::{spread, spread_burst};
 
 #[cfg(test)]
 mod tests {
     use super::spread;
+    use bit_blocks::CODED_BITS;
 
-    // The last 88 bits of the coded list of a block of 23 octets 00, before which all are 0.
+    // The last 88 coded bits of a block of 23 octets 00; all before them are 0.
     const LAST: &[u8; 88] =
         b"1110100110101010101010101010101010101010101010101010101010101010101010101010101001000011";
 
-    // The places of its ones in the four bursts.
+    // The positions of the ones in the four bursts.
     const ONES: [&[usize]; 4] = [
         &[
             7, 12, 21, 26, 28, 35, 40, 42, 49, 56, 63, 70, 77, 79, 84, 91, 93, 98, 107, 112,
@@ -36,7 +37,7 @@ mod tests {
 
     #[test]
     fn the_ones_of_a_block_come_to_their_places(rt: HostRuntime) {
-        let mut coded = [0; 456];
+        let mut coded = [0; CODED_BITS];
         for (i, digit) in LAST.iter().enumerate() {
             coded[368 + i] = digit & 1;
         }

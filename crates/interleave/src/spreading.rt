@@ -1,4 +1,4 @@
-//! From the coded list to the bursts.
+//! Interleaving by the table.
 ghost use Rattle.std.specs.Prelude.{◌≡◌, ℕ, ◌+◌, ◌*◌, ◌<◌, ◌≤◌, List, [], All, length, slice_index};
 ghost use Rattle.std.specs.Prelude.{slice_index_or, slice_range};
 ghost use Rattle.bit_blocks.specs.Bits.{AllBits};
@@ -6,9 +6,10 @@ ghost use Rattle.interleave.specs.Bursts.{IsInterleaved};
 ghost use Rattle.interleave.specs.Places.{burst_of, place_of};
 
 use crate::table::coded_bits;
+use bit_blocks::CODED_BITS;
 
-/// The four bursts of a block's coded bits.
-pub fn spread(coded: &[u8; 456]) -> [[u8; 114]; 4]
+/// Interleaves 456 coded bits over four bursts of 114.
+pub fn spread(coded: &[u8; CODED_BITS]) -> [[u8; 114]; 4]
     ensures interleaved { IsInterleaved coded.now result }
     ensures only { (bursts : List (List ℕ)) → IsInterleaved coded.now bursts → bursts ≡ result }
     ensures bits { AllBits coded.now → All AllBits result }
@@ -20,12 +21,12 @@ pub fn spread(coded: &[u8; 456]) -> [[u8; 114]; 4]
     bursts
 }
 
-/// Writes one half of burst `b`: the places 0 to 56 where `half` is 0, and 57 to 113 where it is 1.
-pub fn spread_burst(coded: &[u8; 456], b: usize, half: usize, out: &mut [u8])
+/// Writes one half of burst `b`, 57 bits: positions 0 to 56 if `half` is 0, and 57 to 113 if it is 1.
+pub fn spread_burst(coded: &[u8; CODED_BITS], b: usize, half: usize, out: &mut [u8])
     requires burst { b < 4 }
     requires half { half ≤ 1 }
     requires count { length out.old ≡ 57 }
-    ensures places { (k i : ℕ) → k < 456 → burst_of k ≡ b → i < 57 → place_of k ≡ 57 * half + i →
+    ensures places { (k i : ℕ) → k < CODED_BITS → burst_of k ≡ b → i < 57 → place_of k ≡ 57 * half + i →
         slice_index out.new i ≡ slice_index coded.now k }
     ensures part { (bursts : List (List ℕ)) → IsInterleaved coded.now bursts →
         out.new ≡ slice_range (slice_index_or bursts b []) (57 * half) (57 * half + 57) }
@@ -36,9 +37,9 @@ pub fn spread_burst(coded: &[u8; 456], b: usize, half: usize, out: &mut [u8])
     }
 }
 
-fn burst_of_block(coded: &[u8; 456], b: usize) -> [u8; 114]
+fn burst_of_block(coded: &[u8; CODED_BITS], b: usize) -> [u8; 114]
     requires { b < 4 }
-    ensures places { (k : ℕ) → k < 456 → burst_of k ≡ b → slice_index result (place_of k) ≡ slice_index coded.now k }
+    ensures places { (k : ℕ) → k < CODED_BITS → burst_of k ≡ b → slice_index result (place_of k) ≡ slice_index coded.now k }
 {
     let mut burst = [0; 114];
     spread_burst(coded, b, 0, &mut burst[..57]);

@@ -1,10 +1,9 @@
-//! The interleaving turned round: which coded bit stands at each place, as a table, since a place by its formula takes four times
-//! as many instructions.
+//! The inverse of the interleaving as a table: the coded bit at each position. The formula takes four times as many instructions.
 ghost use Rattle.std.specs.Prelude.{◌≡◌, ℕ, ◌+◌, ◌*◌, ◌<◌, ◌≤◌, slice_index};
 ghost use Rattle.interleave.specs.ColumnPlaces.{bit_at};
 
-// The coded bits of the eight half bursts, each in the order in which they are sent, those of burst b and half h at 2 b + h.
-// `tools/interleaving.py` makes them.
+// The coded bits of the eight half bursts in order of transmission; half h of burst b is row 2 b + h.
+// `tools/interleaving.py` prints the table.
 static HALVES: [[u16; 57]; 8] = [
     [
         0, 228, 64, 292, 128, 356, 192, 420, 256, 28, 320, 92, 384, 156, 448, 220, 56, 284, 120,
@@ -48,7 +47,7 @@ static HALVES: [[u16; 57]; 8] = [
     ],
 ];
 
-/// The coded bits that one half of a burst holds.
+/// The coded bits of one half of a burst, in order of transmission.
 pub fn coded_bits(b: usize, half: usize) -> &'static [u16; 57]
     requires burst { b < 4 }
     requires half { half ≤ 1 }

@@ -1,4 +1,4 @@
--- How the rules of Open follow one after another.
+-- Composition of the rules of Open: calls that each follow a rule follow the rules in sequence.
 use Rattle.std.proofs.Common.{◌≡◌, true, false, refl, sym, ◌∙◌, ap, subst, ℕ, List, [], ◌∷◌, ◌++◌, append_assoc}
 use Rattle.std.proofs.Common.{map}
 use Rattle.std.proofs.lemmas.List.{map-append, append-nil}
@@ -11,23 +11,24 @@ use Rattle.lapdm_window.specs.declared.State.TheVariants.{Open}
 use Rattle.lapdm_window.specs.declared.window.Window.{Window}
 use Rattle.lapdm_window.specs.declared.effects.Effects.{Effects}
 use Rattle.lapdm_window.specs.Ends.{EndState, Outcome, ◌then◌}
-use Rattle.lapdm_window.specs.Rules.{counts, has_piece, with_next, sends_piece}
+use Rattle.lapdm_window.specs.Rules.{counts, has_segment, with_next, sends_segment}
 use Rattle.lapdm_window.specs.Answers.{acked_by}
-use Rattle.lapdm_window.specs.Standing.{Stands}
+use Rattle.lapdm_window.specs.Abstraction.{Represents}
 use Rattle.lapdm_window.proofs.Lemmas.{counted, counts-is}
-use Rattle.lapdm_end.specs.declared.link.Link.{Link}
-use Rattle.lapdm_end.specs.Links.{IsLinkOf}
-use Rattle.lapdm_end.specs.Windows.{Runs, Gives, sends_waiting}
-use Rattle.lapdm_end.proofs.Rules.{sends_piece-is}
+use Rattle.lapdm_end.specs.declared.link.Address.{Address}
+use Rattle.lapdm_end.specs.Addresses.{IsAddressOf}
+use Rattle.lapdm_end.specs.Windows.{IsOpenWith, AppendsInOpen, sends_waiting}
+use Rattle.lapdm_end.proofs.Rules.{sends_segment-is}
 
-pub Gives-as : {l : Link} {w : Window} {a b : Effects} {e : EndState} {o : Outcome} (p : Outcome) → p ≡ o → Gives l w a b e o →
-    Gives l w a b e p
-Gives-as {l} {w} {a} {b} {e} p same g = subst (Gives l w a b e) (sym same) g
+pub Gives-as : {l : Address} {w : Window} {a b : Effects} {e : EndState} {o : Outcome} (p : Outcome) → p ≡ o → AppendsInOpen l w a b e o →
+    AppendsInOpen l w a b e p
+Gives-as {l} {w} {a} {b} {e} p same g = subst (AppendsInOpen l w a b e) (sym same) g
 
-pub Gives-then : {l : Link} {w v : Window} {a b d : Effects} {e : EndState} {o : Outcome} (rule : EndState → Outcome) → Gives l w a b e o →
-    ((f : EndState) → Runs l w f → Gives l v b d f (rule f)) → Gives l v a d e (o then rule)
+pub Gives-then : {l : Address} {w v : Window} {a b d : Effects} {e : EndState} {o : Outcome} (rule : EndState → Outcome) →
+    AppendsInOpen l w a b e o →
+    ((f : EndState) → IsOpenWith l w f → AppendsInOpen l v b d f (rule f)) → AppendsInOpen l v a d e (o then rule)
 Gives-then {l} {w} {v} {a} {b} {d} {e} {o} rule g obeys =
-    let h : Gives l v b d o.after (rule o.after) = obeys o.after g.runs in
+    let h : AppendsInOpen l v b d o.after (rule o.after) = obeys o.after g.runs in
     let fs = (rule o.after).frames in
     let ns = (rule o.after).notices in
     record {
@@ -39,13 +40,13 @@ Gives-then {l} {w} {v} {a} {b} {d} {e} {o} rule g obeys =
       notices = h.notices ∙ ap (λ ms. ms ++ ns) g.notices ∙ append_assoc a.notices o.notices ns;
     }
 
--- what an N(R) reports
+-- the notices of an evaluated N(R)
 abbrev pub notices_for : A.Acked → List Notice
 notices_for (V.Message number) = N.Acked number ∷ []
 notices_for other = []
 
-by-answer : (l : Link) (v : Window) (a b : Effects) (e : EndState) (r : A.Acked) → IsLinkOf l e → e.state ≡ Open →
-    Stands v (counted r e).after → b.frames ≡ a.frames → b.notices ≡ a.notices ++ notices_for r → Gives l v a b e (counted r e)
+by-answer : (l : Address) (v : Window) (a b : Effects) (e : EndState) (r : A.Acked) → IsAddressOf l e → e.state ≡ Open →
+    Represents v (counted r e).after → b.frames ≡ a.frames → b.notices ≡ a.notices ++ notices_for r → AppendsInOpen l v a b e (counted r e)
 by-answer l v a b e V.Nothing link open_now h fs ns = record {
   runs = record { link = link; state = open_now; window = h };
   kept = refl;
@@ -66,19 +67,21 @@ by-answer l v a b e (V.Message number) link open_now h fs ns = record {
   notices = ns;
 }
 
-pub Gives-counted : {l : Link} {w v : Window} {a b : Effects} {e : EndState} (nr : ℕ) (r : A.Acked) → Runs l w e → r ≡ acked_by nr e →
-    Stands v (counts nr e).after → b.frames ≡ a.frames → b.notices ≡ a.notices ++ notices_for r → Gives l v a b e (counts nr e)
-Gives-counted {l} {w} {v} {a} {b} {e} nr r h is stands fs ns =
+pub Gives-counted : {l : Address} {w v : Window} {a b : Effects} {e : EndState} (nr : ℕ) (r : A.Acked) → IsOpenWith l w e →
+    r ≡ acked_by nr e →
+    Represents v (counts nr e).after → b.frames ≡ a.frames → b.notices ≡ a.notices ++ notices_for r → AppendsInOpen l v a b e (counts nr e)
+Gives-counted {l} {w} {v} {a} {b} {e} nr r h is represents fs ns =
     let same : counts nr e ≡ counted r e = counts-is nr e ∙ ap (λ x. counted x e) (sym is) in
-    Gives-as (counts nr e) same (by-answer l v a b e r h.link h.state (subst (λ (o : Outcome). Stands v o.after) same stands) fs ns)
+    Gives-as (counts nr e) same (by-answer l v a b e r h.link h.state (subst (λ (o : Outcome). Represents v o.after) same represents) fs ns)
 
-pub Gives-from : {l : Link} {w : Window} {a b : Effects} {f : EndState} {o : Outcome} (e : EndState) → f.kept ≡ e.kept → Gives l w a b f o →
-    Gives l w a b e o
+pub Gives-from : {l : Address} {w : Window} {a b : Effects} {f : EndState} {o : Outcome} (e : EndState) → f.kept ≡ e.kept →
+    AppendsInOpen l w a b f o →
+    AppendsInOpen l w a b e o
 Gives-from e same g = record { runs = g.runs; kept = g.kept ∙ same; frames = g.frames; notices = g.notices }
 
--- the end is another one with this window, and the same in all else that the rules of Open see
-pub runs_on : {l : Link} {w : Window} {e : EndState} (v : Window) (f : EndState) → Runs l w e → f.role ≡ e.role → f.sapi ≡ e.sapi →
-    f.channel ≡ e.channel → f.state ≡ e.state → Stands v f → Runs l v f
+-- an endpoint f with the window v that otherwise agrees with e in all that the rules of Open use
+pub runs_on : {l : Address} {w : Window} {e : EndState} (v : Window) (f : EndState) → IsOpenWith l w e → f.role ≡ e.role → f.sapi ≡ e.sapi →
+    f.channel ≡ e.channel → f.state ≡ e.state → Represents v f → IsOpenWith l v f
 runs_on v f h role sapi channel same window =
     record {
       link = record { role = h.link.role ∙ sym role; sapi = h.link.sapi ∙ sym sapi; channel = h.link.channel ∙ sym channel };
@@ -86,9 +89,10 @@ runs_on v f h role sapi channel same window =
       window = window;
     }
 
--- the next piece goes out
-pub Gives-next : {l : Link} {w v : Window} {a b : Effects} (e : EndState) → Runs l w e → has_piece e ≡ true → Stands v (with_next e) →
-    ((f : EndState) → Runs l v f → Gives l v a b f (sends_waiting false f)) → Gives l v a b e (sends_piece e)
-Gives-next {l} {w} {v} {a} {b} e h has stands obeys =
-    let runs : Runs l v (with_next e) = runs_on v (with_next e) h refl refl refl refl stands in
-    Gives-as (sends_piece e) (sends_piece-is e has) (Gives-from e refl (obeys (with_next e) runs))
+-- the next segment is sent
+pub Gives-next : {l : Address} {w v : Window} {a b : Effects} (e : EndState) → IsOpenWith l w e → has_segment e ≡ true →
+    Represents v (with_next e) →
+    ((f : EndState) → IsOpenWith l v f → AppendsInOpen l v a b f (sends_waiting false f)) → AppendsInOpen l v a b e (sends_segment e)
+Gives-next {l} {w} {v} {a} {b} e h has represents obeys =
+    let runs : IsOpenWith l v (with_next e) = runs_on v (with_next e) h refl refl refl refl represents in
+    Gives-as (sends_segment e) (sends_segment-is e has) (Gives-from e refl (obeys (with_next e) runs))

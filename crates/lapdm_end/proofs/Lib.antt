@@ -3,4 +3,4 @@ pub mod Giving
 pub mod Moves
 mod PartsOfEnds
 mod Pasts
-pub mod SideDeeds
+pub mod SideSteps

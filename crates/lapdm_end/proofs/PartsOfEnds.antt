@@ -1,33 +1,33 @@
--- Ends of the same values stand for the same states, and what the values of every end have.
+-- Ends with the same values represent the same states; if they represent any, the values satisfy `AreConsistent`.
 use Rattle.std.proofs.Common.{◌≡◌, refl, sym, ◌∙◌, ap, subst, arith, ℕ, ◌%◌, [], length, drop}
 use Rattle.std.proofs.Math.Seq.{drop-nil}
 use Rattle.std.specs.List.{flat_map}
 use Rattle.lapdm_frame.specs.Layout.{n201}
-use Rattle.segmenting.specs.Pieces.{Message, pieces}
+use Rattle.segmenting.specs.Segments.{Message, segments}
 use Rattle.segmenting.specs.Joiners.{HasTaken}
 use Rattle.lapdm_window.specs.declared.State.{State}
 use Rattle.lapdm_window.specs.declared.State.TheVariants.{Idle, Opening, Open, Closing, Closed}
 use Rattle.lapdm_window.specs.declared.window.Window.{Window}
-use Rattle.lapdm_window.specs.Ends.{EndState, IsEnd, all_pieces, wholly_acked, capped}
-use Rattle.lapdm_window.specs.Standing as WS
+use Rattle.lapdm_window.specs.Ends.{EndState, IsEnd, all_segments, wholly_acked, capped_number}
+use Rattle.lapdm_window.specs.Abstraction as WS
 use Rattle.lapdm_window.specs.Parts as W
-use Rattle.lapdm_window.proofs.Lemmas.{wholly_acked-most, Tracks-values, Holds-values, Stands-values}
-use Rattle.lapdm_end.specs.declared.ends.End.{End}
-use Rattle.lapdm_end.specs.Links.{role_of}
-use Rattle.lapdm_end.specs.Standing.{InState, Stands}
-use Rattle.lapdm_end.specs.Parts.{EndValues, values_of, IsUnused, IsInState, AreInStep}
+use Rattle.lapdm_window.proofs.Lemmas.{wholly_acked-most, Tracks-values, Holds-values, Represents-values}
+use Rattle.lapdm_end.specs.declared.ends.Endpoint.{Endpoint}
+use Rattle.lapdm_end.specs.Addresses.{role_of}
+use Rattle.lapdm_end.specs.Abstraction.{InState, Represents}
+use Rattle.lapdm_end.specs.Parts.{EndValues, values_of, IsUnused, IsInState, AreConsistent}
 use Rattle.lapdm_end.proofs.Moves.{moved, Keeps-other, Tracks-moved, Holds-moved, bare_of, in_state, unopened}
 
 InState-values : (s : State) (w v : Window) (r q : ℕ) (e : EndState) → W.values_of w ≡ W.values_of v → r ≡ q →
     InState s w r e → InState s v q e
-InState-values Idle w v r q e same count h = Stands-values same h
-InState-values Opening w v r q e same count h = record { window = Stands-values same h.window; count = sym count ∙ h.count }
-InState-values Open w v r q e same count h = Stands-values same h
+InState-values Idle w v r q e same count h = Represents-values same h
+InState-values Opening w v r q e same count h = record { window = Represents-values same h.window; count = sym count ∙ h.count }
+InState-values Open w v r q e same count h = Represents-values same h
 InState-values Closing w v r q e same count h = record { holds = Holds-values w v e same h.holds; count = sym count ∙ h.count }
 InState-values Closed w v r q e same count h = Holds-values w v e same h
 
-pub Stands-same_values : (m n : End) (e : EndState) → values_of m ≡ values_of n → Stands m e → Stands n e
-Stands-same_values m n e same h =
+pub Represents-same_values : (m n : Endpoint) (e : EndState) → values_of m ≡ values_of n → Represents m e → Represents n e
+Represents-same_values m n e same h =
     let window : W.values_of m.window ≡ W.values_of n.window = ap (λ (x : EndValues). x.window) same in
     let state : m.state ≡ n.state = ap (λ (x : EndValues). x.state) same in
     let retries : m.retries ≡ n.retries = ap (λ (x : EndValues). x.retries) same in
@@ -45,10 +45,10 @@ Stands-same_values m n e same h =
           (in_state m.window m.retries e m.state n.state state h.now);
     }
 
--- what the values of an end have
-unused : (w : Window) (e : EndState) → e.taken ≡ [] → e.accepted ≡ [] → WS.Stands w e → IsUnused (W.values_of w)
+-- the values of an `Endpoint` that represents a state
+unused : (w : Window) (e : EndState) → e.taken ≡ [] → e.accepted ≡ [] → WS.Represents w e → IsUnused (W.values_of w)
 unused w e taken accepted h =
-    let none : length (all_pieces e) ≡ 0 = ap (λ ms. length (flat_map (pieces (n201 e.channel)) ms)) taken in
+    let none : length (all_segments e) ≡ 0 = ap (λ ms. length (flat_map (segments (n201 e.channel)) ms)) taken in
     let sent : e.sent ≡ 0 = omega (arith, h.end.sent) in
     let acked : e.acked ≡ 0 = omega (arith, h.end.behind) in
     let whole : wholly_acked e ≡ 0 = omega (arith, wholly_acked-most e, ap length taken) in
@@ -57,7 +57,7 @@ unused w e taken accepted h =
       vs = h.tracks.vs ∙ ap (λ i. i % 8) sent;
       va = h.tracks.va ∙ ap (λ i. i % 8) acked;
       vr = h.tracks.vr ∙ ap (λ ps. length ps % 8) accepted;
-      done = h.tracks.done ∙ ap capped whole;
+      done = h.tracks.done ∙ ap capped_number whole;
       joined = subst (HasTaken w.joiner) accepted h.tracks.joined;
     }
 
@@ -68,19 +68,19 @@ in_its_state Open w r e is end h = tt
 in_its_state Closing w r e is end h = tt
 in_its_state Closed w r e is end h = tt
 
-pub in_step : (m : End) (e : EndState) → Stands m e → AreInStep (values_of m)
+pub in_step : (m : Endpoint) (e : EndState) → Represents m e → AreConsistent (values_of m)
 in_step m e h = record {
   kept = omega (arith, m.kept_fits, ap n201 m.one_channel);
   bare = λ three. h.kept ∙ bare_of h three;
   now = in_its_state m.state m.window m.retries e (sym h.state) h.end h.now;
 }
 
--- and its window stands for an end
+-- the window of an `Endpoint` represents an endpoint
 abbrev with_retries : ℕ → EndState → EndState
 with_retries r e = moved e.state e.kept r e
 
-held_by_then : (w : Window) (e : EndState) → IsEnd e → WS.Tracks w e → WS.Holds w.held.items w.place e →
-    WS.Stands w (with_retries w.retries e)
+held_by_then : (w : Window) (e : EndState) → IsEnd e → WS.Tracks w e → WS.HoldsUnacked w.held.items w.place e →
+    WS.Represents w (with_retries w.retries e)
 held_by_then w e end tracks holds = record {
   end = Keeps-other e.role e.sapi e.state e.kept w.retries e end.window;
   tracks = Tracks-moved e.state e.kept w.retries e tracks;
@@ -88,12 +88,12 @@ held_by_then w e end tracks holds = record {
   retries = λ t. refl;
 }
 
-window_in : (s : State) (w : Window) (r : ℕ) (e : EndState) → IsEnd e → WS.Tracks w e → InState s w r e → (f : EndState) × WS.Stands w f
+window_in : (s : State) (w : Window) (r : ℕ) (e : EndState) → IsEnd e → WS.Tracks w e → InState s w r e → (f : EndState) × WS.Represents w f
 window_in Idle w r e end tracks h = (e, h)
 window_in Opening w r e end tracks h = (e, h.window)
 window_in Open w r e end tracks h = (e, h)
 window_in Closing w r e end tracks h = (with_retries w.retries e, held_by_then w e end tracks h.holds)
 window_in Closed w r e end tracks h = (with_retries w.retries e, held_by_then w e end tracks h)
 
-pub window_of : (m : End) (e : EndState) → Stands m e → (f : EndState) × WS.Stands m.window f
+pub window_of : (m : Endpoint) (e : EndState) → Represents m e → (f : EndState) × WS.Represents m.window f
 window_of m e h = window_in m.state m.window m.retries e h.end h.tracks h.now

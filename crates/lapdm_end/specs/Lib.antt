@@ -1,7 +1,7 @@
-pub mod Links
+pub mod Addresses
 pub mod Windows
-pub mod Standing
-pub mod Following
+pub mod Abstraction
+pub mod Refinement
 pub mod Replies
 pub mod Parts
 pub mod Sides

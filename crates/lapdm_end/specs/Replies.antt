@@ -1,15 +1,16 @@
--- For the bodies of the tables: what an end does with a frame.
+-- For the bodies of the tables: the replies of an `Endpoint` to a frame.
 use Rattle.std.specs.Prelude.{◌≡◌, ◌≤◌, [], length}
 use Rattle.lapdm_frame.specs.Layout.{n201, most_information}
-use Rattle.segmenting.specs.Pieces.{Message}
+use Rattle.segmenting.specs.Segments.{Message}
 use Rattle.lapdm_window.specs.declared.Sapi.TheVariants.{Three}
 use Rattle.lapdm_window.specs.declared.State.TheVariants as S
 use Rattle.lapdm_window.specs.Tables as T
-use Rattle.lapdm_end.specs.declared.ends.End.{End}
-use Rattle.lapdm_end.specs.Standing.{channel_of, sapi_of, state_of}
+use Rattle.lapdm_end.specs.declared.ends.Endpoint.{Endpoint}
+use Rattle.lapdm_end.specs.Abstraction.{channel_of, sapi_of, state_of}
 use Rattle.lapdm_end.specs.declared.replies.Reply.{Reply}
 use Rattle.lapdm_end.specs.declared.replies.Reply.TheVariants as C
 
+-- the reply that a `Reply` of the program represents
 abbrev pub reply_of : Reply → T.Reply
 reply_of C.Nothing = T.Nothing
 reply_of C.Dm = T.SaysDm
@@ -23,14 +24,14 @@ reply_of (C.I ns nr p more info) = T.TakesI ns nr p (info.now, more)
 reply_of (C.Rr nr poll) = T.TakesRr nr poll
 reply_of (C.Rej nr poll) = T.TakesRej nr poll
 
--- the information that opens an end fits in its frame, and on SAPI 3 there is none
-pub record MayBeOpenedBy (m : End) (info : Message) : Type 0 where
+-- the endpoint is in Idle, and this information of a SABM fits in a frame, and is empty on SAPI 3
+pub record MayBeOpenedBy (m : Endpoint) (info : Message) : Type 0 where
   pub idle : state_of m ≡ S.Idle
   pub fits : length info ≤ n201 (channel_of m)
   pub bare : sapi_of m ≡ Three → info ≡ []
 
--- the link is opened where it was not, a window is used in Open, and numbers and information fit in a frame
-abbrev pub IsReady : End → Reply → Type 0
+-- the reply is possible in this state, and its numbers and information fit in a frame
+abbrev pub IsReady : Endpoint → Reply → Type 0
 IsReady m (C.Ua info) = length info.now ≤ n201 (channel_of m)
 IsReady m (C.OpenedBy info) = MayBeOpenedBy m info.now
 IsReady m (C.Opened info) = (state_of m ≡ S.Opening) × (length info.now ≤ n201 (channel_of m))

@@ -1,36 +1,42 @@
--- What a side stands for, and that it does what the definition says.
+-- What a `Side` of the program represents, and how its calls refine the definition.
 use Rattle.std.specs.Prelude.{◌≡◌, map}
 use Rattle.lapdm_frame.specs.declared.Channel.{Channel}
 use Rattle.lapdm_frame.specs.Frames.{octets_of}
 use Rattle.lapdm_window.specs.declared.Sapi.{Sapi}
 use Rattle.lapdm_window.specs.declared.Sapi.TheVariants.{Zero, Three}
 use Rattle.lapdm_window.specs.declared.effects.Effects.{Effects}
-use Rattle.lapdm_window.specs.Sides.{SideState, Deed}
-use Rattle.lapdm_end.specs.declared.ends.End.{End}
+use Rattle.lapdm_window.specs.Sides.{SideState, SideStep}
+use Rattle.lapdm_end.specs.declared.ends.Endpoint.{Endpoint}
 use Rattle.lapdm_end.specs.declared.sides.Side.{Side}
-use Rattle.lapdm_end.specs.Standing as L
+use Rattle.lapdm_end.specs.Abstraction as L
 
-abbrev pub link_of : Sapi → Side → End
+-- the endpoint of this SAPI
+abbrev pub link_of : Sapi → Side → Endpoint
 link_of Zero m = m.link0
 link_of Three m = m.link3
 
+-- the other SAPI
 abbrev pub other : Sapi → Sapi
 other Zero = Three
 other Three = Zero
 
+-- the channel of the side
 abbrev pub channel_of : Side → Channel
 channel_of m = L.channel_of m.link0
 
-pub record Stands (m : Side) (a : SideState) : Type 0 where
-  pub link0 : L.Stands m.link0 a.link0
-  pub link3 : L.Stands m.link3 a.link3
+-- both endpoints of the `Side` represent those of the definition
+pub record Represents (m : Side) (a : SideState) : Type 0 where
+  pub link0 : L.Represents m.link0 a.link0
+  pub link3 : L.Represents m.link3 a.link3
 
--- the deed is done: on its link, with its frames and notices, and the side now stands for what it leaves
-pub record IsDone (channel : Channel) (d : Deed) (sapi : Sapi) (effects : Effects) (new : Side) : Type 0 where
-  pub stands : Stands new d.after
+-- the step d of a side is done: its SAPI, frames and notices are returned, and the
+-- `Side` represents the state after it
+pub record IsDone (channel : Channel) (d : SideStep) (sapi : Sapi) (effects : Effects) (new : Side) : Type 0 where
+  pub represents : Represents new d.after
   pub sapi_is : sapi ≡ d.sapi
   pub frames : effects.frames ≡ map (octets_of channel) d.frames
   pub notices : effects.notices ≡ d.notices
 
-abbrev pub Follows : (SideState → Deed) → Side → Sapi → Effects → Side → Type 0
-Follows deed old sapi effects new = (a : SideState) → Stands old a → IsDone (channel_of old) (deed a) sapi effects new
+-- for every state that the old `Side` represents, the step of the definition is done
+abbrev pub Refines : (SideState → SideStep) → Side → Sapi → Effects → Side → Type 0
+Refines side_step old sapi effects new = (a : SideState) → Represents old a → IsDone (channel_of old) (side_step a) sapi effects new

@@ -1,50 +1,51 @@
-//! One end, and what it does at each call. A refused call changes nothing.
+//! An endpoint, and what it does at each call. A refused call changes nothing.
 
 ghost use Rattle.std.specs.Prelude.{◌≡◌, ◌≤◌, length};
 ghost use Rattle.lapdm_frame.specs.Layout.{n201};
-ghost use Rattle.lapdm_window.specs.Standing.{channel_of as window_channel};
+ghost use Rattle.lapdm_window.specs.Abstraction.{channel_of as window_channel};
 
 use crate::Role;
-use crate::link::Link;
+use crate::link::Address;
 use lapdm_frame::{Body, Channel};
 use lapdm_window::{Effects, Message, Reason, Refused, Sapi, State, Timer, Window, n200};
 
-/// One end of a link.
+/// An endpoint of a data link.
 #[derive(Debug, Drop)]
-pub struct End {
+pub struct Endpoint {
     pub(crate) window: Window,
-    // The information of the SABM that it sent, or that it was opened by.
+    // The information of the SABM that it sent or that opened it.
     pub(crate) kept: Message,
-    pub(crate) link: Link,
+    pub(crate) link: Address,
     pub(crate) state: State,
-    // How often the SABM or the DISC that awaits an answer went out again.
+    // How often the SABM or DISC that awaits an answer was repeated.
     pub(crate) retries: u8,
     ghost one_channel: { window_channel window ≡ link.channel },
     ghost kept_fits: { length kept ≤ n201 link.channel },
 }
 
-impl End {
+impl Endpoint {
     ghost use Rattle.std.specs.Prelude.{[], ◌∷◌, OnErr, OnOk, IfNone};
     ghost use Rattle.lapdm_frame.specs.Frames.{octets_of};
     ghost use Rattle.lapdm_window.specs.declared.State.TheVariants as S;
     ghost use Rattle.lapdm_window.specs.Ends.{EndState, start};
-    ghost use Rattle.lapdm_window.specs.Calls.{first_of, frame_refusals, after_call, begins, sabm, disc, ticks, Opens, OpensBare, Sends};
-    ghost use Rattle.lapdm_window.specs.Calls.{SendsUnit, Closes, Ticks, Idles};
+    ghost use Rattle.lapdm_window.specs.Calls.{first_of, frame_refusals, after_call, begins, sabm, disc, t200_expiry, Opens, OpensBare};
+    ghost use Rattle.lapdm_window.specs.Calls.{Sends};
+    ghost use Rattle.lapdm_window.specs.Calls.{SendsUnit, Closes, T200Expires, Idles};
     ghost use Rattle.lapdm_window.specs.Tables.{becomes_closed};
-    ghost use Rattle.lapdm_end.specs.Links.{role_of};
-    ghost use Rattle.lapdm_end.specs.Standing.{Stands, channel_of, sapi_of, state_of};
-    ghost use Rattle.lapdm_end.specs.Following.{Follows, IsRefusedAs};
+    ghost use Rattle.lapdm_end.specs.Addresses.{role_of};
+    ghost use Rattle.lapdm_end.specs.Abstraction.{Represents, channel_of, sapi_of, state_of};
+    ghost use Rattle.lapdm_end.specs.Refinement.{Refines, IsRefusedAs};
 
-    /// An end in Idle.
-    pub fn new_on(role: Role, sapi: Sapi, channel: Channel) -> End
-        ensures stands { Stands result (start (role_of role) sapi channel) }
+    /// An endpoint in Idle.
+    pub fn new_on(role: Role, sapi: Sapi, channel: Channel) -> Endpoint
+        ensures represents { Represents result (start (role_of role) sapi channel) }
         ensures sapi { sapi_of result ≡ sapi }
         ensures channel { channel_of result ≡ channel }
     {
-        End {
+        Endpoint {
             window: Window::new_on(channel),
             kept: Message::new(&[]),
-            link: Link {
+            link: Address {
                 role,
                 sapi,
                 channel,
@@ -56,25 +57,25 @@ impl End {
 
     pub fn sapi(&self) -> Sapi
         ensures sapi { result ≡ sapi_of self.now }
-        ensures stands { (e : EndState) → Stands self.now e → result ≡ e.sapi }
+        ensures represents { (e : EndState) → Represents self.now e → result ≡ e.sapi }
     {
         self.link.sapi
     }
 
     pub fn state(&self) -> State
-        ensures { (e : EndState) → Stands self.now e → result ≡ e.state }
+        ensures { (e : EndState) → Represents self.now e → result ≡ e.state }
     {
         self.state
     }
 
-    /// Asks the other end to open the link, with this information.
+    /// Begins to establish the link: sends a SABM with this information.
     pub(crate) fn open_into(&mut self, info: &[u8], effects: &mut Effects) -> Result<(), Refused>
         requires { sapi_of self.old ≡ Sapi.Zero }
         ensures refusal { IsRefusedAs (Opens info.now) self.old result }
-        ensures follows { OnOk result
-            (Follows (after_call (Opens info.now)) self.old effects.new self.new) }
+        ensures refines { OnOk result
+            (Refines (after_call (Opens info.now)) self.old effects.new self.new) }
         ensures refused { OnErr result (self.new ≡ self.old) }
-        ensures kept { OnErr result (effects.new ≡ effects.old) }
+        ensures out_unchanged { OnErr result (effects.new ≡ effects.old) }
         ensures sapi { sapi_of self.new ≡ sapi_of self.old }
         ensures channel { channel_of self.new ≡ channel_of self.old }
     {
@@ -88,14 +89,14 @@ impl End {
         Ok(())
     }
 
-    /// Asks the other end to open the link, with no information.
+    /// Begins to establish the link: sends a SABM without information.
     pub(crate) fn open_bare_into(&mut self, effects: &mut Effects) -> Result<(), Refused>
         requires { sapi_of self.old ≡ Sapi.Three }
         ensures refusal { IsRefusedAs OpensBare self.old result }
-        ensures follows { OnOk result
-            (Follows (after_call OpensBare) self.old effects.new self.new) }
+        ensures refines { OnOk result
+            (Refines (after_call OpensBare) self.old effects.new self.new) }
         ensures refused { OnErr result (self.new ≡ self.old) }
-        ensures kept { OnErr result (effects.new ≡ effects.old) }
+        ensures out_unchanged { OnErr result (effects.new ≡ effects.old) }
         ensures sapi { sapi_of self.new ≡ sapi_of self.old }
         ensures channel { channel_of self.new ≡ channel_of self.old }
     {
@@ -106,13 +107,13 @@ impl End {
         Ok(())
     }
 
-    /// Sends a message over the link.
+    /// Sends a message over the link, acknowledged.
     pub(crate) fn send_into(&mut self, message: &[u8], effects: &mut Effects) -> Result<(), Refused>
         ensures refusal { IsRefusedAs (Sends message.now) self.old result }
-        ensures follows { OnOk result
-            (Follows (after_call (Sends message.now)) self.old effects.new self.new) }
+        ensures refines { OnOk result
+            (Refines (after_call (Sends message.now)) self.old effects.new self.new) }
         ensures refused { OnErr result (self.new ≡ self.old) }
-        ensures kept { OnErr result (effects.new ≡ effects.old) }
+        ensures out_unchanged { OnErr result (effects.new ≡ effects.old) }
         ensures sapi { sapi_of self.new ≡ sapi_of self.old }
         ensures channel { channel_of self.new ≡ channel_of self.old }
     {
@@ -127,13 +128,13 @@ impl End {
         Ok(())
     }
 
-    /// Sends a message in one unnumbered frame, outside the link.
+    /// Sends a message in one UI frame, unacknowledged.
     pub(crate) fn unit_into(&mut self, message: &[u8], effects: &mut Effects) -> Result<(), Refused>
         ensures refusal { IsRefusedAs (SendsUnit message.now) self.old result }
-        ensures follows { OnOk result
-            (Follows (after_call (SendsUnit message.now)) self.old effects.new self.new) }
+        ensures refines { OnOk result
+            (Refines (after_call (SendsUnit message.now)) self.old effects.new self.new) }
         ensures unchanged { self.new ≡ self.old }
-        ensures kept { OnErr result (effects.new ≡ effects.old) }
+        ensures out_unchanged { OnErr result (effects.new ≡ effects.old) }
     {
         if let Some(refusal) = self.frame_refusal(message) {
             return Err(refusal);
@@ -146,13 +147,13 @@ impl End {
         Ok(())
     }
 
-    /// Closes the link. What is not acknowledged is given up.
+    /// Begins to release the link: sends a DISC. What is not acknowledged is discarded.
     pub(crate) fn close_into(&mut self, effects: &mut Effects) -> Result<(), Refused>
         ensures refusal { IsRefusedAs Closes self.old result }
-        ensures follows { OnOk result
-            (Follows (after_call Closes) self.old effects.new self.new) }
+        ensures refines { OnOk result
+            (Refines (after_call Closes) self.old effects.new self.new) }
         ensures refused { OnErr result (self.new ≡ self.old) }
-        ensures kept { OnErr result (effects.new ≡ effects.old) }
+        ensures out_unchanged { OnErr result (effects.new ≡ effects.old) }
         ensures sapi { sapi_of self.new ≡ sapi_of self.old }
         ensures channel { channel_of self.new ≡ channel_of self.old }
     {
@@ -165,40 +166,40 @@ impl End {
         Ok(())
     }
 
-    /// The timer T200 has run out.
-    pub(crate) fn timer_into(&mut self, effects: &mut Effects) -> Result<(), Refused>
-        ensures refusal { IsRefusedAs Ticks self.old result }
-        ensures follows { OnOk result
-            (Follows (after_call Ticks) self.old effects.new self.new) }
+    /// T200 expiry.
+    pub(crate) fn t200_into(&mut self, effects: &mut Effects) -> Result<(), Refused>
+        ensures refusal { IsRefusedAs T200Expires self.old result }
+        ensures refines { OnOk result
+            (Refines (after_call T200Expires) self.old effects.new self.new) }
         ensures refused { OnErr result (self.new ≡ self.old) }
-        ensures kept { OnErr result (effects.new ≡ effects.old) }
+        ensures out_unchanged { OnErr result (effects.new ≡ effects.old) }
         ensures sapi { sapi_of self.new ≡ sapi_of self.old }
         ensures channel { channel_of self.new ≡ channel_of self.old }
     {
         match self.state {
             State::Idle | State::Closed => Err(Refused::NotRunning),
             State::Opening => {
-                self.tick_opening(effects);
+                self.t200_in_opening(effects);
                 Ok(())
             }
             State::Closing => {
-                self.tick_closing(effects);
+                self.t200_in_closing(effects);
                 Ok(())
             }
-            State::Open => self.tick_open(effects),
+            State::Open => self.t200_in_open(effects),
         }
     }
 
-    /// The fill frame, which is sent when there is nothing else to send. Overwrites `effects`.
+    /// Sends the fill frame, for a block with nothing else to send. Overwrites `effects`.
     pub fn idle_into(&self, effects: &mut Effects)
-        ensures { Follows (after_call Idles) self.now effects.new self.now }
+        ensures { Refines (after_call Idles) self.now effects.new self.now }
     {
         self.link.fill(effects);
     }
 
-    // Why a frame has no room for this, or needs more.
+    // Why one frame cannot carry this information.
     fn frame_refusal(&self, message: &[u8]) -> Option<Refused>
-        ensures refusal { (e : EndState) → Stands self.now e
+        ensures refusal { (e : EndState) → Represents self.now e
             → result ≡ first_of (frame_refusals message.now e) }
         ensures fits { IfNone result (length message.now ≤ n201 (channel_of self.now)) }
     {
@@ -215,7 +216,7 @@ impl End {
         requires idle { state_of self.old ≡ S.Idle }
         requires fits { length info.now ≤ n201 (channel_of self.old) }
         requires bare { sapi_of self.old ≡ Sapi.Three → info.now ≡ [] }
-        ensures follows { Follows (begins info.now) self.old effects.new self.new }
+        ensures refines { Refines (begins info.now) self.old effects.new self.new }
         ensures sapi { sapi_of self.new ≡ sapi_of self.old }
         ensures channel { channel_of self.new ≡ channel_of self.old }
     {
@@ -226,7 +227,7 @@ impl End {
     }
 
     fn sabm(&self, effects: &mut Effects)
-        ensures frames { (e : EndState) → Stands self.now e
+        ensures frames { (e : EndState) → Represents self.now e
             → effects.new.frames ≡ octets_of e.channel (sabm e) ∷ [] }
         ensures notices { effects.new.notices ≡ [] }
     {
@@ -238,7 +239,7 @@ impl End {
     }
 
     fn disc(&self, effects: &mut Effects)
-        ensures frames { (e : EndState) → Stands self.now e
+        ensures frames { (e : EndState) → Represents self.now e
             → effects.new.frames ≡ octets_of e.channel (disc e) ∷ [] }
         ensures notices { effects.new.notices ≡ [] }
     {
@@ -246,7 +247,7 @@ impl End {
     }
 
     fn close_with(&mut self, reason: Reason, effects: &mut Effects)
-        ensures follows { Follows (becomes_closed reason) self.old effects.new self.new }
+        ensures refines { Refines (becomes_closed reason) self.old effects.new self.new }
         ensures sapi { sapi_of self.new ≡ sapi_of self.old }
         ensures channel { channel_of self.new ≡ channel_of self.old }
     {
@@ -254,9 +255,9 @@ impl End {
         self.end_with(reason, effects);
     }
 
-    fn tick_opening(&mut self, effects: &mut Effects)
+    fn t200_in_opening(&mut self, effects: &mut Effects)
         requires opening { state_of self.old ≡ S.Opening }
-        ensures follows { Follows ticks self.old effects.new self.new }
+        ensures refines { Refines t200_expiry self.old effects.new self.new }
         ensures sapi { sapi_of self.new ≡ sapi_of self.old }
         ensures channel { channel_of self.new ≡ channel_of self.old }
     {
@@ -268,9 +269,9 @@ impl End {
         self.sabm(effects);
     }
 
-    fn tick_closing(&mut self, effects: &mut Effects)
+    fn t200_in_closing(&mut self, effects: &mut Effects)
         requires closing { state_of self.old ≡ S.Closing }
-        ensures follows { Follows ticks self.old effects.new self.new }
+        ensures refines { Refines t200_expiry self.old effects.new self.new }
         ensures sapi { sapi_of self.new ≡ sapi_of self.old }
         ensures channel { channel_of self.new ≡ channel_of self.old }
     {
@@ -282,12 +283,12 @@ impl End {
         self.disc(effects);
     }
 
-    fn tick_open(&mut self, effects: &mut Effects) -> Result<(), Refused>
+    fn t200_in_open(&mut self, effects: &mut Effects) -> Result<(), Refused>
         requires open { state_of self.old ≡ S.Open }
-        ensures refusal { IsRefusedAs Ticks self.old result }
-        ensures follows { OnOk result (Follows ticks self.old effects.new self.new) }
+        ensures refusal { IsRefusedAs T200Expires self.old result }
+        ensures refines { OnOk result (Refines t200_expiry self.old effects.new self.new) }
         ensures refused { OnErr result (self.new ≡ self.old) }
-        ensures kept { OnErr result (effects.new ≡ effects.old) }
+        ensures out_unchanged { OnErr result (effects.new ≡ effects.old) }
         ensures sapi { sapi_of self.new ≡ sapi_of self.old }
         ensures channel { channel_of self.new ≡ channel_of self.old }
     {

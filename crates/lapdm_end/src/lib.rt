@@ -1,5 +1,4 @@
-//! One end of a data link (GSM 04.06, section 5), for the crates of its two ends: what both do alike,
-//! and where they differ, by their role. No call takes memory.
+//! One endpoint of a data link (GSM 04.06, section 5): mobile or network by its role. No call allocates.
 #![tactic(auto)]
 
 mod calls;
@@ -11,15 +10,15 @@ mod replies;
 mod sides;
 mod taking;
 
-pub use ends::End;
+pub use ends::Endpoint;
 pub use parts::EndParts;
 pub use sides::Side;
 
-/// Which end of a link.
+/// The side of an endpoint.
 #[derive(Clone, Copy, PartialEq, Eq, Debug)]
 pub enum Role {
-    /// The mobile's, whose commands have C/R 0.
+    /// The mobile, whose commands have C/R 0.
     Mobile,
-    /// The network's, whose commands have C/R 1.
+    /// The network, whose commands have C/R 1.
     Network,
 }

@@ -1,4 +1,4 @@
-//! The frames of an end.
+//! The frames of an endpoint.
 
 ghost use Rattle.std.specs.Prelude.{◌≡◌, ◌<◌, ◌≤◌, [], ◌∷◌, ◌++◌, not, length};
 ghost use Rattle.lapdm_frame.specs.Content.{content_of, fill};
@@ -9,16 +9,16 @@ use crate::Role;
 use lapdm_frame::{Body, Channel, FrameView, fill_on, write_on};
 use lapdm_window::{Effects, Sapi};
 
-/// What the frames of an end say of it, and the channel that they go over.
+/// The address of an endpoint (side and SAPI), and its channel.
 #[derive(Clone, Copy, PartialEq, Eq, Debug)]
-pub(crate) struct Link {
+pub(crate) struct Address {
     pub(crate) role: Role,
     pub(crate) sapi: Sapi,
     pub(crate) channel: Channel,
 }
 
-impl Link {
-    ghost use Rattle.lapdm_end.specs.Links.{role_of, framed, command_by, response_by};
+impl Address {
+    ghost use Rattle.lapdm_end.specs.Addresses.{role_of, frame_with, command_by, response_by};
 
     pub(crate) fn command_cr(self) -> bool
         ensures { result ≡ command_cr (role_of self.role) }
@@ -43,9 +43,9 @@ impl Link {
     fn send(self, cr: bool, body: Body<'_>, effects: &mut Effects)
         requires numbers { NumbersFit (content_of body) }
         requires information { InformationFits self.channel (content_of body) }
-        requires room { length effects.old.frames < 2 }
+        requires space { length effects.old.frames < 2 }
         ensures frames { effects.new.frames ≡ effects.old.frames
-            ++ octets_of self.channel (framed self cr (content_of body.entry)) ∷ [] }
+            ++ octets_of self.channel (frame_with self cr (content_of body.entry)) ∷ [] }
         ensures notices { effects.new.notices ≡ effects.old.notices }
     {
         let sapi = self.sapi_number();
@@ -56,7 +56,7 @@ impl Link {
     pub(crate) fn command(self, body: Body<'_>, effects: &mut Effects)
         requires numbers { NumbersFit (content_of body) }
         requires information { InformationFits self.channel (content_of body) }
-        requires room { length effects.old.frames < 2 }
+        requires space { length effects.old.frames < 2 }
         ensures frames { effects.new.frames ≡ effects.old.frames
             ++ octets_of self.channel (command_by self (content_of body.entry)) ∷ [] }
         ensures notices { effects.new.notices ≡ effects.old.notices }
@@ -67,7 +67,7 @@ impl Link {
     pub(crate) fn respond(self, body: Body<'_>, effects: &mut Effects)
         requires numbers { NumbersFit (content_of body) }
         requires information { InformationFits self.channel (content_of body) }
-        requires room { length effects.old.frames < 2 }
+        requires space { length effects.old.frames < 2 }
         ensures frames { effects.new.frames ≡ effects.old.frames
             ++ octets_of self.channel (response_by self (content_of body.entry)) ∷ [] }
         ensures notices { effects.new.notices ≡ effects.old.notices }
@@ -75,7 +75,7 @@ impl Link {
         self.send(!self.command_cr(), body, effects);
     }
 
-    // One command and no more.
+    // Sends one command and nothing else.
     pub(crate) fn only_command(self, body: Body<'_>, effects: &mut Effects)
         requires numbers { NumbersFit (content_of body) }
         requires information { InformationFits self.channel (content_of body) }
@@ -87,7 +87,7 @@ impl Link {
         self.command(body, effects);
     }
 
-    // The fill frame and no more.
+    // Sends the fill frame and nothing else.
     pub(crate) fn fill(self, effects: &mut Effects)
         ensures frames { effects.new.frames
             ≡ octets_of self.channel (fill (command_cr (role_of self.role))) ∷ [] }

@@ -4,20 +4,21 @@ ghost use Rattle.std.specs.Prelude.{◌≡◌, ◌+◌, ◌≤◌, [], ◌++◌,
 ghost use Rattle.lapdm_frame.specs.Layout.{n201};
 ghost use Rattle.segmenting.specs.Joining.{latest};
 ghost use Rattle.lapdm_window.specs.Ends.{EndState};
-ghost use Rattle.lapdm_window.specs.Rules.{sends_next, counts, notices_of, says_rr, answers_piece, answers_poll, sends_again, takes_i};
+ghost use Rattle.lapdm_window.specs.Rules.{sends_next, counts, notices_of, says_rr, answers_segment, answers_poll, sends_again};
+ghost use Rattle.lapdm_window.specs.Rules.{takes_i_frame};
 ghost use Rattle.lapdm_window.specs.Rules.{takes_rr, takes_rej};
-ghost use Rattle.lapdm_window.specs.Standing.{Stands, channel_of};
+ghost use Rattle.lapdm_window.specs.Abstraction.{Represents, channel_of};
 
-use crate::link::Link;
+use crate::link::Address;
 use lapdm_frame::Body;
 use lapdm_window::{Acked, Effects, Info, Message, Notice, Window};
 use segmenting::{Joined, Piece};
 
-// Reports the piece that was accepted last.
+// Reports what the segment accepted last completes.
 fn report(joined: Joined, more: bool, window: &Window, effects: &mut Effects)
-    requires room { length effects.old.notices ≤ 2 }
+    requires space { length effects.old.notices ≤ 2 }
     ensures frames { effects.new.frames ≡ effects.old.frames }
-    ensures notices { (e : EndState) → Stands window.now e
+    ensures notices { (e : EndState) → Represents window.now e
         → effects.new.notices ≡ effects.old.notices ++ notices_of joined more (latest e.accepted) }
 {
     match joined {
@@ -33,15 +34,15 @@ fn report(joined: Joined, more: bool, window: &Window, effects: &mut Effects)
     }
 }
 
-impl Link {
-    ghost use Rattle.lapdm_end.specs.Windows.{ObeysInOpen, sends_waiting, says_rej, refuses_piece, takes_piece};
+impl Address {
+    ghost use Rattle.lapdm_end.specs.Windows.{RefinesInOpen, sends_waiting, says_rej, refuses_segment, takes_segment};
 
-    // Sends the piece that waits, if one does.
+    // Sends the outstanding segment, if there is one.
     pub(crate) fn send_waiting(self, p: bool, window: &Window, effects: &mut Effects)
         requires channel { channel_of window.now ≡ self.channel }
-        requires room { length effects.old.frames ≤ 1 }
+        requires space { length effects.old.frames ≤ 1 }
         ensures most { length effects.new.frames ≤ length effects.old.frames + 1 }
-        ensures follows { ObeysInOpen (sends_waiting p) self window.now window.now
+        ensures refines { RefinesInOpen (sends_waiting p) self window.now window.now
             effects.old effects.new }
     {
         let Some(piece) = window.waiting() else {
@@ -59,10 +60,10 @@ impl Link {
 
     pub(crate) fn send_next(self, window: &mut Window, effects: &mut Effects)
         requires channel { channel_of window.old ≡ self.channel }
-        requires room { length effects.old.frames ≤ 1 }
+        requires space { length effects.old.frames ≤ 1 }
         ensures channel { channel_of window.new ≡ channel_of window.old }
         ensures most { length effects.new.frames ≤ length effects.old.frames + 1 }
-        ensures follows { ObeysInOpen sends_next self window.old window.new
+        ensures refines { RefinesInOpen sends_next self window.old window.new
             effects.old effects.new }
     {
         if !window.send_next() {
@@ -71,14 +72,14 @@ impl Link {
         self.send_waiting(false, window, effects);
     }
 
-    // Counts an N(R).
+    // Evaluates an N(R).
     fn count(self, nr: u8, window: &mut Window, effects: &mut Effects)
         requires number { nr ≤ 7 }
-        requires room { length effects.old.notices ≤ 2 }
+        requires space { length effects.old.notices ≤ 2 }
         ensures channel { channel_of window.new ≡ channel_of window.old }
         ensures frames { effects.new.frames ≡ effects.old.frames }
         ensures most { length effects.new.notices ≤ length effects.old.notices + 1 }
-        ensures follows { ObeysInOpen (counts nr) self window.old window.new
+        ensures refines { RefinesInOpen (counts nr) self window.old window.new
             effects.old effects.new }
     {
         match window.on_ack(nr) {
@@ -88,21 +89,21 @@ impl Link {
     }
 
     fn say_rr(self, f: bool, window: &Window, effects: &mut Effects)
-        requires room { length effects.old.frames ≤ 1 }
+        requires space { length effects.old.frames ≤ 1 }
         ensures most { length effects.new.frames ≤ length effects.old.frames + 1 }
-        ensures follows { ObeysInOpen (says_rr f) self window.now window.now
+        ensures refines { RefinesInOpen (says_rr f) self window.now window.now
             effects.old effects.new }
     {
         let nr = window.vr();
         self.respond(Body::Rr { nr, pf: f }, effects);
     }
 
-    // Answers a piece that was accepted.
-    fn answer_piece(self, p: bool, window: &mut Window, effects: &mut Effects)
+    // Answers an accepted segment.
+    fn answer_segment(self, p: bool, window: &mut Window, effects: &mut Effects)
         requires channel { channel_of window.old ≡ self.channel }
-        requires room { effects.old.frames ≡ [] }
+        requires space { effects.old.frames ≡ [] }
         ensures channel { channel_of window.new ≡ channel_of window.old }
-        ensures follows { ObeysInOpen (answers_piece p) self window.old window.new
+        ensures refines { RefinesInOpen (answers_segment p) self window.old window.new
             effects.old effects.new }
     {
         if p {
@@ -118,9 +119,9 @@ impl Link {
     }
 
     fn say_rej(self, due: bool, p: bool, window: &Window, effects: &mut Effects)
-        requires room { length effects.old.frames ≤ 1 }
+        requires space { length effects.old.frames ≤ 1 }
         ensures most { length effects.new.frames ≤ length effects.old.frames + 1 }
-        ensures follows { ObeysInOpen (says_rej due p) self window.now window.now
+        ensures refines { RefinesInOpen (says_rej due p) self window.now window.now
             effects.old effects.new }
     {
         if !due {
@@ -130,12 +131,12 @@ impl Link {
         self.respond(Body::Rej { nr, pf: p }, effects);
     }
 
-    // Answers a piece out of sequence.
-    fn refuse_piece(self, due: bool, p: bool, window: &mut Window, effects: &mut Effects)
+    // Answers a segment out of sequence.
+    fn refuse_segment(self, due: bool, p: bool, window: &mut Window, effects: &mut Effects)
         requires channel { channel_of window.old ≡ self.channel }
-        requires room { effects.old.frames ≡ [] }
+        requires space { effects.old.frames ≡ [] }
         ensures channel { channel_of window.new ≡ channel_of window.old }
-        ensures follows { ObeysInOpen (refuses_piece due p) self window.old window.new
+        ensures refines { RefinesInOpen (refuses_segment due p) self window.old window.new
             effects.old effects.new }
     {
         self.say_rej(due, p, window, effects);
@@ -143,9 +144,9 @@ impl Link {
     }
 
     fn answer_poll(self, poll: bool, window: &Window, effects: &mut Effects)
-        requires room { length effects.old.frames ≤ 1 }
+        requires space { length effects.old.frames ≤ 1 }
         ensures most { length effects.new.frames ≤ length effects.old.frames + 1 }
-        ensures follows { ObeysInOpen (answers_poll poll) self window.now window.now
+        ensures refines { RefinesInOpen (answers_poll poll) self window.now window.now
             effects.old effects.new }
     {
         if !poll {
@@ -154,12 +155,12 @@ impl Link {
         self.say_rr(true, window, effects);
     }
 
-    // The piece that waits goes out again, or the next one.
+    // Sends the outstanding segment again, or the next one.
     fn send_again(self, window: &mut Window, effects: &mut Effects)
         requires channel { channel_of window.old ≡ self.channel }
-        requires room { length effects.old.frames ≤ 1 }
+        requires space { length effects.old.frames ≤ 1 }
         ensures channel { channel_of window.new ≡ channel_of window.old }
-        ensures follows { ObeysInOpen sends_again self window.old window.new
+        ensures refines { RefinesInOpen sends_again self window.old window.new
             effects.old effects.new }
     {
         if window.on_reject() {
@@ -175,7 +176,7 @@ impl Link {
         requires no_frames { effects.old.frames ≡ [] }
         requires no_notices { effects.old.notices ≡ [] }
         ensures channel { channel_of window.new ≡ channel_of window.old }
-        ensures follows { ObeysInOpen (takes_rr nr poll) self window.old window.new
+        ensures refines { RefinesInOpen (takes_rr nr poll) self window.old window.new
             effects.old effects.new }
     {
         self.count(nr, window, effects);
@@ -189,7 +190,7 @@ impl Link {
         requires no_frames { effects.old.frames ≡ [] }
         requires no_notices { effects.old.notices ≡ [] }
         ensures channel { channel_of window.new ≡ channel_of window.old }
-        ensures follows { ObeysInOpen (takes_rej nr poll) self window.old window.new
+        ensures refines { RefinesInOpen (takes_rej nr poll) self window.old window.new
             effects.old effects.new }
     {
         self.count(nr, window, effects);
@@ -197,8 +198,8 @@ impl Link {
         self.send_again(window, effects);
     }
 
-    // Takes the piece of an I frame whose N(R) is counted.
-    fn take_piece(
+    // Takes the segment of an I frame whose N(R) has been evaluated.
+    fn take_segment(
         self,
         ns: u8,
         p: bool,
@@ -211,17 +212,17 @@ impl Link {
         requires size { length piece.octets.now ≤ n201 self.channel }
         requires channel { channel_of window.old ≡ self.channel }
         requires no_frames { effects.old.frames ≡ [] }
-        requires room { length effects.old.notices ≤ 1 }
+        requires space { length effects.old.notices ≤ 1 }
         ensures channel { channel_of window.new ≡ channel_of window.old }
-        ensures follows { ObeysInOpen (takes_piece ns p (piece.entry.octets.now, piece.entry.more))
+        ensures refines { RefinesInOpen (takes_segment ns p (piece.entry.octets.now, piece.entry.more))
             self window.old window.new effects.old effects.new }
     {
         match window.on_info(ns, p, piece.octets, piece.more) {
             Info::Accepted(joined) => {
                 report(joined, piece.more, window, effects);
-                self.answer_piece(p, window, effects);
+                self.answer_segment(p, window, effects);
             }
-            Info::OutOfSequence { reject } => self.refuse_piece(reject, p, window, effects),
+            Info::OutOfSequence { reject } => self.refuse_segment(reject, p, window, effects),
         }
     }
 
@@ -242,10 +243,10 @@ impl Link {
         requires no_frames { effects.old.frames ≡ [] }
         requires no_notices { effects.old.notices ≡ [] }
         ensures channel { channel_of window.new ≡ channel_of window.old }
-        ensures follows { ObeysInOpen (takes_i ns nr p (piece.entry.octets.now, piece.entry.more))
+        ensures refines { RefinesInOpen (takes_i_frame ns nr p (piece.entry.octets.now, piece.entry.more))
             self window.old window.new effects.old effects.new }
     {
         self.count(nr, window, effects);
-        self.take_piece(ns, p, piece, window, effects);
+        self.take_segment(ns, p, piece, window, effects);
     }
 }

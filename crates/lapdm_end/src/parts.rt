@@ -1,39 +1,39 @@
-//! An end as plain values, and made from them again.
+//! Reads out the value of an endpoint, and restores it.
 
 ghost use Rattle.std.specs.Prelude.{◌≡◌, ◌↔◌, ◌<◌, ◌≤◌, [], false, length, IsTrue, IsSome, IfSome};
 ghost use Rattle.lapdm_frame.specs.Layout.{n201, most_information};
 ghost use Rattle.segmenting.specs.Joiners.{HasJoined};
-ghost use Rattle.segmenting.specs.Pieces.{longest, most_pieces};
+ghost use Rattle.segmenting.specs.Segments.{longest, most_segments};
 ghost use Rattle.lapdm_window.specs.Ends.{EndState};
 ghost use Rattle.lapdm_window.specs.Parts.{said_by as window_by};
-ghost use Rattle.lapdm_end.specs.Links.{role_of};
-ghost use Rattle.lapdm_end.specs.Parts.{values_of, said_by, StandFor, AreOfAnEnd, IsUnused, IsInState, AreInStep};
-ghost use Rattle.lapdm_end.specs.Standing.{Stands, channel_of};
+ghost use Rattle.lapdm_end.specs.Addresses.{role_of};
+ghost use Rattle.lapdm_end.specs.Parts.{values_of, said_by, ValuesRepresent, AreOfAnEnd, IsUnused, IsInState, AreConsistent};
+ghost use Rattle.lapdm_end.specs.Abstraction.{Represents, channel_of};
 
 use crate::Role;
-use crate::ends::End;
-use crate::link::Link;
+use crate::ends::Endpoint;
+use crate::link::Address;
 use lapdm_frame::Channel;
 use lapdm_window::{Sapi, State, WindowParts};
 use segmenting::Part;
 
-/// What an end holds, whose messages and octets are borrowed. Its channel is its window's.
+/// The value of an endpoint, with borrowed messages and octets. Its channel is that of its window.
 #[derive(Clone, Copy, Debug)]
 pub struct EndParts<'a> {
     pub role: Role,
     pub sapi: Sapi,
     pub state: State,
-    /// The information of the SABM that it sent, or that it was opened by.
+    /// The information of the SABM that it sent or that opened it.
     pub kept: &'a [u8],
-    /// How often the SABM or the DISC that awaits an answer went out again.
+    /// How often the SABM or DISC that awaits an answer was repeated.
     pub retries: u8,
     pub window: WindowParts<'a>,
 }
 
 impl EndParts<'_> {
-    // Whether these go together, where the window's do.
-    fn are_in_step(&self) -> bool
-        ensures { IsTrue result ↔ AreInStep (said_by self.now) }
+    // Whether these values belong to some endpoint, given that those of the window do.
+    fn are_consistent(&self) -> bool
+        ensures { IsTrue result ↔ AreConsistent (said_by self.now) }
     {
         self.has_kept() && is_in_state(self.state, &self.window)
     }
@@ -81,25 +81,25 @@ fn has_joined_nothing(part: Part, octets: &[u8]) -> bool
     }
 }
 
-impl End {
+impl Endpoint {
     pub fn role(&self) -> Role
-        ensures { (e : EndState) → Stands self.now e → role_of result ≡ e.role }
+        ensures { (e : EndState) → Represents self.now e → role_of result ≡ e.role }
     {
         self.link.role
     }
 
     pub fn channel(&self) -> Channel
         ensures channel { result ≡ channel_of self.now }
-        ensures stands { (e : EndState) → Stands self.now e → result ≡ e.channel }
+        ensures represents { (e : EndState) → Represents self.now e → result ≡ e.channel }
     {
         self.link.channel
     }
 
     pub fn parts(&self) -> EndParts<'_>
         ensures values { said_by result ≡ values_of self.now }
-        ensures kept { length result.kept.now ≤ most_information }
-        ensures few { length result.window.held.now ≤ 8 }
-        ensures place { result.window.place < most_pieces result.window.channel }
+        ensures sabm_info { length result.kept.now ≤ most_information }
+        ensures size { length result.window.held.now ≤ 8 }
+        ensures place { result.window.place < most_segments result.window.channel }
         ensures most { length result.window.joined.now ≤ longest }
     {
         EndParts {
@@ -112,19 +112,18 @@ impl End {
         }
     }
 
-    /// Holds what these parts say, exactly where an end that stands for some state does. Else
-    /// nothing changes.
+    /// Restores an endpoint from its value. Returns false, and changes nothing, if no endpoint has this value.
     pub fn restore(&mut self, parts: &EndParts<'_>) -> bool
         ensures same { IsTrue result → values_of self.new ≡ said_by parts.now }
-        ensures stands { IsTrue result → (e : EndState) → StandFor (said_by parts.now) e
-            → Stands self.new e }
+        ensures represents { IsTrue result → (e : EndState) → ValuesRepresent (said_by parts.now) e
+            → Represents self.new e }
         ensures known { IsTrue result ↔ AreOfAnEnd (said_by parts.now) }
         ensures unknown { result ≡ false → self.new ≡ self.old }
     {
-        if !parts.are_in_step() || !self.window.restore(&parts.window) {
+        if !parts.are_consistent() || !self.window.restore(&parts.window) {
             return false;
         }
-        self.link = Link {
+        self.link = Address {
             role: parts.role,
             sapi: parts.sapi,
             channel: parts.window.channel,
@@ -135,14 +134,14 @@ impl End {
         true
     }
 
-    /// The end of these parts, exactly where there is one.
-    pub fn from_parts(parts: &EndParts<'_>) -> Option<End>
+    /// The endpoint with this value, if there is one.
+    pub fn from_parts(parts: &EndParts<'_>) -> Option<Endpoint>
         ensures same { IfSome result (λ end. values_of end ≡ said_by parts.now) }
-        ensures stands { IfSome result
-            (λ end. (e : EndState) → StandFor (said_by parts.now) e → Stands end e) }
+        ensures represents { IfSome result
+            (λ end. (e : EndState) → ValuesRepresent (said_by parts.now) e → Represents end e) }
         ensures known { IsSome result ↔ AreOfAnEnd (said_by parts.now) }
     {
-        let mut end = End::new_on(parts.role, parts.sapi, parts.window.channel);
+        let mut end = Endpoint::new_on(parts.role, parts.sapi, parts.window.channel);
         if end.restore(parts) { Some(end) } else { None }
     }
 }

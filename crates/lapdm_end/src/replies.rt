@@ -1,4 +1,4 @@
-//! What an end does with a frame, by its state.
+//! What an endpoint does with a frame, by state.
 
 ghost use Rattle.std.specs.Prelude.{◌≡◌, ◌≤◌, length};
 ghost use Rattle.lapdm_frame.specs.Layout.{most_information};
@@ -6,26 +6,26 @@ ghost use Rattle.lapdm_frame.specs.Content.{content_of};
 ghost use Rattle.lapdm_frame.specs.Frames.{InformationFits};
 ghost use Rattle.lapdm_window.specs.Ends.{EndState};
 ghost use Rattle.lapdm_window.specs.Tables.{is_taken, is_poll, dm_to_poll, unit_reply};
-ghost use Rattle.lapdm_end.specs.declared.ends.End.{End as LinkEnd};
+ghost use Rattle.lapdm_end.specs.declared.ends.Endpoint.{Endpoint as LinkEnd};
 ghost use Rattle.lapdm_end.specs.Replies.{reply_of, IsReady};
 
 use crate::Role;
-use crate::ends::End;
+use crate::ends::Endpoint;
 use lapdm_frame::Body;
 use lapdm_window::{Reason, Sapi, State};
 
-/// What an end does.
+/// The reply to a frame.
 #[derive(Clone, Copy, PartialEq, Eq, Debug)]
 pub(crate) enum Reply<'a> {
     Nothing,
     Dm,
     Ua(&'a [u8]),
-    // The other end opens the link: it is answered by UA.
+    // The other endpoint establishes the link: answer UA.
     OpenedBy(&'a [u8]),
-    // The link that this end asked for is open.
+    // The link that this endpoint asked for is established.
     Opened(&'a [u8]),
     Closed(Reason),
-    // The other end closes the link: it is answered by UA.
+    // The other endpoint releases the link: answer UA.
     Released,
     Unit(&'a [u8]),
     I {
@@ -45,7 +45,7 @@ pub(crate) enum Reply<'a> {
     },
 }
 
-// Whether a kind is taken at all, as a command or as a response.
+// Whether a kind is accepted at all, as a command or as a response.
 pub(crate) fn is_taken(command: bool, body: &Body<'_>) -> bool
     ensures { result ≡ is_taken command (content_of body.now) }
 {
@@ -74,7 +74,7 @@ fn dm_if<'a>(poll: bool) -> Reply<'a>
     if poll { Reply::Dm } else { Reply::Nothing }
 }
 
-// A unit with information is reported.
+// A UI frame with information is reported.
 fn unit<'a>(info: &'a [u8]) -> Reply<'a>
     requires information { length info.now ≤ most_information }
     ensures reply { reply_of result ≡ unit_reply info.now }
@@ -87,18 +87,18 @@ fn unit<'a>(info: &'a [u8]) -> Reply<'a>
     }
 }
 
-impl End {
+impl Endpoint {
     ghost use Rattle.std.specs.Str.{bytes_eq};
     ghost use Rattle.lapdm_frame.specs.Layout.{n201};
     ghost use Rattle.lapdm_window.specs.declared.State.TheVariants as S;
     ghost use Rattle.lapdm_frame.specs.Frames.{NumbersFit};
     ghost use Rattle.lapdm_window.specs.Tables.{sabm_in_idle, in_idle, sabm_in_opening, ua_in_opening, in_opening, sabm_in_open, in_open};
     ghost use Rattle.lapdm_window.specs.Tables.{in_closing, in_closed, in_state, reply};
-    ghost use Rattle.lapdm_end.specs.Standing.{Stands, channel_of, state_of};
+    ghost use Rattle.lapdm_end.specs.Abstraction.{Represents, channel_of, state_of};
 
-    // Whether this is the information of the SABM, whole.
+    // Whether this is the information of the SABM sent.
     fn is_kept(&self, info: &[u8]) -> bool
-        ensures { (e : EndState) → Stands self.now e → result ≡ bytes_eq info.now e.kept }
+        ensures { (e : EndState) → Represents self.now e → result ≡ bytes_eq info.now e.kept }
     {
         info == self.kept.octets()
     }
@@ -106,7 +106,7 @@ impl End {
     fn to_sabm_in_idle<'a>(&self, info: &'a [u8]) -> Reply<'a>
         requires idle { state_of self.now ≡ S.Idle }
         requires information { length info.now ≤ n201 (channel_of self.now) }
-        ensures reply { (e : EndState) → Stands self.now e
+        ensures reply { (e : EndState) → Represents self.now e
             → reply_of result ≡ sabm_in_idle e.sapi e.role info.now }
         ensures ready { IsReady self.now result }
     {
@@ -132,7 +132,7 @@ impl End {
     fn in_idle<'a>(&self, poll: bool, body: &Body<'a>) -> Reply<'a>
         requires idle { state_of self.now ≡ S.Idle }
         requires information { InformationFits (channel_of self.now) (content_of body.now) }
-        ensures reply { (e : EndState) → Stands self.now e
+        ensures reply { (e : EndState) → Represents self.now e
             → reply_of result ≡ in_idle poll (content_of body.now) e }
         ensures ready { IsReady self.now result }
     {
@@ -145,7 +145,7 @@ impl End {
 
     fn to_sabm_in_opening<'a>(&self, info: &'a [u8]) -> Reply<'a>
         requires information { length info.now ≤ n201 (channel_of self.now) }
-        ensures reply { (e : EndState) → Stands self.now e
+        ensures reply { (e : EndState) → Represents self.now e
             → reply_of result ≡ sabm_in_opening e.sapi info.now }
         ensures ready { IsReady self.now result }
     {
@@ -165,7 +165,7 @@ impl End {
     fn to_ua_in_opening<'a>(&self, info: &'a [u8]) -> Reply<'a>
         requires opening { state_of self.now ≡ S.Opening }
         requires information { length info.now ≤ n201 (channel_of self.now) }
-        ensures reply { (e : EndState) → Stands self.now e
+        ensures reply { (e : EndState) → Represents self.now e
             → reply_of result ≡ ua_in_opening info.now e }
         ensures ready { IsReady self.now result }
     {
@@ -181,7 +181,7 @@ impl End {
     fn in_opening<'a>(&self, body: &Body<'a>) -> Reply<'a>
         requires opening { state_of self.now ≡ S.Opening }
         requires information { InformationFits (channel_of self.now) (content_of body.now) }
-        ensures reply { (e : EndState) → Stands self.now e
+        ensures reply { (e : EndState) → Represents self.now e
             → reply_of result ≡ in_opening (content_of body.now) e }
         ensures ready { IsReady self.now result }
     {
@@ -196,7 +196,7 @@ impl End {
 
     fn to_sabm_in_open<'a>(&self, info: &'a [u8]) -> Reply<'a>
         requires information { length info.now ≤ n201 (channel_of self.now) }
-        ensures reply { (e : EndState) → Stands self.now e
+        ensures reply { (e : EndState) → Represents self.now e
             → reply_of result ≡ sabm_in_open info.now e }
         ensures ready { IsReady self.now result }
     {
@@ -214,7 +214,7 @@ impl End {
         requires open { state_of self.now ≡ S.Open }
         requires numbers { NumbersFit (content_of body.now) }
         requires information { InformationFits (channel_of self.now) (content_of body.now) }
-        ensures reply { (e : EndState) → Stands self.now e
+        ensures reply { (e : EndState) → Represents self.now e
             → reply_of result ≡ in_open command (content_of body.now) e }
         ensures ready { IsReady self.now result }
     {
@@ -278,7 +278,7 @@ impl End {
     fn in_state<'a>(&self, command: bool, body: &Body<'a>) -> Reply<'a>
         requires numbers { NumbersFit (content_of body.now) }
         requires information { InformationFits (channel_of self.now) (content_of body.now) }
-        ensures reply { (e : EndState) → Stands self.now e
+        ensures reply { (e : EndState) → Represents self.now e
             → reply_of result ≡ in_state e.state command (content_of body.now) e }
         ensures ready { IsReady self.now result }
     {
@@ -291,11 +291,11 @@ impl End {
         }
     }
 
-    /// What the end does with a frame of its SAPI, of a kind that is taken.
+    /// The reply to a frame of the endpoint's SAPI, of a kind that is accepted.
     pub(crate) fn reply<'a>(&self, command: bool, body: &Body<'a>) -> Reply<'a>
         requires numbers { NumbersFit (content_of body.now) }
         requires information { InformationFits (channel_of self.now) (content_of body.now) }
-        ensures reply { (e : EndState) → Stands self.now e
+        ensures reply { (e : EndState) → Represents self.now e
             → reply_of result ≡ reply command (content_of body.now) e }
         ensures ready { IsReady self.now result }
     {

@@ -1,45 +1,46 @@
-//! A side of the air: its ends of the links of SAPI 0 and SAPI 3.
+//! A side, mobile or network: its endpoints of SAPI 0 and SAPI 3.
 
-ghost use Rattle.std.specs.Prelude.{◌≡◌, OnOk, OnErr};
+ghost use Rattle.std.specs.Prelude.{◌≡◌, ◌≢◌, OnOk, OnErr};
 ghost use Rattle.lapdm_frame.specs.Content.{frame_of};
 ghost use Rattle.lapdm_frame.specs.Frames.{Fits};
 ghost use Rattle.lapdm_window.specs.declared.Sapi.TheVariants as S;
 ghost use Rattle.lapdm_window.specs.Calls.{call_of, IsOfSapi};
 ghost use Rattle.lapdm_window.specs.Sides.{idle_side, asks, takes};
-ghost use Rattle.lapdm_end.specs.Links.{role_of};
-ghost use Rattle.lapdm_end.specs.Standing.{channel_of as end_channel, sapi_of};
-ghost use Rattle.lapdm_end.specs.Following.{IsRefusedAs};
+ghost use Rattle.lapdm_end.specs.Addresses.{role_of};
+ghost use Rattle.lapdm_end.specs.Abstraction.{channel_of as end_channel, sapi_of};
+ghost use Rattle.lapdm_end.specs.Refinement.{IsRefusedAs};
 
 use crate::Role;
-use crate::ends::End;
+use crate::ends::Endpoint;
 use lapdm_frame::{Channel, FrameView};
 use lapdm_window::{Call, Effects, Refused, Sapi};
 
-/// Both ends of a mobile, or both of the network.
+/// Both endpoints of the mobile, or both of the network.
 #[derive(Debug, Drop)]
 pub struct Side {
-    pub(crate) link0: End,
-    pub(crate) link3: End,
+    pub(crate) link0: Endpoint,
+    pub(crate) link3: Endpoint,
     ghost one_channel: { end_channel link3 ≡ end_channel link0 },
     ghost sapi0: { sapi_of link0 ≡ S.Zero },
     ghost sapi3: { sapi_of link3 ≡ S.Three },
 }
 
 impl Side {
-    ghost use Rattle.lapdm_end.specs.Sides.{Stands, Follows, link_of, channel_of};
+    ghost use Rattle.lapdm_end.specs.Sides.{Represents, Refines, link_of, other, channel_of};
 
-    /// Both ends in Idle.
+    /// A side with both endpoints in Idle.
     pub fn new_on(role: Role, channel: Channel) -> Side
-        ensures stands { Stands result (idle_side (role_of role) channel) }
+        ensures represents { Represents result (idle_side (role_of role) channel) }
         ensures channel { channel_of result ≡ channel }
     {
         Side {
-            link0: End::new_on(role, Sapi::Zero, channel),
-            link3: End::new_on(role, Sapi::Three, channel),
+            link0: Endpoint::new_on(role, Sapi::Zero, channel),
+            link3: Endpoint::new_on(role, Sapi::Three, channel),
         }
     }
 
-    /// Asks the end of this SAPI. Overwrites `effects`, except where the call is refused.
+    /// Carries out a call of layer 3 to the endpoint of this SAPI. Overwrites `effects`,
+    /// unless the call is refused.
     #[inline(always)]
     pub fn call(
         &mut self,
@@ -49,10 +50,11 @@ impl Side {
     ) -> Result<(), Refused>
         requires { IsOfSapi sapi (call_of call.now) }
         ensures refusal { IsRefusedAs (call_of call.now) (link_of sapi self.old) result }
-        ensures follows { OnOk result
-            (Follows (asks sapi (call_of call.now)) self.old sapi effects.new self.new) }
+        ensures refines { OnOk result
+            (Refines (asks sapi (call_of call.now)) self.old sapi effects.new self.new) }
+        ensures others { link_of (other sapi) self.new ≡ link_of (other sapi) self.old }
         ensures refused { OnErr result (self.new ≡ self.old) }
-        ensures kept { OnErr result (effects.new ≡ effects.old) }
+        ensures out_unchanged { OnErr result (effects.new ≡ effects.old) }
         ensures channel { channel_of self.new ≡ channel_of self.old }
     {
         match sapi {
@@ -61,10 +63,13 @@ impl Side {
         }
     }
 
-    /// The end of the frame's SAPI takes it. Gives that SAPI, or 0 where there is no such end. Overwrites `effects`.
+    /// Gives the frame to the endpoint of its SAPI. Returns that SAPI, or 0 for a SAPI
+    /// without endpoint. Overwrites `effects`.
     pub fn take(&mut self, frame: &FrameView<'_>, effects: &mut Effects) -> Sapi
         requires { Fits (channel_of self.old) (frame_of frame.now) }
-        ensures follows { Follows (takes (frame_of frame.now)) self.old result effects.new self.new }
+        ensures refines { Refines (takes (frame_of frame.now)) self.old result effects.new self.new }
+        ensures others { link_of (other result) self.new ≡ link_of (other result) self.old }
+        ensures unknown { frame.now.sapi ≢ 0 → frame.now.sapi ≢ 3 → self.new ≡ self.old }
         ensures channel { channel_of self.new ≡ channel_of self.old }
     {
         if frame.sapi == 0 {

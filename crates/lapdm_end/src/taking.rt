@@ -1,4 +1,4 @@
-//! The frames that an end takes.
+//! The frames that an endpoint receives.
 
 ghost use Rattle.std.specs.Prelude.{◌≡◌, ◌≤◌, [], ◌∷◌, ◌++◌, length};
 ghost use Rattle.lapdm_frame.specs.Layout.{n201};
@@ -8,21 +8,21 @@ ghost use Rattle.lapdm_window.specs.declared.State.TheVariants as S;
 ghost use Rattle.lapdm_window.specs.Ends.{EndState, response};
 ghost use Rattle.lapdm_window.specs.Tables.{IsReleased, IsOpenedBy, becomes_open, becomes_closed, outcome_of, after_frame};
 
-use crate::ends::End;
+use crate::ends::Endpoint;
 use crate::replies::{Reply, is_taken};
 use lapdm_frame::{Body, FrameView};
 use lapdm_window::{Effects, Message, Notice, Reason, State};
 use segmenting::Piece;
 
-impl End {
+impl Endpoint {
     ghost use Rattle.lapdm_end.specs.Replies.{reply_of, IsReady, MayBeOpenedBy};
-    ghost use Rattle.lapdm_end.specs.Standing.{Stands, channel_of, sapi_of, state_of};
-    ghost use Rattle.lapdm_end.specs.Following.{Follows, Obeys};
+    ghost use Rattle.lapdm_end.specs.Abstraction.{Represents, channel_of, sapi_of, state_of};
+    ghost use Rattle.lapdm_end.specs.Refinement.{Refines, RefinesAdding};
 
-    /// Takes a frame that came in. Overwrites `effects`.
+    /// Receives a frame. Overwrites `effects`.
     pub fn take_into(&mut self, frame: &FrameView<'_>, effects: &mut Effects)
         requires { Fits (channel_of self.old) (frame_of frame.now) }
-        ensures follows { Follows (after_frame (frame_of frame.now)) self.old effects.new self.new }
+        ensures refines { Refines (after_frame (frame_of frame.now)) self.old effects.new self.new }
         ensures sapi { sapi_of self.new ≡ sapi_of self.old }
         ensures channel { channel_of self.new ≡ channel_of self.old }
     {
@@ -39,7 +39,7 @@ impl End {
         requires ready { IsReady self.old reply }
         requires no_frames { effects.old.frames ≡ [] }
         requires no_notices { effects.old.notices ≡ [] }
-        ensures follows { Obeys (outcome_of (reply_of reply.entry)) self.old self.new effects.old effects.new }
+        ensures refines { RefinesAdding (outcome_of (reply_of reply.entry)) self.old self.new effects.old effects.new }
         ensures sapi { sapi_of self.new ≡ sapi_of self.old }
         ensures channel { channel_of self.new ≡ channel_of self.old }
     {
@@ -73,7 +73,7 @@ impl End {
         requires numbers { NumbersFit (content_of body) }
         requires information { InformationFits (channel_of self.now) (content_of body) }
         requires no_frames { effects.old.frames ≡ [] }
-        ensures frames { (e : EndState) → Stands self.now e
+        ensures frames { (e : EndState) → Represents self.now e
             → effects.new.frames ≡ effects.old.frames
             ++ octets_of (channel_of self.now) (response e (content_of body.entry)) ∷ [] }
         ensures notices { effects.new.notices ≡ effects.old.notices }
@@ -81,12 +81,12 @@ impl End {
         self.link.respond(body, effects);
     }
 
-    // The other end opens the link.
+    // The other endpoint establishes the link.
     fn be_opened(&mut self, info: &[u8], effects: &mut Effects)
         requires may { MayBeOpenedBy self.old info.now }
         requires no_frames { effects.old.frames ≡ [] }
         requires no_notices { effects.old.notices ≡ [] }
-        ensures follows { Obeys (outcome_of (IsOpenedBy info.now)) self.old self.new effects.old effects.new }
+        ensures refines { RefinesAdding (outcome_of (IsOpenedBy info.now)) self.old self.new effects.old effects.new }
         ensures sapi { sapi_of self.new ≡ sapi_of self.old }
         ensures channel { channel_of self.new ≡ channel_of self.old }
     {
@@ -96,12 +96,12 @@ impl End {
         self.answer(Body::Ua { f: true, info }, effects);
     }
 
-    // The link that this end asked for is open.
+    // The link that this endpoint asked for is established.
     fn go_open(&mut self, info: &[u8], effects: &mut Effects)
         requires opening { state_of self.old ≡ S.Opening }
         requires information { length info.now ≤ n201 (channel_of self.old) }
         requires no_notices { effects.old.notices ≡ [] }
-        ensures follows { Obeys (becomes_open info.now) self.old self.new effects.old effects.new }
+        ensures refines { RefinesAdding (becomes_open info.now) self.old self.new effects.old effects.new }
         ensures sapi { sapi_of self.new ≡ sapi_of self.old }
         ensures channel { channel_of self.new ≡ channel_of self.old }
     {
@@ -112,7 +112,7 @@ impl End {
     pub(crate) fn end_with(&mut self, reason: Reason, effects: &mut Effects)
         requires no_notices { effects.old.notices ≡ [] }
         ensures frames { effects.new.frames ≡ effects.old.frames }
-        ensures follows { Obeys (becomes_closed reason) self.old self.new effects.old effects.new }
+        ensures refines { RefinesAdding (becomes_closed reason) self.old self.new effects.old effects.new }
         ensures sapi { sapi_of self.new ≡ sapi_of self.old }
         ensures channel { channel_of self.new ≡ channel_of self.old }
     {
@@ -120,11 +120,11 @@ impl End {
         effects.notices.push(Notice::Closed(reason));
     }
 
-    // The other end closes the link.
+    // The other endpoint releases the link.
     fn be_released(&mut self, effects: &mut Effects)
         requires no_frames { effects.old.frames ≡ [] }
         requires no_notices { effects.old.notices ≡ [] }
-        ensures follows { Obeys (outcome_of IsReleased) self.old self.new effects.old effects.new }
+        ensures refines { RefinesAdding (outcome_of IsReleased) self.old self.new effects.old effects.new }
         ensures sapi { sapi_of self.new ≡ sapi_of self.old }
         ensures channel { channel_of self.new ≡ channel_of self.old }
     {

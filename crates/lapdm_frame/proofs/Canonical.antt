@@ -1,4 +1,4 @@
--- The canonical octets of a frame.
+-- The canonical octets of a frame: exactly one list is canonical, and it reads back as that frame.
 use Rattle.std.proofs.Common.{◌≡◌, ℕ, zero, suc, ◌+◌, ◌-◌, ◌<◌, ◌≤◌, List, [], ◌∷◌, ◌++◌, length}
 use Rattle.std.proofs.Common.{get_or, set, take, drop, replicate, refl, sym, ap, ◌∙◌, inl, inr, arith}
 use Rattle.std.specs.Prelude.{slice_range}
@@ -14,7 +14,6 @@ use Rattle.lapdm_frame.specs.Frames.{address, control, length_octet, Fits, IsFra
 use Rattle.lapdm_frame.specs.Readings.{IsOnlyCanonical}
 use Rattle.lapdm_frame.proofs.Uniqueness.{information_bound, only_frame}
 
--- an octet of the information
 information_at : (o : List ℕ) (start n k : ℕ) → k < n → get_or (slice_range o start (start + n)) k 0 ≡ get_or o (start + k) 0
 information_at o start n k below = let within : k < start + n - start = omega arith in rw (get_or-take, get_or-drop)
 
@@ -56,11 +55,10 @@ same_octet channel f o p is_o is_p k within =
       ]
     ]
 
--- a frame has one canonical list at most
 pub same_canonical : (channel : Channel) (f : Frame) (o p : List ℕ) → IsCanonical channel f o → IsCanonical channel f p → o ≡ p
 same_canonical channel f o p is_o is_p = ext_get_or 0 o p (is_o.frame.count ∙ sym is_p.frame.count) (same_octet channel f o p is_o is_p)
 
--- what stands after the length octet: the information, and fill in the rest of the room
+-- the octets after the length octet: the information, then fill up to the given size
 abbrev pub filled : ℕ → List ℕ → List ℕ
 filled size info = info ++ replicate (size - length info) 0x2b
 
@@ -77,14 +75,13 @@ module _ (size : ℕ) (info : List ℕ) (fits : length info ≤ size) where
       get_or-append_right info (replicate (size - length info) 0x2b) (length info) k 0 refl low
       ∙ get_or-replicate (size - length info) (k - length info) 0x2b 0 within
 
--- an octet past the first ones
+-- an octet after the first three (SDCCH) or five (SACCH)
 past_sdcch : (a b c : ℕ) (xs : List ℕ) (k : ℕ) → 3 ≤ k → get_or (a ∷ b ∷ c ∷ xs) k 0 ≡ get_or xs (k - 3) 0
 past_sdcch a b c xs k low = get_or-append_right (a ∷ b ∷ c ∷ []) xs 3 k 0 refl low
 
 past_sacch : (a b c d e : ℕ) (xs : List ℕ) (k : ℕ) → 5 ≤ k → get_or (a ∷ b ∷ c ∷ d ∷ e ∷ xs) k 0 ≡ get_or xs (k - 5) 0
 past_sacch a b c d e xs k low = get_or-append_right (a ∷ b ∷ c ∷ d ∷ e ∷ []) xs 5 k 0 refl low
 
--- the octets as a list are canonical
 pub octets_canonical : (channel : Channel) (f : Frame) → Fits channel f → IsCanonical channel f (octets_of channel f)
 octets_canonical Sdcch f fits =
     let info = information f.content in
@@ -132,7 +129,6 @@ octets_canonical Sacch f fits =
     below_two (suc zero) below = refl
     below_two (suc (suc k)) below = absurd (omega arith)
 
--- the canonical octets are these and no others, and read back as the frame
 pub only_canonical : (channel : Channel) (f : Frame) → Fits channel f → IsOnlyCanonical channel f (octets_of channel f)
 only_canonical channel f fits =
     let canonical = octets_canonical channel f fits in
@@ -142,7 +138,7 @@ only_canonical channel f fits =
       reads_back = only_frame channel f (octets_of channel f) canonical.frame;
     }
 
--- a block of fill into which the parts of a frame are written one after another
+-- a block of fill over which the writer puts address a, control k, length l and information
 abbrev pub overwritten : (start a k l : ℕ) → (zeros info : List ℕ) → List ℕ
 overwritten start a k l zeros info = put_mid (start + 3) (start + 3 + length info - (start + 3))
     (set (set (set (zeros ++ drop start (replicate {A = ℕ} 23 0x2b)) start a) (start + 1) k) (start + 2) l) info

@@ -1,21 +1,24 @@
--- Every list of 23 octets is a frame or is refused.
-use Rattle.std.proofs.Common.{◌≡◌, ◌≢◌, ℕ, ◌/◌, ◌%◌, ◌<◌, ◌≤◌, Bool, false, nat_eq, List, [], length}
-use Rattle.std.proofs.Common.{refl, ◌⊎◌, inl, inr, arith}
-use Rattle.std.proofs.lemmas.Bool.{cases_lt, cases_eq}
+-- Every list of 23 octets is a frame or is refused: by testing the reasons in their order.
+use Rattle.std.proofs.Common.{◌≡◌, ◌≢◌, ℕ, ◌/◌, ◌%◌, ◌<◌, ◌≤◌, Bool, false, nat_eq, List, [], ◌∷◌, length}
+use Rattle.std.specs.List.{AllByRecursion}
+use Rattle.std.proofs.Common.{refl, rules, ◌⊎◌, inl, inr, arith}
+use Rattle.std.proofs.lemmas.Bool.{cases_Bool, cases_lt, cases_eq}
 use Rattle.lapdm_frame.specs.declared.Channel.{Channel}
 use Rattle.lapdm_frame.specs.declared.Refusal.{Refusal}
 use Rattle.lapdm_frame.specs.declared.Refusal.TheVariants.{Lpd, Ea, Control, El, Length, Empty, More}
 use Rattle.lapdm_frame.specs.Layout.{n201, address_in, control_in, length_in, information_in}
-use Rattle.lapdm_frame.specs.Content.{Content, I, Rr, Rnr, Rej, Sabm, Dm, Ui, Disc, Ua, information, goes_on}
+use Rattle.lapdm_frame.specs.declared.Kind.{Kind}
+use Rattle.lapdm_frame.specs.declared.Kind.TheVariants as K
+use Rattle.lapdm_frame.specs.Content.{Content, I, kinds, fields_of, content_with, information, more_follows}
 use Rattle.lapdm_frame.specs.Frames.{bit, control}
-use Rattle.lapdm_frame.specs.Refusals.{IsControl, IsInformationFrame, HasNoInformation, l_of, m_of, el_of}
-use Rattle.lapdm_frame.specs.Lengths.{HasRoom, IsLengthFault, HasNoLengthFault}
+use Rattle.lapdm_frame.specs.Refusals.{IsControl, IsInformationFrame, lacks_information, HasNoInformation, l_of, m_of, el_of}
+use Rattle.lapdm_frame.specs.Lengths.{LengthFits, IsLengthFault, HasNoLengthFault}
 use Rattle.lapdm_frame.specs.Readings.{HasOneReading}
-use Rattle.lapdm_frame.proofs.Controls.{with_information, bit_bound}
+use Rattle.lapdm_frame.proofs.Controls.{with_information, bit_bound, something_informed}
+use Rattle.lapdm_frame.proofs.FieldLaws.{numbers_fit}
 use Rattle.lapdm_frame.proofs.Uniqueness.{only_frame}
 use Rattle.lapdm_frame.proofs.Order.{bit_of, kind_known, refused, none_yet, past_lpd, past_address, fault_refuses, frame_found}
 
--- the contents of each kind that could have this control octet
 module _ (k : ℕ) where
   abbrev final : Bool
   final = nat_eq (k / 16 % 2) 1
@@ -23,60 +26,33 @@ module _ (k : ℕ) where
   final_is : bit final ≡ k / 16 % 2
   final_is = bit_of (k / 16 % 2) (omega arith)
 
-  -- an octet that is of none of these is of no content
-  unknown : k ≢ control (I (k / 2 % 8) (k / 32) final false []) → k ≢ control (Rr (k / 32) final) → k ≢ control (Rnr (k / 32) final) →
-      k ≢ control (Rej (k / 32) final) → k ≢ control (Sabm final []) → k ≢ control (Dm final) → k ≢ control (Ui final []) →
-      k ≢ control (Disc final) → k ≢ control (Ua final []) → (content : Content) → ¬ IsControl k content
-  unknown i rr rnr rej sabm dm ui disc ua (I ns nr p more info) is_k = i (omega (arith, final_is, bit_bound p))
-  unknown i rr rnr rej sabm dm ui disc ua (Rr nr pf) is_k = rr (omega (arith, final_is, bit_bound pf))
-  unknown i rr rnr rej sabm dm ui disc ua (Rnr nr pf) is_k = rnr (omega (arith, final_is, bit_bound pf))
-  unknown i rr rnr rej sabm dm ui disc ua (Rej nr pf) is_k = rej (omega (arith, final_is, bit_bound pf))
-  unknown i rr rnr rej sabm dm ui disc ua (Sabm p info) is_k = sabm (omega (arith, final_is, bit_bound p))
-  unknown i rr rnr rej sabm dm ui disc ua (Dm f) is_k = dm (omega (arith, final_is, bit_bound f))
-  unknown i rr rnr rej sabm dm ui disc ua (Ui p info) is_k = ui (omega (arith, final_is, bit_bound p))
-  unknown i rr rnr rej sabm dm ui disc ua (Disc p) is_k = disc (omega (arith, final_is, bit_bound p))
-  unknown i rr rnr rej sabm dm ui disc ua (Ua f info) is_k = ua (omega (arith, final_is, bit_bound f))
+  -- the content of a kind that could have this control octet
+  abbrev candidate : Kind → Content
+  candidate kind = content_with kind (k / 2 % 8) (k / 32) final false []
+
+  -- an octet that no candidate has is no control octet
+  unknown : ((kind : Kind) → k ≢ control (candidate kind)) → (content : Content) → ¬ IsControl k content
+  unknown none (I ns nr p more info) is_k = none K.I (omega (arith, final_is, bit_bound p))
+  unknown none other is_k = none (fields_of other).kind (omega (arith, final_is, bit_bound (fields_of other).pf))
+
+  candidate_of : (ks : List Kind)
+      → ((kind : Kind) × (k ≡ control (candidate kind))) ⊎ AllByRecursion (λ kind. k ≢ control (candidate kind)) ks
+  candidate_of [] = inr tt
+  candidate_of (kind ∷ ks) = elim (cases_eq k (control (candidate kind))) [
+    | inl e ↦ inl (kind, e)
+    | inr not ↦ elim (candidate_of ks) [ inl found ↦ inl found | inr rest ↦ inr (not, rest) ]
+  ]
+
+  each_kind : (kind : Kind) → AllByRecursion (λ kind. k ≢ control (candidate kind)) kinds → k ≢ control (candidate kind)
+  each_kind K.I none = none.0
+  each_kind other none = search rules
 
   known_or_not : k < 256 → ((content : Content) × IsControl k content) ⊎ ((content : Content) → ¬ IsControl k content)
-  known_or_not small =
-      let nr : k / 32 ≤ 7 = omega arith in
-      let ns : k / 2 % 8 ≤ 7 = omega arith in
-      elim (cases_eq k (control (I (k / 2 % 8) (k / 32) final false []))) [
-        | inl e ↦ inl (I (k / 2 % 8) (k / 32) final false [], ((ns, nr), e))
-        | inr i ↦
-            elim (cases_eq k (control (Rr (k / 32) final))) [
-              | inl e ↦ inl (Rr (k / 32) final, (nr, e))
-              | inr rr ↦
-                  elim (cases_eq k (control (Rnr (k / 32) final))) [
-                    | inl e ↦ inl (Rnr (k / 32) final, (nr, e))
-                    | inr rnr ↦
-                        elim (cases_eq k (control (Rej (k / 32) final))) [
-                          | inl e ↦ inl (Rej (k / 32) final, (nr, e))
-                          | inr rej ↦
-                              elim (cases_eq k (control (Sabm final []))) [
-                                | inl e ↦ inl (Sabm final [], (tt, e))
-                                | inr sabm ↦
-                                    elim (cases_eq k (control (Dm final))) [
-                                      | inl e ↦ inl (Dm final, (tt, e))
-                                      | inr dm ↦
-                                          elim (cases_eq k (control (Ui final []))) [
-                                            | inl e ↦ inl (Ui final [], (tt, e))
-                                            | inr ui ↦
-                                                elim (cases_eq k (control (Disc final))) [
-                                                  | inl e ↦ inl (Disc final, (tt, e))
-                                                  | inr disc ↦
-                                                      elim (cases_eq k (control (Ua final []))) [
-                                                        | inl e ↦ inl (Ua final [], (tt, e))
-                                                        | inr ua ↦ inr (unknown i rr rnr rej sabm dm ui disc ua)
-                                                      ]
-                                                ]
-                                          ]
-                                    ]
-                              ]
-                        ]
-                  ]
-            ]
-      ]
+  known_or_not small = elim (candidate_of kinds) [
+    | inl (kind, e) ↦
+        inl (candidate kind, (numbers_fit kind (k / 2 % 8) (k / 32) final false [] (omega arith) (omega arith), e))
+    | inr none ↦ inr (unknown (λ kind. each_kind kind none))
+  ]
 
 no_such_octet : (k : ℕ) → 256 ≤ k → (content : Content) → ¬ IsControl k content
 no_such_octet k large (I ns nr p more info) is_k = omega (arith, bit_bound)
@@ -85,35 +61,35 @@ no_such_octet k large other is_k = omega (arith, bit_bound)
 control_known : (k : ℕ) → ((content : Content) × IsControl k content) ⊎ ((content : Content) → ¬ IsControl k content)
 control_known k = elim (cases_lt k 256) [ inl small ↦ known_or_not k small | inr large ↦ inr (no_such_octet k large) ]
 
--- the information does not count for the control octet
+-- the control octet does not depend on the information
 still_control : (k : ℕ) (a : Content) (goes : Bool) (info : List ℕ) → IsControl k a → IsControl k (with_information a goes info)
 still_control k (I ns nr p more info') goes info is_k = is_k
-still_control k (Sabm p info') goes info is_k = is_k
-still_control k (Ui p info') goes info is_k = is_k
-still_control k (Ua f info') goes info is_k = is_k
 still_control k other goes info is_k = is_k
+
+own_kind : (a : Content) (goes : Bool) (info : List ℕ) → lacks_information (fields_of (with_information a goes info)).kind ≡ false
+    → lacks_information (fields_of a).kind ≡ false
+own_kind (I ns nr p more info') goes info some = some
+own_kind other goes info some = some
 
 carried : (a : Content) (goes : Bool) (info : List ℕ) → HasNoInformation (with_information a goes info) ⊎
     (information (with_information a goes info) ≡ info)
-carried (I ns nr p more info') goes info = inr refl
-carried (Sabm p info') goes info = inr refl
-carried (Ui p info') goes info = inr refl
-carried (Ua f info') goes info = inr refl
-carried other goes info = inl tt
+carried a goes info = elim (cases_Bool (lacks_information (fields_of (with_information a goes info)).kind)) [
+  | inl lacks ↦ inl lacks
+  | inr some ↦ inr (something_informed a (own_kind a goes info some) goes info)
+]
 
 goes_on_with : (a : Content) (goes : Bool) (info : List ℕ) → IsInformationFrame (with_information a goes info) →
-    goes_on (with_information a goes info) ≡ goes
+    more_follows (with_information a goes info) ≡ goes
 goes_on_with (I ns nr p more info') goes info is_i = refl
 goes_on_with other goes info is_i = absurd is_i
 
 silence_known : (content : Content) → HasNoInformation content ⊎ ¬ HasNoInformation content
-silence_known (I ns nr p more info) = inr (λ h. h)
-silence_known (Sabm p info) = inr (λ h. h)
-silence_known (Ui p info) = inr (λ h. h)
-silence_known (Ua f info) = inr (λ h. h)
-silence_known other = inl tt
+silence_known content = elim (cases_Bool (lacks_information (fields_of content).kind)) [
+  | inl lacks ↦ inl lacks
+  | inr some ↦ inr (λ lacks. absurd cc)
+]
 
--- of two facts that are known to hold or not, both hold or the one rules out the other
+-- if A and B are decidable, then either both hold, or A excludes B
 both_or_not : {A B : Type 0} → A ⊎ ¬ A → B ⊎ ¬ B → (A × B) ⊎ (A → ¬ B)
 both_or_not (inl a) (inl b) = inl (a, b)
 both_or_not (inl a) (inr not_b) = inr (λ _. not_b)
@@ -123,9 +99,9 @@ positive_known : (n : ℕ) → (0 < n) ⊎ ¬ (0 < n)
 positive_known n = elim (cases_lt 0 n) [ inl some ↦ inl some | inr none ↦ inr (λ some. omega arith) ]
 
 module _ (most : ℕ) (content : Content) (octet : ℕ) where
-  room_known : HasRoom most content octet ⊎ ((reason : Refusal) × IsLengthFault most content octet reason)
+  room_known : LengthFits most content octet ⊎ ((reason : Refusal) × IsLengthFault most content octet reason)
   room_known = elim (cases_eq (el_of octet) 0) [
-    | inl goes_on ↦ inr (El, goes_on)
+    | inl more_follows ↦ inr (El, more_follows)
     | inr ends ↦ elim (cases_lt most (l_of octet)) [
       | inl above ↦ inr (Length, (ends, inl above))
       | inr bound ↦ elim (both_or_not (positive_known (l_of octet)) (silence_known content)) [
@@ -135,7 +111,7 @@ module _ (most : ℕ) (content : Content) (octet : ℕ) where
     ]
   ]
 
-  more_known : HasRoom most content octet → (l_of octet ≡ 0 → ¬ IsInformationFrame content) →
+  more_known : LengthFits most content octet → (l_of octet ≡ 0 → ¬ IsInformationFrame content) →
       HasNoLengthFault most content octet ⊎ ((reason : Refusal) × IsLengthFault most content octet reason)
   more_known room informs = elim (kind_known content) [
     | inl is_i ↦ inl (record { room = room; informs = informs; more = λ _. is_i })
@@ -178,7 +154,6 @@ module _ (channel : Channel) (octets : List ℕ) (count : length octets ≡ 23) 
         | inr (reason, fault) ↦ inr (reason, fault_refuses channel octets content known (past_address channel octets low odd) reason fault)
       ]
 
-  -- every list of 23 octets is exactly one frame, or is refused for exactly one reason
   pub one_reading : HasOneReading channel octets
   one_reading = elim (cases_lt (address_in channel octets) 32) [
     | inl low ↦ elim (cases_eq (address_in channel octets % 2) 0) [

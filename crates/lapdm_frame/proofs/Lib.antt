@@ -4,3 +4,4 @@ pub mod Uniqueness
 pub mod Canonical
 pub mod Order
 pub mod Existence
+pub mod FieldLaws

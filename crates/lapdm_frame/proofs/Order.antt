@@ -1,4 +1,4 @@
--- The reasons one after another, and what is left when none applies.
+-- The first reason that applies is the only one, and octets to which none applies are a frame.
 use Rattle.std.proofs.Common.{◌≡◌, ◌≢◌, ℕ, zero, suc, ◌+◌, ◌-◌, ◌/◌, ◌%◌, ◌<◌, ◌≤◌, nat_eq, List}
 use Rattle.std.proofs.Common.{length, refl, sym, ap, ◌∙◌, subst, ◌⊎◌, inl, inr, arith}
 use Rattle.std.proofs.lemmas.Bool.{cases_lt}
@@ -8,26 +8,26 @@ use Rattle.lapdm_frame.specs.declared.Channel.TheVariants.{Sdcch, Sacch}
 use Rattle.lapdm_frame.specs.declared.Refusal.{Refusal}
 use Rattle.lapdm_frame.specs.declared.Refusal.TheVariants.{Lpd, Ea, Control, El, Length, Empty, More}
 use Rattle.lapdm_frame.specs.Layout.{header, n201, address_in, control_in, length_in, information_in}
-use Rattle.lapdm_frame.specs.Content.{Content, I, information, goes_on}
+use Rattle.lapdm_frame.specs.Content.{Content, I, information, more_follows}
 use Rattle.lapdm_frame.specs.Frames.{bit, InformationFits, IsFrame}
-use Rattle.lapdm_frame.specs.Refusals.{IsControl, IsInformationFrame, HasNoInformation, l_of, m_of, AppliesTo, place}
-use Rattle.lapdm_frame.specs.Lengths.{HasRoom, IsLengthFault, HasNoLengthFault}
+use Rattle.lapdm_frame.specs.Refusals.{IsControl, IsInformationFrame, HasNoInformation, l_of, m_of, AppliesTo, reason_rank}
+use Rattle.lapdm_frame.specs.Lengths.{LengthFits, IsLengthFault, HasNoLengthFault}
 use Rattle.lapdm_frame.specs.Readings.{IsOnlyRefusal}
 use Rattle.lapdm_frame.proofs.Controls.{no_information, nothing_informed, information_frame}
 use Rattle.lapdm_frame.proofs.Uniqueness.{same_place, not_on, only_refusal}
 
 -- none of the first n reasons applies
 pub record NoneBefore (channel : Channel) (octets : List ℕ) (n : ℕ) : Type 0 where
-  pub none : (reason : Refusal) → place reason < n → ¬ AppliesTo channel octets reason
+  pub none : (reason : Refusal) → reason_rank reason < n → ¬ AppliesTo channel octets reason
 
 module _ (channel : Channel) (octets : List ℕ) where
   pub none_yet : NoneBefore channel octets 0
   none_yet = record { none = λ reason before. absurd (omega arith) }
 
-  one_more : (n : ℕ) (reason : Refusal) → place reason ≡ n → NoneBefore channel octets n → ¬ AppliesTo channel octets reason →
+  one_more : (n : ℕ) (reason : Refusal) → reason_rank reason ≡ n → NoneBefore channel octets n → ¬ AppliesTo channel octets reason →
       NoneBefore channel octets (n + 1)
   one_more n reason here passed fails = record {
-    none = λ earlier before. elim (cases_lt (place earlier) n) [
+    none = λ earlier before. elim (cases_lt (reason_rank earlier) n) [
       | inl below ↦ passed.none earlier below
       | inr there ↦
           let same = same_place reason earlier (omega arith) in
@@ -35,7 +35,7 @@ module _ (channel : Channel) (octets : List ℕ) where
     ];
   }
 
-  pub refused : (reason : Refusal) → NoneBefore channel octets (place reason) → AppliesTo channel octets reason →
+  pub refused : (reason : Refusal) → NoneBefore channel octets (reason_rank reason) → AppliesTo channel octets reason →
       IsOnlyRefusal channel octets reason
   refused reason passed applies = only_refusal channel octets reason (record { applies = applies; first = passed.none })
 
@@ -49,13 +49,13 @@ module _ (channel : Channel) (octets : List ℕ) where
     past_control : NoneBefore channel octets 3
     past_control = one_more 2 Control refl passed (λ unknown. unknown content known)
 
-    past_length : HasRoom (n201 channel) content (length_in channel octets) → NoneBefore channel octets 5
+    past_length : LengthFits (n201 channel) content (length_in channel octets) → NoneBefore channel octets 5
     past_length room = one_more 4 Length refl (one_more 3 El refl past_control room.ends) (λ applies. elim applies [
       | inl above ↦ omega (arith, room.bound)
       | inr (some, (other, is_other, silent)) ↦ room.silent some (no_information _ other content is_other known silent)
     ])
 
-    -- what is wrong with the length is why the octets are refused
+    -- a fault of the length octet is the reason for the refusal
     pub fault_refuses : (reason : Refusal) → IsLengthFault (n201 channel) content (length_in channel octets) reason →
         IsOnlyRefusal channel octets reason
     fault_refuses El ends = refused El past_control ends
@@ -92,7 +92,7 @@ room_is_whole : (channel : Channel) → header channel + 3 + n201 channel ≡ 23
 room_is_whole Sdcch = refl
 room_is_whole Sacch = refl
 
--- octets to which no reason applies, and the content of their control octet with their information
+-- no reason applies to the octets, and the content is that of their control octet with their information
 pub record Passes (channel : Channel) (octets : List ℕ) (content : Content) : Type 0 where
   pub count : length octets ≡ 23
   pub low : address_in channel octets < 32
@@ -100,7 +100,7 @@ pub record Passes (channel : Channel) (octets : List ℕ) (content : Content) : 
   pub known : IsControl (control_in channel octets) content
   pub fault : HasNoLengthFault (n201 channel) content (length_in channel octets)
   pub carried : HasNoInformation content ⊎ (information content ≡ information_in channel octets (l_of (length_in channel octets)))
-  pub goes_on : IsInformationFrame content → goes_on content ≡ nat_eq (m_of (length_in channel octets)) 1
+  pub goes_on : IsInformationFrame content → more_follows content ≡ nat_eq (m_of (length_in channel octets)) 1
 
 module _ (channel : Channel) (octets : List ℕ) (content : Content) (passes : Passes channel octets content) where
   size_found : length (information content) ≡ l_of (length_in channel octets)
@@ -114,7 +114,7 @@ module _ (channel : Channel) (octets : List ℕ) (content : Content) (passes : P
     | inr e ↦ ap length e ∙ simp (length-take, length-drop) (omega (arith, passes.count, passes.fault.room.bound, room_is_whole channel))
   ]
 
-  more_found : bit (goes_on content) ≡ m_of (length_in channel octets)
+  more_found : bit (more_follows content) ≡ m_of (length_in channel octets)
   more_found =
       let small : m_of (length_in channel octets) < 2 = omega arith in
       elim (kind_known content) [
@@ -136,7 +136,6 @@ module _ (channel : Channel) (octets : List ℕ) (content : Content) (passes : P
     | inr e ↦ ap (information_in channel octets) size_found ∙ sym e
   ]
 
-  -- the octets are this frame
   pub frame_found : IsFrame channel (record {
     sapi = address_in channel octets / 4;
     cr = nat_eq (address_in channel octets / 2 % 2) 1;

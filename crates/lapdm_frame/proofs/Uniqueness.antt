@@ -1,4 +1,4 @@
--- Octets are one frame, or refused for one reason, and never both; a frame has one canonical list.
+-- Octets are at most one frame, are refused for at most one reason, and are never both a frame and refused.
 use Rattle.std.proofs.Common.{◌≡◌, ℕ, ◌+◌, ◌≤◌, Bool, List, length, refl, sym, ap, ◌∙◌, inl, inr, arith}
 use Rattle.std.specs.Prelude.{slice_range}
 use Rattle.std.proofs.lemmas.Bool.{cases_lt}
@@ -6,9 +6,9 @@ use Rattle.lapdm_frame.specs.declared.Channel.{Channel}
 use Rattle.lapdm_frame.specs.declared.Refusal.{Refusal}
 use Rattle.lapdm_frame.specs.declared.Refusal.TheVariants.{Lpd, Ea, Control, El, Length, Empty, More}
 use Rattle.lapdm_frame.specs.Layout.{header, n201}
-use Rattle.lapdm_frame.specs.Content.{Content, I, Frame, information, goes_on}
+use Rattle.lapdm_frame.specs.Content.{Content, I, Frame, information, more_follows}
 use Rattle.lapdm_frame.specs.Frames.{bit, control, InformationFits, IsFrame}
-use Rattle.lapdm_frame.specs.Refusals.{IsInformationFrame, AppliesTo, place, IsRefused}
+use Rattle.lapdm_frame.specs.Refusals.{IsInformationFrame, AppliesTo, reason_rank, IsRefused}
 use Rattle.lapdm_frame.specs.Readings.{IsOnlyFrame, IsOnlyRefusal}
 use Rattle.lapdm_frame.proofs.Controls.{bit_bound, bit_injective, same_content, no_information, nothing_informed, information_frame}
 
@@ -16,15 +16,14 @@ same_parts : (s s' : ℕ) (c c' : Bool) (a b : Content) → s ≡ s' → c ≡ c
     ◌≡◌ {A = Frame} (record { sapi = s; cr = c; content = a }) (record { sapi = s'; cr = c'; content = b })
 same_parts s s' c c' a b e e' e'' = cc
 
--- octets are one frame at most
 pub same_frame : (channel : Channel) (octets : List ℕ) (f g : Frame) → IsFrame channel f octets → IsFrame channel g octets → f ≡ g
 same_frame channel octets f g is_f is_g =
     let cr : bit f.cr ≡ bit g.cr = omega (arith, is_f.at_address, is_g.at_address, bit_bound f.cr, bit_bound g.cr) in
     let sapi : f.sapi ≡ g.sapi = omega (arith, is_f.at_address, is_g.at_address, bit_bound f.cr, bit_bound g.cr) in
-    let more : bit (goes_on f.content) ≡ bit (goes_on g.content) = omega
-    (arith, is_f.at_length, is_g.at_length, bit_bound (goes_on f.content), bit_bound (goes_on g.content)) in
+    let more : bit (more_follows f.content) ≡ bit (more_follows g.content) = omega
+    (arith, is_f.at_length, is_g.at_length, bit_bound (more_follows f.content), bit_bound (more_follows g.content)) in
     let size : length (information f.content) ≡ length (information g.content) = omega
-    (arith, is_f.at_length, is_g.at_length, bit_bound (goes_on f.content), bit_bound (goes_on g.content)) in
+    (arith, is_f.at_length, is_g.at_length, bit_bound (more_follows f.content), bit_bound (more_follows g.content)) in
     let info : information f.content ≡ information g.content = sym is_f.at_information ∙ ap
     (λ n. slice_range octets (header channel + 3) (header channel + 3 + n)) size ∙ is_g.at_information in
     let content = same_content (control f.content) f.content g.content (is_f.fits.numbers, refl)
@@ -41,11 +40,10 @@ pub information_bound : (channel : Channel) (content : Content) → InformationF
 information_bound channel (I ns nr p more info) fits = fits.1
 information_bound channel other fits = fits
 
-pub not_on : (content : Content) → ¬ IsInformationFrame content → bit (goes_on content) ≡ 0
+pub not_on : (content : Content) → ¬ IsInformationFrame content → bit (more_follows content) ≡ 0
 not_on (I ns nr p more info) differs = absurd (differs tt)
 not_on other differs = refl
 
--- no reason applies to a frame
 pub never_refused : (channel : Channel) (octets : List ℕ) (f : Frame) → IsFrame channel f octets → (reason : Refusal) →
     ¬ AppliesTo channel octets reason
 never_refused channel octets f is_f Lpd applies = omega (arith, is_f.at_address, is_f.fits.sapi, bit_bound f.cr)
@@ -55,21 +53,21 @@ never_refused channel octets f is_f El applies = omega (arith, is_f.at_length)
 never_refused channel octets f is_f Length applies =
     let fits = information_bound channel f.content is_f.fits.information in
     elim applies [
-      | inl above ↦ omega (arith, is_f.at_length, bit_bound (goes_on f.content))
+      | inl above ↦ omega (arith, is_f.at_length, bit_bound (more_follows f.content))
       | inr (some, (other, is_other, silent)) ↦
           let none = ap length (nothing_informed f.content (no_information _ other f.content is_other
           (is_f.fits.numbers, is_f.at_control) silent)) in
-          omega (arith, is_f.at_length, bit_bound (goes_on f.content))
+          omega (arith, is_f.at_length, bit_bound (more_follows f.content))
     ]
 never_refused channel octets f is_f Empty applies =
     let is_i = information_frame _ applies.1.0 f.content applies.1.1 (is_f.fits.numbers, is_f.at_control) applies.1.2 in
     let some = some_information channel f.content is_f.fits.information is_i in
-    omega (arith, is_f.at_length, applies.0, bit_bound (goes_on f.content))
+    omega (arith, is_f.at_length, applies.0, bit_bound (more_follows f.content))
 never_refused channel octets f is_f More applies =
     let single = not_on f.content (λ is_i. applies.1 (f.content, (is_f.fits.numbers, is_f.at_control), is_i)) in
     omega (arith, is_f.at_length, applies.0)
 
-pub same_place : (a b : Refusal) → place a ≡ place b → a ≡ b
+pub same_place : (a b : Refusal) → reason_rank a ≡ reason_rank b → a ≡ b
 same_place Lpd Lpd e = refl
 same_place Ea Ea e = refl
 same_place Control Control e = refl
@@ -79,11 +77,10 @@ same_place Empty Empty e = refl
 same_place More More e = refl
 same_place a b e = absurd (omega arith)
 
--- one reason at most is the first
 pub same_reason : (channel : Channel) (octets : List ℕ) (a b : Refusal) → IsRefused channel octets a → IsRefused channel octets b → a ≡ b
-same_reason channel octets a b is_a is_b = elim (cases_lt (place a) (place b)) [
+same_reason channel octets a b is_a is_b = elim (cases_lt (reason_rank a) (reason_rank b)) [
   | inl before ↦ absurd (is_b.first a before is_a.applies)
-  | inr later ↦ elim (cases_lt (place b) (place a)) [
+  | inr later ↦ elim (cases_lt (reason_rank b) (reason_rank a)) [
     | inl after ↦ absurd (is_a.first b after is_b.applies)
     | inr earlier ↦ same_place a b (omega arith)
   ]

@@ -1,4 +1,4 @@
--- The octets of frames worked by hand.
+-- Frames with their octets worked out by hand.
 use Rattle.std.proofs.Common.{◌≡◌, true, false, [], ◌∷◌, replicate, refl}
 use Rattle.lapdm_frame.specs.declared.Channel.TheVariants.{Sdcch, Sacch}
 use Rattle.lapdm_frame.specs.Content.{I, Rr, fill}

@@ -1,12 +1,15 @@
--- What a frame says, apart from its octets (GSM 04.06, section 3.8).
-use Rattle.std.specs.Prelude.{ℕ, Bool, false, List, [], Option, Some, None}
+-- The fields of a frame, without their coding in octets (GSM 04.06, section 3.8).
+use Rattle.std.specs.Prelude.{ℕ, Bool, false, List, [], ◌∷◌, Option, Some, None}
 use Rattle.std.specs.Borrow.{Bor}
 use Rattle.lapdm_frame.specs.declared.Body.{Body}
 use Rattle.lapdm_frame.specs.declared.Body.TheVariants as B
+use Rattle.lapdm_frame.specs.declared.FrameFields.{FrameFields}
 use Rattle.lapdm_frame.specs.declared.FrameView.{FrameView}
+use Rattle.lapdm_frame.specs.declared.Kind.{Kind}
+use Rattle.lapdm_frame.specs.declared.Kind.TheVariants as K
 
--- the kind of a frame with what it carries: N(S) and N(R), the poll or final bit, whether the message
--- goes on in the next I frame, and the octets of information
+-- the kind of a frame with its fields: N(S) and N(R), the P or F bit, the M bit
+-- (`more`: the message continues in the next I frame), and the octets of information
 pub data Content : Type 0 where
   I : (ns nr : ℕ) → (p more : Bool) → (info : List ℕ) → Content
   Rr : (nr : ℕ) → (pf : Bool) → Content
@@ -18,13 +21,13 @@ pub data Content : Type 0 where
   Disc : (p : Bool) → Content
   Ua : (f : Bool) → (info : List ℕ) → Content
 
--- the content with what the address says: the service access point and the command/response bit
+-- a frame: its SAPI and C/R bit (from the address field) and its content
 pub record Frame : Type 0 where
   pub sapi : ℕ
   pub cr : Bool
   pub content : Content
 
--- the content that a body of the program stands for
+-- the content that a `Body` represents
 abbrev pub content_of : Body → Content
 content_of (B.I ns nr p more info) = I ns nr p more info.now
 content_of (B.Rr nr pf) = Rr nr pf
@@ -36,19 +39,19 @@ content_of (B.Ui p info) = Ui p info.now
 content_of (B.Disc p) = Disc p
 content_of (B.Ua f info) = Ua f info.now
 
--- the frame that a view of the program stands for
+-- the frame that a `FrameView` represents
 abbrev pub frame_of : FrameView → Frame
 frame_of view = record { sapi = view.sapi; cr = view.cr; content = content_of view.body }
 
--- the octets that a body of the program borrows for its information
-abbrev pub borrowed : Body → Option (Bor (List ℕ))
-borrowed (B.I ns nr p more info) = Some info
-borrowed (B.Sabm p info) = Some info
-borrowed (B.Ui p info) = Some info
-borrowed (B.Ua f info) = Some info
-borrowed other = None
+-- the octets of information that a `Body` borrows, if its kind has information
+abbrev pub borrowed_octets : Body → Option (Bor (List ℕ))
+borrowed_octets (B.I ns nr p more info) = Some info
+borrowed_octets (B.Sabm p info) = Some info
+borrowed_octets (B.Ui p info) = Some info
+borrowed_octets (B.Ua f info) = Some info
+borrowed_octets other = None
 
--- the information, which five kinds never have
+-- the octets of information of a content; RR, RNR, REJ, DM and DISC have none
 abbrev pub information : Content → List ℕ
 information (I ns nr p more info) = info
 information (Sabm p info) = info
@@ -56,11 +59,69 @@ information (Ui p info) = info
 information (Ua f info) = info
 information other = []
 
--- whether the message goes on in the next frame, which an I frame alone can say
-abbrev pub goes_on : Content → Bool
-goes_on (I ns nr p more info) = more
-goes_on other = false
+-- the M bit of an I frame: the message continues in the next I frame; false for every other kind
+abbrev pub more_follows : Content → Bool
+more_follows (I ns nr p more info) = more
+more_follows other = false
 
--- a UI frame without information, which is sent when there is nothing else to send
+-- all kinds; the number of a kind, for programs in other languages, is its index here
+abbrev pub kinds : List Kind
+kinds = K.I ∷ K.Rr ∷ K.Rnr ∷ K.Rej ∷ K.Sabm ∷ K.Dm ∷ K.Ui ∷ K.Disc ∷ K.Ua ∷ []
+
+abbrev pub kind_number : Kind → ℕ
+kind_number K.I = 0
+kind_number K.Rr = 1
+kind_number K.Rnr = 2
+kind_number K.Rej = 3
+kind_number K.Sabm = 4
+kind_number K.Dm = 5
+kind_number K.Ui = 6
+kind_number K.Disc = 7
+kind_number K.Ua = 8
+
+-- the kind of a frame with every field that some kind has
+pub record Fields : Type 0 where
+  pub kind : Kind
+  pub ns : ℕ
+  pub nr : ℕ
+  pub pf : Bool
+  pub more : Bool
+  pub info : List ℕ
+
+abbrev pub fields : Kind → (ns nr : ℕ) → (pf more : Bool) → List ℕ → Fields
+fields kind ns nr pf more info = record { kind = kind; ns = ns; nr = nr; pf = pf; more = more; info = info }
+
+-- the fields of a content; a field that its kind lacks is 0, false or empty
+abbrev pub fields_of : Content → Fields
+fields_of (I ns nr p more info) = fields K.I ns nr p more info
+fields_of (Rr nr pf) = fields K.Rr 0 nr pf false []
+fields_of (Rnr nr pf) = fields K.Rnr 0 nr pf false []
+fields_of (Rej nr pf) = fields K.Rej 0 nr pf false []
+fields_of (Sabm p info) = fields K.Sabm 0 0 p false info
+fields_of (Dm f) = fields K.Dm 0 0 f false []
+fields_of (Ui p info) = fields K.Ui 0 0 p false info
+fields_of (Disc p) = fields K.Disc 0 0 p false []
+fields_of (Ua f info) = fields K.Ua 0 0 f false info
+
+-- the content of a kind with these fields; those that the kind lacks are ignored
+abbrev pub content_with : Kind → (ns nr : ℕ) → (pf more : Bool) → (info : List ℕ) → Content
+content_with K.I ns nr pf more info = I ns nr pf more info
+content_with K.Rr ns nr pf more info = Rr nr pf
+content_with K.Rnr ns nr pf more info = Rnr nr pf
+content_with K.Rej ns nr pf more info = Rej nr pf
+content_with K.Sabm ns nr pf more info = Sabm pf info
+content_with K.Dm ns nr pf more info = Dm pf
+content_with K.Ui ns nr pf more info = Ui pf info
+content_with K.Disc ns nr pf more info = Disc pf
+content_with K.Ua ns nr pf more info = Ua pf info
+
+-- the fields that a value of the program represents
+abbrev pub fields_in : FrameFields → Fields
+fields_in f = fields f.kind f.ns f.nr f.pf f.more f.info.now
+
+abbrev pub content_from : Fields → Content
+content_from f = content_with f.kind f.ns f.nr f.pf f.more f.info
+
+-- the fill frame: a UI frame of SAPI 0 without information, sent when there is nothing else to send
 abbrev pub fill : Bool → Frame
 fill cr = record { sapi = 0; cr = cr; content = Ui false [] }

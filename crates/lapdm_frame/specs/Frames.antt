@@ -1,11 +1,11 @@
--- The octets of a frame (GSM 04.06, section 3), by sums.
+-- The coding of a frame in octets (GSM 04.06, section 3), as arithmetic.
 use Rattle.std.specs.Prelude.{◌≡◌, ℕ, ◌+◌, ◌-◌, ◌*◌, ◌<◌, ◌≤◌, Bool, true, false, List, [], ◌∷◌}
 use Rattle.std.specs.Prelude.{◌++◌, length, replicate, slice_index}
 use Rattle.lapdm_frame.specs.declared.Channel.{Channel}
 use Rattle.lapdm_frame.specs.Layout.{header, n201, address_in, control_in, length_in, information_in}
-use Rattle.lapdm_frame.specs.Content.{Content, I, Rr, Rnr, Rej, Sabm, Dm, Ui, Disc, Ua, Frame, information, goes_on}
+use Rattle.lapdm_frame.specs.Content.{Content, I, Rr, Rnr, Rej, Sabm, Dm, Ui, Disc, Ua, Frame, information, more_follows}
 
--- a bit as a number
+-- a bit as a number, 0 or 1
 abbrev pub bit : Bool → ℕ
 bit false = 0
 bit true = 1
@@ -14,8 +14,7 @@ bit true = 1
 abbrev pub address : Frame → ℕ
 address f = 4 * f.sapi + 2 * bit f.cr + 1
 
--- the control octet (section 3.4): N(R) in bits 8 to 6, the poll or final bit in bit 5, N(S) in bits 4 to 2
--- of an I frame
+-- the control octet (section 3.4): N(R) in bits 8 to 6, P or F in bit 5, N(S) of an I frame in bits 4 to 2
 abbrev pub control : Content → ℕ
 control (I ns nr p more info) = 32 * nr + 16 * bit p + 2 * ns
 control (Rr nr pf) = 32 * nr + 16 * bit pf + 1
@@ -27,11 +26,11 @@ control (Ui p info) = 16 * bit p + 3
 control (Disc p) = 16 * bit p + 67
 control (Ua f info) = 16 * bit f + 99
 
--- the length octet (section 3.7): L in bits 8 to 3 (3.7.3), M in bit 2 (3.7.2), EL = 1 (3.7.1)
+-- the length octet (section 3.7): length L in bits 8 to 3 (3.7.3), M in bit 2 (3.7.2), EL = 1 (3.7.1)
 abbrev pub length_octet : Content → ℕ
-length_octet content = 4 * length (information content) + 2 * bit (goes_on content) + 1
+length_octet content = 4 * length (information content) + 2 * bit (more_follows content) + 1
 
--- N(S) and N(R) have three bits, as numbers modulo 8 do
+-- N(S) and N(R) fit in three bits
 abbrev pub NumbersFit : Content → Type 0
 NumbersFit (I ns nr p more info) = (ns ≤ 7) × (nr ≤ 7)
 NumbersFit (Rr nr pf) = nr ≤ 7
@@ -39,18 +38,18 @@ NumbersFit (Rnr nr pf) = nr ≤ 7
 NumbersFit (Rej nr pf) = nr ≤ 7
 NumbersFit other = Unit {0}
 
--- an I frame has some information, and no frame has more than there is room for
+-- an I frame has at least one octet of information, and no frame has more than N201
 abbrev pub InformationFits : Channel → Content → Type 0
 InformationFits channel (I ns nr p more info) = (1 ≤ length info) × (length info ≤ n201 channel)
 InformationFits channel other = length (information other) ≤ n201 channel
 
--- the frame can be written: the SAPI too has three bits
+-- the frame can be written on the channel: SAPI, N(S) and N(R) fit in three bits, and the information fits
 pub record Fits (channel : Channel) (f : Frame) : Type 0 where
   pub sapi : f.sapi ≤ 7
   pub numbers : NumbersFit f.content
   pub information : InformationFits channel f.content
 
--- the octets are this frame; those before the address and after the information are free
+-- the 23 octets are this frame, whatever the octets before the address and after the information are
 pub record IsFrame (channel : Channel) (f : Frame) (octets : List ℕ) : Type 0 where
   pub count : length octets ≡ 23
   pub fits : Fits channel f
@@ -59,14 +58,14 @@ pub record IsFrame (channel : Channel) (f : Frame) (octets : List ℕ) : Type 0 
   pub at_length : length_in channel octets ≡ length_octet f.content
   pub at_information : information_in channel octets (length (information f.content)) ≡ information f.content
 
--- the octets before the address are 00 (this project's own rule), and those after the information are
--- fill, 2b (section 2.2)
+-- the 23 octets are this frame, with 00 before the address (this project's own rule)
+-- and fill 2b after the information (section 2.2)
 pub record IsCanonical (channel : Channel) (f : Frame) (octets : List ℕ) : Type 0 where
   pub frame : IsFrame channel f octets
   pub before : (k : ℕ) → k < header channel → slice_index octets k ≡ 0
   pub after : (k : ℕ) → header channel + 3 + length (information f.content) ≤ k → k < 23 → slice_index octets k ≡ 0x2b
 
--- the canonical octets of a frame that fits, as one list
+-- the canonical 23 octets of a frame that fits
 abbrev pub octets_of : Channel → Frame → List ℕ
 octets_of channel f =
     let info = information f.content in

@@ -1,11 +1,11 @@
--- That octets are one thing and nothing else: one frame, or refused for one reason.
+-- Octets have exactly one reading: one frame, or one reason for a refusal.
 use Rattle.std.specs.Prelude.{◌≡◌, ℕ, ◌+◌, List, ◌⊎◌, IfSome}
 use Rattle.std.specs.Borrow.{Bor}
 use Rattle.lapdm_frame.specs.declared.Channel.{Channel}
 use Rattle.lapdm_frame.specs.declared.Refusal.{Refusal}
 use Rattle.lapdm_frame.specs.declared.Body.{Body}
 use Rattle.lapdm_frame.specs.Layout.{header}
-use Rattle.lapdm_frame.specs.Content.{Frame, borrowed}
+use Rattle.lapdm_frame.specs.Content.{Frame, borrowed_octets}
 use Rattle.lapdm_frame.specs.Frames.{IsFrame, IsCanonical}
 use Rattle.lapdm_frame.specs.Refusals.{IsRefused}
 
@@ -21,17 +21,17 @@ pub record IsOnlyRefusal (channel : Channel) (octets : List ℕ) (reason : Refus
   pub only : (other : Refusal) → IsRefused channel octets other → other ≡ reason
   pub no_frame : (f : Frame) → ¬ IsFrame channel f octets
 
--- the octets are the canonical ones of this frame, no others are, and they are no other frame
+-- the octets are the only canonical ones of this frame, and they read back as this frame only
 pub record IsOnlyCanonical (channel : Channel) (f : Frame) (octets : List ℕ) : Type 0 where
   pub canonical : IsCanonical channel f octets
   pub only : (others : List ℕ) → IsCanonical channel f others → others ≡ octets
   pub reads_back : IsOnlyFrame channel f octets
 
--- the octets are exactly one frame, or are refused for exactly one reason, and never both
+-- the octets are exactly one frame, or are refused for exactly one reason, but not both
 abbrev pub HasOneReading : Channel → List ℕ → Type 0
 HasOneReading channel octets = ((f : Frame) × IsOnlyFrame channel f octets) ⊎ ((reason : Refusal) × IsOnlyRefusal channel octets reason)
 
--- the information is lent from the block itself, behind the length octet
+-- the information, if the kind has any, is borrowed from the block, from the octet after the length octet on
 abbrev pub LiesIn : Channel → Bor (List ℕ) → Body → Type 0
-LiesIn channel block body = IfSome (borrowed body) (λ info. (info.ref_ptr.0 ≡ block.ref_ptr.0)
+LiesIn channel block body = IfSome (borrowed_octets body) (λ info. (info.ref_ptr.0 ≡ block.ref_ptr.0)
     × (info.ref_ptr.1 ≡ block.ref_ptr.1 + header channel + 3))

@@ -1,4 +1,4 @@
-//! What holds of all octets and of all frames. A law does nothing: it is called for its contract.
+//! Laws of all octets and all frames. A law has an empty body; call it for its contract.
 
 ghost use Rattle.std.specs.Prelude.{◌≡◌, ℕ, List, length};
 ghost use Rattle.lapdm_frame.specs.declared.Channel.{Channel};
@@ -6,13 +6,13 @@ ghost use Rattle.lapdm_frame.specs.Content.{Frame};
 ghost use Rattle.lapdm_frame.specs.Frames.{Fits, octets_of};
 ghost use Rattle.lapdm_frame.specs.Readings.{IsOnlyCanonical, HasOneReading};
 
-/// Any 23 octets are exactly one frame, or are refused for exactly one reason, and never both.
+/// Any 23 octets are exactly one frame, or are refused for exactly one reason, but not both.
 pub fn law_one_reading()
     ensures { (channel : Channel) (octets : List ℕ) → length octets ≡ 23
         → HasOneReading channel octets }
 {}
 
-/// Any frame that fits has exactly one canonical list of octets, and they are no other frame.
+/// Any frame that fits has exactly one canonical list of octets, which reads back as that frame only.
 pub fn law_one_writing()
     ensures { (channel : Channel) (f : Frame) → Fits channel f
         → IsOnlyCanonical channel f (octets_of channel f) }

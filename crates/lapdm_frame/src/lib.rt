@@ -1,8 +1,9 @@
-//! Frames of LAPDm (GSM 04.06) of the formats A and B, read from blocks of 23 octets and written to
-//! them. No call takes memory, and what is read borrows its information from the block.
+//! LAPDm frames of formats A and B (GSM 04.06), read from and written to blocks of 23
+//! octets. No call allocates; a frame that is read borrows its information from the block.
 #![tactic(auto)]
 
-ghost use Rattle.std.specs.Prelude.{◌≡◌, ◌+◌};
+ghost use Rattle.std.specs.Prelude.{◌≡◌, ◌+◌, false, [], slice_get};
+ghost use Rattle.lapdm_frame.specs.Content.{fields, fields_in};
 
 mod laws;
 mod reader;
@@ -10,22 +11,22 @@ mod writer;
 
 pub use laws::{law_one_reading, law_one_writing};
 pub use reader::{read, read_on};
+use thiserror::Error;
 pub use writer::{fill, fill_on, fits, fits_on, write, write_on};
 
-/// The control channel that frames go over, which says where their octets stand in a block.
+/// The control channel of a block. It determines where the fields of a frame lie.
 #[derive(Clone, Copy, PartialEq, Eq, Debug)]
 pub enum Channel {
-    /// The stand-alone dedicated control channel: address, control, length, then 20 octets.
+    /// Stand-alone dedicated control channel: address, control, length, then 20 octets.
     Sdcch,
-    /// The slow associated control channel: two octets of layer 1, address, control, length, then
-    /// 18 octets.
+    /// Slow associated control channel: two octets of layer 1, address, control, length, then 18 octets.
     Sacch,
 }
 
 impl Channel {
     ghost use Rattle.lapdm_frame.specs.Layout.{header, n201};
 
-    /// The most octets of information that one frame has room for: N201 of GSM 04.06.
+    /// N201 of GSM 04.06: the most octets of information in a frame.
     pub fn n201(self) -> usize
         ensures { result ≡ n201 self }
     {
@@ -35,10 +36,10 @@ impl Channel {
         }
     }
 
-    // The place of the address in a block.
+    // The index of the address octet in a block.
     fn header(self) -> usize
         ensures value { result ≡ header self }
-        ensures room { result + 3 + n201 self ≡ 23 }
+        ensures space { result + 3 + n201 self ≡ 23 }
     {
         match self {
             Channel::Sdcch => 0,
@@ -47,18 +48,18 @@ impl Channel {
     }
 }
 
-/// A frame, whose information is borrowed.
+/// A frame that borrows its information.
 #[derive(Clone, Copy, PartialEq, Eq, Debug)]
 pub struct FrameView<'a> {
     /// The service access point identifier, 0 to 7.
     pub sapi: u8,
-    /// The command/response bit, which is set in a network's commands and a mobile's responses.
+    /// The command/response bit: 1 in commands of the network and responses of the mobile.
     pub cr: bool,
     pub body: Body<'a>,
 }
 
-/// What a frame says by its kind: N(S) and N(R), each 0 to 7, the poll or final bit, whether the
-/// message goes on in the next I frame, and the information.
+/// The kind of a frame with its fields: N(S) and N(R), each 0 to 7, the P or F bit, the
+/// M bit (`more`: the message continues in the next I frame), and the information.
 #[derive(Clone, Copy, PartialEq, Eq, Debug)]
 pub enum Body<'a> {
     I {
@@ -100,22 +101,189 @@ pub enum Body<'a> {
     },
 }
 
-/// Why octets are no frame. The first reason that applies, in this order, is the one given.
+/// A kind of frame.
 #[derive(Clone, Copy, PartialEq, Eq, Debug)]
+pub enum Kind {
+    I,
+    Rr,
+    Rnr,
+    Rej,
+    Sabm,
+    Dm,
+    Ui,
+    Disc,
+    Ua,
+}
+
+/// The kinds in the order of their numbers.
+const KINDS: [Kind; 9] = [
+    Kind::I,
+    Kind::Rr,
+    Kind::Rnr,
+    Kind::Rej,
+    Kind::Sabm,
+    Kind::Dm,
+    Kind::Ui,
+    Kind::Disc,
+    Kind::Ua,
+];
+
+impl Kind {
+    ghost use Rattle.lapdm_frame.specs.Content.{kinds, kind_number};
+
+    /// The number of the kind, 0 to 8.
+    pub fn number(self) -> u8
+        ensures { result ≡ kind_number self }
+    {
+        self as u8
+    }
+
+    /// The kind with a number, if there is one.
+    pub fn of_number(number: u8) -> Option<Kind>
+        ensures { result ≡ slice_get kinds number }
+    {
+        KINDS.get(usize::from(number)).copied()
+    }
+}
+
+/// The kind of a frame with every field that some kind has. A field that the kind lacks is 0, false or empty.
+#[derive(Clone, Copy, PartialEq, Eq, Debug)]
+pub struct FrameFields<'a> {
+    pub kind: Kind,
+    /// N(S), 0 to 7.
+    pub ns: u8,
+    /// N(R), 0 to 7.
+    pub nr: u8,
+    /// The poll or final bit.
+    pub pf: bool,
+    /// Whether the message continues in the next I frame.
+    pub more: bool,
+    pub info: &'a [u8],
+}
+
+impl<'a> FrameFields<'a> {
+    ghost use Rattle.lapdm_frame.specs.Content.{content_of, content_from, fields_in};
+
+    /// The body with these fields. Fields that the kind lacks are ignored.
+    pub fn body(&self) -> Body<'a>
+        ensures { content_of result ≡ content_from (fields_in self.now) }
+    {
+        let FrameFields {
+            kind,
+            ns,
+            nr,
+            pf,
+            more,
+            info,
+        } = *self;
+        match kind {
+            Kind::I => Body::I {
+                ns,
+                nr,
+                p: pf,
+                more,
+                info,
+            },
+            Kind::Rr => Body::Rr { nr, pf },
+            Kind::Rnr => Body::Rnr { nr, pf },
+            Kind::Rej => Body::Rej { nr, pf },
+            Kind::Sabm => Body::Sabm { p: pf, info },
+            Kind::Dm => Body::Dm { f: pf },
+            Kind::Ui => Body::Ui { p: pf, info },
+            Kind::Disc => Body::Disc { p: pf },
+            Kind::Ua => Body::Ua { f: pf, info },
+        }
+    }
+}
+
+impl<'a> Body<'a> {
+    ghost use Rattle.lapdm_frame.specs.Content.{content_of, fields_of, fields_in};
+
+    /// The kind and the fields.
+    pub fn fields(&self) -> FrameFields<'a>
+        ensures { fields_in result ≡ fields_of (content_of self.now) }
+    {
+        match *self {
+            Body::I {
+                ns,
+                nr,
+                p,
+                more,
+                info,
+            } => FrameFields {
+                ns,
+                nr,
+                more,
+                info,
+                ..bare_fields(Kind::I, p)
+            },
+            Body::Rr { nr, pf } => FrameFields {
+                nr,
+                ..bare_fields(Kind::Rr, pf)
+            },
+            Body::Rnr { nr, pf } => FrameFields {
+                nr,
+                ..bare_fields(Kind::Rnr, pf)
+            },
+            Body::Rej { nr, pf } => FrameFields {
+                nr,
+                ..bare_fields(Kind::Rej, pf)
+            },
+            Body::Sabm { p, info } => FrameFields {
+                info,
+                ..bare_fields(Kind::Sabm, p)
+            },
+            Body::Dm { f } => bare_fields(Kind::Dm, f),
+            Body::Ui { p, info } => FrameFields {
+                info,
+                ..bare_fields(Kind::Ui, p)
+            },
+            Body::Disc { p } => bare_fields(Kind::Disc, p),
+            Body::Ua { f, info } => FrameFields {
+                info,
+                ..bare_fields(Kind::Ua, f)
+            },
+        }
+    }
+}
+
+// The fields of a frame with neither numbers nor information.
+fn bare_fields(kind: Kind, pf: bool) -> FrameFields<'static>
+    ensures { fields_in result ≡ fields kind 0 0 pf false [] }
+{
+    FrameFields {
+        kind,
+        ns: 0,
+        nr: 0,
+        pf,
+        more: false,
+        info: &[],
+    }
+}
+
+/// Why octets are not a frame. The variants are tested in this order, and the first that applies is given.
+#[derive(Clone, Copy, PartialEq, Eq, Debug, Error)]
 pub enum Refusal {
-    /// One of the three highest bits of the address is set, so the link protocol is another.
+    /// One of the three highest bits of the address is 1: not LPD 0.
+    #[error("bits 8 to 6 of the address octet are not 0")]
     Lpd,
-    /// The address field does not end with its first octet.
+    /// EA is 0: the address field has another octet.
+    #[error("the EA bit of the address octet is 0, expected 1")]
     Ea,
-    /// The control octet is that of no kind.
+    /// The control octet belongs to no kind.
+    #[error("the control octet belongs to no frame type")]
     Control,
-    /// The length field does not end with its first octet.
+    /// EL is 0: the length field has another octet.
+    #[error("the EL bit of the length octet is 0, expected 1")]
     El,
-    /// The length is above N201, or above 0 in a kind without information.
+    /// The length is above N201, or not 0 in a kind without information.
+    #[error("the length is above N201, or above 0 in a frame type without information")]
     Length,
     /// An I frame has no information.
+    #[error("an I frame has no information, expected at least one octet")]
     Empty,
-    /// The message goes on, and the kind is not I.
+    /// The M bit is 1 in a kind other than I.
+    #[error("the M bit is 1, which only an I frame may have")]
     More,
 }
 

@@ -1,23 +1,23 @@
-//! Octets to frames.
+//! Reads frames from blocks.
 
 ghost use Rattle.std.specs.Prelude.{◌≡◌, ◌⊎◌, ◌↔◌, IsTrue, IfSome, IfNone, IfOk, IfErr};
-ghost use Rattle.lapdm_frame.specs.Content.{Content, content_of, frame_of, information, goes_on, borrowed};
+ghost use Rattle.lapdm_frame.specs.Content.{Content, content_of, frame_of, information, more_follows, borrowed_octets};
 ghost use Rattle.lapdm_frame.specs.Refusals.{IsControl, IsInformationFrame, HasNoInformation};
 ghost use Rattle.lapdm_frame.specs.Lengths.{IsLengthFault, HasNoLengthFault};
 ghost use Rattle.lapdm_frame.specs.Readings.{IsOnlyFrame, IsOnlyRefusal, LiesIn};
 
 use crate::{Body, Channel, FrameView, Refusal};
 
-// The body whose control octet this is, with as much of `more` and `info` as its kind has.
+// The body with this control octet; it takes `more` and `info` only if its kind has them.
 fn body_of<'a>(control: u8, more: bool, info: &'a [u8]) -> Option<Body<'a>>
     ensures known { IfSome result (λ body. IsControl control (content_of body)) }
     ensures unknown { IfNone result ((content : Content) → ¬ IsControl control content) }
     ensures carried { IfSome result
         (λ body. HasNoInformation (content_of body) ⊎ (information (content_of body) ≡ info.now)) }
     ensures lent { IfSome result
-        (λ body. IfSome (borrowed body) (λ part. part.ref_ptr ≡ info.entry.ref_ptr)) }
+        (λ body. IfSome (borrowed_octets body) (λ part. part.ref_ptr ≡ info.entry.ref_ptr)) }
     ensures goes_on { IfSome result
-        (λ body. IsInformationFrame (content_of body) → goes_on (content_of body) ≡ more) }
+        (λ body. IsInformationFrame (content_of body) → more_follows (content_of body) ≡ more) }
 {
     let nr = control / 32;
     let pf = control / 16 % 2 == 1;
@@ -91,8 +91,8 @@ fn length_fault(body: &Body<'_>, length: u8, most: usize) -> Option<Refusal>
     None
 }
 
-/// The frame in a block, or the first reason why it is none. The octets of layer 1 and the fill may
-/// be anything; `info` is a part of `octets`.
+/// The frame in a block, or the first reason why it has none. Layer 1 octets and fill
+/// may have any value; `info` is borrowed from `octets`.
 pub fn read_on<'a>(octets: &'a [u8; 23], channel: Channel) -> Result<FrameView<'a>, Refusal>
     ensures frame { IfOk result (λ f. IsOnlyFrame channel (frame_of f) octets.now) }
     ensures lent { IfOk result (λ f. LiesIn channel octets.entry f.body) }
@@ -123,7 +123,7 @@ pub fn read_on<'a>(octets: &'a [u8; 23], channel: Channel) -> Result<FrameView<'
     Ok(FrameView { sapi, cr, body })
 }
 
-/// As `read_on`, on SDCCH.
+/// `read_on` for SDCCH.
 pub fn read<'a>(octets: &'a [u8; 23]) -> Result<FrameView<'a>, Refusal>
     ensures frame { IfOk result (λ f. IsOnlyFrame Channel.Sdcch (frame_of f) octets.now) }
     ensures lent { IfOk result (λ f. LiesIn Channel.Sdcch octets.entry f.body) }

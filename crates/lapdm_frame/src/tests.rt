@@ -1,7 +1,8 @@
 use super::*;
 use std::process::Abort;
+use std::test::Fail;
 
-// A block that begins with these octets and ends with this fill.
+// A block of these octets, then fill.
 fn block(first: &[u8], fill: u8) -> [u8; 23] {
     let mut octets = [fill; 23];
     for (place, octet) in octets.iter_mut().zip(first) {
@@ -37,7 +38,7 @@ fn reads_worked_blocks(rt: HostRuntime) {
         ([0x01, 0x01, 0x05], 0x2b, Err(Refusal::Length)),
         ([0x01, 0x00, 0x01], 0x2b, Err(Refusal::Empty)),
         ([0x01, 0x03, 0x03], 0x2b, Err(Refusal::More)),
-        // Where two reasons apply, the first is given.
+        // If two reasons apply, the first is given.
         ([0x01, 0x0d, 0x00], 0x2b, Err(Refusal::Control)),
         ([0x01, 0x03, 0x57], 0x2b, Err(Refusal::Length)),
         ([0x01, 0x00, 0x03], 0x2b, Err(Refusal::Empty)),
@@ -49,7 +50,7 @@ fn reads_worked_blocks(rt: HostRuntime) {
 }
 
 #[test]
-fn reads_a_short_piece_that_goes_on(rt: HostRuntime) {
+fn reads_a_short_segment_that_goes_on(rt: HostRuntime) {
     let octets = block(&[0x01, 0x00, 0x07, 0xaa], 0x2b);
     let body = Body::I {
         ns: 0,
@@ -189,4 +190,40 @@ fn reads_back_every_unnumbered_kind(rt: HostRuntime) {
         ];
         read_back_both_ways(&rt, &bodies, channel);
     }
+}
+
+#[test]
+fn each_refusal_has_its_text(rt: HostRuntime) -> Result<(), Fail> {
+    let texts = [
+        (Refusal::Lpd, "bits 8 to 6 of the address octet are not 0"),
+        (
+            Refusal::Ea,
+            "the EA bit of the address octet is 0, expected 1",
+        ),
+        (
+            Refusal::Control,
+            "the control octet belongs to no frame type",
+        ),
+        (
+            Refusal::El,
+            "the EL bit of the length octet is 0, expected 1",
+        ),
+        (
+            Refusal::Length,
+            "the length is above N201, or above 0 in a frame type without information",
+        ),
+        (
+            Refusal::Empty,
+            "an I frame has no information, expected at least one octet",
+        ),
+        (
+            Refusal::More,
+            "the M bit is 1, which only an I frame may have",
+        ),
+    ];
+    for (refusal, text) in texts {
+        let shown = format!(in rt.alloc(); "{refusal}")?;
+        assert_eq!(rt; shown.as_str(), text);
+    }
+    Ok(())
 }

@@ -1,14 +1,14 @@
-//! Frames to octets.
+//! Writes frames to blocks.
 
 ghost use Rattle.std.specs.Prelude.{◌≡◌, ◌≤◌, ◌↔◌, IsTrue, length};
 ghost use Rattle.lapdm_frame.specs.Layout.{n201, most_information};
-ghost use Rattle.lapdm_frame.specs.Content.{content_of, frame_of, information, goes_on, fill};
+ghost use Rattle.lapdm_frame.specs.Content.{content_of, frame_of, information, more_follows, fill};
 ghost use Rattle.lapdm_frame.specs.Frames.{address, control, length_octet, NumbersFit, InformationFits, Fits, octets_of};
 ghost use Rattle.lapdm_frame.specs.Readings.{IsOnlyCanonical};
 
 use crate::{Body, Channel, FrameView};
 
-/// The octet that fills what the information leaves.
+/// The octet that fills a block after the information.
 const FILL: u8 = 0x2b;
 
 fn information_of<'a>(body: &Body<'a>) -> &'a [u8]
@@ -61,7 +61,6 @@ fn control_of(body: &Body<'_>) -> u8
     }
 }
 
-// The length octet.
 fn length_of(body: &Body<'_>) -> u8
     requires { length (information (content_of body.now)) ≤ most_information }
     ensures { result ≡ length_octet (content_of body.now) }
@@ -70,8 +69,8 @@ fn length_of(body: &Body<'_>) -> u8
     4 * information_of(body).len() as u8 + 2 * u8::from(more) + 1
 }
 
-/// Whether the frame can be written on the channel: SAPI, N(S) and N(R) are at most 7, an I frame
-/// has information, and none has more than N201 octets of it.
+/// Whether the frame can be written on the channel: SAPI, N(S) and N(R) are at most 7,
+/// an I frame has information, and no frame has more than N201 octets of it.
 pub fn fits_on(f: &FrameView<'_>, channel: Channel) -> bool
     ensures { IsTrue result ↔ Fits channel (frame_of f.now) }
 {
@@ -84,7 +83,7 @@ pub fn fits_on(f: &FrameView<'_>, channel: Channel) -> bool
     f.sapi <= 7 && numbers_fit(&f.body) && least <= size && size <= channel.n201()
 }
 
-/// The frame's one canonical block: layer 1 octets 00 in front on SACCH, and fill 2b behind.
+/// The canonical block of the frame: layer 1 octets 00 first on SACCH, and fill 2b after the information.
 pub fn write_on(f: &FrameView<'_>, channel: Channel) -> [u8; 23]
     requires { Fits channel (frame_of f.now) }
     ensures octets { result ≡ octets_of channel (frame_of f.now) }
@@ -101,8 +100,7 @@ pub fn write_on(f: &FrameView<'_>, channel: Channel) -> [u8; 23]
     octets
 }
 
-/// The fill frame of GSM 04.06, a UI frame without information: with `cr` the network's, without it
-/// the mobile's.
+/// The fill frame of GSM 04.06, a UI frame without information: the network's if `cr`, else the mobile's.
 pub fn fill_on(cr: bool, channel: Channel) -> [u8; 23]
     ensures octets { result ≡ octets_of channel (fill cr) }
     ensures canonical { IsOnlyCanonical channel (fill cr) result }
@@ -114,14 +112,14 @@ pub fn fill_on(cr: bool, channel: Channel) -> [u8; 23]
     write_on(&FrameView { sapi: 0, cr, body }, channel)
 }
 
-/// As `fits_on`, on SDCCH.
+/// `fits_on` for SDCCH.
 pub fn fits(f: &FrameView<'_>) -> bool
     ensures { IsTrue result ↔ Fits Channel.Sdcch (frame_of f.now) }
 {
     fits_on(f, Channel::Sdcch)
 }
 
-/// As `write_on`, on SDCCH.
+/// `write_on` for SDCCH.
 pub fn write(f: &FrameView<'_>) -> [u8; 23]
     requires { Fits Channel.Sdcch (frame_of f.now) }
     ensures octets { result ≡ octets_of Channel.Sdcch (frame_of f.now) }
@@ -130,7 +128,7 @@ pub fn write(f: &FrameView<'_>) -> [u8; 23]
     write_on(f, Channel::Sdcch)
 }
 
-/// As `fill_on`, on SDCCH.
+/// `fill_on` for SDCCH.
 pub fn fill(cr: bool) -> [u8; 23]
     ensures octets { result ≡ octets_of Channel.Sdcch (fill cr) }
     ensures canonical { IsOnlyCanonical Channel.Sdcch (fill cr) result }

@@ -1,15 +1,18 @@
--- Each event is refused, or is of one of five kinds.
+-- Case analysis: each event is refused, or is of one of five kinds: a call, a received
+-- frame, nothing read, a loss, a SABM of another mobile.
 use Rattle.lapdm_link.proofs.Words.{arith, ◌≡◌, refl, sym, ap, subst, Bool, true, List, [], ◌∷◌, map, nat_eq, Option, Some}
 use Rattle.lapdm_link.proofs.Words.{None}
 use Rattle.lapdm_link.proofs.Words.{append-nil, Frame, Message, Sapi, Zero, Three, Refused, Role, Mobile, Network}
 use Rattle.lapdm_link.proofs.Words.{sapi_number, Call, Opens, OpensBare, refusal_of, after_call, after_frame, Request, Event, Open}
-use Rattle.lapdm_link.proofs.Words.{OpenBare, Ask, Deliver, Lose, Rival, other, rival_frame, deed, End, Why, by_side, side_in, by_sapi}
-use Rattle.lapdm_link.proofs.Words.{AirFull, because, unless, rival_refusal, call_of, World, next, refusal, after_by, answer_by, answer}
-use Rattle.lapdm_link.proofs.Words.{after, Line, Asked, Rivals, Told, notice_lines, answer_lines}
+use Rattle.lapdm_link.proofs.Words.{OpenBare, Ask, Deliver, Lose, Rival, other, rival_frame, side_step, BySide, Why, by_side, side_in}
+use Rattle.lapdm_link.proofs.Words.{by_sapi}
+use Rattle.lapdm_link.proofs.Words.{AirFull, because, unless, rival_refusal, call_of, World, next_world, refusal, after_by, answer_by}
+use Rattle.lapdm_link.proofs.Words.{answer}
+use Rattle.lapdm_link.proofs.Words.{world_after, Line, Asked, Rivals, Notified, notice_lines, answer_lines}
 use Rattle.lapdm_link.proofs.Views.{end_of, without_first, with_frames, acted}
 use Rattle.lapdm_window.specs.Sides as S
 
--- a mobile alone opens the link of SAPI 0, and by some information; that of SAPI 3 is opened bare
+-- a call that this endpoint has: only the mobile establishes SAPI 0
 abbrev pub IsPlaced : Role → Sapi → Call → Type 0
 IsPlaced r s (Opens info) = (r ≡ Mobile) × (s ≡ Zero)
 IsPlaced r s OpensBare = s ≡ Three
@@ -18,7 +21,7 @@ IsPlaced r s call = Unit {0}
 placed-request : (r : Role) (s : Sapi) (request : Request) → IsPlaced r s (call_of request)
 placed-request r s request = grind arith
 
--- what is known of the frames that are read
+-- what the premise says of the frame that is read
 abbrev pub Knows : (Role → Frame → Type 0) → Event → Type 0
 Knows Known (Deliver sender (Some f)) = Known sender f
 Knows Known event = Unit {0}
@@ -31,30 +34,30 @@ no_refusal : (b : Bool) (o : Option Refused) → unless b AirFull (because o) �
 no_refusal b o h = grind arith
 
 none_sent : (r : Role) (w : World) → with_frames r [] w ≡ w
-none_sent Mobile w = ap (λ (fs : List Frame). record w { ways = record w.ways { up = fs } }) (append-nil w.ways.up)
-none_sent Network w = ap (λ (fs : List Frame). record w { ways = record w.ways { down = fs } }) (append-nil w.ways.down)
+none_sent Mobile w = ap (λ (fs : List Frame). record w { queues = record w.queues { up = fs } }) (append-nil w.queues.up)
+none_sent Network w = ap (λ (fs : List Frame). record w { queues = record w.queues { down = fs } }) (append-nil w.queues.down)
 
 module _ (w : World) (P : World → List Line → Type 0) (Known : Role → Frame → Type 0) (refused : P w [])
     (called : (r : Role) (s : Sapi) (call : Call) → IsPlaced r s call → refusal_of call (end_of r s w) ≡ None →
-    P (acted r s (after_call call (end_of r s w)) w) (Asked r s call ∷ map (Told r s) (after_call call (end_of r s w)).notices))
+    P (acted r s (after_call call (end_of r s w)) w) (Asked r s call ∷ map (Notified r s) (after_call call (end_of r s w)).notices))
     (taken : (r : Role) (s : Sapi) (f : Frame) → nat_eq f.sapi (sapi_number s) ≡ true → Known (other r) f →
     P (acted r s (after_frame f (end_of r s (without_first (other r) w))) (without_first (other r) w))
-    (map (Told r s) (after_frame f (end_of r s (without_first (other r) w))).notices))
+    (map (Notified r s) (after_frame f (end_of r s (without_first (other r) w))).notices))
     (lost : (sender : Role) → P (without_first sender w) [])
     (rival : (info : Message) → rival_refusal w.channel info ≡ None → P (with_frames Mobile (rival_frame info ∷ []) w) (Rivals info ∷ []))
   where
     either : (o : Option Why) (event : Event) → KnowsBy o Known event → (o ≡ None → Knows Known event →
-        P (after_by None event w) (answer_lines event (answer_by None (deed event w.ends)))) →
-        P (after_by o event w) (answer_lines event (answer_by o (deed event w.ends)))
+        P (after_by None event w) (answer_lines event (answer_by None (side_step event w.ends)))) →
+        P (after_by o event w) (answer_lines event (answer_by o (side_step event w.ends)))
     either o event known h = grind arith
 
     -- nothing is sent
     quietly : (sender r : Role) → P (with_frames r [] (without_first sender w)) []
     quietly sender r = subst (λ (z : World). P z []) (sym (none_sent r (without_first sender w))) (lost sender)
 
-    -- a side does this with what arrives
-    abbrev Arrives : Role → S.Deed → Type 0
-    Arrives r d = P (next (by_side r d w.ends) (without_first (other r) w)) (notice_lines (End r) d.sapi d.notices)
+    -- a side does this with the frame that arrives
+    abbrev Arrives : Role → S.SideStep → Type 0
+    Arrives r d = P (next_world (by_side r d w.ends) (without_first (other r) w)) (notice_lines (BySide r) d.sapi d.notices)
 
     none_taken : (r : Role) → Arrives r (S.does_nothing (side_in r w.ends))
     none_taken Mobile = quietly Network Mobile
@@ -65,7 +68,7 @@ module _ (w : World) (P : World → List Line → Type 0) (Known : Role → Fram
         by_sapi f (side_in r w.ends) (Arrives r) (λ zero. taken r Zero f (ap (λ n. nat_eq n 0) zero) known)
         (λ three. taken r Three f (ap (λ n. nat_eq n 3) three) known) (λ e e'. none_taken r)
 
-    pub by_kind : (event : Event) → KnowsBy (refusal event w) Known event → P (after event w) (answer_lines event (answer event w))
+    pub by_kind : (event : Event) → KnowsBy (refusal event w) Known event → P (world_after event w) (answer_lines event (answer event w))
     by_kind (Open info) known = either _ (Open info) known (λ e k. called Mobile Zero (Opens info) (refl, refl) (no_refusal _ _ e))
     by_kind (OpenBare r) known = either _ (OpenBare r) known (λ e k. called r Three OpensBare refl (no_refusal _ _ e))
     by_kind (Ask r s request) known =

@@ -1,9 +1,9 @@
--- Each claim reads the lines of one link alone.
+-- Each claim depends on the lines of one link only.
 use Rattle.lapdm_link.proofs.Words.{◌≡◌, refl, sym, ◌∙◌, ap, subst, arith, zero, suc, ◌≤◌, if◌then◌else◌, Bool}
 use Rattle.lapdm_link.proofs.Words.{true, false, List, [], ◌∷◌, ◌++◌, length, inl, inr, Option, Some, None, ◌⊎◌, Contains}
 use Rattle.lapdm_link.proofs.Words.{Contains-append_left, cons_option, filter_map, filter_map-append, Message, Sapi, Zero, Three, Notice}
-use Rattle.lapdm_link.proofs.Words.{Call, Opens, OpensBare, Closes, Role, Mobile, Network, other, is_sapi, Line, Asked, Rivals, Told}
-use Rattle.lapdm_link.proofs.Words.{call_in, notice_in, calls, notices, StandsAfter, HasCause, IsOfOpenEnd, IsOpenEnd, Claims}
+use Rattle.lapdm_link.proofs.Words.{Call, Opens, OpensBare, Closes, Role, Mobile, Network, other, is_sapi, Line, Asked, Rivals, Notified}
+use Rattle.lapdm_link.proofs.Words.{call_in, notice_in, calls, notices, OccursAfter, HasCause, IsOfOpenEnd, IsOpenEnd, Claims}
 use Rattle.lapdm_link.proofs.Words.{OrderClaims, CountsAgree}
 use Rattle.lapdm_window.specs.declared.Notice.TheVariants as N
 use Rattle.std.proofs.lemmas.List.Elements.{Contains-append_right, Contains-append_cases}
@@ -18,7 +18,7 @@ module _ (s : Sapi) where
   abbrev chosen : Bool → Line → Option Line
   chosen b l = if b then Some l else None
 
-  -- what no line of the other link tells is the same
+  -- what depends on no line of the other link is the same
   kept : {A : Type 0} (h : Line → Option A) → ((l : Line) → is_of_link s l ≡ false → h l ≡ None) → (ls : List Line) →
       filter_map h (of_link s ls) ≡ filter_map h ls
   kept h none [] = refl
@@ -41,8 +41,8 @@ module _ (s : Sapi) where
       none : (l : Line) → is_of_link s l ≡ false → notice_in r s l ≡ None
       none l off = grind arith
 
-  stands-kept : (before ls : List Line) (l : Line) → is_of_link s l ≡ true → StandsAfter before l ls →
-      StandsAfter (of_link s before) l (of_link s ls)
+  stands-kept : (before ls : List Line) (l : Line) → is_of_link s l ≡ true → OccursAfter before l ls →
+      OccursAfter (of_link s before) l (of_link s ls)
   stands-kept before ls l on place =
       let h : Line → Option Line = λ x. chosen (is_of_link s x) x in
       let here : of_link s (l ∷ place.0) ≡ l ∷ of_link s place.0 = rw on refl in
@@ -91,7 +91,7 @@ open-kept : (r : Role) (s : Sapi) (before : List Line) → IsOpenEnd r s (of_lin
 open-kept r s before h =
     record {
       opened = rw (notices-kept s r before) at h.opened;
-      closed = λ reason c. h.closed reason (contains-kept s before (Told r s (N.Closed reason)) (itself s) c);
+      closed = λ reason c. h.closed reason (contains-kept s before (Notified r s (N.Closed reason)) (itself s) c);
       asked = λ c. h.asked (contains-kept s before (Asked r s Closes) (itself s) c);
     }
 
@@ -100,9 +100,9 @@ each_link P ls of_0 of_3 Zero = of_0
 each_link P ls of_0 of_3 Three = of_3
 
 module _ (ls : List Line) where
-  told-kept : (r : Role) (s : Sapi) (n : Notice) (before : List Line) → StandsAfter before (Told r s n) ls →
-      StandsAfter (of_link s before) (Told r s n) (of_link s ls)
-  told-kept r s n before place = stands-kept s before ls (Told r s n) (itself s) place
+  notified-kept : (r : Role) (s : Sapi) (n : Notice) (before : List Line) → OccursAfter before (Notified r s n) ls →
+      OccursAfter (of_link s before) (Notified r s n) (of_link s ls)
+  notified-kept r s n before place = stands-kept s before ls (Notified r s n) (itself s) place
 
   pub delivery_by_link : Claims (of_link Zero ls) → Claims (of_link Three ls) → Claims ls
   delivery_by_link of_0 of_3 =
@@ -111,12 +111,12 @@ module _ (ls : List Line) where
         in_order = λ r s. rw (notices-kept s (other r) ls, calls-kept s r ls) at ((h s).in_order r s);
         acknowledged = λ r s n before place.
             rw (notices-kept s r before, notices-kept s (other r) before)
-            at ((h s).acknowledged r s n (of_link s before) (told-kept r s (N.Acked n) before place));
+            at ((h s).acknowledged r s n (of_link s before) (notified-kept r s (N.Acked n) before place));
         units = λ r s. rw (notices-kept s (other r) ls, calls-kept s r ls) at ((h s).units r s);
         cause = λ r s info before place.
-            cause-back r s info before ((h s).cause r s info (of_link s before) (told-kept r s (N.Opened info) before place));
+            cause-back r s info before ((h s).cause r s info (of_link s before) (notified-kept r s (N.Opened info) before place));
         once = λ r s. rw (notices-kept s r ls) at ((h s).once r s);
-        no_oversize = λ r s before place. (h s).no_oversize r s (of_link s before) (told-kept r s N.Oversize before place);
+        no_oversize = λ r s before place. (h s).no_oversize r s (of_link s before) (notified-kept r s N.Oversize before place);
       }
 
   pub order_by_link : OrderClaims (of_link Zero ls) → OrderClaims (of_link Three ls) → OrderClaims ls
@@ -125,11 +125,11 @@ module _ (ls : List Line) where
       record {
         acknowledged = λ r s n before place.
             rw (notices-kept s r before, calls-kept s r before)
-            at ((h s).acknowledged r s n (of_link s before) (told-kept r s (N.Acked n) before place));
+            at ((h s).acknowledged r s n (of_link s before) (notified-kept r s (N.Acked n) before place));
         opened_once = λ r s. rw (notices-kept s r ls) at ((h s).opened_once r s);
         closed_once = λ r s. rw (notices-kept s r ls) at ((h s).closed_once r s);
         inside = λ r s n before of place.
-            open-kept r s before ((h s).inside r s n (of_link s before) of (told-kept r s n before place));
+            open-kept r s before ((h s).inside r s n (of_link s before) of (notified-kept r s n before place));
       }
 
   pub counts_by_link : CountsAgree (of_link Zero ls) → CountsAgree (of_link Three ls) → CountsAgree ls

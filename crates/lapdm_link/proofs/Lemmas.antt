@@ -1,8 +1,8 @@
--- What crates above cite of sessions: what holds of the ends, the frames on their way and the lines, and the claims.
+-- The lemmas that other crates cite.
 pub use Rattle.lapdm_link.proofs.ByKind.{KnowsBy, Knows, IsPlaced}
 pub use Rattle.lapdm_link.proofs.Views.{end_of, without_first, with_frames, acted, is_end, ends_do, each_way, each_start, way_does}
 pub use Rattle.lapdm_link.proofs.Views.{way_does-other}
-pub use Rattle.lapdm_link.proofs.Fitting.{IsFitting, fits-step, start-fits, AllFit, deed-fits, deed-holds}
+pub use Rattle.lapdm_link.proofs.Fitting.{IsFitting, fits-step, start-fits, AllFit, side_step-fits, side_step-holds}
 pub use Rattle.lapdm_link.proofs.Octets.{AreOctets, CallOctets, EndOctets, OutcomeOctets, AllSay, LineOctets, WorldOctets, SaysOctets}
 pub use Rattle.lapdm_link.proofs.Octets.{call-octets, frame-octets, octets-step, start-octets}
 pub use Rattle.lapdm_link.proofs.Order.{AllReported, in_order-step, start-reported, order_claims}

@@ -1,5 +1,5 @@
--- One link, seen from one of its ends: what the end is, what is on its way from it, what it was asked and what it told;
--- and what an end of a link does.
+-- One link seen from one of its endpoints: the endpoint, its frames in transit, its
+-- calls and notices so far; and the steps that it may take.
 use Rattle.lapdm_link.proofs.Words.{◌≡◌, refl, inl, List, [], ◌∷◌, ◌++◌, cons_option, Content, Message, Sapi, Zero}
 use Rattle.lapdm_link.proofs.Words.{Notice, Role, Mobile, EndState, Outcome, Call, rival_frame, World, Line, calls, notices}
 use Rattle.lapdm_link.proofs.Queues.{contents, contents_on, content_of, AllOf, IsOf, frames-own}
@@ -11,13 +11,13 @@ pub record Side : Type 0 where
   pub end : EndState
   pub out : List Content
   pub asked : List Call
-  pub told : List Notice
+  pub notified : List Notice
 
 abbrev pub side : Role → Sapi → World → List Line → Side
-side r s w ls = record { end = end_of r s w; out = contents_on s (way r w); asked = calls r s ls; told = notices r s ls }
+side r s w ls = record { end = end_of r s w; out = contents_on s (way r w); asked = calls r s ls; notified = notices r s ls }
 
--- what the one end of a link does: the frames of other mobiles that go out with its own, what it is asked, what comes of
--- it, and what is then left on the way from the other end
+-- a step of one endpoint: SABM frames of other mobiles sent with its own, its call,
+-- its outcome, and what is then left in transit from the other endpoint
 pub record Act : Type 0 where
   pub role : Role
   pub sapi : Sapi
@@ -29,7 +29,7 @@ pub record Act : Type 0 where
 abbrev pub act : Role → Sapi → List Call → Outcome → List Content → Act
 act r s cs o left = record { role = r; sapi = s; rivals = []; asks = cs; does = o; left = left }
 
--- another mobile's frame goes out, and the mobile's end is as it was
+-- another mobile sends a SABM, and the mobile's endpoint is unchanged
 abbrev pub rivals : Message → Side → Side → Act
 rivals info x y = record (act Mobile Zero [] (record { after = x.end; frames = rival_frame info ∷ []; notices = [] }) y.out) {
   rivals = info ∷ [];
@@ -38,7 +38,7 @@ rivals info x y = record (act Mobile Zero [] (record { after = x.end; frames = r
 abbrev pub lines : Act → List Line
 lines a = spoken a.role a.sapi a.rivals a.asks a.does.notices
 
--- it is called, or takes the first that comes
+-- the endpoint is called, or receives the first frame in transit, or another mobile sends a SABM
 pub data IsActed (x y : Side) : Act → Type 0 where
   called : {r : Role} {s : Sapi} {call : Call} {o : Outcome} → IsPlaced r s call → IsCalled x.end call o →
       IsActed x y (act r s (call ∷ []) o y.out)
@@ -46,13 +46,13 @@ pub data IsActed (x y : Side) : Act → Type 0 where
       IsTaken c x.end o → IsActed x y (act r s [] o left)
   rival : {info : Message} → IsActed x y (rivals info x y)
 
--- the end and the other end afterwards
+-- both endpoints after the step
 abbrev pub after : Act → Side → Side
 after a x = record {
   end = a.does.after;
   out = x.out ++ contents a.does.frames;
   asked = x.asked ++ a.asks;
-  told = x.told ++ a.does.notices;
+  notified = x.notified ++ a.does.notices;
 }
 
 abbrev pub other_after : Act → Side → Side

@@ -1,10 +1,10 @@
--- Where messages are octets, so is what every frame on its way carries.
+-- The invariant that the information of each frame in transit is octets if all messages are.
 use Rattle.lapdm_link.proofs.Words.{◌≡◌, sym, ap, subst, ℕ, zero, suc, ◌<◌, Bool, false, List, [], ◌∷◌, length, drop}
 use Rattle.lapdm_link.proofs.Words.{get_or, Option, Some, None, cons_option, All, inl, inr, filter_map, flat_map, All-nil, All-cons}
 use Rattle.lapdm_link.proofs.Words.{All-head, All-tail, All-append, All-take, All-drop, Channel, n201, Content, I, Sabm, Ui, Ua, Frame}
-use Rattle.lapdm_link.proofs.Words.{information, Message, Piece, cut, pieces, Sapi, EndState, Outcome, KeepsWindow, all_pieces}
-use Rattle.lapdm_link.proofs.Words.{after_frame, Call, Opens, OpensBare, Sends, SendsUnit, refusal_of, after_call, Event, Room, World}
-use Rattle.lapdm_link.proofs.Words.{start_in, refusal, answer, after, Line, Asked, Rivals, Told, answer_lines, sent_in}
+use Rattle.lapdm_link.proofs.Words.{information, Message, Segment, cut, segments, Sapi, EndState, Outcome, KeepsWindow, all_segments}
+use Rattle.lapdm_link.proofs.Words.{after_frame, Call, Opens, OpensBare, Sends, SendsUnit, refusal_of, after_call, Event, Capacity, World}
+use Rattle.lapdm_link.proofs.Words.{start_in, refusal, answer, world_after, Line, Asked, Rivals, Notified, answer_lines, sent_in}
 use Rattle.lapdm_link.proofs.Queues.{AllFrames}
 use Rattle.lapdm_link.proofs.Views.{end_of}
 use Rattle.lapdm_link.proofs.Acting.{Says, IsOpening, OpensBy, Goes, IsDone, remains, ends, closes, begins, opens}
@@ -17,7 +17,7 @@ use Rattle.lapdm_link.proofs.Fitting.{Holds, holds-step, holds-start}
 abbrev pub AreOctets : List ℕ → Type 0
 AreOctets m = All (λ octet. octet < 256) m
 
--- the messages of calls and of other mobiles
+-- messages of calls and of other mobiles are octets
 abbrev pub CallOctets : Call → Type 0
 CallOctets (Opens info) = AreOctets info
 CallOctets (Sends m) = AreOctets m
@@ -28,13 +28,13 @@ abbrev pub LineOctets : List Line → Type 0
 LineOctets [] = Unit {0}
 LineOctets (Asked r s call ∷ ls) = CallOctets call × LineOctets ls
 LineOctets (Rivals info ∷ ls) = AreOctets info × LineOctets ls
-LineOctets (Told r s n ∷ ls) = LineOctets ls
+LineOctets (Notified r s n ∷ ls) = LineOctets ls
 
 abbrev pub AllMessages : List Message → Type 0
 AllMessages ms = All AreOctets ms
 
-abbrev PieceOctets : Piece → Type 0
-PieceOctets p = AreOctets p.0
+abbrev SegmentOctets : Segment → Type 0
+SegmentOctets p = AreOctets p.0
 
 pub record EndOctets (e : EndState) : Type 0 where
   pub kept : AreOctets e.kept
@@ -55,24 +55,24 @@ none = All-nil (λ octet. octet < 256)
 none_sent : AllMessages []
 none_sent = All-nil AreOctets
 
--- pieces
-cut-octets : (n k : ℕ) (m : Message) → AreOctets m → All PieceOctets (cut n k m)
-cut-octets n zero m h = All-cons PieceOctets _ [] h (All-nil PieceOctets)
+-- ---- segments
+cut-octets : (n k : ℕ) (m : Message) → AreOctets m → All SegmentOctets (cut n k m)
+cut-octets n zero m h = All-cons SegmentOctets _ [] h (All-nil SegmentOctets)
 cut-octets n (suc k) m h =
-    All-cons PieceOctets _ _ (All-take (λ octet. octet < 256) n m h) (cut-octets n k (drop n m) (All-drop (λ octet. octet < 256) n m h))
+    All-cons SegmentOctets _ _ (All-take (λ octet. octet < 256) n m h) (cut-octets n k (drop n m) (All-drop (λ octet. octet < 256) n m h))
 
-all-octets : (n : ℕ) (ms : List Message) → AllMessages ms → All PieceOctets (flat_map (pieces n) ms)
-all-octets n [] h = All-nil PieceOctets
+all-octets : (n : ℕ) (ms : List Message) → AllMessages ms → All SegmentOctets (flat_map (segments n) ms)
+all-octets n [] h = All-nil SegmentOctets
 all-octets n (m ∷ ms) h =
-    All-append PieceOctets (pieces n m) (flat_map (pieces n) ms) (cut-octets n _ m (All-head AreOctets m ms h))
+    All-append SegmentOctets (segments n m) (flat_map (segments n) ms) (cut-octets n _ m (All-head AreOctets m ms h))
     (all-octets n ms (All-tail AreOctets m ms h))
 
-carried : (x : EndState) (info : List ℕ) (more : Bool) (i : ℕ) → EndOctets x → i < length (all_pieces x) →
-    get_or (all_pieces x) i ([], false) ≡ (info, more) → AreOctets info
+carried : (x : EndState) (info : List ℕ) (more : Bool) (i : ℕ) → EndOctets x → i < length (all_segments x) →
+    get_or (all_segments x) i ([], false) ≡ (info, more) → AreOctets info
 carried x info more i h l e =
-    subst AreOctets (ap (λ (p : Piece). p.0) e) (all-octets (n201 x.channel) x.taken h.taken i ([], false) l)
+    subst AreOctets (ap (λ (p : Segment). p.0) e) (all-octets (n201 x.channel) x.taken h.taken i ([], false) l)
 
--- what is sent
+-- ---- frames sent
 abbrev OctetsBy : Option Call → Type 0
 OctetsBy None = Unit {0}
 OctetsBy (Some call) = CallOctets call
@@ -85,14 +85,14 @@ said-octets call x z said h (Ui p info) (inl e) = subst OctetsBy e said
 said-octets call x z said h (Ui p info) (inr e) = subst AreOctets (sym e.1) none
 said-octets call x z said h (Ua f info) (inl e) = subst AreOctets e.1 h.kept
 said-octets call x z said h (Ua f info) (inr e) = subst AreOctets (sym e.0) none
-said-octets call x z said h other a = none
+said-octets call x z said h other a = subst AreOctets (sym a) none
 
 frames-octets : (Says : Content → Type 0) → ((c : Content) → Says c → AreOctets (information c)) → (s : Sapi) (fs : List Frame) →
     AllFrames Says s fs → AllSay fs
 frames-octets Says octets s [] h = All-nil SaysOctets
 frames-octets Says octets s (f ∷ fs) h = All-cons SaysOctets f fs (octets f.content h.1) (frames-octets Says octets s fs h.2)
 
--- the kept information and the messages taken
+-- ---- the kept information and the messages sent
 opens-octets : (c : Content) (x : EndState) (info : Message) → AreOctets (information c) → OpensBy c x info → AreOctets info
 opens-octets (Sabm p i) x info h o = subst AreOctets o.0 h
 opens-octets (Ua f i) x info h o = subst AreOctets o.0 h
@@ -137,7 +137,7 @@ call-octets call x said ok e h = done-octets (Some call) (Ui false []) x _ (is_c
 
 pub octets-step : (w : World) (ls : List Line) (event : Event) → AllReported w ls →
     KnowsBy (refusal event w) (λ sender f. AreOctets (information f.content)) event → WorldOctets w →
-    LineOctets (answer_lines event (answer event w)) → WorldOctets (after event w)
+    LineOctets (answer_lines event (answer event w)) → WorldOctets (world_after event w)
 octets-step w ls event reported known h said = (
   h.0,
   holds-step (λ s e. EndOctets e) SaysOctets LineOctets (λ sender f. AreOctets (information f.content)) h.0 w h.1
@@ -146,6 +146,6 @@ octets-step w ls event reported known h said = (
       (λ info ok l. l.0) event known said,
 )
 
-pub start-octets : (room : Room) (channel : Channel) → WorldOctets (start_in room channel)
-start-octets room channel =
-    (channel, holds-start (λ s e. EndOctets e) SaysOctets room channel (λ r s. record { kept = none; taken = none_sent }))
+pub start-octets : (capacity : Capacity) (channel : Channel) → WorldOctets (start_in capacity channel)
+start-octets capacity channel =
+    (channel, holds-start (λ s e. EndOctets e) SaysOctets capacity channel (λ r s. record { kept = none; taken = none_sent }))

@@ -1,20 +1,19 @@
--- Each opening has its cause before it: what was asked or told before a SABM or UA went out, and before an end came into
--- its state.
+-- Each establishment has its cause before it. The invariant says why each SABM or UA
+-- in transit was sent and why each endpoint reached its state.
 use Rattle.lapdm_link.proofs.Words.{MayOpen, ◌≡◌, refl, ap, arith, ◌≤◌, List, [], ◌∷◌, ◌++◌, map, length, inl, inr}
 use Rattle.lapdm_link.proofs.Words.{Option, Some, None, ◌⊎◌}
 use Rattle.lapdm_link.proofs.Words.{Contains, cons_option, filter_map, Contains-append_left, Contains-push, append_assoc, false, Content}
 use Rattle.lapdm_link.proofs.Words.{Sabm, Ua, Ui, Message, Sapi, Zero, Three, State, Notice, Role, Mobile, Network, EndState, Outcome, Call}
-use Rattle.lapdm_link.proofs.Words.{Opens, OpensBare, other, Line, Asked, Rivals, Told, HasCause, opened_in}
+use Rattle.lapdm_link.proofs.Words.{Opens, OpensBare, other, Line, Asked, Rivals, Notified, HasCause, opened_in}
 use Rattle.lapdm_window.specs.declared.State.TheVariants as S
 use Rattle.lapdm_window.specs.declared.Notice.TheVariants as N
 use Rattle.lapdm_link.proofs.Queues.{content_of, contents, AllOf, of-append, of-as, frames-say}
 use Rattle.lapdm_link.proofs.ByKind.{IsPlaced}
-use Rattle.lapdm_link.proofs.Order.{AllStand}
+use Rattle.lapdm_link.proofs.Order.{AllOccur}
 use Rattle.lapdm_link.proofs.Acting.{Says, OpensBy, IsOpening, Goes, IsDone, remains, ends, closes, begins, opens}
 use Rattle.lapdm_link.proofs.Links.{Side, Act, lines, IsActed, called, took, rival, after, other_after}
 
--- by what call an end may be asked to open its link with this information: on SAPI 0 the mobile with some, on SAPI 3
--- either end with none
+-- the call that establishes the link of this SAPI with this information
 abbrev pub opening_call : Sapi → Message → Call
 opening_call Zero k = Opens k
 opening_call Three k = OpensBare
@@ -31,15 +30,15 @@ IsBare Zero k = Unit {0}
 IsBare Three k = k ≡ []
 
 abbrev pub WasOpened : Role → Sapi → List Line → Message → Type 0
-WasOpened r s ls k = Contains ls (Told r s (N.Opened k)) × IsBare s k
+WasOpened r s ls k = Contains ls (Notified r s (N.Opened k)) × IsBare s k
 
--- why there is a SABM or a UA of an end on its way
+-- why a SABM or UA of an endpoint is in transit
 abbrev pub IsCaused : Role → Sapi → List Line → Content → Type 0
 IsCaused r s ls (Sabm p info) = WasAsked r s ls info ⊎ ((s ≡ Zero) × Contains ls (Rivals info))
 IsCaused r s ls (Ua f info) = WasOpened r s ls info ⊎ ((info ≡ []) × ((k : Message) × (WasAsked r s ls k ⊎ WasOpened r s ls k)))
 IsCaused r s ls c = Unit {0}
 
--- why an end is in its state, with this information kept
+-- why an endpoint is in its state with this information kept
 abbrev pub IsReached : Role → Sapi → List Line → State → Message → Type 0
 IsReached r s ls S.Opening k = WasAsked r s ls k
 IsReached r s ls S.Open k = WasOpened r s ls k
@@ -52,7 +51,7 @@ HasReached r s ls x = IsReached r s ls x.state x.kept
 abbrev pub HasOpenings : Role → Sapi → Side → List Line → Type 0
 HasOpenings r s x ls = AllOf (IsCaused r s ls) x.out × HasReached r s ls x.end
 
--- with more lines
+-- more lines preserve the causes
 module _ (r : Role) (s : Sapi) (ls new : List Line) where
   asked-more : (k : Message) → WasAsked r s ls k → WasAsked r s (ls ++ new) k
   asked-more k h = (Contains-append_left ls new _ h.0, h.1)
@@ -77,7 +76,7 @@ module _ (r : Role) (s : Sapi) (ls new : List Line) where
   pub openings-more : (x : Side) → HasOpenings r s x ls → HasOpenings r s x (ls ++ new)
   openings-more x h = (of-as _ _ caused-more x.out h.0, reached-more _ _ h.1)
 
--- why a SABM, and why a UA, opens an end
+-- a SABM, and a UA, that establishes a link has a cause
 sabm-cause : (r : Role) (s : Sapi) (ls : List Line) (info : Message) → MayOpen s r info →
     WasAsked (other r) s ls info ⊎ ((s ≡ Zero) × Contains ls (Rivals info)) → HasCause r s info ls × IsBare s info
 sabm-cause Mobile Zero ls info may c = absurd may
@@ -97,18 +96,17 @@ ua-cause r Three ls info own (inl a) = (inr (own.0, rw a.1 at a.0), own.1)
 ua-cause r Three ls info own (inr (e, (k, inl a))) = (inl a.0, own.1)
 ua-cause r Three ls info own (inr (e, (k, inr a))) = (inr (own.0, rw a.1 at a.0), own.1)
 
--- a notice of an opening behind its cause
+-- each report of an establishment comes after its cause
 abbrev pub IsOpenedAfter : List Line → Line → Type 0
-IsOpenedAfter before (Told r s (N.Opened info)) = HasCause r s info before
+IsOpenedAfter before (Notified r s (N.Opened info)) = HasCause r s info before
 IsOpenedAfter before other = Unit {0}
 
 module _ (r : Role) (s : Sapi) where
-  none-opened : (ns : List Notice) (ls : List Line) → filter_map opened_in ns ≡ [] → AllStand IsOpenedAfter ls (map (Told r s) ns)
+  none-opened : (ns : List Notice) (ls : List Line) → filter_map opened_in ns ≡ [] → AllOccur IsOpenedAfter ls (map (Notified r s) ns)
   none-opened [] ls h = tt
   none-opened (N.Opened i ∷ ns) ls h = cc h
-  none-opened (n ∷ ns) ls h = (tt, none-opened ns (ls ++ Told r s n ∷ []) h)
+  none-opened (n ∷ ns) ls h = (tt, none-opened ns (ls ++ Notified r s n ∷ []) h)
 
-  -- the end was asked
   abbrev HasAsked : List Line → Option Call → Type 0
   HasAsked ls None = Unit {0}
   HasAsked ls (Some call) = IsPlaced r s call × Contains ls (Asked r s call)
@@ -118,7 +116,6 @@ module _ (r : Role) (s : Sapi) where
   was-asked ls (Some OpensBare) k o (p, c) = rw p (rw p at c, o)
   was-asked ls call k o h = absurd o
 
-  -- what it sends
   said-caused : (ls : List Line) (call : Option Call) (x z : EndState) → HasReached r s ls x → HasReached r s ls z → (c : Content) →
       Says call x z c → IsCaused r s ls c
   said-caused ls call x z h g (Sabm p info) a = inl (rw a.1 at (rw a.0 at g))
@@ -128,7 +125,6 @@ module _ (r : Role) (s : Sapi) where
   said-caused ls call x z h g (Ua f info) (inr (e, inr (inr b))) = inr (e, (x.kept, inr (rw b at h)))
   said-caused ls call x z h g c a = tt
 
-  -- it acts
   module _ (ls : List Line) (x : Side) (role : x.end.role ≡ r) (same : x.end.sapi ≡ s) (h : HasOpenings r s x ls) (left : List Content)
     where
       opening-cause : (c : Content) (info : Message) → OpensBy c x.end info →
@@ -141,31 +137,30 @@ module _ (r : Role) (s : Sapi) where
 
       module _ (call : Option Call) (c : Content) (o : Outcome) (asked : HasAsked ls call)
           (sent : AllOf (IsCaused (other r) s ls) (cons_option (content_of c) left)) where
-        abbrev told : List Line
-        told = map (Told r s) o.notices
+        abbrev notified : List Line
+        notified = map (Notified r s) o.notices
 
-        goes-on : Goes call c x.end o → HasReached r s (ls ++ told) o.after × AllStand IsOpenedAfter ls told
-        goes-on (remains same e n) = (rw (same, e) (reached-more r s ls told x.end.state x.end.kept h.1), none-opened o.notices ls n)
+        goes-on : Goes call c x.end o → HasReached r s (ls ++ notified) o.after × AllOccur IsOpenedAfter ls notified
+        goes-on (remains same e n) = (rw (same, e) (reached-more r s ls notified x.end.state x.end.kept h.1), none-opened o.notices ls n)
         goes-on (ends over e n) = (rw over tt, none-opened o.notices ls n)
         goes-on (closes now closing e n) =
-            (rw (closing, e) (opened-more r s ls told x.end.kept (rw now at h.1)), none-opened o.notices ls n)
+            (rw (closing, e) (opened-more r s ls notified x.end.kept (rw now at h.1)), none-opened o.notices ls n)
         goes-on (begins opening a n) =
-            (rw opening (asked-more r s ls told o.after.kept (was-asked ls call o.after.kept a asked)), none-opened o.notices ls n)
+            (rw opening (asked-more r s ls notified o.after.kept (was-asked ls call o.after.kept a asked)), none-opened o.notices ls n)
         goes-on (opens {info} n now e by) =
             let cause = opening-cause c info by sent in rw (now, e, n) ((Contains-push ls _, cause.1), (cause.0, tt))
 
-        done : IsDone call c x.end o → (AllOf (IsCaused r s (ls ++ told)) (x.out ++ contents o.frames) ×
-            HasReached r s (ls ++ told) o.after) × AllStand IsOpenedAfter ls told
+        done : IsDone call c x.end o → (AllOf (IsCaused r s (ls ++ notified)) (x.out ++ contents o.frames) ×
+            HasReached r s (ls ++ notified) o.after) × AllOccur IsOpenedAfter ls notified
         done d =
-            let h' : HasOpenings r s x (ls ++ told) = openings-more r s ls told x h in
+            let h' : HasOpenings r s x (ls ++ notified) = openings-more r s ls notified x h in
             let to = goes-on d.goes in
-            let says = said-caused (ls ++ told) call x.end o.after h'.1 to.0 in
-            ((of-append _ x.out _ h'.0 (frames-say _ (IsCaused r s (ls ++ told)) says x.end.sapi o.frames d.frames), to.0), to.1)
+            let says = said-caused (ls ++ notified) call x.end o.after h'.1 to.0 in
+            ((of-append _ x.out _ h'.0 (frames-say _ (IsCaused r s (ls ++ notified)) says x.end.sapi o.frames d.frames), to.0), to.1)
 
--- an end acts
 pub openings-here : {x y : Side} {a : Act} (ls : List Line) → IsActed x y a → x.end.role ≡ a.role → x.end.sapi ≡ a.sapi →
     HasOpenings a.role a.sapi x ls → HasOpenings (other a.role) a.sapi y ls →
-    HasOpenings a.role a.sapi (after a x) (ls ++ lines a) × AllStand IsOpenedAfter ls (lines a)
+    HasOpenings a.role a.sapi (after a x) (ls ++ lines a) × AllOccur IsOpenedAfter ls (lines a)
 openings-here {x} {y} {a} ls (called {r} {s} {call} p c) role same h g =
     let asked : List Line = Asked r s call ∷ [] in
     let to = done r s (ls ++ asked) x role same (openings-more r s ls asked x h) y.out (Some call) (Ui false []) a.does

@@ -1,45 +1,48 @@
--- The claims on every session, whatever frames arrive.
+-- The claims on order, whatever frames arrive: each notice is possible given the lines before it.
 use Rattle.lapdm_link.proofs.Words.{sym, List, [], ◌∷◌, ◌++◌, append_assoc, ◌≡◌, refl, ◌∙◌, ap, arith, ℕ, ◌+◌}
 use Rattle.lapdm_link.proofs.Words.{◌≤◌, length, Option, Some, append-nil, All-nil, Channel, IsMessage, Sapi, Notice, Role}
-use Rattle.lapdm_link.proofs.Words.{EndState, Outcome, KeepsWindow, capped, Call, Closes, after_call, after_frame, IsSameLink, Line}
-use Rattle.lapdm_link.proofs.Words.{Asked, StandsAfter, Told, call_in, notice_in, answer_lines, lines, sent, acked, IsOfOpenEnd}
-use Rattle.lapdm_link.proofs.Words.{IsOpenEnd, OrderClaims, Event, Why, other, Room, World, start_in, refusal, answer, after, answers}
+use Rattle.lapdm_link.proofs.Words.{EndState, Outcome, KeepsWindow, capped_number, Call, Closes, after_call, after_frame, IsSameLink, Line}
+use Rattle.lapdm_link.proofs.Words.{Asked, OccursAfter, Notified, call_in, notice_in, answer_lines, lines, sent_messages, acked_numbers}
+use Rattle.lapdm_link.proofs.Words.{IsOfOpenEnd}
+use Rattle.lapdm_link.proofs.Words.{IsOpenEnd, OrderClaims, Event, Why, other, Capacity, World, start_in, refusal, answer, world_after}
+use Rattle.lapdm_link.proofs.Words.{answers}
 use Rattle.lapdm_window.specs.declared.Notice.TheVariants as N
-use Rattle.lapdm_link.proofs.Told.{Known, known, nothing, MayTell, goes-append, Runs, runs-told, runs-else, IsTold, is_told, at_place}
-use Rattle.lapdm_link.proofs.Told.{none_beyond}
+use Rattle.lapdm_link.proofs.Notified.{Known, known, nothing, MayNotify, goes-append, Runs, runs-notified, runs-else, IsNotified}
+use Rattle.lapdm_link.proofs.Notified.{is_notified, at_place}
+use Rattle.lapdm_link.proofs.Notified.{none_beyond}
 use Rattle.lapdm_link.proofs.Taking.{taken-frame}
 use Rattle.lapdm_link.proofs.Asked.{is_called}
 use Rattle.lapdm_link.proofs.Views.{is_end-self, end_of, without_first, acted, said, each_start, ends_do}
 use Rattle.lapdm_link.proofs.ByKind.{KnowsBy, by_kind}
 
--- ---- what holds of each line by the lines before it
+-- ---- properties of each line given the lines before it
 
--- each of these lines may stand behind those before it
-abbrev pub AllStand : (List Line → Line → Type 0) → List Line → List Line → Type 0
-AllStand May before [] = Unit {0}
-AllStand May before (l ∷ ls) = May before l × AllStand May (before ++ l ∷ []) ls
+-- each of these lines has the property `May` given the lines before it
+abbrev pub AllOccur : (List Line → Line → Type 0) → List Line → List Line → Type 0
+AllOccur May before [] = Unit {0}
+AllOccur May before (l ∷ ls) = May before l × AllOccur May (before ++ l ∷ []) ls
 
-pub stand-append : (May : List Line → Line → Type 0) (before xs ys : List Line) → AllStand May before xs → AllStand May (before ++ xs) ys →
-    AllStand May before (xs ++ ys)
-stand-append May before [] ys h g = rw append-nil at g
-stand-append May before (x ∷ xs) ys h g = (h.0, stand-append May (before ++ x ∷ []) xs ys h.1 (rw append_assoc g))
+pub occur-append : (May : List Line → Line → Type 0) (before xs ys : List Line) → AllOccur May before xs → AllOccur May (before ++ xs) ys →
+    AllOccur May before (xs ++ ys)
+occur-append May before [] ys h g = rw append-nil at g
+occur-append May before (x ∷ xs) ys h g = (h.0, occur-append May (before ++ x ∷ []) xs ys h.1 (rw append_assoc g))
 
 stands-behind : (May : List Line → Line → Type 0) (first before : List Line) (l : Line) (more : List Line) →
-    AllStand May first (before ++ l ∷ more) → May (first ++ before) l
+    AllOccur May first (before ++ l ∷ more) → May (first ++ before) l
 stands-behind May first [] l more h = rw append-nil h.0
 stands-behind May first (b ∷ bs) l more h = rw append_assoc at (stands-behind May (first ++ b ∷ []) bs l more h.1)
 
-pub stands : (May : List Line → Line → Type 0) (ls before : List Line) (l : Line) → AllStand May [] ls → StandsAfter before l ls →
+pub stands : (May : List Line → Line → Type 0) (ls before : List Line) (l : Line) → AllOccur May [] ls → OccursAfter before l ls →
     May before l
 stands May ls before l h place = stands-behind May [] before l place.0 (rw place.1 h)
 
--- an end, the run of its lines up to now, and what they tell of it
+-- what is known of the endpoint e from its lines so far
 pub record IsReported (r : Role) (s : Sapi) (e : EndState) (ls : List Line) : Type 0 where
   pub role : e.role ≡ r
   pub sapi : e.sapi ≡ s
   pub end : KeepsWindow e
   pub run : Runs r s nothing ls (known e)
-  pub told : IsTold r s ls (known e)
+  pub notified : IsNotified r s ls (known e)
 
 abbrev pub AllReported : World → List Line → Type 0
 AllReported w ls = (r : Role) (s : Sapi) → IsReported r s (end_of r s w) ls
@@ -55,32 +58,32 @@ module _ {r : Role} {s : Sapi} {e : EndState} {ls : List Line} (h : IsReported r
         sapi = link.sapi ∙ h.sapi;
         end = end;
         run = whole;
-        told = is_told r s (ls ++ new) (known z) whole;
+        notified = is_notified r s (ls ++ new) (known z) whole;
       }
 
-  -- lines that tell nothing of it
   unseen : (new : List Line) → Runs r s (known e) new (known e) → IsReported r s e (ls ++ new)
   unseen new run = goes_on e new (record { role = refl; sapi = refl; channel = refl }) h.end run
 
-  -- a notice at its place
-  acknowledged : (n : ℕ) (before : List Line) → StandsAfter before (Told r s (N.Acked n)) ls →
-      (n ≡ capped (length (acked r s before) + 1)) × (length (acked r s before) + 1 ≤ length (sent r s before))
+  -- each notice is possible where it is reported
+  acknowledged : (n : ℕ) (before : List Line) → OccursAfter before (Notified r s (N.Acked n)) ls →
+      (n ≡ capped_number (length (acked_numbers r s before) + 1))
+      × (length (acked_numbers r s before) + 1 ≤ length (sent_messages r s before))
   acknowledged n before place =
       let g = at_place r s ls (known e) h.run before (N.Acked n) place in
-      let t : IsTold r s before g.0 = is_told r s before g.0 g.1 in
-      (g.2.1 ∙ ap (λ k. capped (k + 1)) (sym t.acked), omega (arith, t.acked, ap length t.taken, g.2.2))
+      let t : IsNotified r s before g.0 = is_notified r s before g.0 g.1 in
+      (g.2.1 ∙ ap (λ k. capped_number (k + 1)) (sym t.acked), omega (arith, t.acked, ap length t.taken, g.2.2))
 
-  of_open : (m : Known) (n : Notice) → IsOfOpenEnd n → MayTell (Some n) m → m.stage ≡ 1
+  of_open : (m : Known) (n : Notice) → IsOfOpenEnd n → MayNotify (Some n) m → m.stage ≡ 1
   of_open m n of may = grind arith
 
-  inside : (n : Notice) (before : List Line) → IsOfOpenEnd n → StandsAfter before (Told r s n) ls → IsOpenEnd r s before
+  inside : (n : Notice) (before : List Line) → IsOfOpenEnd n → OccursAfter before (Notified r s n) ls → IsOpenEnd r s before
   inside n before of place =
       let g = at_place r s ls (known e) h.run before n place in
       let now : g.0.stage ≡ 1 = of_open g.0 n of g.2 in
       let past = none_beyond r s before g.0 g.1 now in
       record {
-        opened = omega (arith, (is_told r s before g.0 g.1).staged.2 now);
-        closed = λ reason c. (let low = rw (is_end-self r s) at (past (Told r s (N.Closed reason)) c).1 in absurd (omega arith));
+        opened = omega (arith, (is_notified r s before g.0 g.1).staged.2 now);
+        closed = λ reason c. (let low = rw (is_end-self r s) at (past (Notified r s (N.Closed reason)) c).1 in absurd (omega arith));
         asked = λ c. (let low = rw (is_end-self r s) at (past (Asked r s Closes) c).1 in absurd (omega arith));
       }
 
@@ -96,39 +99,39 @@ any_frame : (o : Option Why) (event : Event) → KnowsBy o (λ r f. Unit {0}) ev
 any_frame o event = grind arith
 
 pub in_order-step : (w : World) (ls : List Line) (event : Event) → AllReported w ls →
-    AllReported (after event w) (ls ++ answer_lines event (answer event w))
+    AllReported (world_after event w) (ls ++ answer_lines event (answer event w))
 in_order-step w ls event h =
     by_kind w (λ z new. AllReported z (ls ++ new)) (λ r f. Unit {0}) (rw append-nil h)
     (λ r s call placed ok.
     (let c = is_called (end_of r s w) (h r s).end call ok in
     acts w ls h r s (call ∷ []) (after_call call (end_of r s w)) c.link c.end
-    (rw (is_end-self r s) (tt, runs-told r s _ _ _ c.tells))))
+    (rw (is_end-self r s) (tt, runs-notified r s _ _ _ c.notifies))))
     (λ r s f on known.
     (let t = taken-frame (end_of r s w) (h r s).end f in
-    acts (without_first (other r) w) ls h r s [] (after_frame f (end_of r s w)) t.link t.end (runs-told r s _ _ _ t.tells)))
+    acts (without_first (other r) w) ls h r s [] (after_frame f (end_of r s w)) t.link t.end (runs-notified r s _ _ _ t.notifies)))
     (λ sender. rw append-nil h) (λ info ok r s. unseen (h r s) _ (tt, refl)) event (any_frame (refusal event w) event)
 
 in_order-run : (events : List Event) (w : World) (ls : List Line) → AllReported w ls →
     ((z : World) × AllReported z (ls ++ lines events (answers events w)))
 in_order-run [] w ls h = (w, rw append-nil h)
-in_order-run (event ∷ events) w ls h = rw (← append_assoc) (in_order-run events (after event w) _ (in_order-step w ls event h))
+in_order-run (event ∷ events) w ls h = rw (← append_assoc) (in_order-run events (world_after event w) _ (in_order-step w ls event h))
 
-pub start-reported : (room : Room) (channel : Channel) → AllReported (start_in room channel) []
-start-reported room channel = each_start (λ r s e. IsReported r s e []) room channel (λ r s. record {
+pub start-reported : (capacity : Capacity) (channel : Channel) → AllReported (start_in capacity channel) []
+start-reported capacity channel = each_start (λ r s e. IsReported r s e []) capacity channel (λ r s. record {
   role = refl;
   sapi = refl;
   end = record { messages = All-nil IsMessage; sent = omega arith; behind = omega arith; window = omega arith };
   run = refl;
-  told = is_told r s [] nothing refl;
+  notified = is_notified r s [] nothing refl;
 })
 
-pub order_claims : (room : Room) (channel : Channel) (events : List Event) →
-    OrderClaims (lines events (answers events (start_in room channel)))
-order_claims room channel events =
-    let run = in_order-run events (start_in room channel) [] (start-reported room channel) in
+pub order_claims : (capacity : Capacity) (channel : Channel) (events : List Event) →
+    OrderClaims (lines events (answers events (start_in capacity channel)))
+order_claims capacity channel events =
+    let run = in_order-run events (start_in capacity channel) [] (start-reported capacity channel) in
     record {
       acknowledged = λ r s n before place. acknowledged (run.1 r s) n before place;
-      opened_once = λ r s. omega (arith, (run.1 r s).told.staged.0);
-      closed_once = λ r s. omega (arith, (run.1 r s).told.staged.1);
+      opened_once = λ r s. omega (arith, (run.1 r s).notified.staged.0);
+      closed_once = λ r s. omega (arith, (run.1 r s).notified.staged.1);
       inside = λ r s n before of place. inside (run.1 r s) n before of place;
     }

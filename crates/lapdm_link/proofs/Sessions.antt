@@ -1,11 +1,13 @@
--- Every harmless session: one event after another.
+-- The claims on delivery of every benign session. The invariant `IsSession` joins
+-- directions, UI frames and causes of both links.
 use Rattle.lapdm_link.specs.Worlds.{rr_for_rej, IsSentOrRr, MayBeRrBy, MayBeRr}
 use Rattle.lapdm_link.proofs.Words.{◌≡◌, refl, sym, subst, ◌∙◌, ap, arith, ℕ, nat_eq, sapi_number, inl, inr, Bool, ◌+◌}
 use Rattle.lapdm_link.proofs.Words.{◌≤◌, true, false, List, [], ◌∷◌, ◌++◌, length, Option, Some, append_assoc}
 use Rattle.lapdm_link.proofs.Words.{cons_option, append-nil, length-append, filter_map-append, Channel, Content, Rr, Rej, Frame, Sapi}
-use Rattle.lapdm_link.proofs.Words.{Zero, Three, Notice, Role, Mobile, Network, start, Call, Event, Why, other, Room, World, start_in}
-use Rattle.lapdm_link.proofs.Words.{refusal, answer, after, answers, IsHarmlessBy, IsHarmless, IsAsSent, Line, Asked, Rivals, Told}
-use Rattle.lapdm_link.proofs.Words.{Message, OrderClaims, CountsAgree, is_sapi, answer_lines, Claims, acked, got}
+use Rattle.lapdm_link.proofs.Words.{Zero, Three, Notice, Role, Mobile, Network, start, Call, Event, Why, other, Capacity, World, start_in}
+use Rattle.lapdm_link.proofs.Words.{refusal, answer, world_after, answers, IsHarmlessBy, IsHarmless, IsAsSent, Line, Asked, Rivals}
+use Rattle.lapdm_link.proofs.Words.{Notified}
+use Rattle.lapdm_link.proofs.Words.{Message, OrderClaims, CountsAgree, is_sapi, answer_lines, Claims, acked_numbers, delivered}
 use Rattle.lapdm_window.specs.declared.Notice.TheVariants as N
 use Rattle.lapdm_link.specs.Claims as C
 use Rattle.lapdm_link.proofs.Queues.{is_on, content_of, content_on, contents_on, AllOf, IsOf, contents-own, contents-else}
@@ -14,18 +16,18 @@ use Rattle.lapdm_link.proofs.Views.{end_does-else, way_does, calls-own, calls-el
 use Rattle.lapdm_link.proofs.ByKind.{KnowsBy, by_kind}
 use Rattle.lapdm_link.proofs.Taking.{taken-frame}
 use Rattle.lapdm_link.proofs.Asked.{is_called}
-use Rattle.lapdm_link.proofs.Order.{AllStand, stand-append, stands, AllReported, in_order-step, start-reported, order_claims}
-use Rattle.lapdm_link.proofs.Directions.{number_as_rr, piece_as_rr, start-direction}
+use Rattle.lapdm_link.proofs.Order.{AllOccur, occur-append, stands, AllReported, in_order-step, start-reported, order_claims}
+use Rattle.lapdm_link.proofs.Directions.{number_as_rr, segment_as_rr, start-direction}
 use Rattle.lapdm_link.proofs.Keeping.{gone}
 use Rattle.lapdm_link.proofs.Links as L
 use Rattle.lapdm_link.proofs.Links.{Side, side, Act, acts_own, acted_by, lines, IsActed, called, took, rival, other_after}
-use Rattle.lapdm_link.proofs.Delivery.{IsCarried, carried-acts, got_in_order, acked_most, none_oversize}
+use Rattle.lapdm_link.proofs.Delivery.{IsCarried, carried-acts, delivered_in_order, acked_most, none_oversize}
 use Rattle.lapdm_link.proofs.Units.{none, HasUnits, units-here, units-there, units-lost, units-claim}
 use Rattle.lapdm_link.proofs.Openings.{IsCaused, HasOpenings, IsOpenedAfter, openings-more, openings-here, openings-there, of-rest}
 
 -- ---- one link
 
--- what holds of both sides of a link, by all lines
+-- the invariant of one link, for both of its endpoints
 pub data IsLink (r q : Role) (s : Sapi) (x y : Side) (ls : List Line) : Type 0 where
   link : IsCarried x y → HasUnits x y → HasUnits y x → HasOpenings r s x ls → HasOpenings q s y ls → IsLink r q s x y ls
 
@@ -35,22 +37,21 @@ carried (link c u v o p) = c
 units : {r q : Role} {s : Sapi} {x y : Side} {ls : List Line} → IsLink r q s x y ls → HasUnits x y
 units (link c u v o p) = u
 
-turned : {r q : Role} {s : Sapi} {x y : Side} {ls : List Line} → IsLink r q s x y ls → IsLink q r s y x ls
-turned (link c u v o p) = link (record { there = c.back; back = c.there }) v u p o
+swapped : {r q : Role} {s : Sapi} {x y : Side} {ls : List Line} → IsLink r q s x y ls → IsLink q r s y x ls
+swapped (link c u v o p) = link (record { there = c.back; back = c.there }) v u p o
 
 link-acts : {x y : Side} {a : Act} (ls : List Line) → IsActed x y a → x.end.role ≡ a.role → x.end.sapi ≡ a.sapi →
     IsLink a.role (other a.role) a.sapi x y ls →
-    IsLink a.role (other a.role) a.sapi (L.after a x) (other_after a y) (ls ++ lines a) × AllStand IsOpenedAfter ls (lines a)
+    IsLink a.role (other a.role) a.sapi (L.after a x) (other_after a y) (ls ++ lines a) × AllOccur IsOpenedAfter ls (lines a)
 link-acts ls i role same (link c u v o p) =
     let opens = openings-here ls i role same o p in
     (link (carried-acts i c) (units-here i u) (units-there i v) opens.0 (openings-there ls i p), opens.1)
 
--- there are more lines
 more : {r q : Role} {s : Sapi} {x y : Side} {ls : List Line} (new : List Line) → IsLink r q s x y ls → IsLink r q s x y (ls ++ new)
 more {r} {q} {s} {x} {y} {ls} new (link c u v o p) = link c u v (openings-more r s ls new x o) (openings-more q s ls new y p)
 
 module _ {r q : Role} {s : Sapi} (x y : Side) {ls : List Line} where
-  -- the first that comes is lost
+  -- the first frame in transit is lost
   first_gone : (o : Option Content) (cs : List Content) → IsLink r q s x (record y { out = cons_option o cs }) ls →
       IsLink r q s x (record y { out = cs }) ls
   first_gone d cs (link c u v o p) =
@@ -61,11 +62,11 @@ module _ {r q : Role} {s : Sapi} (x y : Side) {ls : List Line} where
   rest_gone [] h = h
   rest_gone (f ∷ fs) h = first_gone (content_on s f) (contents_on s fs) h
 
--- a REJ on its way says what an RR in its place says
+-- a REJ in transit is replaced by an RR with the same N(R)
 link-rr : {r q : Role} {s : Sapi} (x y : Side) {ls : List Line} (nr : ℕ) (pf : Bool) (cs : List Content) →
     IsLink r q s x (record y { out = Rej nr pf ∷ cs }) ls → IsLink r q s x (record y { out = Rr nr pf ∷ cs }) ls
 link-rr x y nr pf cs (link c u v o p) =
-    link (record { there = number_as_rr c.there; back = piece_as_rr c.back }) (record { some = u.some }) (record { some = v.some }) o p
+    link (record { there = number_as_rr c.there; back = segment_as_rr c.back }) (record { some = u.some }) (record { some = v.some }) o p
 
 first-rr : {r q : Role} {s : Sapi} (x y : Side) {ls : List Line} (c : Content) (cs : List Content) →
     IsLink r q s x (record y { out = cons_option (content_of c) cs }) ls →
@@ -84,17 +85,17 @@ AllLinks w ls = (r : Role) (s : Sapi) → Links r s w ls
 seen_by : (r : Role) (w : World) (ls : List Line) → ((s : Sapi) → Links r s w ls) → AllLinks w ls
 seen_by Mobile w ls h Mobile s = h s
 seen_by Network w ls h Network s = h s
-seen_by Mobile w ls h r s = turned (h s)
-seen_by Network w ls h r s = turned (h s)
+seen_by Mobile w ls h r s = swapped (h s)
+seen_by Network w ls h r s = swapped (h s)
 
 first_lost : (r : Role) (s : Sapi) (w : World) (ls : List Line) → Links r s w ls → Links r s (without_first (other r) w) ls
-first_lost Mobile s w ls h = rest_gone _ (side Network s w ls) w.ways.down h
-first_lost Network s w ls h = rest_gone _ (side Mobile s w ls) w.ways.up h
+first_lost Mobile s w ls h = rest_gone _ (side Network s w ls) w.queues.down h
+first_lost Network s w ls h = rest_gone _ (side Mobile s w ls) w.queues.up h
 
-sides : {x y : Side} → x.end ≡ y.end → x.out ≡ y.out → x.asked ≡ y.asked → x.told ≡ y.told → x ≡ y
-sides h g k l = λ i. record { end = h i; out = g i; asked = k i; told = l i }
+sides : {x y : Side} → x.end ≡ y.end → x.out ≡ y.out → x.asked ≡ y.asked → x.notified ≡ y.notified → x ≡ y
+sides h g k l = λ i. record { end = h i; out = g i; asked = k i; notified = l i }
 
--- what an end does is seen at its end alone
+-- a step of one endpoint changes that endpoint only
 module _ (v : World) (ls : List Line) (a : Act) (own : AllOf (IsOf a.sapi) a.does.frames) where
   here : side a.role a.sapi (acted_by a v) (ls ++ lines a) ≡ L.after a (side a.role a.sapi v ls)
   here = sides (end_does a.role a.sapi a.does v)
@@ -121,36 +122,37 @@ module _ (v : World) (ls : List Line) (a : Act) (own : AllOf (IsOf a.sapi) a.doe
       (λ s n. rw (elsewhere a.role s (link_else a.role a.role s a.sapi n), elsewhere (other a.role) s (link_else _ a.role s a.sapi n))
       (more (lines a) (others s n))))
 
--- ---- what stands before a notice, by the claim on acknowledgements
+-- ---- an acknowledgement is reported after the delivery
 
-abbrev pub IsAfterGot : List Line → Line → Type 0
-IsAfterGot before (Told r s (N.Acked n)) = length (acked r s before) + 1 ≤ length (got (other r) s before)
-IsAfterGot before other = Unit {0}
+abbrev pub IsAfterDelivered : List Line → Line → Type 0
+IsAfterDelivered before (Notified r s (N.Acked n)) = length (acked_numbers r s before) + 1 ≤ length (delivered (other r) s before)
+IsAfterDelivered before other = Unit {0}
 
--- where the end's own lines leave no more acknowledged than the other end handed up
-told-after : (r : Role) (s : Sapi) (is : List Message) (cs : List Call) (ns : List Notice) (ls : List Line) →
-    (let zs : List Line = ls ++ spoken r s is cs ns in length (acked r s zs) ≤ length (got (other r) s zs)) →
-    AllStand IsAfterGot ls (spoken r s is cs ns)
-told-after r s (i ∷ is) cs ns ls h = (tt, told-after r s is cs ns (ls ++ Rivals i ∷ []) (rw append_assoc h))
-told-after r s [] (c ∷ cs) ns ls h = (tt, told-after r s [] cs ns (ls ++ Asked r s c ∷ []) (rw append_assoc h))
-told-after r s [] [] (N.Acked i ∷ ns) ls h =
+-- if in the end no more messages are acknowledged than delivered, each acknowledgement
+-- follows its delivery, as these lines deliver nothing
+notified-after : (r : Role) (s : Sapi) (is : List Message) (cs : List Call) (ns : List Notice) (ls : List Line) →
+    (let zs : List Line = ls ++ spoken r s is cs ns in length (acked_numbers r s zs) ≤ length (delivered (other r) s zs)) →
+    AllOccur IsAfterDelivered ls (spoken r s is cs ns)
+notified-after r s (i ∷ is) cs ns ls h = (tt, notified-after r s is cs ns (ls ++ Rivals i ∷ []) (rw append_assoc h))
+notified-after r s [] (c ∷ cs) ns ls h = (tt, notified-after r s [] cs ns (ls ++ Asked r s c ∷ []) (rw append_assoc h))
+notified-after r s [] [] (N.Acked i ∷ ns) ls h =
     let g = rw (notices-own r s ls [] [] (N.Acked i ∷ ns), notices-else r s ls [] [] (N.Acked i ∷ ns) (other r) s (other_is r s)) at h in
-    let later = told-after r s [] [] ns (ls ++ Told r s (N.Acked i) ∷ []) (rw append_assoc h) in
+    let later = notified-after r s [] [] ns (ls ++ Notified r s (N.Acked i) ∷ []) (rw append_assoc h) in
     (omega (arith, simp (filter_map-append, length-append) at g), later)
-told-after r s [] [] (n ∷ ns) ls h = (tt, told-after r s [] [] ns (ls ++ Told r s n ∷ []) (rw append_assoc h))
-told-after r s [] [] [] ls h = tt
+notified-after r s [] [] (n ∷ ns) ls h = (tt, notified-after r s [] [] ns (ls ++ Notified r s n ∷ []) (rw append_assoc h))
+notified-after r s [] [] [] ls h = tt
 
 -- ---- a session
 
--- what holds of the ends, the frames on their way and the lines
+-- the invariant of a session: lines, links and their order
 pub record IsSession (w : World) (ls : List Line) : Type 0 where
   pub reported : AllReported w ls
   pub links : AllLinks w ls
-  pub after_got : AllStand IsAfterGot [] ls
-  pub after_cause : AllStand IsOpenedAfter [] ls
+  pub after_delivered : AllOccur IsAfterDelivered [] ls
+  pub after_cause : AllOccur IsOpenedAfter [] ls
 
 abbrev Goes : List Line → World → List Line → Type 0
-Goes ls z new = AllReported z (ls ++ new) → AllLinks z (ls ++ new) × AllStand IsAfterGot ls new × AllStand IsOpenedAfter ls new
+Goes ls z new = AllReported z (ls ++ new) → AllLinks z (ls ++ new) × AllOccur IsAfterDelivered ls new × AllOccur IsOpenedAfter ls new
 
 acts : (ls : List Line) (v : World) {x y : Side} {a : Act} → IsActed x y a → x.end.role ≡ a.role → x.end.sapi ≡ a.sapi →
     side a.role a.sapi v ls ≡ x → side (other a.role) a.sapi v ls ≡ other_after a y → IsLink a.role (other a.role) a.sapi x y ls →
@@ -159,9 +161,8 @@ acts ls v {x} {y} {a} i role same e e' h others reported =
     let link = link-acts ls i role same h in
     let all : AllLinks (acted_by a v) (ls ++ lines a) = links-act v ls a (acts_own i same) e e' link.0 others in
     let most = acked_most (reported a.role a.sapi) (reported (other a.role) a.sapi) (carried (all a.role a.sapi)) in
-    (all, told-after a.role a.sapi a.rivals a.asks a.does.notices ls most, link.1)
+    (all, notified-after a.role a.sapi a.rivals a.asks a.does.notices ls most, link.1)
 
--- the first that comes is the first that was sent
 comes-first : (s : Sapi) (f : Frame) (fs : List Frame) → is_on s f ≡ true → IsAsSent (Some f) fs →
     contents_on s fs ≡ cons_option (content_of f.content) (contents_on s (rest fs))
 comes-first s f fs on sent = grind arith
@@ -177,7 +178,7 @@ lost : (sender : Role) (w : World) (ls : List Line) → AllLinks w ls → AllLin
 lost Mobile w ls h = seen_by Network (without_first Mobile w) ls (λ s. first_lost Network s w ls (h Network s))
 lost Network w ls h = seen_by Mobile (without_first Network w) ls (λ s. first_lost Mobile s w ls (h Mobile s))
 
--- the frame that comes is as it was sent, or an RR for a REJ
+-- the frame arrives as it was sent, or as an RR in place of a REJ
 came : (r : Role) (s : Sapi) (w : World) (ls : List Line) (f : Frame) (fs : List Frame) → way (other r) w ≡ fs → is_on s f ≡ true →
     IsSentOrRr (Some f) fs → Links r s w ls →
     IsLink r (other r) s (side r s w ls)
@@ -201,7 +202,7 @@ as_sent : (o : Option Why) (event : Event) (w : World) → MayBeRrBy o event w �
 as_sent o event w h = grind arith
 
 goes : (w : World) (ls : List Line) (event : Event) → MayBeRrBy (refusal event w) event w → IsSession w ls →
-    Goes ls (after event w) (answer_lines event (answer event w))
+    Goes ls (world_after event w) (answer_lines event (answer event w))
 goes w ls event harmless h =
     by_kind w (Goes ls) (λ sender f. IsSentOrRr (Some f) (way sender w))
     (λ g. (rw append-nil h.links, tt, tt))
@@ -216,70 +217,73 @@ goes w ls event harmless h =
     event (as_sent (refusal event w) event w harmless)
 
 session-step : (w : World) (ls : List Line) (event : Event) → MayBeRrBy (refusal event w) event w → IsSession w ls →
-    IsSession (after event w) (ls ++ answer_lines event (answer event w))
+    IsSession (world_after event w) (ls ++ answer_lines event (answer event w))
 session-step w ls event harmless h =
     let new : List Line = answer_lines event (answer event w) in
-    let reported : AllReported (after event w) (ls ++ new) = in_order-step w ls event h.reported in
+    let reported : AllReported (world_after event w) (ls ++ new) = in_order-step w ls event h.reported in
     let g = goes w ls event harmless h reported in
-    let after_got : AllStand IsAfterGot [] (ls ++ new) = stand-append IsAfterGot [] ls new h.after_got g.1 in
-    record { reported = reported; links = g.0; after_got = after_got; after_cause = stand-append _ [] ls new h.after_cause g.2 }
+    let after_delivered : AllOccur IsAfterDelivered [] (ls ++ new) = occur-append IsAfterDelivered [] ls new h.after_delivered g.1 in
+    record { reported = reported; links = g.0; after_delivered = after_delivered; after_cause = occur-append _ [] ls new h.after_cause g.2 }
 
 session-run : (events : List Event) (w : World) (ls : List Line) → MayBeRr events w → IsSession w ls →
     ((z : World) × IsSession z (ls ++ C.lines events (answers events w)))
 session-run [] w ls harmless h = (w, rw append-nil h)
 session-run (event ∷ events) w ls harmless h =
-    rw (← append_assoc) (session-run events (after event w) _ harmless.1 (session-step w ls event harmless.0 h))
+    rw (← append_assoc) (session-run events (world_after event w) _ harmless.1 (session-step w ls event harmless.0 h))
 
 abbrev first : Role → Sapi → Channel → Side
-first r s channel = record { end = start r s channel; out = []; asked = []; told = [] }
+first r s channel = record { end = start r s channel; out = []; asked = []; notified = [] }
 
 start-link : (r q : Role) (s : Sapi) (channel : Channel) → IsLink r q s (first r s channel) (first q s channel) []
 start-link r q s channel = link (record { there = start-direction; back = start-direction }) (record { some = none })
     (record { some = none }) (tt, tt) (tt, tt)
 
-start-links : (room : Room) (channel : Channel) → AllLinks (start_in room channel) []
-start-links room channel Mobile Zero = start-link Mobile Network Zero channel
-start-links room channel Mobile Three = start-link Mobile Network Three channel
-start-links room channel Network Zero = start-link Network Mobile Zero channel
-start-links room channel Network Three = start-link Network Mobile Three channel
+start-links : (capacity : Capacity) (channel : Channel) → AllLinks (start_in capacity channel) []
+start-links capacity channel Mobile Zero = start-link Mobile Network Zero channel
+start-links capacity channel Mobile Three = start-link Mobile Network Three channel
+start-links capacity channel Network Zero = start-link Network Mobile Zero channel
+start-links capacity channel Network Three = start-link Network Mobile Three channel
 
-started : (room : Room) (channel : Channel) → IsSession (start_in room channel) []
-started room channel = record { reported = start-reported room channel; links = start-links room channel; after_got = tt; after_cause = tt }
+started : (capacity : Capacity) (channel : Channel) → IsSession (start_in capacity channel) []
+started capacity channel =
+    record { reported = start-reported capacity channel; links = start-links capacity channel; after_delivered = tt; after_cause = tt }
 
-pub counts_with_rr : (room : Room) (channel : Channel) (events : List Event) → MayBeRr events (start_in room channel) →
-    CountsAgree (C.lines events (answers events (start_in room channel)))
-counts_with_rr room channel events harmless r s =
-    let (z, h) = session-run events (start_in room channel) [] harmless (started room channel) in
+pub counts_with_rr : (capacity : Capacity) (channel : Channel) (events : List Event) → MayBeRr events (start_in capacity channel) →
+    CountsAgree (C.lines events (answers events (start_in capacity channel)))
+counts_with_rr capacity channel events harmless r s =
+    let (z, h) = session-run events (start_in capacity channel) [] harmless (started capacity channel) in
     acked_most (h.reported r s) (h.reported (other r) s) (carried (h.links r s))
 
-pub claims_with_rr : (room : Room) (channel : Channel) (events : List Event) → MayBeRr events (start_in room channel) →
-    Claims (C.lines events (answers events (start_in room channel)))
-claims_with_rr room channel events harmless =
-    let ls : List Line = C.lines events (answers events (start_in room channel)) in
-    let in_order : OrderClaims ls = order_claims room channel events in
-    let (z, h) = session-run events (start_in room channel) [] harmless (started room channel) in
+pub claims_with_rr : (capacity : Capacity) (channel : Channel) (events : List Event) → MayBeRr events (start_in capacity channel) →
+    Claims (C.lines events (answers events (start_in capacity channel)))
+claims_with_rr capacity channel events harmless =
+    let ls : List Line = C.lines events (answers events (start_in capacity channel)) in
+    let in_order : OrderClaims ls = order_claims capacity channel events in
+    let (z, h) = session-run events (start_in capacity channel) [] harmless (started capacity channel) in
     record {
-      in_order = λ r s. got_in_order (h.reported r s) (h.reported (other r) s) (carried (h.links r s));
-      acknowledged = λ r s n before place.
-          ((in_order.acknowledged r s n before place).0, stands IsAfterGot ls before (Told r s (N.Acked n)) h.after_got place);
+      in_order = λ r s. delivered_in_order (h.reported r s) (h.reported (other r) s) (carried (h.links r s));
+      acknowledged = λ r s n before place. (
+        (in_order.acknowledged r s n before place).0,
+        stands IsAfterDelivered ls before (Notified r s (N.Acked n)) h.after_delivered place,
+      );
       units = λ r s. units-claim (side r s z ls) (side (other r) s z ls) (units (h.links r s));
-      cause = λ r s info before place. stands IsOpenedAfter ls before (Told r s (N.Opened info)) h.after_cause place;
+      cause = λ r s info before place. stands IsOpenedAfter ls before (Notified r s (N.Opened info)) h.after_cause place;
       once = in_order.opened_once;
-      no_oversize = λ r s. none_oversize (h.reported (other r) s) (h.reported r s) (carried (turned (h.links r s)));
+      no_oversize = λ r s. none_oversize (h.reported (other r) s) (h.reported r s) (carried (swapped (h.links r s)));
     }
 
--- as it was sent is one of both
+-- a frame as it was sent is a case of `MayBeRrBy`
 sent_at_all : (o : Option Why) (event : Event) (w : World) → IsHarmlessBy o event w → MayBeRrBy o event w
 sent_at_all o event w h = grind arith
 
 at_all : (events : List Event) (w : World) → IsHarmless events w → MayBeRr events w
 at_all [] w h = tt
-at_all (event ∷ events) w h = (sent_at_all (refusal event w) event w h.0, at_all events (after event w) h.1)
+at_all (event ∷ events) w h = (sent_at_all (refusal event w) event w h.0, at_all events (world_after event w) h.1)
 
-pub counts : (room : Room) (channel : Channel) (events : List Event) → IsHarmless events (start_in room channel) →
-    CountsAgree (C.lines events (answers events (start_in room channel)))
-counts room channel events harmless = counts_with_rr room channel events (at_all events (start_in room channel) harmless)
+pub counts : (capacity : Capacity) (channel : Channel) (events : List Event) → IsHarmless events (start_in capacity channel) →
+    CountsAgree (C.lines events (answers events (start_in capacity channel)))
+counts capacity channel events harmless = counts_with_rr capacity channel events (at_all events (start_in capacity channel) harmless)
 
-pub claims : (room : Room) (channel : Channel) (events : List Event) → IsHarmless events (start_in room channel) →
-    Claims (C.lines events (answers events (start_in room channel)))
-claims room channel events harmless = claims_with_rr room channel events (at_all events (start_in room channel) harmless)
+pub claims : (capacity : Capacity) (channel : Channel) (events : List Event) → IsHarmless events (start_in capacity channel) →
+    Claims (C.lines events (answers events (start_in capacity channel)))
+claims capacity channel events harmless = claims_with_rr capacity channel events (at_all events (start_in capacity channel) harmless)

@@ -1,19 +1,20 @@
--- What an end does at any frame.
+-- `IsDone` for each received frame, whatever it is.
 use Rattle.lapdm_link.proofs.Words.{◌≡◌, refl, sym, ap, subst, arith, ◌≤◌, List, [], ◌∷◌, Some, None, inl, inr}
 use Rattle.lapdm_link.proofs.Words.{append-nil, Content, I, Rr}
-use Rattle.lapdm_link.proofs.Words.{Rej, Ui, Frame, Message, State, Closed, Reason, Notice, EndState, Outcome, KeepsWindow, vr, takes_i}
+use Rattle.lapdm_link.proofs.Words.{Rej, Ui, Frame, Message, State, Closed, Reason, Notice, EndState, Outcome, KeepsWindow, vr}
+use Rattle.lapdm_link.proofs.Words.{takes_i_frame}
 use Rattle.lapdm_link.proofs.Words.{takes_rr, takes_rej, after_frame, HasBegun, IsReplyTo, cause_of}
 use Rattle.lapdm_window.specs.Tables.{Reply, Nothing, SaysDm, SaysUa, IsOpenedBy, IsOpen, IsClosed, IsReleased, TakesUnit, TakesI, TakesRr}
 use Rattle.lapdm_window.specs.Tables.{TakesRej, outcome_of, reply_to}
 use Rattle.lapdm_window.specs.declared.State.TheVariants.{Open}
 use Rattle.lapdm_window.specs.declared.Notice.TheVariants as N
 use Rattle.lapdm_link.proofs.Queues.{content_of, AllFrames, frames-say}
-use Rattle.lapdm_link.proofs.Told.{stage_of, known, Tells}
-use Rattle.lapdm_link.proofs.Telling.{InOpen, in-takes_i, in-takes_rr, in-takes_rej}
+use Rattle.lapdm_link.proofs.Notified.{stage_of, known, Notifies}
+use Rattle.lapdm_link.proofs.Notifying.{InOpen, in-takes_i_frame, in-takes_rr, in-takes_rej}
 use Rattle.lapdm_link.proofs.Keeping.{Both, Arriving}
 use Rattle.lapdm_link.proofs.Acting.{SaysPlain, OpensBy, Goes, unit_in, ReportsUnit, IsTaken, none-of, openly, moves, remains, ends, opens}
 
--- at a frame no unit is sent
+-- no UI frame is sent in answer to a frame
 no_unit : (x z : EndState) (c : Content) → SaysPlain None x z c → unit_in c ≡ None
 no_unit x z (Ui p info) (plain, inl e) = cc
 no_unit x z (Ui p info) (plain, inr e) = cc (e.0)
@@ -25,8 +26,8 @@ module _ (x : EndState) (w : KeepsWindow x) where
 
   becomes : {c : Content} (s : State) (k : Message) (fs : List Frame) (ns : List Notice) →
       (let z : EndState = record x { state = s; kept = k } in let o : Outcome = record { after = z; frames = fs; notices = ns } in
-      AllFrames (SaysPlain None x z) x.sapi fs → Tells (known x) ns (known z) → Goes None c x o → ReportsUnit c ns → IsTaken c x o)
-  becomes {c} s k fs ns says tells goes reports = moves None c x w s k x.retries fs ns says tells goes reports refl
+      AllFrames (SaysPlain None x z) x.sapi fs → Notifies (known x) ns (known z) → Goes None c x o → ReportsUnit c ns → IsTaken c x o)
+  becomes {c} s k fs ns says notifies goes reports = moves None c x w s k x.retries fs ns says notifies goes reports refl
       (none-of unit_in _ (frames-say _ (λ c. unit_in c ≡ None) (no_unit x (record x { state = s; kept = k })) x.sapi fs says))
 
   quietly : {c : Content} (fs : List Frame) → AllFrames (SaysPlain None x x) x.sapi fs →
@@ -50,7 +51,7 @@ module _ (x : EndState) (w : KeepsWindow x) where
 
   taken-reply : (r : Reply) (c : Content) → IsReplyTo c x r → IsTaken c x (outcome_of r x)
   taken-reply Nothing c cause = quietly _ tt
-  taken-reply SaysDm c cause = quietly _ (inl refl, (tt, tt), tt)
+  taken-reply SaysDm c cause = quietly _ (inl refl, (tt, refl), tt)
   taken-reply (SaysUa info) c cause = quietly _ (inl refl, (tt, cause), tt)
   taken-reply (IsOpenedBy info) c cause =
       opened info info _ (ap stage_of cause.2) refl (inl refl, (tt, inl (refl, refl)), tt)
@@ -64,10 +65,10 @@ module _ (x : EndState) (w : KeepsWindow x) where
   taken-reply (TakesUnit (i ∷ is)) c cause =
       subst (λ d. IsTaken d x (outcome_of (TakesUnit (i ∷ is)) x)) (sym cause.1)
       (becomes x.state x.kept [] _ tt (tt, refl) (remains refl refl refl) (inr refl))
-  taken-reply (TakesI ns nr p piece) c cause =
-      let i : Content = I ns nr p piece.1 piece.0 in
-      subst (λ d. IsTaken d x (takes_i ns nr p piece x)) (sym cause.0)
-      (rule i refl (in-takes_i i nr ns p piece (λ k e. e) (λ y k e. e) x cause.1 w))
+  taken-reply (TakesI ns nr p segment) c cause =
+      let i : Content = I ns nr p segment.1 segment.0 in
+      subst (λ d. IsTaken d x (takes_i_frame ns nr p segment x)) (sym cause.0)
+      (rule i refl (in-takes_i_frame i nr ns p segment (λ k e. e) (λ y k e. e) x cause.1 w))
   taken-reply (TakesRr nr poll) c cause =
       let rr : Content = Rr nr cause.0 in
       subst (λ d. IsTaken d x (takes_rr nr poll x)) (sym cause.1)

@@ -1,12 +1,12 @@
--- Units come in the order in which they were sent, where some are lost.
+-- UI frames arrive in order or are lost: those reported and in transit are a subsequence of those sent.
 use Rattle.lapdm_link.proofs.Words.{◌≡◌, refl, List, [], ◌∷◌, ◌++◌, inl, inr, append_assoc, Option, Some, None}
 use Rattle.lapdm_link.proofs.Words.{filter_map, cons_option, filter_map-append, Content, Ui, false, Message, Notice, IsSubsequence}
-use Rattle.lapdm_link.proofs.Words.{unit_sent_in, unit_got_in}
+use Rattle.lapdm_link.proofs.Words.{unit_sent_in, unit_delivered_in}
 use Rattle.lapdm_link.proofs.Queues.{contents, content_of}
 use Rattle.lapdm_link.proofs.Acting.{unit_in, ReportsUnit}
 use Rattle.lapdm_link.proofs.Links.{Side, Act, IsActed, called, took, rival, after, other_after}
 
--- messages with some left out
+-- a subsequence, as an inductive type
 pub data IsSome : List Message → List Message → Type 0 where
   none : IsSome [] []
   kept : {m : Message} {xs ys : List Message} → IsSome xs ys → IsSome (m ∷ xs) (m ∷ ys)
@@ -38,14 +38,13 @@ trans (kept h) (kept g) = kept (trans h g)
 trans (gone h) (kept g) = gone (trans h g)
 trans h (gone g) = gone (trans h g)
 
--- with those on their way, what an end reports is what the other was asked to send, with some left out
+-- what y reported and what is in transit from x is a subsequence of what x was asked to send
 pub record HasUnits (x y : Side) : Type 0 where
-  pub some : IsSome (filter_map unit_got_in y.told ++ filter_map unit_in x.out) (filter_map unit_sent_in x.asked)
+  pub some : IsSome (filter_map unit_delivered_in y.notified ++ filter_map unit_in x.out) (filter_map unit_sent_in x.asked)
 
-pub units-claim : (x y : Side) → HasUnits x y → IsSubsequence (filter_map unit_got_in y.told) (filter_map unit_sent_in x.asked)
-units-claim x y h = subsequence (trans (front (filter_map unit_got_in y.told) (filter_map unit_in x.out)) h.some)
+pub units-claim : (x y : Side) → HasUnits x y → IsSubsequence (filter_map unit_delivered_in y.notified) (filter_map unit_sent_in x.asked)
+units-claim x y h = subsequence (trans (front (filter_map unit_delivered_in y.notified) (filter_map unit_in x.out)) h.some)
 
--- what comes first is lost, or reported
 in_front : (o : Option Content) (cs : List Content) → cons_option o [] ++ cs ≡ cons_option o cs
 in_front None cs = refl
 in_front (Some c) cs = refl
@@ -59,12 +58,12 @@ sent (took e t) = t.units
 sent rival = refl
 
 no_more : (c : Content) (ns : List Notice) (cs : List Content) → ReportsUnit c ns →
-    IsSome (filter_map unit_got_in ns ++ filter_map unit_in cs) (filter_map unit_in (cons_option (content_of c) cs))
+    IsSome (filter_map unit_delivered_in ns ++ filter_map unit_in cs) (filter_map unit_in (cons_option (content_of c) cs))
 no_more c ns cs (inl h) = rw h (lost (content_of c) cs)
 no_more c ns cs (inr h) = rw (h, ← filter_map-append, in_front (content_of c) cs) (all _)
 
 taken : {x y : Side} {a : Act} → IsActed x y a →
-    IsSome (filter_map unit_got_in a.does.notices ++ filter_map unit_in a.left) (filter_map unit_in y.out)
+    IsSome (filter_map unit_delivered_in a.does.notices ++ filter_map unit_in a.left) (filter_map unit_in y.out)
 taken {a = a} (called p c) = no_more (Ui false []) a.does.notices a.left c.reports
 taken {a = a} (took {c = c} e t) = rw e (no_more c a.does.notices a.left t.reports)
 taken rival = all _

@@ -1,14 +1,14 @@
--- Parts of a world after one of them changed, and of lines after more of them.
+-- How the parts of a world change when one endpoint, queue or list of lines changes.
 use Rattle.lapdm_link.proofs.Words.{arith, Some, ◌≡◌, refl, Bool, true, false, ◌&&◌, List, [], ◌∷◌, ◌++◌, map, drop}
 use Rattle.lapdm_link.proofs.Words.{Option, None}
 use Rattle.lapdm_link.proofs.Words.{append-nil, filter_map, filter_map-append, Channel, Frame, Message, Sapi, Zero, Three, Notice, Role}
 use Rattle.lapdm_link.proofs.Words.{Mobile, Network, EndState, Outcome, start, Call, other, end_in, with_end_in, World, start_on, Line}
-use Rattle.lapdm_link.proofs.Words.{Asked, Rivals, Told, is_role, is_sapi, call_in, notice_in, calls, notices}
+use Rattle.lapdm_link.proofs.Words.{Asked, Rivals, Notified, is_role, is_sapi, call_in, notice_in, calls, notices}
 use Rattle.lapdm_window.specs.Sides.{SideState, link_in, with_link_in}
-use Rattle.lapdm_link.proofs.Words.{Room, start_in}
-use Rattle.lapdm_link.specs.Ways as W
+use Rattle.lapdm_link.proofs.Words.{Capacity, start_in}
+use Rattle.lapdm_link.specs.Queues as W
 
--- the words on ways, of a whole session
+-- ---- names for the parts of a world
 abbrev pub rest : {T : Type 0} → List T → List T
 rest xs = drop 1 xs
 
@@ -16,24 +16,24 @@ abbrev pub end_of : Role → Sapi → World → EndState
 end_of r s w = end_in r s w.ends
 
 abbrev pub way : Role → World → List Frame
-way r w = W.way r w.ways
+way r w = W.queue_of r w.queues
 
 abbrev pub without_first : Role → World → World
-without_first r w = record w { ways = W.without_first r w.ways }
+without_first r w = record w { queues = W.without_first r w.queues }
 
 abbrev pub with_frames : Role → List Frame → World → World
-with_frames r fs w = record w { ways = W.with_more r fs w.ways }
+with_frames r fs w = record w { queues = W.with_more r fs w.queues }
 
--- the world after an end did this
+-- the world after a step of an endpoint
 abbrev pub acted : Role → Sapi → Outcome → World → World
 acted r s o w = with_frames r o.frames (record w { ends = with_end_in r s o.after w.ends })
 
 abbrev pub is_end : Role → Sapi → Role → Sapi → Bool
 is_end r s r' s' = is_role r r' && is_sapi s s'
 
--- what an end was asked and what it told, as lines
+-- the calls and notices of an endpoint as lines
 abbrev pub said : Role → Sapi → List Call → List Notice → List Line
-said r s cs ns = map (Asked r s) cs ++ map (Told r s) ns
+said r s cs ns = map (Asked r s) cs ++ map (Notified r s) ns
 
 pub by_link : (P : Sapi → Type 0) (s : Sapi) → P s → ((s' : Sapi) → is_sapi s' s ≡ false → P s') → (s' : Sapi) → P s'
 by_link P s h g s' = grind arith
@@ -41,11 +41,11 @@ by_link P s h g s' = grind arith
 pub each_way : (P : Role → Type 0) (r : Role) → P r → P (other r) → (r' : Role) → P r'
 each_way P r h g r' = grind arith
 
-pub each_start : (P : Role → Sapi → EndState → Type 0) (room : Room) (channel : Channel) →
-    ((r : Role) (s : Sapi) → P r s (start r s channel)) → (r : Role) (s : Sapi) → P r s (end_of r s (start_in room channel))
-each_start P room channel h r s = grind arith
+pub each_start : (P : Role → Sapi → EndState → Type 0) (capacity : Capacity) (channel : Channel) →
+    ((r : Role) (s : Sapi) → P r s (start r s channel)) → (r : Role) (s : Sapi) → P r s (end_of r s (start_in capacity channel))
+each_start P capacity channel h r s = grind arith
 
--- so on one side: what holds of an end after what it did, and of the other end, holds of both
+-- a property of both endpoints of a side, from that of the one that took a step and that of the other
 side_does : (P : Sapi → EndState → Type 0) (s : Sapi) (e : EndState) (side : SideState) → P s e →
     ((s' : Sapi) → is_sapi s' s ≡ false → P s' (link_in s' side)) → (s' : Sapi) → P s' (link_in s' (with_link_in s e side))
 side_does P Zero e side h g Zero = h
@@ -53,7 +53,7 @@ side_does P Zero e side h g Three = g Three refl
 side_does P Three e side h g Zero = g Zero refl
 side_does P Three e side h g Three = h
 
--- after what an end did: what holds of its state then, and of each other end, holds of all
+-- a property of all endpoints, from that of the one that took a step and those of the others
 pub ends_do : (P : Role → Sapi → EndState → Type 0) (r : Role) (s : Sapi) (o : Outcome) (w : World) → P r s o.after →
     ((r' : Role) (s' : Sapi) → is_end r' s' r s ≡ false → P r' s' (end_of r' s' w)) → (r' : Role) (s' : Sapi) →
     P r' s' (end_of r' s' (acted r s o w))
@@ -68,12 +68,12 @@ way_does r s o w = grind arith
 pub way_does-other : (r : Role) (s : Sapi) (o : Outcome) (w : World) → way (other r) (acted r s o w) ≡ way (other r) w
 way_does-other r s o w = grind arith
 
--- what holds of each way, where the first on one is gone
+-- a property of each queue after the first frame of one queue is removed
 pub each_lost : (P : Role → List Frame → Type 0) → ((r : Role) (fs : List Frame) → P r fs → P r (rest fs)) → (sender : Role) (w : World) →
     ((r : Role) → P r (way r w)) → (r : Role) → P r (way r (without_first sender w))
 each_lost P gone sender w h r = grind arith
 
--- lines of one end, and of each other one
+-- ---- lines of one endpoint, and of the others
 pub is_end-self : (r : Role) (s : Sapi) → is_end r s r s ≡ true
 is_end-self r s = grind arith
 
@@ -92,11 +92,11 @@ end_does-else r s o w = ends_do (λ r' s' e. is_end r' s' r s ≡ false → e �
 pub link_else : (r' r : Role) (s' s : Sapi) → is_sapi s' s ≡ false → is_end r' s' r s ≡ false
 link_else r' r s' s h = grind arith
 
--- those lines with such of other mobiles before them
+-- `said` after SABM frames of other mobiles
 abbrev pub spoken : Role → Sapi → List Message → List Call → List Notice → List Line
 spoken r s is cs ns = map Rivals is ++ said r s cs ns
 
--- of such lines all are picked, or none
+-- a filter accepts all of these lines, or none
 all_of : {T : Type 0} (pick : Line → Option T) (line : T → Line) → ((x : T) → pick (line x) ≡ Some x) → (xs : List T) →
     filter_map pick (map line xs) ≡ xs
 all_of pick line h [] = refl
@@ -111,25 +111,30 @@ module _ (r : Role) (s : Sapi) (ls : List Line) (is : List Message) (cs : List C
   pub calls-own : calls r s (ls ++ spoken r s is cs ns) ≡ calls r s ls ++ cs
   calls-own =
       let asked = all_of (call_in r s) (Asked r s) (λ c. rw (is_end-self r s) refl) cs in
-      simp (filter_map-append, append-nil, asked, none_of (call_in r s) Rivals (λ i. refl), none_of (call_in r s) (Told r s) (λ n. refl))
+      simp (
+        filter_map-append,
+        append-nil,
+        asked,
+        none_of (call_in r s) Rivals (λ i. refl),
+        none_of (call_in r s) (Notified r s) (λ n. refl),
+      )
 
   pub notices-own : notices r s (ls ++ spoken r s is cs ns) ≡ notices r s ls ++ ns
   notices-own =
-      let told = all_of (notice_in r s) (Told r s) (λ n. rw (is_end-self r s) refl) ns in
-      simp (filter_map-append, told, none_of (notice_in r s) Rivals (λ i. refl), none_of (notice_in r s) (Asked r s) (λ c. refl))
+      let notified = all_of (notice_in r s) (Notified r s) (λ n. rw (is_end-self r s) refl) ns in
+      simp (filter_map-append, notified, none_of (notice_in r s) Rivals (λ i. refl), none_of (notice_in r s) (Asked r s) (λ c. refl))
 
   module _ (r' : Role) (s' : Sapi) (e : is_end r' s' r s ≡ false) where
     pub calls-else : calls r' s' (ls ++ spoken r s is cs ns) ≡ calls r' s' ls
     calls-else =
         let pick = call_in r' s' in let asked = none_of pick (Asked r s) (λ c. rw e refl) cs in
-        simp (filter_map-append, append-nil, asked, none_of pick Rivals (λ i. refl), none_of pick (Told r s) (λ n. refl))
+        simp (filter_map-append, append-nil, asked, none_of pick Rivals (λ i. refl), none_of pick (Notified r s) (λ n. refl))
 
     pub notices-else : notices r' s' (ls ++ spoken r s is cs ns) ≡ notices r' s' ls
     notices-else =
-        let pick = notice_in r' s' in let told = none_of pick (Told r s) (λ n. rw e refl) ns in
-        simp (filter_map-append, append-nil, told, none_of pick Rivals (λ i. refl), none_of pick (Asked r s) (λ c. refl))
+        let pick = notice_in r' s' in let notified = none_of pick (Notified r s) (λ n. rw e refl) ns in
+        simp (filter_map-append, append-nil, notified, none_of pick Rivals (λ i. refl), none_of pick (Asked r s) (λ c. refl))
 
--- a notice among the lines
 pub notices-at : (r : Role) (s : Sapi) (before : List Line) (n : Notice) (more : List Line) →
-    notices r s (before ++ Told r s n ∷ more) ≡ notices r s before ++ n ∷ notices r s more
+    notices r s (before ++ Notified r s n ∷ more) ≡ notices r s before ++ n ∷ notices r s more
 notices-at r s before n more = rw (filter_map-append, is_end-self r s) refl

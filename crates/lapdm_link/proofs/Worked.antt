@@ -1,14 +1,15 @@
--- Sessions worked by hand, and for each claim lines that break it.
+-- Worked sessions, and for each claim lines that violate it.
 use Rattle.lapdm_link.proofs.Words.{◌≡◌, refl, arith, ℕ, false, List, [], ◌∷◌, ◌++◌, replicate, inl, inr, Option, Some}
 use Rattle.lapdm_link.proofs.Words.{None, Sdcch, I, Ui, Frame, Message, zero, suc, Contains, Zero, Three, Role, Mobile, Network, Opens}
-use Rattle.lapdm_link.proofs.Words.{OpensBare, Sends, SendsUnit, Closes, Ticks, way, Event, Send, Close, Tick, Open, OpenBare, Ask}
-use Rattle.lapdm_link.proofs.Words.{Deliver, Lose, Rival, World, start_in, start_on, after, answers, IsHarmless, Line, Asked, Rivals}
-use Rattle.lapdm_link.proofs.Words.{Told, lines, Claims, OrderClaims, IsSubsequence}
-use Rattle.lapdm_link.specs.Events.{SendUnit, boundless}
+use Rattle.lapdm_link.proofs.Words.{OpensBare, Sends, SendsUnit, Closes, T200Expires, queue_of, Event, Send, Close, T200Expiry, Open}
+use Rattle.lapdm_link.proofs.Words.{OpenBare, Ask}
+use Rattle.lapdm_link.proofs.Words.{Deliver, Lose, Rival, World, start_in, start_on, world_after, answers, IsHarmless, Line, Asked, Rivals}
+use Rattle.lapdm_link.proofs.Words.{Notified, lines, Claims, OrderClaims, IsSubsequence}
+use Rattle.lapdm_link.specs.Events.{SendUnit, boundless_air}
 use Rattle.lapdm_window.specs.declared.Notice.TheVariants as N
 use Rattle.lapdm_window.specs.declared.Reason.TheVariants as R
 
--- an event, or that the first frame an end sent arrives as it is
+-- an event, or the arrival, unchanged, of the first frame in transit
 data Move : Type 0 where
   Happens : Event → Move
   Arrives : Role → Move
@@ -19,22 +20,22 @@ first (f ∷ fs) = Some f
 
 abbrev event_of : Move → World → Event
 event_of (Happens event) w = event
-event_of (Arrives sender) w = Deliver sender (first (way sender w.ways))
+event_of (Arrives sender) w = Deliver sender (first (queue_of sender w.queues))
 
 abbrev played : List Move → World → List Event
 played [] w = []
-played (move ∷ moves) w = event_of move w ∷ played moves (after (event_of move w) w)
+played (move ∷ moves) w = event_of move w ∷ played moves (world_after (event_of move w) w)
 
 abbrev lines_of : List Event → List Line
 lines_of events = lines events (answers events (start_on Sdcch))
 
-abbrev told : List Move → List Line
-told moves = lines_of (played moves (start_on Sdcch))
+abbrev notified : List Move → List Line
+notified moves = lines_of (played moves (start_on Sdcch))
 
--- ---- opening: another mobile was first, and the mobile whose information is not the network's gives up
+-- ---- establishment: another mobile was first, so the mobile whose information the network does not return gives up
 
-contention : told (Happens (Rival (7 ∷ [])) ∷ Happens (Open (1 ∷ [])) ∷ Arrives Mobile ∷ Arrives Mobile ∷ Arrives Network ∷ [])
-    ≡ Rivals (7 ∷ []) ∷ Asked Mobile Zero (Opens (1 ∷ [])) ∷ Told Network Zero (N.Opened (7 ∷ [])) ∷ Told Mobile Zero
+contention : notified (Happens (Rival (7 ∷ [])) ∷ Happens (Open (1 ∷ [])) ∷ Arrives Mobile ∷ Arrives Mobile ∷ Arrives Network ∷ [])
+    ≡ Rivals (7 ∷ []) ∷ Asked Mobile Zero (Opens (1 ∷ [])) ∷ Notified Network Zero (N.Opened (7 ∷ [])) ∷ Notified Mobile Zero
     (N.Closed R.Contention) ∷ []
 contention = refl
 
@@ -42,79 +43,81 @@ abbrev opening : List Move
 opening = Happens (Open (1 ∷ [])) ∷ Arrives Mobile ∷ Arrives Network ∷ []
 
 abbrev opened : List Line
-opened = Asked Mobile Zero (Opens (1 ∷ [])) ∷ Told Network Zero (N.Opened (1 ∷ [])) ∷ Told Mobile Zero (N.Opened (1 ∷ [])) ∷ []
+opened = Asked Mobile Zero (Opens (1 ∷ [])) ∷ Notified Network Zero (N.Opened (1 ∷ [])) ∷ Notified Mobile Zero (N.Opened (1 ∷ [])) ∷ []
 
--- ---- a message of three pieces, whose second is lost and goes out again when the timer runs out
+-- ---- a message of three segments; the second is lost and is sent again at T200 expiry
 
 abbrev long : Message
 long = replicate 41 9
 
-pieces : told (opening ++ Happens (Ask Mobile Zero (Send long)) ∷ Arrives Mobile ∷ Arrives Network ∷ Happens (Lose Mobile) ∷ Happens
-    (Ask Mobile Zero Tick) ∷ Arrives Mobile ∷ Arrives Network ∷ Arrives Mobile ∷ Arrives Network ∷ [])
-    ≡ opened ++ Asked Mobile Zero (Sends long) ∷ Asked Mobile Zero Ticks ∷ Told Network Zero (N.Got long) ∷ Told Mobile Zero
+segments : notified (opening ++ Happens (Ask Mobile Zero (Send long)) ∷ Arrives Mobile ∷ Arrives Network ∷ Happens (Lose Mobile) ∷ Happens
+    (Ask Mobile Zero T200Expiry) ∷ Arrives Mobile ∷ Arrives Network ∷ Arrives Mobile ∷ Arrives Network ∷ [])
+    ≡ opened ++ Asked Mobile Zero (Sends long) ∷ Asked Mobile Zero T200Expires ∷ Notified Network Zero (N.Got long) ∷ Notified Mobile Zero
     (N.Acked 1) ∷ []
-pieces = refl
+segments = refl
 
--- ---- the timer runs out too early: each piece arrives twice, each second one is answered by a REJ, and the REJ sends
--- the piece after it again
+-- ---- T200 expires too early: each segment arrives twice, its repetition is answered by a REJ, and the REJ makes the
+-- sender repeat the next segment
 
-crossing : told (opening ++ Happens (Ask Mobile Zero (Send (5 ∷ []))) ∷ Happens (Ask Mobile Zero Tick) ∷ Arrives Mobile ∷ Arrives Mobile ∷
+crossing : notified (opening
+    ++ Happens (Ask Mobile Zero (Send (5 ∷ []))) ∷ Happens (Ask Mobile Zero T200Expiry) ∷ Arrives Mobile ∷ Arrives Mobile ∷
     Happens (Ask Mobile Zero (Send (6 ∷ []))) ∷ Arrives Network ∷ Arrives Network
     ∷ Arrives Mobile ∷ Arrives Mobile ∷ Arrives Network ∷ Arrives Network ∷ [])
-    ≡ opened ++ Asked Mobile Zero (Sends (5 ∷ [])) ∷ Asked Mobile Zero Ticks ∷ Told Network Zero (N.Got (5 ∷ [])) ∷ Asked Mobile Zero
-    (Sends (6 ∷ [])) ∷ Told Mobile Zero (N.Acked 1)
-    ∷ Told Network Zero (N.Got (6 ∷ [])) ∷ Told Mobile Zero (N.Acked 2) ∷ []
+    ≡ opened ++ Asked Mobile Zero (Sends (5 ∷ [])) ∷ Asked Mobile Zero T200Expires ∷ Notified Network Zero (N.Got (5 ∷ [])) ∷ Asked Mobile
+    Zero
+    (Sends (6 ∷ [])) ∷ Notified Mobile Zero (N.Acked 1)
+    ∷ Notified Network Zero (N.Got (6 ∷ [])) ∷ Notified Mobile Zero (N.Acked 2) ∷ []
 crossing = refl
 
--- ---- both ends open the link of SAPI 3 at once
+-- ---- both sides establish SAPI 3 at once
 
-collision : told (Happens (OpenBare Mobile) ∷ Happens (OpenBare Network) ∷ Arrives Mobile ∷ Arrives Network ∷ Arrives Mobile ∷ Arrives
+collision : notified (Happens (OpenBare Mobile) ∷ Happens (OpenBare Network) ∷ Arrives Mobile ∷ Arrives Network ∷ Arrives Mobile ∷ Arrives
     Network ∷ Happens (Ask Mobile Three (Send (5 ∷ []))) ∷ Arrives Mobile ∷ Arrives Network ∷ [])
-    ≡ Asked Mobile Three OpensBare ∷ Asked Network Three OpensBare ∷ Told Network Three (N.Opened []) ∷ Told Mobile Three
+    ≡ Asked Mobile Three OpensBare ∷ Asked Network Three OpensBare ∷ Notified Network Three (N.Opened []) ∷ Notified Mobile Three
     (N.Opened []) ∷ Asked Mobile Three (Sends (5 ∷ []))
-    ∷ Told Network Three (N.Got (5 ∷ [])) ∷ Told Mobile Three (N.Acked 1) ∷ []
+    ∷ Notified Network Three (N.Got (5 ∷ [])) ∷ Notified Mobile Three (N.Acked 1) ∷ []
 collision = refl
 
 -- ---- release
 
-release : told (opening ++ Happens (Ask Mobile Zero Close) ∷ Arrives Mobile ∷ Arrives Network ∷ [])
-    ≡ opened ++ Asked Mobile Zero Closes ∷ Told Network Zero (N.Closed R.Released) ∷ Told Mobile Zero (N.Closed R.Released) ∷ []
+release : notified (opening ++ Happens (Ask Mobile Zero Close) ∷ Arrives Mobile ∷ Arrives Network ∷ [])
+    ≡ opened ++ Asked Mobile Zero Closes ∷ Notified Network Zero (N.Closed R.Released) ∷ Notified Mobile Zero (N.Closed R.Released) ∷ []
 release = refl
 
--- ---- a session is harmless where frames arrive as they were sent; where another message arrives in a frame's place
--- the claims on delivery break
+-- ---- a session is benign if frames arrive as they were sent; if another message arrives in place of a frame, the claims
+-- on delivery fail
 
 abbrev sending : List Event
 sending = played (opening ++ Happens (Ask Mobile Zero (Send (2 ∷ []))) ∷ []) (start_on Sdcch)
 
-abbrev piece : ℕ → Frame
-piece octet = record { sapi = 0; cr = false; content = I 0 0 false false (octet ∷ []) }
+abbrev segment : ℕ → Frame
+segment octet = record { sapi = 0; cr = false; content = I 0 0 false false (octet ∷ []) }
 
-is_harmless : IsHarmless (sending ++ Deliver Mobile (Some (piece 2)) ∷ []) (start_on Sdcch)
+is_harmless : IsHarmless (sending ++ Deliver Mobile (Some (segment 2)) ∷ []) (start_on Sdcch)
 is_harmless = (tt, (refl, (refl, (tt, (refl, tt)))))
 
-forged : lines_of (sending ++ Deliver Mobile (Some (piece 3)) ∷ []) ≡ opened ++ Asked Mobile Zero (Sends (2 ∷ [])) ∷ Told Network Zero
+forged : lines_of (sending ++ Deliver Mobile (Some (segment 3)) ∷ []) ≡ opened ++ Asked Mobile Zero (Sends (2 ∷ [])) ∷ Notified Network Zero
     (N.Got (3 ∷ [])) ∷ []
 forged = refl
 
-forged_breaks : Claims (lines_of (sending ++ Deliver Mobile (Some (piece 3)) ∷ [])) → ⊥
+forged_breaks : Claims (lines_of (sending ++ Deliver Mobile (Some (segment 3)) ∷ [])) → ⊥
 forged_breaks h = other_message (h.in_order Mobile Zero).0 (h.in_order Mobile Zero).1
   where
     other_message : (more : List Message) → (3 ∷ []) ∷ more ≡ (2 ∷ []) ∷ [] → ⊥
     other_message more e = cc e
 
--- ---- each premise is needed: a frame that is given twice, or before another that was sent before it, on ways with room for all; one
--- that was on its way before the ends were begun; and ends that were open before
+-- ---- each premise is needed: without it a frame arrives twice, or before one sent earlier (in queues without bound), or was in
+-- transit before the session; or endpoints are open before it
 
 abbrev moved : List Move → World → World
 moved [] w = w
-moved (move ∷ moves) w = moved moves (after (event_of move w) w)
+moved (move ∷ moves) w = moved moves (world_after (event_of move w) w)
 
-abbrev told_from : World → List Move → List Line
-told_from w moves = let events = played moves w in lines events (answers events w)
+abbrev notified_from : World → List Move → List Line
+notified_from w moves = let events = played moves w in lines events (answers events w)
 
 abbrev roomy : World
-roomy = start_in boundless Sdcch
+roomy = start_in boundless_air Sdcch
 
 abbrev sends_unit : ℕ → Move
 sends_unit octet = Happens (Ask Mobile Zero (SendUnit (octet ∷ [])))
@@ -122,22 +125,22 @@ sends_unit octet = Happens (Ask Mobile Zero (SendUnit (octet ∷ [])))
 abbrev given : ℕ → Move
 given octet = Happens (Deliver Mobile (Some (record { sapi = 0; cr = false; content = Ui false (octet ∷ []) })))
 
-given_twice : told_from roomy (sends_unit 4 ∷ given 4 ∷ given 4 ∷ []) ≡ Asked Mobile Zero (SendsUnit (4 ∷ [])) ∷ Told Network Zero
-    (N.Unit (4 ∷ [])) ∷ Told Network Zero (N.Unit (4 ∷ [])) ∷ []
+given_twice : notified_from roomy (sends_unit 4 ∷ given 4 ∷ given 4 ∷ []) ≡ Asked Mobile Zero (SendsUnit (4 ∷ [])) ∷ Notified Network Zero
+    (N.Unit (4 ∷ [])) ∷ Notified Network Zero (N.Unit (4 ∷ [])) ∷ []
 given_twice = refl
 
-given_twice_breaks : Claims (told_from roomy (sends_unit 4 ∷ given 4 ∷ given 4 ∷ [])) → ⊥
+given_twice_breaks : Claims (notified_from roomy (sends_unit 4 ∷ given 4 ∷ given 4 ∷ [])) → ⊥
 given_twice_breaks h = none (h.units Mobile Zero)
   where
     none : IsSubsequence ((4 ∷ []) ∷ (4 ∷ []) ∷ []) ((4 ∷ []) ∷ []) → ⊥
     none (inl same) = let e : (4 ∷ []) ∷ [] ≡ [] = same.1 in cc e
     none (inr e) = cc e
 
-out_of_order : told_from roomy (sends_unit 4 ∷ sends_unit 5 ∷ given 5 ∷ given 4 ∷ []) ≡ Asked Mobile Zero (SendsUnit (4 ∷ []))
-    ∷ Asked Mobile Zero (SendsUnit (5 ∷ [])) ∷ Told Network Zero (N.Unit (5 ∷ [])) ∷ Told Network Zero (N.Unit (4 ∷ [])) ∷ []
+out_of_order : notified_from roomy (sends_unit 4 ∷ sends_unit 5 ∷ given 5 ∷ given 4 ∷ []) ≡ Asked Mobile Zero (SendsUnit (4 ∷ []))
+    ∷ Asked Mobile Zero (SendsUnit (5 ∷ [])) ∷ Notified Network Zero (N.Unit (5 ∷ [])) ∷ Notified Network Zero (N.Unit (4 ∷ [])) ∷ []
 out_of_order = refl
 
-out_of_order_breaks : Claims (told_from roomy (sends_unit 4 ∷ sends_unit 5 ∷ given 5 ∷ given 4 ∷ [])) → ⊥
+out_of_order_breaks : Claims (notified_from roomy (sends_unit 4 ∷ sends_unit 5 ∷ given 5 ∷ given 4 ∷ [])) → ⊥
 out_of_order_breaks h = none (h.units Mobile Zero)
   where
     none : IsSubsequence ((5 ∷ []) ∷ (4 ∷ []) ∷ []) ((4 ∷ []) ∷ (5 ∷ []) ∷ []) → ⊥
@@ -145,95 +148,96 @@ out_of_order_breaks h = none (h.units Mobile Zero)
     none (inr (inl same)) = let e : (4 ∷ []) ∷ [] ≡ [] = same.1 in cc e
     none (inr (inr e)) = cc e
 
--- the network's UA is on its way from an opening before this one
+-- the network's UA is in transit from an earlier establishment
 abbrev stale : World
-stale = record (start_on Sdcch) { ways = (moved (Happens (Open (1 ∷ [])) ∷ Arrives Mobile ∷ []) (start_on Sdcch)).ways }
+stale = record (start_on Sdcch) { queues = (moved (Happens (Open (1 ∷ [])) ∷ Arrives Mobile ∷ []) (start_on Sdcch)).queues }
 
-stale_answer : told_from stale (Happens (Open (1 ∷ [])) ∷ Arrives Network ∷ []) ≡ Asked Mobile Zero (Opens (1 ∷ [])) ∷ Told Mobile Zero
+stale_answer : notified_from stale (Happens (Open (1 ∷ [])) ∷ Arrives Network ∷ []) ≡ Asked Mobile Zero (Opens (1 ∷ [])) ∷ Notified Mobile
+    Zero
     (N.Opened (1 ∷ [])) ∷ []
 stale_answer = refl
 
-stale_answer_breaks : Claims (told_from stale (Happens (Open (1 ∷ [])) ∷ Arrives Network ∷ [])) → ⊥
+stale_answer_breaks : Claims (notified_from stale (Happens (Open (1 ∷ [])) ∷ Arrives Network ∷ [])) → ⊥
 stale_answer_breaks h =
-    let cause = h.cause Mobile Zero (1 ∷ []) (Asked Mobile Zero (Opens (1 ∷ [])) ∷ []) ([], refl) in not_told cause.0
+    let cause = h.cause Mobile Zero (1 ∷ []) (Asked Mobile Zero (Opens (1 ∷ [])) ∷ []) ([], refl) in not_notified cause.0
   where
-    not_told : Contains (Asked Mobile Zero (Opens (1 ∷ [])) ∷ []) (Told Network Zero (N.Opened (1 ∷ []))) → ⊥
-    not_told (zero, few, e) = cc e
-    not_told (suc k, few, e) = omega (arith, few)
+    not_notified : Contains (Asked Mobile Zero (Opens (1 ∷ [])) ∷ []) (Notified Network Zero (N.Opened (1 ∷ []))) → ⊥
+    not_notified (zero, few, e) = cc e
+    not_notified (suc k, few, e) = omega (arith, few)
 
--- both ends are open already
+-- both endpoints are open before the session
 abbrev restored : World
 restored = record (start_on Sdcch) { ends = (moved opening (start_on Sdcch)).ends }
 
-open_before : told_from restored (Happens (Ask Mobile Zero (Send (2 ∷ []))) ∷ Arrives Mobile ∷ []) ≡ Asked Mobile Zero (Sends (2 ∷ []))
-    ∷ Told Network Zero (N.Got (2 ∷ [])) ∷ []
+open_before : notified_from restored (Happens (Ask Mobile Zero (Send (2 ∷ []))) ∷ Arrives Mobile ∷ []) ≡ Asked Mobile Zero (Sends (2 ∷ []))
+    ∷ Notified Network Zero (N.Got (2 ∷ [])) ∷ []
 open_before = refl
 
-open_before_breaks : OrderClaims (told_from restored (Happens (Ask Mobile Zero (Send (2 ∷ []))) ∷ Arrives Mobile ∷ [])) → ⊥
+open_before_breaks : OrderClaims (notified_from restored (Happens (Ask Mobile Zero (Send (2 ∷ []))) ∷ Arrives Mobile ∷ [])) → ⊥
 open_before_breaks h =
     omega (arith, (h.inside Network Zero (N.Got (2 ∷ [])) (Asked Mobile Zero (Sends (2 ∷ [])) ∷ []) tt ([], refl)).opened)
 
--- ---- lines that break the other claims on delivery
+-- ---- lines that violate the other claims on delivery
 
-early_acknowledgement : Claims (Told Mobile Zero (N.Acked 1) ∷ []) → ⊥
+early_acknowledgement : Claims (Notified Mobile Zero (N.Acked 1) ∷ []) → ⊥
 early_acknowledgement h = omega (arith, (h.acknowledged Mobile Zero 1 [] ([], refl)).1)
 
-unit_from_nowhere : Claims (Told Network Zero (N.Unit (3 ∷ [])) ∷ []) → ⊥
+unit_from_nowhere : Claims (Notified Network Zero (N.Unit (3 ∷ [])) ∷ []) → ⊥
 unit_from_nowhere h = no_such ((3 ∷ []) ∷ []) refl (h.units Mobile Zero)
   where
     no_such : (ms : List Message) → ms ≡ (3 ∷ []) ∷ [] → ms ≡ [] → ⊥
     no_such ms e g = cc (e, g)
 
-opened_alone : Claims (Told Mobile Zero (N.Opened (1 ∷ [])) ∷ []) → ⊥
+opened_alone : Claims (Notified Mobile Zero (N.Opened (1 ∷ [])) ∷ []) → ⊥
 opened_alone h = (let cause = h.cause Mobile Zero (1 ∷ []) [] ([], refl) in omega (arith, cause.0.1))
 
-opened_by_nobody : Claims (Told Network Zero (N.Opened (1 ∷ [])) ∷ []) → ⊥
+opened_by_nobody : Claims (Notified Network Zero (N.Opened (1 ∷ [])) ∷ []) → ⊥
 opened_by_nobody h = elim (h.cause Network Zero (1 ∷ []) [] ([], refl)) [
   | inl asked ↦ omega (arith, asked.1)
   | inr rival ↦ omega (arith, rival.1)
 ]
 
-opened_unasked : Claims (Told Mobile Three (N.Opened []) ∷ []) → ⊥
+opened_unasked : Claims (Notified Mobile Three (N.Opened []) ∷ []) → ⊥
 opened_unasked h = elim (h.cause Mobile Three [] [] ([], refl)) [
   | inl asked ↦ omega (arith, asked.1)
   | inr own ↦ omega (arith, own.0.1)
 ]
 
-opened_twice : Claims (Told Mobile Zero (N.Opened []) ∷ Told Mobile Zero (N.Opened []) ∷ []) → ⊥
+opened_twice : Claims (Notified Mobile Zero (N.Opened []) ∷ Notified Mobile Zero (N.Opened []) ∷ []) → ⊥
 opened_twice h = omega (arith, h.once Mobile Zero)
 
-too_long : Claims (Told Mobile Zero N.Oversize ∷ []) → ⊥
+too_long : Claims (Notified Mobile Zero N.Oversize ∷ []) → ⊥
 too_long h = h.no_oversize Mobile Zero [] ([], refl)
 
--- ---- lines that break the claims on order
+-- ---- lines that violate the claims on order
 
-acknowledged_unsent : OrderClaims (Told Mobile Zero (N.Acked 1) ∷ []) → ⊥
+acknowledged_unsent : OrderClaims (Notified Mobile Zero (N.Acked 1) ∷ []) → ⊥
 acknowledged_unsent h = omega (arith, (h.acknowledged Mobile Zero 1 [] ([], refl)).1)
 
-wrong_number : OrderClaims (Asked Mobile Zero (Sends []) ∷ Told Mobile Zero (N.Acked 2) ∷ []) → ⊥
+wrong_number : OrderClaims (Asked Mobile Zero (Sends []) ∷ Notified Mobile Zero (N.Acked 2) ∷ []) → ⊥
 wrong_number h = not_one 2 (h.acknowledged Mobile Zero 2 (Asked Mobile Zero (Sends []) ∷ []) ([], refl)).0 refl
   where
     not_one : (n : ℕ) → n ≡ 1 → n ≡ 2 → ⊥
     not_one n h g = omega (arith, h, g)
 
-opened_again : OrderClaims (Told Mobile Zero (N.Opened []) ∷ Told Mobile Zero (N.Opened []) ∷ []) → ⊥
+opened_again : OrderClaims (Notified Mobile Zero (N.Opened []) ∷ Notified Mobile Zero (N.Opened []) ∷ []) → ⊥
 opened_again h = omega (arith, h.opened_once Mobile Zero)
 
-closed_again : OrderClaims (Told Mobile Zero (N.Closed R.Failed) ∷ Told Mobile Zero (N.Closed R.Failed) ∷ []) → ⊥
+closed_again : OrderClaims (Notified Mobile Zero (N.Closed R.Failed) ∷ Notified Mobile Zero (N.Closed R.Failed) ∷ []) → ⊥
 closed_again h = omega (arith, h.closed_once Mobile Zero)
 
-got_unopened : OrderClaims (Told Mobile Zero (N.Got []) ∷ []) → ⊥
-got_unopened h = omega (arith, (h.inside Mobile Zero (N.Got []) [] tt ([], refl)).opened)
+delivered_unopened : OrderClaims (Notified Mobile Zero (N.Got []) ∷ []) → ⊥
+delivered_unopened h = omega (arith, (h.inside Mobile Zero (N.Got []) [] tt ([], refl)).opened)
 
 abbrev an_open_end : List Line
-an_open_end = Told Mobile Zero (N.Opened []) ∷ []
+an_open_end = Notified Mobile Zero (N.Opened []) ∷ []
 
-got_when_closed : OrderClaims (an_open_end ++ Told Mobile Zero (N.Closed R.Failed) ∷ Told Mobile Zero (N.Got []) ∷ []) → ⊥
-got_when_closed h =
-    let before = an_open_end ++ Told Mobile Zero (N.Closed R.Failed) ∷ [] in
+delivered_when_closed : OrderClaims (an_open_end ++ Notified Mobile Zero (N.Closed R.Failed) ∷ Notified Mobile Zero (N.Got []) ∷ []) → ⊥
+delivered_when_closed h =
+    let before = an_open_end ++ Notified Mobile Zero (N.Closed R.Failed) ∷ [] in
     (h.inside Mobile Zero (N.Got []) before tt ([], refl)).closed R.Failed (1, omega arith, refl)
 
-got_when_closing : OrderClaims (an_open_end ++ Asked Mobile Zero Closes ∷ Told Mobile Zero (N.Got []) ∷ []) → ⊥
-got_when_closing h =
+delivered_when_closing : OrderClaims (an_open_end ++ Asked Mobile Zero Closes ∷ Notified Mobile Zero (N.Got []) ∷ []) → ⊥
+delivered_when_closing h =
     let before = an_open_end ++ Asked Mobile Zero Closes ∷ [] in
     (h.inside Mobile Zero (N.Got []) before tt ([], refl)).asked (1, omega arith, refl)

@@ -1,7 +1,7 @@
 ghost use Rattle.std.specs.Prelude.{◌≡◌};
 ghost use Rattle.lapdm_frame.specs.declared.Channel.TheVariants as C;
 ghost use Rattle.lapdm_window.specs.declared.Sapi.TheVariants as S;
-ghost use Rattle.lapdm_end.specs.Standing.{channel_of, sapi_of};
+ghost use Rattle.lapdm_end.specs.Abstraction.{channel_of, sapi_of};
 ghost use Rattle.lapdm_mobile.specs.Ends.{end_of};
 
 use super::*;
@@ -9,7 +9,7 @@ use lapdm_frame::{Body, Channel, FrameView, fits, fits_on};
 use lapdm_window::{Effects, Message, Notice, Reason, Refused, Sapi, State};
 use std::process::Abort;
 
-// An end of SAPI 0 on a channel, whose frames all go over it.
+// A session of an endpoint of SAPI 0 on one channel.
 #[derive(Drop)]
 struct Session {
     end: Mobile,
@@ -31,7 +31,7 @@ impl Session {
         self.end.take(frame)
     }
 
-    // A frame of SAPI 0 is answered so.
+    // Checks the answer to a frame of SAPI 0.
     fn row(
         &mut self,
         rt: &impl Abort,
@@ -46,7 +46,7 @@ impl Session {
     }
 }
 
-// No block, or this one, which is filled up.
+// Whether nothing was sent, if `octets` is empty, or one block of these octets and fill.
 fn is_sent(effects: &Effects, octets: &[u8]) -> bool {
     match effects.frames.as_slice() {
         [] => octets.is_empty(),
@@ -86,7 +86,7 @@ fn is_call(answer: &Result<Effects, Refused>, sent: &[u8], told: Option<Notice>)
     }
 }
 
-// Outside Idle, outside Open, and where no frame awaits an answer.
+// Calls that are refused outside Idle, outside Open, and if no frame awaits an answer.
 fn is_not_idle(rt: &impl Abort, session: &mut Session) {
     assert!(rt; matches!(session.end.open(&[1]), Err(Refused::NotIdle)));
 }
@@ -100,7 +100,7 @@ fn is_not_running(rt: &impl Abort, session: &mut Session) {
     assert!(rt; matches!(session.end.timer(), Err(Refused::NotRunning)));
 }
 
-// In every state.
+// Calls that are possible in every state.
 fn sends_units(rt: &impl Abort, session: &mut Session) {
     assert!(rt; matches!(session.end.unit(&[]), Err(Refused::Empty)));
     assert!(rt; matches!(session.end.unit(&[7; 21]), Err(Refused::TooLong)));
@@ -108,7 +108,7 @@ fn sends_units(rt: &impl Abort, session: &mut Session) {
     assert!(rt; is_sent(&session.end.idle(), &[0x01, 0x03, 0x01]));
 }
 
-// A mobile that asked for the link with 01 and 02.
+// A mobile that sent its SABM with 01 and 02.
 fn asking(rt: &impl Abort) -> Session {
     let mut session = Session::new(Channel::Sdcch);
     is_not_open(rt, &mut session);

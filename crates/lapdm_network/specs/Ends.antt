@@ -1,6 +1,7 @@
--- The end that a network is.
-use Rattle.lapdm_end.specs.declared.ends.End.{End}
+-- The `Endpoint` inside a `Network`.
+use Rattle.lapdm_end.specs.declared.ends.Endpoint.{Endpoint}
 use Rattle.lapdm_network.specs.declared.network.Network.{Network}
 
-abbrev pub end_of : Network → End
+-- the endpoint that a `Network` wraps
+abbrev pub end_of : Network → Endpoint
 end_of m = m.end

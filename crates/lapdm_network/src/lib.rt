@@ -1,5 +1,5 @@
-//! The network's end of a data link (GSM 04.06, section 5), on the channels SDCCH and SACCH and for the SAPIs 0
-//! and 3. No call takes memory.
+//! The network's endpoint of a data link (GSM 04.06, section 5), on SDCCH or SACCH, of
+//! SAPI 0 or 3. No call allocates.
 #![tactic(auto)]
 
 mod network;

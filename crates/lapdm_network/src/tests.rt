@@ -1,5 +1,5 @@
 ghost use Rattle.std.specs.Prelude.{◌≡◌};
-ghost use Rattle.lapdm_end.specs.Standing.{channel_of};
+ghost use Rattle.lapdm_end.specs.Abstraction.{channel_of};
 ghost use Rattle.lapdm_network.specs.Ends.{end_of};
 
 use super::*;
@@ -7,7 +7,7 @@ use lapdm_frame::{Body, Channel, FrameView, fits_on};
 use lapdm_window::{Effects, Message, Notice, Refused, Sapi, State};
 use std::process::Abort;
 
-// An end on a channel, whose frames all go over it.
+// A session of an endpoint on one channel.
 #[derive(Drop)]
 struct Session {
     end: Network,
@@ -28,7 +28,7 @@ impl Session {
         self.end.take(frame)
     }
 
-    // A frame of SAPI 0 is answered so.
+    // Checks the answer to a frame of SAPI 0.
     fn row(
         &mut self,
         rt: &impl Abort,
@@ -43,7 +43,7 @@ impl Session {
     }
 }
 
-// No block, or this one, which is filled up.
+// Whether nothing was sent, if `octets` is empty, or one block of these octets and fill.
 fn is_sent(effects: &Effects, octets: &[u8]) -> bool {
     match effects.frames.as_slice() {
         [] => octets.is_empty(),
@@ -98,7 +98,7 @@ fn opened(rt: &impl Abort) -> Session {
 }
 
 #[test]
-fn answers_a_repeated_sabm_and_rejects_a_repeated_piece_once(rt: HostRuntime) {
+fn answers_a_repeated_sabm_and_rejects_a_repeated_segment_once(rt: HostRuntime) {
     let mut session = opened(&rt);
     let sabm = |info| Body::Sabm { p: true, info };
     let got = Some(Notice::Got(Message::new(&[0xaa])));
@@ -124,7 +124,7 @@ fn answers_a_repeated_sabm_and_rejects_a_repeated_piece_once(rt: HostRuntime) {
 }
 
 #[test]
-fn drops_a_message_that_is_too_long_by_one_piece(rt: HostRuntime) {
+fn drops_a_message_that_is_too_long_by_one_segment(rt: HostRuntime) {
     let mut session = opened(&rt);
     for i in 0..13u8 {
         let ready = [0x01, 32 * ((i + 1) % 8) + 1, 0x01];
@@ -171,7 +171,7 @@ fn ignores_what_the_mobile_does_not_send(rt: HostRuntime) {
     );
 }
 
-// An N(R) other than this one acknowledges nothing.
+// No N(R) but this one acknowledges anything.
 fn only_counts(rt: &impl Abort, session: &mut Session, number: u8) {
     for nr in 0..8u8 {
         if nr != number {

@@ -1,10 +1,10 @@
--- What each reply of the tables says of the end and of the frame that it answers.
+-- What each reply of the tables implies for the endpoint and the frame, by cases on state and kind.
 use Rattle.std.proofs.Common.{◌≡◌, refl, sym, inl, inr, ◌⊎◌, arith, ◌≤◌, length, Bool, true, false, ◌&&◌}
 use Rattle.std.proofs.Common.{if◌then◌else◌, [], ◌∷◌}
 use Rattle.std.specs.Str.{bytes_eq}
 use Rattle.std.proofs.lemmas.Slice.Eq.{bytes_eq-Decides}
 use Rattle.lapdm_frame.specs.Content.{Content, I, Rr, Rej, Sabm, Dm, Ui, Disc, Ua, Frame}
-use Rattle.segmenting.specs.Pieces.{Message}
+use Rattle.segmenting.specs.Segments.{Message}
 use Rattle.lapdm_window.specs.declared.Sapi.{Sapi}
 use Rattle.lapdm_window.specs.declared.Sapi.TheVariants.{Zero, Three}
 use Rattle.lapdm_window.specs.declared.State.{State}
@@ -14,16 +14,17 @@ use Rattle.lapdm_window.specs.Tables.{Reply, Nothing, SaysDm, SaysUa, IsOpenedBy
 use Rattle.lapdm_window.specs.Tables.{TakesRej, is_command, is_poll, sabm_in_idle, dm_to_poll, in_idle, other_ua, sabm_in_opening}
 use Rattle.lapdm_window.specs.Tables.{in_opening, answers_sabm, in_open, in_closing, in_closed, in_state, unit_reply, reply, reply_to}
 
--- the end asked for the link or has it
+-- the endpoint asked for the link or has it
 abbrev pub HasBegun : EndState → Type 0
 HasBegun x = (x.state ≡ Opening) ⊎ ((x.state ≡ Open) ⊎ (x.state ≡ Closing))
 
--- an end that a SABM may open
+-- a SABM with this information may open the endpoint
 abbrev pub MayOpen : Sapi → Role → Message → Type 0
 MayOpen Zero Network (i ∷ is) = Unit {0}
 MayOpen Three r [] = Unit {0}
 MayOpen s r info = ⊥
 
+-- what the reply to the content c implies for c and for the endpoint x
 abbrev pub IsReplyTo : Content → EndState → Reply → Type 0
 IsReplyTo c x Nothing = Unit {0}
 IsReplyTo c x SaysDm = Unit {0}
@@ -33,7 +34,7 @@ IsReplyTo c x (IsOpen info) = (c ≡ Ua true info) × (x.state ≡ Opening) × (
 IsReplyTo c x (IsClosed reason) = HasBegun x
 IsReplyTo c x IsReleased = x.state ≡ Open
 IsReplyTo c x (TakesUnit info) = (p : Bool) × (c ≡ Ui p info) × (1 ≤ length info)
-IsReplyTo c x (TakesI ns nr p piece) = (c ≡ I ns nr p piece.1 piece.0) × (x.state ≡ Open)
+IsReplyTo c x (TakesI ns nr p segment) = (c ≡ I ns nr p segment.1 segment.0) × (x.state ≡ Open)
 IsReplyTo c x (TakesRr nr poll) = (pf : Bool) × (c ≡ Rr nr pf) × (x.state ≡ Open)
 IsReplyTo c x (TakesRej nr poll) = (pf : Bool) × (c ≡ Rej nr pf) × (x.state ≡ Open)
 

@@ -1,4 +1,5 @@
--- After each call and each frame an end is an end, and each frame that it sends fits its channel.
+-- Each call and each frame preserves `IsEnd`, and each frame sent fits its channel. By
+-- cases on the rules, the tables and the calls.
 use Rattle.std.proofs.Common.{◌≡◌, refl, sym, ◌∙◌, ap, subst, arith, inl, inr, ◌⊎◌, ℕ, ◌+◌, ◌%◌, ◌<◌}
 use Rattle.std.proofs.Common.{◌≤◌, Bool, true, false, not}
 use Rattle.std.proofs.Common.{if◌then◌else◌, nat_eq, nat_lt, List, [], ◌∷◌, length, None, All}
@@ -10,8 +11,8 @@ use Rattle.lapdm_frame.specs.declared.Channel.{Channel}
 use Rattle.lapdm_frame.specs.Layout.{n201}
 use Rattle.lapdm_frame.specs.Content.{Content, Rej, Dm, Ua, Frame}
 use Rattle.lapdm_frame.specs.Frames.{NumbersFit, InformationFits, Fits}
-use Rattle.segmenting.specs.Pieces.{Message, Piece, IsMessage, AreCut, pieces}
-use Rattle.segmenting.proofs.Lemmas.{are_pieces, room_of}
+use Rattle.segmenting.specs.Segments.{Message, Segment, IsMessage, AreCut, segments}
+use Rattle.segmenting.proofs.Lemmas.{are_segments, room_of}
 use Rattle.lapdm_window.specs.declared.Sapi.{Sapi}
 use Rattle.lapdm_window.specs.declared.Sapi.TheVariants.{Zero, Three}
 use Rattle.lapdm_window.specs.declared.State.{State}
@@ -19,40 +20,42 @@ use Rattle.lapdm_window.specs.declared.State.TheVariants as S
 use Rattle.lapdm_window.specs.declared.Reason.TheVariants as R
 use Rattle.lapdm_window.specs.declared.Notice.{Notice}
 use Rattle.lapdm_window.specs.declared.Refused.TheVariants as No
-use Rattle.lapdm_window.specs.Ends.{Role, Network, EndState, Outcome, KeepsWindow, IsUnopened, IsEnd, start, all_pieces, next_piece, waits}
+use Rattle.lapdm_window.specs.Ends.{Role, Network, EndState, Outcome, KeepsWindow, IsUnopened, IsEnd, start, all_segments, next_segment}
+use Rattle.lapdm_window.specs.Ends.{waits}
 use Rattle.lapdm_window.specs.Ends.{awaits, awaits_in, stays, sends_frame, ◌then◌, response, sapi_number, vr, n200}
-use Rattle.lapdm_window.specs.Rules.{is_open, waiting_frame, has_next, with_next, sends_piece, sends_next, acknowledges, reports_acked}
-use Rattle.lapdm_window.specs.Rules.{counts, accepts, says_rr, answers_piece, with_reject, reject_is_due, rejects, takes_i, answers_poll}
+use Rattle.lapdm_window.specs.Rules.{is_open, waiting_frame, has_next, with_next, sends_segment, sends_next, acknowledges, reports_acked}
+use Rattle.lapdm_window.specs.Rules.{counts, accepts, says_rr, answers_segment, with_reject, reject_is_due, rejects, takes_i_frame}
+use Rattle.lapdm_window.specs.Rules.{answers_poll}
 use Rattle.lapdm_window.specs.Rules.{sends_again}
 use Rattle.lapdm_window.specs.Tables.{Reply, Nothing, SaysDm, SaysUa, IsOpenedBy, IsOpen, IsClosed, IsReleased, TakesUnit, TakesI, TakesRr}
 use Rattle.lapdm_window.specs.Tables.{TakesRej, becomes_closed, outcome_of, reply_to, after_frame}
-use Rattle.lapdm_window.specs.Calls.{Call, Opens, OpensBare, Sends, SendsUnit, Closes, Ticks, Idles, HasCall, is_idle, first_of}
-use Rattle.lapdm_window.specs.Calls.{frame_refusals, put_refusals, refusal_of, with_taken, repeated, after_call}
+use Rattle.lapdm_window.specs.Calls.{Call, Opens, OpensBare, Sends, SendsUnit, Closes, T200Expires, Idles, HasCall, is_idle, first_of}
+use Rattle.lapdm_window.specs.Calls.{frame_refusals, put_refusals, refusal_of, with_taken, repeated_frame, after_call}
 use Rattle.lapdm_window.proofs.Causes.{HasBegun, MayOpen, IsReplyTo, cause_of}
-use Rattle.lapdm_window.proofs.FirstPieces.{HasSize}
+use Rattle.lapdm_window.proofs.FirstSegments.{HasSize}
 use Rattle.lapdm_window.proofs.Moves.{KeepsWindow-taken, KeepsWindow-acked}
 use Rattle.lapdm_window.proofs.Refusing.{passes, not_false, is_message, is_idle-is, is_open-is}
 use Rattle.lapdm_window.proofs.Thens.{then-carries, then-frames}
 
 -- ---- frames that fit
 
--- pieces have some octets, and no more than there is room for
-abbrev AllSized : ℕ → List Piece → Type 0
+-- each segment has 1 to n octets
+abbrev AllSized : ℕ → List Segment → Type 0
 AllSized n ps = All (λ p. HasSize n p.0) ps
 
-sized-cut : (n : ℕ) (ps : List Piece) → 1 ≤ n → AreCut n ps → AllSized n ps
+sized-cut : (n : ℕ) (ps : List Segment) → 1 ≤ n → AreCut n ps → AllSized n ps
 sized-cut n [] room h = absurd h
 sized-cut n (p ∷ []) room h =
-    All-cons (λ (q : Piece). HasSize n q.0) p [] (record { some = h.some; most = h.most }) (All-nil (λ (q : Piece). HasSize n q.0))
+    All-cons (λ (q : Segment). HasSize n q.0) p [] (record { some = h.some; most = h.most }) (All-nil (λ (q : Segment). HasSize n q.0))
 sized-cut n (p ∷ q ∷ ps) room h =
-    All-cons (λ (q : Piece). HasSize n q.0) p (q ∷ ps) (record { some = omega (arith, h.0.size); most = omega (arith, h.0.size) })
+    All-cons (λ (q : Segment). HasSize n q.0) p (q ∷ ps) (record { some = omega (arith, h.0.size); most = omega (arith, h.0.size) })
     (sized-cut n (q ∷ ps) room h.1)
 
-sized-all : (n : ℕ) (ms : List Message) → 1 ≤ n → All IsMessage ms → AllSized n (flat_map (pieces n) ms)
-sized-all n [] room h = All-nil (λ (q : Piece). HasSize n q.0)
+sized-all : (n : ℕ) (ms : List Message) → 1 ≤ n → All IsMessage ms → AllSized n (flat_map (segments n) ms)
+sized-all n [] room h = All-nil (λ (q : Segment). HasSize n q.0)
 sized-all n (m ∷ ms) room h =
-    All-append (λ (q : Piece). HasSize n q.0) (pieces n m) (flat_map (pieces n) ms)
-    (sized-cut n (pieces n m) room (are_pieces n m room (All-head IsMessage m ms h)).cut)
+    All-append (λ (q : Segment). HasSize n q.0) (segments n m) (flat_map (segments n) ms)
+    (sized-cut n (segments n m) room (are_segments n m room (All-head IsMessage m ms h)).cut)
     (sized-all n ms room (All-tail IsMessage m ms h))
 
 pub three_bits : (n : ℕ) → n % 8 ≤ 7
@@ -66,11 +69,11 @@ pub plain_fits : (channel : Channel) (f : Frame) (s : Sapi) → f.sapi ≡ sapi_
     InformationFits channel f.content → Fits channel f
 plain_fits channel f s at n i = record { sapi = omega (arith, at, sapi_fits s); numbers = n; information = i }
 
-waiting_fits : (p : Bool) (x : EndState) → All IsMessage x.taken → x.acked < length (all_pieces x) → Fits x.channel (waiting_frame p x)
+waiting_fits : (p : Bool) (x : EndState) → All IsMessage x.taken → x.acked < length (all_segments x) → Fits x.channel (waiting_frame p x)
 waiting_fits p x good within =
     let n = n201 x.channel in
-    let size : HasSize n (next_piece x).0 =
-    All-get_or (λ (q : Piece). HasSize n q.0) (all_pieces x) x.acked ([], false) within
+    let size : HasSize n (next_segment x).0 =
+    All-get_or (λ (q : Segment). HasSize n q.0) (all_segments x) x.acked ([], false) within
     (sized-all n x.taken (room_of x.channel).some good) in
     plain_fits x.channel (waiting_frame p x) x.sapi refl (three_bits x.acked, three_bits (length x.accepted)) (size.some, size.most)
 
@@ -91,7 +94,7 @@ ua_fits x info h = one x _ (plain_fits x.channel _ x.sapi refl tt h)
 
 -- ---- the rules of the window
 
--- what the rules of the window leave as it was, the window, and their frames
+-- a rule of the window changes none of these fields, keeps the window, and its frames fit
 record Runs (x : EndState) (o : Outcome) : Type 0 where
   role : o.after.role ≡ x.role
   channel : o.after.channel ≡ x.channel
@@ -118,8 +121,8 @@ runs-then x o rule h next =
           (λ (c : Channel). All (Fits c) (rule o.after).frames) h.channel g.frames);
     }
 
--- the reject condition, the retry count and the accepted pieces change alone
-runs-plainly : (x : EndState) (ps : List Piece) (b : Bool) (r : ℕ) (fs : List Frame) (ns : List Notice) → KeepsWindow x → AllFit x fs →
+-- only the accepted segments, the reject condition and the retry count change
+runs-plainly : (x : EndState) (ps : List Segment) (b : Bool) (r : ℕ) (fs : List Frame) (ns : List Notice) → KeepsWindow x → AllFit x fs →
     Runs x (record { after = record x { accepted = ps; rejecting = b; retries = r }; frames = fs; notices = ns })
 runs-plainly x ps b r fs ns h fit = record {
   role = refl;
@@ -139,7 +142,7 @@ runs-says_rr f x h =
     runs-plainly x x.accepted x.rejecting x.retries _ [] h
     (one x _ (plain_fits x.channel _ x.sapi refl (three_bits (length x.accepted)) (omega arith)))
 
-runs-accepts : (p : Piece) → AreRuns (accepts p)
+runs-accepts : (p : Segment) → AreRuns (accepts p)
 runs-accepts p x h = runs-plainly x _ false x.retries [] _ h (none x)
 
 by_test : (b c : Bool) (f g : EndState → Outcome) (x : EndState) → c ≡ b → (c ≡ true → Runs x (f x)) → Runs x (g x) →
@@ -156,13 +159,13 @@ runs-rejects p x h =
 
 record HasLeft (x : EndState) : Type 0 where
   none_waits : x.sent ≡ x.acked
-  left : x.sent < length (all_pieces x)
+  left : x.sent < length (all_segments x)
 
 has_left : (x : EndState) → has_next x ≡ true → HasLeft x
 has_left x h = record { none_waits = grind (arith, nat_tests); left = grind (arith, nat_tests) }
 
-runs-sends_piece : (x : EndState) → has_next x ≡ true → KeepsWindow x → Runs x (sends_piece x)
-runs-sends_piece x has h =
+runs-sends_segment : (x : EndState) → has_next x ≡ true → KeepsWindow x → Runs x (sends_segment x)
+runs-sends_segment x has h =
     let l : HasLeft x = has_left x has in
     record {
       role = refl;
@@ -181,12 +184,12 @@ runs-sends_piece x has h =
 
 runs-sends_next : AreRuns sends_next
 runs-sends_next x h =
-    by_test (has_next x) (has_next x) sends_piece stays x refl (λ has. runs-sends_piece x has h) (runs-stays x h)
+    by_test (has_next x) (has_next x) sends_segment stays x refl (λ has. runs-sends_segment x has h) (runs-stays x h)
 
-pub waits_within : (x : EndState) → KeepsWindow x → waits x ≡ true → x.acked < length (all_pieces x)
+pub waits_within : (x : EndState) → KeepsWindow x → waits x ≡ true → x.acked < length (all_segments x)
 waits_within x h w =
     let low : x.acked ≤ x.sent = h.behind in
-    let high : x.sent ≤ length (all_pieces x) = h.sent in
+    let high : x.sent ≤ length (all_segments x) = h.sent in
     grind (arith, nat_tests)
 
 runs-sends_again : AreRuns sends_again
@@ -198,10 +201,10 @@ runs-sends_again x h =
 runs-answers_poll : (poll : Bool) → AreRuns (answers_poll poll)
 runs-answers_poll poll x h = by_test poll poll (says_rr true) stays x refl (λ e. runs-says_rr true x h) (runs-stays x h)
 
-runs-answers_piece : (p : Bool) → AreRuns (answers_piece p)
-runs-answers_piece true x h = runs-then x (says_rr true x) sends_next (runs-says_rr true x h) runs-sends_next
-runs-answers_piece false x h =
-    by_test (has_next x) (has_next x) sends_piece (says_rr false) x refl (λ has. runs-sends_piece x has h) (runs-says_rr false x h)
+runs-answers_segment : (p : Bool) → AreRuns (answers_segment p)
+runs-answers_segment true x h = runs-then x (says_rr true x) sends_next (runs-says_rr true x h) runs-sends_next
+runs-answers_segment false x h =
+    by_test (has_next x) (has_next x) sends_segment (says_rr false) x refl (λ has. runs-sends_segment x has h) (runs-says_rr false x h)
 
 runs-acked : (more : Bool) → AreRuns (reports_acked more)
 runs-acked true x h =
@@ -211,19 +214,19 @@ runs-acked false x h =
 
 runs-counts : (nr : ℕ) → AreRuns (counts nr)
 runs-counts nr x h =
-    by_test (acknowledges nr x) (acknowledges nr x) (reports_acked (next_piece x).1) stays x refl
-    (λ acks. runs-acked (next_piece x).1 x h) (runs-stays x h)
+    by_test (acknowledges nr x) (acknowledges nr x) (reports_acked (next_segment x).1) stays x refl
+    (λ acks. runs-acked (next_segment x).1 x h) (runs-stays x h)
 
 runs-counted : (nr : ℕ) (first second : EndState → Outcome) → AreRuns first → AreRuns second →
     AreRuns (λ x. counts nr x then first then second)
 runs-counted nr first second f g x h =
     runs-then x (counts nr x then first) second (runs-then x (counts nr x) first (runs-counts nr x h) f) g
 
-runs-takes_i : (ns nr : ℕ) (p : Bool) (piece : Piece) → AreRuns (takes_i ns nr p piece)
-runs-takes_i ns nr p piece x h =
-    by_test (nat_eq ns (vr x)) (nat_eq ns (vr x)) (λ e. counts nr e then accepts piece then answers_piece p)
+runs-takes_i_frame : (ns nr : ℕ) (p : Bool) (segment : Segment) → AreRuns (takes_i_frame ns nr p segment)
+runs-takes_i_frame ns nr p segment x h =
+    by_test (nat_eq ns (vr x)) (nat_eq ns (vr x)) (λ e. counts nr e then accepts segment then answers_segment p)
     (λ e. counts nr e then rejects p then sends_next) x refl
-    (λ e. runs-counted nr (accepts piece) (answers_piece p) (runs-accepts piece) (runs-answers_piece p) x h)
+    (λ e. runs-counted nr (accepts segment) (answers_segment p) (runs-accepts segment) (runs-answers_segment p) x h)
     (runs-counted nr (rejects p) sends_next (runs-rejects p) runs-sends_next x h)
 
 -- ---- the tables
@@ -274,7 +277,7 @@ quiet : (x : EndState) (fs : List Frame) (ns : List Notice) → IsEnd x → AllF
     Keeps x (record { after = x; frames = fs; notices = ns })
 quiet x fs ns h fit = record { role = refl; channel = refl; sapi = refl; end = h; frames = fit }
 
--- the state is now Open or Closed
+-- the state becomes Open or Closed
 passed : (x : EndState) (s : State) (fs : List Frame) (ns : List Notice) → IsEnd x → (IsUnopened s → ⊥) → AllFit x fs →
     Keeps x (record { after = record x { state = s }; frames = fs; notices = ns })
 passed x s fs ns h later fit = moved x s x.kept x.retries fs ns h h.kept h.bare (λ u. absurd (later u)) fit
@@ -282,13 +285,13 @@ passed x s fs ns h later fit = moved x s x.kept x.retries fs ns h h.kept h.bare 
 zero_is_not_three : Zero ≡ Three → ⊥
 zero_is_not_three h = cc h
 
--- a SABM that opens the link of SAPI 3 has no information
+-- a SABM that opens SAPI 3 has no information
 bare_by : (s : Sapi) (r : Role) (info : Message) → MayOpen s r info → s ≡ Three → info ≡ []
 bare_by Zero Network (i ∷ is) may three = absurd (zero_is_not_three three)
 bare_by Three r [] may three = refl
 bare_by s r info may three = absurd may
 
--- a UA has the information that is kept, or none
+-- the information of a UA is the one kept, or none
 ua_short : (info : Message) (x : EndState) → IsEnd x → ((x.state ≡ S.Open) × (x.kept ≡ info)) ⊎ ((info ≡ []) × HasBegun x) →
     length info ≤ n201 x.channel
 ua_short info x h (inl kept) = omega (arith, h.kept, ap length kept.1)
@@ -305,7 +308,7 @@ keeps-reply (IsOpen info) c x cause h fits = passed x S.Open _ _ h (λ u. u) (no
 keeps-reply (IsClosed reason) c x cause h fits = passed x S.Closed _ _ h (λ u. u) (none x)
 keeps-reply IsReleased c x cause h fits = passed x S.Closed _ _ h (λ u. u) (ua_fits x [] (omega arith))
 keeps-reply (TakesUnit info) c x cause h fits = quiet x _ _ h (none x)
-keeps-reply (TakesI ns nr p piece) c x cause h fits = keeps-runs x _ cause.1 h (runs-takes_i ns nr p piece x h.window)
+keeps-reply (TakesI ns nr p segment) c x cause h fits = keeps-runs x _ cause.1 h (runs-takes_i_frame ns nr p segment x h.window)
 keeps-reply (TakesRr nr poll) c x cause h fits =
     keeps-runs x _ cause.2 h (runs-counted nr (answers_poll poll) sends_next (runs-answers_poll poll) runs-sends_next x h.window)
 keeps-reply (TakesRej nr poll) c x cause h fits =
@@ -322,18 +325,18 @@ short_info info x ok =
     (passes _ _ _ (passes (nat_eq (length info) 0) No.Empty ((nat_lt (n201 x.channel) (length info), No.TooLong) ∷ []) ok).rest).no in
     grind (arith, nat_tests)
 
-repeated_fits : (t : State) (x : EndState) → awaits_in t (waits x) ≡ true → IsEnd x → Fits x.channel (repeated t x)
+repeated_fits : (t : State) (x : EndState) → awaits_in t (waits x) ≡ true → IsEnd x → Fits x.channel (repeated_frame t x)
 repeated_fits S.Idle x due h = absurd (false≢true due)
 repeated_fits S.Closed x due h = absurd (false≢true due)
 repeated_fits S.Opening x due h = plain_fits x.channel _ x.sapi refl tt h.kept
 repeated_fits S.Closing x due h = plain_fits x.channel _ x.sapi refl tt (omega arith)
 repeated_fits S.Open x due h = waiting_fits true x h.window.messages (waits_within x h.window due)
 
-keeps-ticks : (b : Bool) (x : EndState) → awaits_in x.state (waits x) ≡ true → IsEnd x →
-    Keeps x (if b then sends_frame (repeated x.state x) (record x { retries = x.retries + 1 }) else becomes_closed R.Failed x)
-keeps-ticks true x due h =
+keeps-t200_expiry : (b : Bool) (x : EndState) → awaits_in x.state (waits x) ≡ true → IsEnd x →
+    Keeps x (if b then sends_frame (repeated_frame x.state x) (record x { retries = x.retries + 1 }) else becomes_closed R.Failed x)
+keeps-t200_expiry true x due h =
     moved x x.state x.kept (x.retries + 1) _ _ h h.kept h.bare (λ u. u) (one x _ (repeated_fits x.state x due h))
-keeps-ticks false x due h = passed x S.Closed _ _ h (λ u. u) (none x)
+keeps-t200_expiry false x due h = passed x S.Closed _ _ h (λ u. u) (none x)
 
 begins-from_idle : (x : EndState) → not (is_idle x.state) ≡ false → IsUnopened x.state
 begins-from_idle x idle = subst IsUnopened (sym (is_idle-is x.state (not_false (is_idle x.state) idle))) tt
@@ -367,11 +370,12 @@ keeps-call (Sends m) x h has ok =
 keeps-call (SendsUnit m) x h has ok = quiet x _ _ h (one x _ (plain_fits x.channel _ x.sapi refl tt (short_info m x ok)))
 keeps-call Closes x h has ok =
     moved x S.Closing x.kept 0 _ _ h h.kept h.bare (λ u. absurd u) (one x _ (plain_fits x.channel _ x.sapi refl tt (omega arith)))
-keeps-call Ticks x h has ok =
-    keeps-ticks (nat_lt x.retries (n200 x.channel x.state)) x (not_false (awaits x) (passes (not (awaits x)) No.NotRunning [] ok).no) h
+keeps-call T200Expires x h has ok =
+    keeps-t200_expiry (nat_lt x.retries (n200 x.channel x.state)) x (not_false (awaits x) (passes (not (awaits x)) No.NotRunning [] ok).no)
+    h
 keeps-call Idles x h has ok = quiet x _ _ h (one x _ (plain_fits x.channel _ Zero refl tt (omega arith)))
 
--- ---- the beginning
+-- ---- the initial state
 
 pub IsEnd-start : (role : Role) (sapi : Sapi) (channel : Channel) → IsEnd (start role sapi channel)
 IsEnd-start role sapi channel = record {

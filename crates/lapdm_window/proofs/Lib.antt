@@ -1,7 +1,9 @@
+pub use Rattle.lapdm_frame.proofs as lapdm_frame
+pub use Rattle.segmenting.proofs as segmenting
 mod Causes
 mod Counting
 mod Few
-mod FirstPieces
+mod FirstSegments
 mod Following
 mod Keeping
 pub mod Lemmas

@@ -1,4 +1,5 @@
--- Messages and counts that lead to whatever a window holds.
+-- Constructs messages and counts that lead to any content of a window: `done`
+-- acknowledged messages, the first long enough to give V(A), then the messages held.
 use Rattle.std.proofs.Common.{◌≡◌, refl, sym, ◌∙◌, ap, arith, ℕ, zero, suc, ◌+◌, ◌-◌, ◌*◌, ◌/◌, ◌%◌}
 use Rattle.std.proofs.Common.{◌<◌, ◌≤◌, List, [], ◌∷◌, ◌++◌, length, take, drop, replicate, get_or, All}
 use Rattle.std.specs.List.{flat_map}
@@ -7,11 +8,11 @@ use Rattle.std.proofs.Math.Seq.{take-append-add, drop-append-add, drop-append_se
 use Rattle.std.proofs.lemmas.List.{length-append, length-replicate}
 use Rattle.std.proofs.lemmas.List.Concat.{flat_map-append}
 use Rattle.std.proofs.lemmas.List.Elements.{All-nil, All-cons, All-append}
-use Rattle.segmenting.specs.Pieces.{Message, IsMessage, pieces, count_of}
-use Rattle.segmenting.specs.Joining.{ended}
-use Rattle.segmenting.proofs.Lemmas.{length-pieces, ended-append, ended-all, ended-whole}
+use Rattle.segmenting.specs.Segments.{Message, IsMessage, segments, count_of}
+use Rattle.segmenting.specs.Joining.{ended_count}
+use Rattle.segmenting.proofs.Lemmas.{length-segments, ended-append, ended-all, ended-whole}
 
--- so many messages of one octet, each of which is one piece
+-- d messages of one octet, each of one segment
 abbrev singles : ℕ → List Message
 singles zero = []
 singles (suc d) = (0 ∷ []) ∷ singles d
@@ -27,28 +28,28 @@ length-singles : (d : ℕ) → length (singles d) ≡ d
 length-singles zero = refl
 length-singles (suc d) = omega (arith, length-singles d)
 
-pieces-singles : (n d : ℕ) → 0 < n → length (flat_map (pieces n) (singles d)) ≡ d
-pieces-singles n zero room = refl
-pieces-singles n (suc d) room =
+segments-singles : (n d : ℕ) → 0 < n → length (flat_map (segments n) (singles d)) ≡ d
+segments-singles n zero room = refl
+segments-singles n (suc d) room =
     omega (
       arith,
-      length-append (pieces n (0 ∷ [])) (flat_map (pieces n) (singles d)),
-      length-pieces n (0 ∷ []),
+      length-append (segments n (0 ∷ [])) (flat_map (segments n) (singles d)),
+      length-segments n (0 ∷ []),
       zero-div n room,
-      pieces-singles n d room,
+      segments-singles n d room,
     )
 
--- a message of so many pieces and one more
+-- a message of k + 1 segments
 abbrev pub message_of : ℕ → ℕ → Message
 message_of n k = replicate (k * n + 1) 0
 
 length-message_of : (n k : ℕ) → length (message_of n k) ≡ k * n + 1
 length-message_of n k = length-replicate {A = ℕ} (k * n + 1) 0
 
-pub pieces-message_of : (n k : ℕ) → 0 < n → length (pieces n (message_of n k)) ≡ k + 1
-pieces-message_of n k room =
+pub segments-message_of : (n k : ℕ) → 0 < n → length (segments n (message_of n k)) ≡ k + 1
+segments-message_of n k room =
     let less : length (message_of n k) - 1 ≡ k * n = omega (arith, length-message_of n k) in
-    length-pieces n (message_of n k) ∙ ap (λ l. l / n + 1) less ∙ ap (λ q. q + 1) (mul-div_cancel k room)
+    length-segments n (message_of n k) ∙ ap (λ l. l / n + 1) less ∙ ap (λ q. q + 1) (mul-div_cancel k room)
 
 few_octets : (n k : ℕ) → n ≤ 20 → k ≤ 7 → k * n ≤ 140
 few_octets n k room few = grind arith
@@ -57,12 +58,12 @@ pub is_message_of : (n k : ℕ) → n ≤ 20 → k ≤ 7 → IsMessage (message_
 is_message_of n k room few =
     record { some = omega (arith, length-message_of n k); most = omega (arith, length-message_of n k, few_octets n k room few) }
 
--- messages that are wholly acknowledged before the place, so that V(A) has this value
+-- `done` messages; with all their segments and `place` more acknowledged, V(A) is `va`
 pub record HasFront (n done va place : ℕ) : Type 0 where
   pub front : List Message
   pub messages : All IsMessage front
   pub count : length front ≡ done
-  pub number : (length (flat_map (pieces n) front) + place) % 8 ≡ va
+  pub number : (length (flat_map (segments n) front) + place) % 8 ≡ va
 
 missing : (va b : ℕ) → va ≤ 7 → ((va + 15 - b % 8) % 8 + 1 + b) % 8 ≡ va
 missing va b few = grind arith
@@ -79,11 +80,11 @@ front_of n (suc d) va place room most few none =
     let k = (va + 15 - (d + place) % 8) % 8 in
     let some : k ≤ 7 = omega arith in
     let m = message_of n k in
-    let size : length (flat_map (pieces n) (m ∷ singles d)) + place ≡ k + 1 + (d + place) = omega (
+    let size : length (flat_map (segments n) (m ∷ singles d)) + place ≡ k + 1 + (d + place) = omega (
       arith,
-      length-append (pieces n m) (flat_map (pieces n) (singles d)),
-      pieces-message_of n k room,
-      pieces-singles n d room,
+      length-append (segments n m) (flat_map (segments n) (singles d)),
+      segments-message_of n k room,
+      segments-singles n d room,
     ) in
     record {
       front = m ∷ singles d;
@@ -92,25 +93,25 @@ front_of n (suc d) va place room most few none =
       number = ap (λ i. i % 8) size ∙ missing va (d + place) few;
     }
 
--- no message ends before the place of a piece of the first one
+-- the segments of the first message before its last complete no message
 ended_before : (n place : ℕ) (held : List Message) → 0 < n → place < count_of n (get_or held 0 []) →
-    ended (take place (flat_map (pieces n) held)) ≡ 0
+    ended_count (take place (flat_map (segments n) held)) ≡ 0
 ended_before n zero [] room h = refl
 ended_before n (suc place) [] room h = refl
 ended_before n place (m ∷ ms) room h =
-    let front : length (pieces n m ++ []) ≡ count_of n m = omega (arith, length-append (pieces n m) [], length-pieces n m) in
-    let not_one : 1 ≤ ended (take place (flat_map (pieces n) (m ∷ ms))) → ⊥ = λ one. omega
+    let front : length (segments n m ++ []) ≡ count_of n m = omega (arith, length-append (segments n m) [], length-segments n m) in
+    let not_one : 1 ≤ ended_count (take place (flat_map (segments n) (m ∷ ms))) → ⊥ = λ one. omega
     (arith, front, h, (ended-whole n place 1 (m ∷ ms) (omega arith)).0 one) in
     omega (arith, not_one)
 
--- messages of which so many pieces are acknowledged, that just this is held
+-- if `acked` segments of the messages `taken` are acknowledged, then exactly `held` and `place` remain
 pub record IsPast (n done va place sent : ℕ) (held taken : List Message) (acked : ℕ) : Type 0 where
   pub messages : All IsMessage taken
-  pub within : acked + sent ≤ length (flat_map (pieces n) taken)
+  pub within : acked + sent ≤ length (flat_map (segments n) taken)
   pub number : acked % 8 ≡ va
-  pub wholly : ended (take acked (flat_map (pieces n) taken)) ≡ done
+  pub wholly : ended_count (take acked (flat_map (segments n) taken)) ≡ done
   pub rest : held ≡ drop done taken
-  pub next : drop place (flat_map (pieces n) held) ≡ drop acked (flat_map (pieces n) taken)
+  pub next : drop place (flat_map (segments n) held) ≡ drop acked (flat_map (segments n) taken)
 
 pub record HasPast (n done va place sent : ℕ) (held : List Message) : Type 0 where
   pub taken : List Message
@@ -118,13 +119,13 @@ pub record HasPast (n done va place sent : ℕ) (held : List Message) : Type 0 w
   pub past : IsPast n done va place sent held taken acked
 
 pub past_of : (n done va place sent : ℕ) (held : List Message) → 1 ≤ n → n ≤ 20 → va ≤ 7 → All IsMessage held →
-    place < count_of n (get_or held 0 []) → place + sent ≤ length (flat_map (pieces n) held) → (done ≡ 0 → va ≡ place % 8) →
+    place < count_of n (get_or held 0 []) → place + sent ≤ length (flat_map (segments n) held) → (done ≡ 0 → va ≡ place % 8) →
     HasPast n done va place sent held
 past_of n done va place sent held room most few messages below within none =
     let f = front_of n done va place room most few none in
-    let p = flat_map (pieces n) f.front in
-    let q = flat_map (pieces n) held in
-    let all : flat_map (pieces n) (f.front ++ held) ≡ p ++ q = flat_map-append (pieces n) f.front held in
+    let p = flat_map (segments n) f.front in
+    let q = flat_map (segments n) held in
+    let all : flat_map (segments n) (f.front ++ held) ≡ p ++ q = flat_map-append (segments n) f.front held in
     let acked = length p + place in
     record {
       taken = f.front ++ held;
@@ -133,9 +134,10 @@ past_of n done va place sent held room most few messages below within none =
         messages = All-append IsMessage f.front held f.messages messages;
         within = omega (arith, ap length all, length-append p q, within);
         number = f.number;
-        wholly = ap (λ ps. ended (take acked ps)) all ∙ ap ended (take-append-add p q place) ∙ ended-append p (take place q) ∙ ap
-            (λ i. ended p + i) (ended_before n place held room below)
-            ∙ (let e : ended p + 0 ≡ done = omega (arith, ended-all n f.front, f.count) in e);
+        wholly = ap (λ ps. ended_count (take acked ps)) all ∙ ap ended_count (take-append-add p q place) ∙ ended-append p (take place q)
+            ∙ ap
+            (λ i. ended_count p + i) (ended_before n place held room below)
+            ∙ (let e : ended_count p + 0 ≡ done = omega (arith, ended-all n f.front, f.count) in e);
         rest = sym (ap (λ i. drop i (f.front ++ held)) (sym f.count) ∙ drop-append_seam f.front held);
         next = sym (ap (drop acked) all ∙ drop-append-add p q place);
       };

@@ -1,8 +1,8 @@
--- What a call that is not refused tells.
+-- What follows if a call is not refused.
 use Rattle.std.proofs.Common.{◌≡◌, refl, sym, arith, Bool, true, false, not, nat_eq, nat_lt, List, ◌∷◌, length, None}
 use Rattle.std.proofs.lemmas.Bool.{false≢true}
 use Rattle.std.proofs.lemmas.Bool.Decides.{nat_tests}
-use Rattle.segmenting.specs.Pieces.{Message, IsMessage}
+use Rattle.segmenting.specs.Segments.{Message, IsMessage}
 use Rattle.lapdm_window.specs.declared.State.{State}
 use Rattle.lapdm_window.specs.declared.State.TheVariants as S
 use Rattle.lapdm_window.specs.declared.Refused.{Refused}

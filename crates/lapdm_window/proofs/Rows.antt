@@ -1,4 +1,4 @@
--- Sessions of one end, worked by hand.
+-- Worked sessions of one endpoint.
 use Rattle.std.proofs.Common.{◌≡◌, Bool, ℕ, true, false, List, [], ◌∷◌, ◌++◌, map, replicate, refl, Ok, Err, Result}
 use Rattle.lapdm_frame.specs.declared.Channel.TheVariants.{Sdcch, Sacch}
 use Rattle.lapdm_frame.specs.Content.{Content, I, Sabm, Dm, Ua, Rnr}
@@ -11,10 +11,10 @@ use Rattle.lapdm_window.specs.declared.Reason.TheVariants as R
 use Rattle.lapdm_window.specs.declared.Refused.{Refused}
 use Rattle.lapdm_window.specs.declared.Refused.TheVariants as No
 use Rattle.lapdm_window.specs.Ends.{EndState, start, Mobile, Network, Outcome}
-use Rattle.lapdm_window.specs.Calls.{Opens, OpensBare, Sends, SendsUnit, Closes, Ticks}
+use Rattle.lapdm_window.specs.Calls.{Opens, OpensBare, Sends, SendsUnit, Closes, T200Expires}
 use Rattle.lapdm_window.specs.Steps.{Input, Asked, Received, step}
 
--- what is seen of a step: the blocks and the notices, or the refusal
+-- what a step shows: its blocks and notices, or the refusal
 abbrev Seen : Type 0
 Seen = Result (List (List ℕ) × List Notice) Refused
 
@@ -43,14 +43,14 @@ sent octets fill = Ok (block octets fill ∷ [], [])
 abbrev reported : Notice → Seen
 reported n = Ok ([], n ∷ [])
 
--- a command of the mobile and a response of the network have the same C/R
+-- C/R is 0 in commands of the mobile and responses of the network, 1 in the others
 abbrev from_mobile : Content → Input
 from_mobile content = Received (record { sapi = 0; cr = false; content = content })
 
 abbrev from_network : Content → Input
 from_network content = Received (record { sapi = 0; cr = false; content = content })
 
--- a network that is opened, and given its frames again
+-- a network is opened, and receives the frames again
 opened_network : session (start Network Zero Sdcch)
     (from_mobile (Sabm true (0x01 ∷ [])) ∷ from_mobile (I 0 0 false false (0xaa ∷ [])) ∷ from_mobile (Sabm true (0x01 ∷ []))
     ∷ from_mobile (Sabm true (0x02 ∷ [])) ∷ from_mobile (I 0 0 false false (0xaa ∷ [])) ∷ from_mobile (I 0 0 false false (0xaa ∷ [])) ∷ [])
@@ -59,9 +59,9 @@ opened_network : session (start Network Zero Sdcch)
     ∷ sent (0x01 ∷ 0x73 ∷ 0x05 ∷ 0x01 ∷ []) 19 ∷ nothing ∷ sent (0x01 ∷ 0x29 ∷ 0x01 ∷ []) 20 ∷ nothing ∷ []
 opened_network = refl
 
--- a mobile that is refused each call out of order, and then meets another mobile's answer
+-- a mobile refuses each call in a wrong state, then receives the answer to another mobile
 contending_mobile : session (start Mobile Zero Sdcch)
-    (Asked (Sends (0xaa ∷ [])) ∷ Asked Closes ∷ Asked Ticks ∷ Asked (Opens []) ∷ Asked (Opens (0x01 ∷ [])) ∷ Asked (Opens (0x01 ∷ []))
+    (Asked (Sends (0xaa ∷ [])) ∷ Asked Closes ∷ Asked T200Expires ∷ Asked (Opens []) ∷ Asked (Opens (0x01 ∷ [])) ∷ Asked (Opens (0x01 ∷ []))
     ∷ Asked (SendsUnit (replicate 21 0)) ∷ from_network (Ua true (0x02 ∷ [])) ∷ [])
     ≡ Err No.NotOpen ∷ Err No.NotOpen ∷ Err No.NotRunning ∷ Err No.Empty ∷ sent (0x01 ∷ 0x3f ∷ 0x05 ∷ 0x01 ∷ []) 19
     ∷ Err No.NotIdle ∷ Err No.TooLong ∷ reported (N.Closed R.Contention) ∷ []
@@ -71,19 +71,19 @@ refused_mobile : session (start Mobile Zero Sdcch) (Asked (Opens (0x01 ∷ [])) 
     ≡ sent (0x01 ∷ 0x3f ∷ 0x05 ∷ 0x01 ∷ []) 19 ∷ reported (N.Closed R.Refused) ∷ []
 refused_mobile = refl
 
--- both ends open SAPI 3 at once
+-- both sides open SAPI 3 at once
 collision_on_sapi_3 : session (start Mobile Three Sdcch)
     (Asked OpensBare ∷ Asked OpensBare ∷ Received (record { sapi = 3; cr = true; content = Sabm true [] })
     ∷ Received (record { sapi = 3; cr = false; content = Ua true [] }) ∷ [])
     ≡ sent (0x0d ∷ 0x3f ∷ 0x01 ∷ []) 20 ∷ Err No.NotIdle ∷ sent (0x0f ∷ 0x73 ∷ 0x01 ∷ []) 20 ∷ reported (N.Opened []) ∷ []
 collision_on_sapi_3 = refl
 
--- the SABM of a mobile on SACCH goes out six times, and then it gives up
-unanswered_on_sacch : session (start Mobile Zero Sacch) (Asked (Opens (0x01 ∷ [])) ∷ replicate 6 (Asked Ticks))
+-- a mobile on SACCH sends its SABM six times, then gives up
+unanswered_on_sacch : session (start Mobile Zero Sacch) (Asked (Opens (0x01 ∷ [])) ∷ replicate 6 (Asked T200Expires))
     ≡ replicate 6 (sent (0x00 ∷ 0x00 ∷ 0x01 ∷ 0x3f ∷ 0x05 ∷ 0x01 ∷ []) 17) ++ reported (N.Closed R.Failed) ∷ []
 unanswered_on_sacch = refl
 
--- frames that are ignored: a command's C/R of a response, another SAPI, an RNR, a response's C/R of a command
+-- ignored frames: a response with the C/R of a command, another SAPI, an RNR, a command with the C/R of a response
 ignored_frames : session (record (start Network Zero Sdcch) { state = S.Open; kept = 0x01 ∷ [] })
     (Received (record { sapi = 0; cr = true; content = I 0 0 false false (0xaa ∷ []) })
     ∷ Received (record { sapi = 5; cr = false; content = I 0 0 false false (0xaa ∷ []) })
@@ -91,21 +91,21 @@ ignored_frames : session (record (start Network Zero Sdcch) { state = S.Open; ke
     ≡ replicate 4 nothing
 ignored_frames = refl
 
--- a message that is too long is reported at its last piece, and the next one is whole
-abbrev piece_of : ℕ → Bool → List ℕ → Input
-piece_of ns more octets = from_mobile (I ns 0 false more octets)
+-- an oversize message is reported at its last segment, and the next message is complete
+abbrev segment_of : ℕ → Bool → List ℕ → Input
+segment_of ns more octets = from_mobile (I ns 0 false more octets)
 
 abbrev ready : ℕ → Seen
 ready control = sent (0x01 ∷ control ∷ 0x01 ∷ []) 20
 
 oversize_message : session (record (start Network Zero Sdcch) { state = S.Open; kept = 0x01 ∷ [] })
-    (piece_of 0 true (replicate 20 7) ∷ piece_of 1 true (replicate 20 7) ∷ piece_of 2 true (replicate 20 7) ∷ piece_of 3 true
+    (segment_of 0 true (replicate 20 7) ∷ segment_of 1 true (replicate 20 7) ∷ segment_of 2 true (replicate 20 7) ∷ segment_of 3 true
     (replicate 20 7)
-    ∷ piece_of 4 true (replicate 20 7) ∷ piece_of 5 true (replicate 20 7) ∷ piece_of 6 true (replicate 20 7) ∷ piece_of 7 true
+    ∷ segment_of 4 true (replicate 20 7) ∷ segment_of 5 true (replicate 20 7) ∷ segment_of 6 true (replicate 20 7) ∷ segment_of 7 true
     (replicate 20 7)
-    ∷ piece_of 0 true (replicate 20 7) ∷ piece_of 1 true (replicate 20 7) ∷ piece_of 2 true (replicate 20 7) ∷ piece_of 3 true
+    ∷ segment_of 0 true (replicate 20 7) ∷ segment_of 1 true (replicate 20 7) ∷ segment_of 2 true (replicate 20 7) ∷ segment_of 3 true
     (replicate 20 7)
-    ∷ piece_of 4 true (replicate 20 7) ∷ piece_of 5 false (7 ∷ []) ∷ piece_of 6 false (0xaa ∷ []) ∷ [])
+    ∷ segment_of 4 true (replicate 20 7) ∷ segment_of 5 false (7 ∷ []) ∷ segment_of 6 false (0xaa ∷ []) ∷ [])
     ≡ ready 0x21 ∷ ready 0x41 ∷ ready 0x61 ∷ ready 0x81 ∷ ready 0xa1 ∷ ready 0xc1 ∷ ready 0xe1 ∷ ready 0x01
     ∷ ready 0x21 ∷ ready 0x41 ∷ ready 0x61 ∷ ready 0x81 ∷ ready 0xa1
     ∷ Ok (block (0x01 ∷ 0xc1 ∷ 0x01 ∷ []) 20 ∷ [], N.Oversize ∷ []) ∷ Ok

@@ -1,4 +1,4 @@
--- What holds of a step, of each that is not refused.
+-- The laws of a step, from the lemmas on calls and on frames.
 use Rattle.std.proofs.Common.{◌≡◌, refl, ◌≤◌, length, All, Option, Some, None}
 use Rattle.std.specs.Prelude.{IfOk}
 use Rattle.std.proofs.lemmas.List.Elements.{All-weaker}
@@ -10,7 +10,7 @@ use Rattle.lapdm_window.specs.Ends.{EndState, Outcome, IsEnd}
 use Rattle.lapdm_window.specs.Calls.{refusal_of, after_call}
 use Rattle.lapdm_window.specs.Tables.{after_frame}
 use Rattle.lapdm_window.specs.Steps.{Input, Asked, Received, MayTake, answer_unless, step, IsSameLink}
-use Rattle.lapdm_window.proofs.Thens.{HandsUp}
+use Rattle.lapdm_window.proofs.Thens.{Delivers}
 use Rattle.lapdm_window.proofs.Few.{AtMost, few-frame, few-call}
 use Rattle.lapdm_window.proofs.Keeping.{Keeps, keeps-frame, keeps-call}
 
@@ -25,8 +25,8 @@ few (Received f) e P h = h (after_frame f e) (few-frame f e)
 pub step-few : (input : Input) (e : EndState) → IfOk (step input e) (λ o. (length o.frames ≤ 2) × (length o.notices ≤ 2))
 step-few input e = few input e (λ o. (length o.frames ≤ 2) × (length o.notices ≤ 2)) (λ o h. (h.frames, h.notices))
 
-pub step-hands_up : (input : Input) (e : EndState) → IfOk (step input e) (λ o. HandsUp e o)
-step-hands_up input e = few input e (λ o. HandsUp e o) (λ o h. h.handed)
+pub step-delivers : (input : Input) (e : EndState) → IfOk (step input e) (λ o. Delivers e o)
+step-delivers input e = few input e (λ o. Delivers e o) (λ o h. h.delivered)
 
 keeps : (input : Input) (e : EndState) (P : Outcome → Type 0) → IsEnd e → MayTake e input → ((o : Outcome) → Keeps e o → P o) →
     IfOk (step input e) P

@@ -1,5 +1,5 @@
--- One end of one data link (GSM 04.06, section 5), with its whole history: counts have no bound, and nothing
--- is forgotten.
+-- An endpoint of a data link (GSM 04.06, section 5) with its whole history: counts are
+-- unbounded, and nothing is forgotten.
 use Rattle.std.specs.Prelude.{◌≡◌, ℕ, ◌+◌, ◌-◌, ◌%◌, ◌^◌, ◌≤◌, min, Bool, true, false, not, nat_eq, List}
 use Rattle.std.specs.Prelude.{[], ◌∷◌, ◌++◌, length, take, slice_index_or, All}
 use Rattle.std.specs.List.{flat_map}
@@ -7,38 +7,40 @@ use Rattle.lapdm_frame.specs.declared.Channel.{Channel}
 use Rattle.lapdm_frame.specs.declared.Channel.TheVariants.{Sdcch}
 use Rattle.lapdm_frame.specs.Layout.{n201}
 use Rattle.lapdm_frame.specs.Content.{Content, Frame}
-use Rattle.segmenting.specs.Pieces.{Message, Piece, IsMessage, pieces}
-use Rattle.segmenting.specs.Joining.{ended}
+use Rattle.segmenting.specs.Segments.{Message, Segment, IsMessage, segments}
+use Rattle.segmenting.specs.Joining.{ended_count}
 use Rattle.lapdm_window.specs.declared.Sapi.{Sapi}
 use Rattle.lapdm_window.specs.declared.Sapi.TheVariants.{Zero, Three}
 use Rattle.lapdm_window.specs.declared.State.{State}
 use Rattle.lapdm_window.specs.declared.State.TheVariants.{Idle, Opening, Open, Closing}
 use Rattle.lapdm_window.specs.declared.Notice.{Notice}
 
+-- the side to which an endpoint belongs
 pub data Role : Type 0 where
   Mobile : Role
   Network : Role
 
+-- the state of an endpoint
 pub record EndState : Type 0 where
   pub role : Role
   pub sapi : Sapi
   pub channel : Channel
   pub state : State
-  -- the information of the SABM that it sent, or that it was opened by
+  -- the information of the SABM that it sent or that opened it
   pub kept : Message
-  -- all messages that it ever took
+  -- all messages that layer 3 has sent
   pub taken : List Message
-  -- how many of their pieces are acknowledged, and how many are sent
+  -- how many of their segments are acknowledged, and how many are sent
   pub acked : ℕ
   pub sent : ℕ
-  -- all pieces that it ever accepted
-  pub accepted : List Piece
-  -- the reject condition: a REJ was sent, and no piece was accepted since
+  -- all segments that it has accepted
+  pub accepted : List Segment
+  -- the reject condition: a REJ was sent, and no segment was accepted since
   pub rejecting : Bool
-  -- how often the frame that awaits an answer went out again
+  -- how often the frame that awaits an answer was repeated
   pub retries : ℕ
 
--- an end before its first call and frame
+-- an endpoint in its initial state
 abbrev pub start : Role → Sapi → Channel → EndState
 start role sapi channel = record {
   role = role;
@@ -54,29 +56,29 @@ start role sapi channel = record {
   retries = 0;
 }
 
--- the pieces of all messages taken
-abbrev pub all_pieces : EndState → List Piece
-all_pieces e = flat_map (pieces (n201 e.channel)) e.taken
+-- the segments of all messages sent
+abbrev pub all_segments : EndState → List Segment
+all_segments e = flat_map (segments (n201 e.channel)) e.taken
 
--- the piece that an I frame which waits carries, and the next unsent one where none waits
-abbrev pub next_piece : EndState → Piece
-next_piece e = slice_index_or (all_pieces e) e.acked ([], false)
+-- the outstanding segment, or the next one to be sent if none is outstanding
+abbrev pub next_segment : EndState → Segment
+next_segment e = slice_index_or (all_segments e) e.acked ([], false)
 
--- the window is one frame (section 5.8.4): at most one piece is sent and not acknowledged
+-- the window is one frame (section 5.8.4): at most one segment is sent and not acknowledged
 pub record KeepsWindow (e : EndState) : Type 0 where
   pub messages : All IsMessage e.taken
-  pub sent : e.sent ≤ length (all_pieces e)
+  pub sent : e.sent ≤ length (all_segments e)
   pub behind : e.acked ≤ e.sent
   pub window : e.sent ≤ e.acked + 1
 
--- the link was not open yet
+-- the link has not been open yet
 abbrev pub IsUnopened : State → Type 0
 IsUnopened Idle = Unit {0}
 IsUnopened Opening = Unit {0}
 IsUnopened other = ⊥
 
--- what holds of an end after whatever calls and frames: the kept information fits in a frame, and on SAPI 3
--- there is none; before Open no message was taken, and no piece accepted
+-- the invariant of an endpoint: the window is kept; the kept information fits in a frame, and
+-- is empty on SAPI 3; before Open layer 3 has sent no message, and no segment has been accepted
 pub record IsEnd (e : EndState) : Type 0 where
   pub window : KeepsWindow e
   pub kept : length e.kept ≤ n201 e.channel
@@ -84,11 +86,11 @@ pub record IsEnd (e : EndState) : Type 0 where
   pub taken : IsUnopened e.state → e.taken ≡ []
   pub accepted : IsUnopened e.state → e.accepted ≡ []
 
--- an I frame waits for its acknowledgement
+-- an I frame is outstanding: sent and not acknowledged
 abbrev pub waits : EndState → Bool
 waits e = not (nat_eq e.sent e.acked)
 
--- V(S), V(A) and V(R) (section 3.5.2)
+-- V(S), V(A) and V(R), each 0 to 7 (section 3.5.2)
 abbrev pub vs : EndState → ℕ
 vs e = e.sent % 8
 
@@ -98,23 +100,24 @@ va e = e.acked % 8
 abbrev pub vr : EndState → ℕ
 vr e = length e.accepted % 8
 
--- how many messages are wholly acknowledged: so many as the acknowledged pieces end
+-- how many messages are wholly acknowledged: those that the acknowledged segments complete
 abbrev pub wholly_acked : EndState → ℕ
-wholly_acked e = ended (take e.acked (all_pieces e))
+wholly_acked e = ended_count (take e.acked (all_segments e))
 
-abbrev pub unacked : EndState → ℕ
-unacked e = length e.taken - wholly_acked e
+-- how many messages are not wholly acknowledged
+abbrev pub unacked_messages : EndState → ℕ
+unacked_messages e = length e.taken - wholly_acked e
 
--- a message's number, as a notice has room for it (this project's own rule)
-abbrev pub capped : ℕ → ℕ
-capped n = min n (2 ^ 64 - 1)
+-- the number of a message as a `Notice` holds it, at most 2^64 - 1 (this project's own rule)
+abbrev pub capped_number : ℕ → ℕ
+capped_number n = min n (2 ^ 64 - 1)
 
--- how often a frame goes out again before the link is given up (N200, section 5.8.2)
+-- N200 (section 5.8.2): how often a frame is repeated before the link fails
 abbrev pub n200 : Channel → State → ℕ
 n200 Sdcch Open = 23
 n200 channel state = 5
 
--- a frame awaits an answer: the SABM, the DISC, or the I frame that waits
+-- a frame awaits an answer: a SABM, a DISC, or the outstanding I frame
 abbrev pub awaits_in : State → Bool → Bool
 awaits_in Opening waiting = true
 awaits_in Closing waiting = true
@@ -124,37 +127,42 @@ awaits_in other waiting = false
 abbrev pub awaits : EndState → Bool
 awaits e = awaits_in e.state (waits e)
 
--- what an end does: its state afterwards, and what it sends and reports
+-- the result of a step: the state afterwards, the frames sent, and the notices reported to layer 3
 pub record Outcome : Type 0 where
   pub after : EndState
   pub frames : List Frame
   pub notices : List Notice
 
+-- the endpoint does nothing
 abbrev pub stays : EndState → Outcome
 stays e = record { after = e; frames = []; notices = [] }
 
+-- the endpoint sends one frame
 abbrev pub sends_frame : Frame → EndState → Outcome
 sends_frame f e = record { after = e; frames = f ∷ []; notices = [] }
 
+-- the endpoint reports one notice to layer 3
 abbrev pub reports : Notice → EndState → Outcome
 reports n e = record { after = e; frames = []; notices = n ∷ [] }
 
--- one rule after another
+-- sequential composition: `rule` continues from the state after `o`, and its frames and notices are appended
 infixl 30 ◌then◌
 abbrev pub ◌then◌ : Outcome → (EndState → Outcome) → Outcome
 o then rule =
     let next = rule o.after in
     record { after = next.after; frames = o.frames ++ next.frames; notices = o.notices ++ next.notices }
 
--- the C/R of an end's commands (section 3.3.2); its responses have the other
+-- the C/R bit of commands (section 3.3.2); responses have the opposite one
 abbrev pub command_cr : Role → Bool
 command_cr Mobile = false
 command_cr Network = true
 
+-- the SAPI as a number
 abbrev pub sapi_number : Sapi → ℕ
 sapi_number Zero = 0
 sapi_number Three = 3
 
+-- a command and a response of the endpoint
 abbrev pub command : EndState → Content → Frame
 command e content = record { sapi = sapi_number e.sapi; cr = command_cr e.role; content = content }
 

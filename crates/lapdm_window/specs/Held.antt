@@ -1,7 +1,7 @@
--- What a window holds.
+-- The messages that a window holds.
 use Rattle.std.specs.Prelude.{List}
-use Rattle.segmenting.specs.Pieces.{Message}
+use Rattle.segmenting.specs.Segments.{Message}
 
--- messages, in the order in which they were taken
+-- messages, in the order in which layer 3 sent them
 pub record Messages : Type 0 where
   pub items : List Message

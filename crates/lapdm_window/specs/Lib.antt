@@ -1,3 +1,5 @@
+pub use Rattle.lapdm_frame.specs as lapdm_frame
+pub use Rattle.segmenting.specs as segmenting
 pub mod Held
 pub mod Ends
 pub mod Rules
@@ -5,6 +7,6 @@ pub mod Tables
 pub mod Calls
 pub mod Steps
 pub mod Answers
-pub mod Standing
+pub mod Abstraction
 pub mod Parts
 pub mod Sides

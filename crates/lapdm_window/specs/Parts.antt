@@ -1,17 +1,18 @@
--- A window as plain values.
+-- The value of a window as plain data.
 use Rattle.std.specs.Prelude.{◌≡◌, ◌⊎◌, ◌+◌, ◌%◌, ◌<◌, ◌≤◌, ℕ, Bool, List, [], length, map}
 use Rattle.std.specs.Prelude.{slice_index_or, All}
 use Rattle.lapdm_frame.specs.declared.Channel.{Channel}
 use Rattle.lapdm_frame.specs.Layout.{n201}
-use Rattle.segmenting.specs.Pieces.{Message, IsMessage, count_of, longest}
-use Rattle.segmenting.specs.Rooms.{octets_in}
+use Rattle.segmenting.specs.Segments.{Message, IsMessage, count_of, longest}
+use Rattle.segmenting.specs.Buffers.{octets_in}
 use Rattle.segmenting.specs.Parts.{JoinerValues}
 use Rattle.segmenting.specs.Parts as J
 use Rattle.lapdm_window.specs.declared.window.Window.{Window}
 use Rattle.lapdm_window.specs.declared.window.parts.WindowParts.{WindowParts}
 use Rattle.lapdm_window.specs.Ends.{EndState}
-use Rattle.lapdm_window.specs.Standing.{Stands}
+use Rattle.lapdm_window.specs.Abstraction.{Represents}
 
+-- the value of a window
 pub record WindowValues : Type 0 where
   pub channel : Channel
   pub held : List Message
@@ -24,7 +25,7 @@ pub record WindowValues : Type 0 where
   pub retries : ℕ
   pub joiner : JoinerValues
 
--- what a window holds
+-- the value of this window
 abbrev pub values_of : Window → WindowValues
 values_of w = record {
   channel = w.channel;
@@ -39,7 +40,7 @@ values_of w = record {
   joiner = J.values_of w.joiner;
 }
 
--- what its parts say
+-- the value that a `WindowParts` of the program represents
 abbrev pub said_by : WindowParts → WindowValues
 said_by p = record {
   channel = p.channel;
@@ -54,22 +55,23 @@ said_by p = record {
   joiner = record { octets = p.joined.now; part = p.part };
 }
 
--- a window that holds this stands for the end
-pub record StandFor (x : WindowValues) (e : EndState) : Type 0 where
+-- some window with these values represents the endpoint e
+pub record ValuesRepresent (x : WindowValues) (e : EndState) : Type 0 where
   pub window : Window
   pub values : values_of window ≡ x
-  pub stands : Stands window e
+  pub represents : Represents window e
 
--- a window that holds this stands for some end
+-- some window with these values represents some endpoint
 abbrev pub AreOfAWindow : WindowValues → Type 0
-AreOfAWindow x = (e : EndState) × StandFor x e
+AreOfAWindow x = (e : EndState) × ValuesRepresent x e
 
--- for the body of the test: what all of these have
+-- for the body of the test: at most eight messages, each of 1 to 251 octets
 pub record AreHeld (held : List Message) : Type 0 where
   pub few : length held ≤ 8
   pub messages : All IsMessage held
 
-pub record AreInStep (x : WindowValues) : Type 0 where
+-- for the body of the test: the conditions that the values in `AreOfAWindow` meet
+pub record AreConsistent (x : WindowValues) : Type 0 where
   pub held : AreHeld x.held
   pub within : x.place < count_of (n201 x.channel) (slice_index_or x.held 0 [])
   pub waiting : (x.vs ≡ x.va) ⊎ ((x.vs ≡ (x.va + 1) % 8) × (1 ≤ length x.held))

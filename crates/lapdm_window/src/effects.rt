@@ -1,11 +1,11 @@
-//! What an end sends and reports. Both lists lie in the value itself, so that an end writes them into its
-//! caller's room, and a list is emptied by its length alone.
+//! What an endpoint sends and reports. Both lists are stored inline, so an endpoint
+//! writes them into a buffer of the caller, and clearing one only resets its length.
 ghost use Rattle.std.specs.Prelude.{◌≡◌, ◌<◌, ◌≤◌, [], ◌∷◌, ◌++◌, length};
 
 use crate::Notice;
 use std::marker::Model;
 
-/// What a call of an end sends, and what it reports.
+/// The frames that a call sends and the notices that it reports.
 #[derive(Debug, Drop)]
 pub struct Effects {
     pub frames: Frames,
@@ -13,7 +13,7 @@ pub struct Effects {
 }
 
 impl Effects {
-    /// Nothing is sent, and nothing reported.
+    /// No frames and no notices.
     pub fn new() -> Effects
         ensures frames { result.frames ≡ [] }
         ensures notices { result.notices ≡ [] }
@@ -24,7 +24,7 @@ impl Effects {
         }
     }
 
-    /// Drops what stands in it.
+    /// Removes all frames and notices.
     pub fn clear(&mut self)
         ensures frames { self.new.frames ≡ [] }
         ensures notices { self.new.notices ≡ [] }
@@ -41,7 +41,7 @@ pub struct Frames {
     len: usize,
 }
 
-// Clauses see the list of blocks, each a list of octets.
+// Contracts see a list of blocks, each a list of octets.
 impl Model for Frames {
     ghost use Rattle.std.specs.Prelude.{◌≤◌, List, ℕ, take};
 
@@ -62,7 +62,7 @@ impl Frames {
         }
     }
 
-    /// Drops all blocks.
+    /// Removes all blocks.
     pub fn clear(&mut self)
         ensures { self.new ≡ [] }
     {
@@ -94,7 +94,7 @@ pub struct Notices {
     len: usize,
 }
 
-// Clauses see the list of notices.
+// Contracts see a list of notices.
 impl Model for Notices {
     ghost use Rattle.std.specs.Prelude.{◌≤◌, List, take};
     ghost use Rattle.lapdm_window.specs.declared.Notice.{Notice};
@@ -110,14 +110,14 @@ impl Notices {
     pub fn new() -> Notices
         ensures { result ≡ [] }
     {
-        // A notice with a field is filled where it lies; one without is made elsewhere and copied.
+        // A variant with a field is initialised in place; one without would be built elsewhere and copied.
         Notices {
             items: [Notice::Acked(0), Notice::Acked(0), Notice::Acked(0)],
             len: 0,
         }
     }
 
-    /// Drops all notices.
+    /// Removes all notices.
     pub fn clear(&mut self)
         ensures { self.new ≡ [] }
     {

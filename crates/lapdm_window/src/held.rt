@@ -1,27 +1,28 @@
-//! The messages that a window holds, each in a room of its own. They are written where they lie, and dropped by their count alone.
+//! The messages that a window holds, in fixed buffers. They are written in place;
+//! removing them only changes the count.
 
 ghost use Rattle.std.specs.Prelude.{◌≡◌, ◌<◌, ◌≤◌, ◌==◌, [], ◌∷◌, ◌++◌, length, map, drop, slice_index_or};
-ghost use Rattle.segmenting.specs.Rooms.{octets_in};
+ghost use Rattle.segmenting.specs.Buffers.{octets_in};
 
 use segmenting::PlainMessage;
 use std::marker::Model;
 
-/// At most eight messages, in the order in which they were taken.
+/// At most eight messages, in the order in which layer 3 sent them.
 #[derive(Debug, Drop)]
 pub(crate) struct Held {
-    rooms: [PlainMessage; 8],
+    buffers: [PlainMessage; 8],
     len: usize,
 }
 
-// Clauses see the list of messages.
+// Contracts see a list of messages.
 impl Model for Held {
     ghost use Rattle.std.specs.Prelude.{◌≤◌, map, take};
-    ghost use Rattle.segmenting.specs.Rooms.{octets_in};
+    ghost use Rattle.segmenting.specs.Buffers.{octets_in};
     ghost use Rattle.lapdm_window.specs.Held.{Messages};
 
     ghost Value = { Messages };
 
-    ghost view = { λ h. record { items = map octets_in (take h.len h.rooms) } };
+    ghost view = { λ h. record { items = map octets_in (take h.len h.buffers) } };
 
     ghost invariant = { λ h. h.len ≤ 8 };
 }
@@ -31,7 +32,7 @@ impl Held {
         ensures { result.items ≡ [] }
     {
         Held {
-            rooms: [PlainMessage::empty(); 8],
+            buffers: [PlainMessage::empty(); 8],
             len: 0,
         }
     }
@@ -57,12 +58,12 @@ impl Held {
     }
 
     pub(crate) fn push(&mut self, message: &[u8])
-        requires room { length self.old.items < 8 }
+        requires space { length self.old.items < 8 }
         requires fits { length message.now ≤ 255 }
         ensures items { self.new.items ≡ self.old.items ++ message.now ∷ [] }
     {
         let len = self.len;
-        self.rooms[len].write(message);
+        self.buffers[len].write(message);
         self.len = len + 1;
     }
 
@@ -71,7 +72,7 @@ impl Held {
         ensures items { self.new.items ≡ drop 1 self.old.items }
     {
         let len = self.len;
-        self.rooms[0..len].rotate_left(1);
+        self.buffers[0..len].rotate_left(1);
         self.len = len - 1;
     }
 
@@ -79,23 +80,23 @@ impl Held {
         requires { 1 ≤ length self.now.items }
         ensures { result.now ≡ slice_index_or self.now.items 0 [] }
     {
-        self.rooms[0].octets()
+        self.buffers[0].octets()
     }
 
     pub(crate) fn as_slice(&self) -> &[PlainMessage]
         ensures value { map octets_in result.now ≡ self.now.items }
         ensures most { length result.now ≤ 8 }
     {
-        &self.rooms[..self.len]
+        &self.buffers[..self.len]
     }
 
-    /// Holds these messages and no others.
-    pub(crate) fn restore(&mut self, rooms: &[PlainMessage])
-        requires { length rooms.now ≤ 8 }
-        ensures items { self.new.items ≡ map octets_in rooms.now }
+    /// Overwrites the list with these messages.
+    pub(crate) fn restore(&mut self, buffers: &[PlainMessage])
+        requires { length buffers.now ≤ 8 }
+        ensures items { self.new.items ≡ map octets_in buffers.now }
     {
-        let len = rooms.len();
-        self.rooms[0..len].copy_from_slice(rooms);
+        let len = buffers.len();
+        self.buffers[0..len].copy_from_slice(buffers);
         self.len = len;
     }
 }

@@ -1,6 +1,6 @@
-//! The window of an end of a data link (GSM 04.06, section 5.5): messages out in pieces, one of which
-//! waits for its acknowledgement, and pieces in. With it stand the types of an end's calls, and the
-//! definition of a whole end. No call takes memory.
+//! The definition of an endpoint of a data link, and its window (GSM 04.06, section
+//! 5.5): sends messages in segments, one outstanding at a time, and accepts segments.
+//! Also the types of an endpoint's calls. No call allocates.
 #![tactic(auto)]
 
 ghost use Rattle.std.specs.Prelude.{◌≡◌, ◌≤◌};
@@ -14,12 +14,13 @@ mod window;
 
 pub use effects::{Effects, Frames, Notices};
 use lapdm_frame::Channel;
-pub use laws::{law_end, law_few, law_frames_fit, law_got, law_wholly_acked};
+pub use laws::{law_delivered, law_end, law_few, law_frames_fit, law_wholly_acked};
 pub use message::Message;
 use segmenting::Joined;
+use thiserror::Error;
 pub use window::{Window, WindowParts};
 
-/// How often a frame goes out again in a state before the link is given up: N200 of GSM 04.06.
+/// N200 of GSM 04.06: how often a frame is repeated in this state before the link fails.
 pub fn n200(channel: Channel, state: State) -> u8
     ensures value { result ≡ most_repeats channel state }
     ensures most { result ≤ 23 }
@@ -30,7 +31,7 @@ pub fn n200(channel: Channel, state: State) -> u8
     }
 }
 
-/// The service access point of a link.
+/// The service access point of a link (SAPI).
 #[derive(Clone, Copy, PartialEq, Eq, Debug)]
 pub enum Sapi {
     /// Signalling.
@@ -39,52 +40,51 @@ pub enum Sapi {
     Three,
 }
 
-/// The state of an end.
+/// The state of an endpoint.
 #[derive(Clone, Copy, PartialEq, Eq, Debug)]
 pub enum State {
-    /// No link yet.
+    /// Not established.
     Idle,
-    /// The other end was asked to open the link.
+    /// A SABM was sent, and its answer is awaited.
     Opening,
-    /// Messages go both ways.
+    /// Established.
     Open,
-    /// The other end was told that the link ends.
+    /// A DISC was sent, and its answer is awaited.
     Closing,
-    /// The link has ended, for good.
+    /// The link has ended; this is final.
     Closed,
 }
 
-/// Why a link was closed.
+/// Why a link is closed.
 #[derive(Clone, Copy, PartialEq, Eq, Debug)]
 pub enum Reason {
-    /// The other end was opened by another mobile.
+    /// The network's endpoint was opened by another mobile (contention resolution).
     Contention,
-    /// A frame went out again as often as it may and was not answered, or the other end is not there.
+    /// A frame was repeated N200 times without answer, or a DM was received in Open.
     Failed,
-    /// The other end did not open the link.
+    /// The other endpoint answered the SABM with a DM.
     Refused,
-    /// One of the ends closed the link.
+    /// One of the endpoints released the link.
     Released,
 }
 
-/// What an end reports.
+/// A report to layer 3 (indication or confirm).
 #[derive(Debug, Drop)]
 pub enum Notice {
-    /// The link is open, by this information.
+    /// The link is established, with this information.
     Opened(Message),
-    /// A message came in whole.
+    /// A message was received over the link.
     Got(Message),
-    /// A message came in one unnumbered frame.
+    /// A message was received in a UI frame, unacknowledged.
     Unit(Message),
-    /// A message is wholly acknowledged: its number among those that this end took, from 1. A number
-    /// past the greatest u64 is given as that.
+    /// A message is wholly acknowledged: its number, from 1, among those sent, saturating at the largest u64.
     Acked(u64),
-    /// A message came in that was too long.
+    /// A received message had more than 251 octets and was discarded.
     Oversize,
     Closed(Reason),
 }
 
-// For lists of other crates whose unused places hold a notice.
+// For lists of other crates, whose unused elements need a value.
 impl Default for Notice {
     fn default() -> Notice
         ensures { result ≡ Notice.Oversize }
@@ -93,39 +93,45 @@ impl Default for Notice {
     }
 }
 
-/// What an end may be asked.
+/// A call of layer 3, or T200 expiry.
 #[derive(Clone, Copy, Drop)]
 pub enum Call<'a> {
-    /// Open the link of SAPI 0, with this information.
+    /// Establish the link of SAPI 0, with this information.
     Open(&'a [u8]),
-    /// Open the link of SAPI 3, with no information.
+    /// Establish the link of SAPI 3, without information.
     OpenBare,
     /// Send a message of 1 to 251 octets, acknowledged.
     Send(&'a [u8]),
-    /// Send a message in one unnumbered frame, outside the link.
+    /// Send a message of at most N201 octets in one UI frame, unacknowledged.
     Unit(&'a [u8]),
-    /// Close the link. What is not acknowledged is given up.
+    /// Release the link. What is not acknowledged is discarded.
     Close,
-    /// The timer T200 has run out.
+    /// T200 expiry.
     Timer,
-    /// Send the fill frame; it is of SAPI 0 whatever the link.
+    /// Send the fill frame, which is of SAPI 0 on either link.
     Idle,
 }
 
-/// Why a call is refused. The first reason that applies, in the order that the call names, is given.
-#[derive(Clone, Copy, PartialEq, Eq, Debug)]
+/// Why a call is refused. The first reason that applies is given, in the order that the call documents.
+#[derive(Clone, Copy, PartialEq, Eq, Debug, Error)]
 pub enum Refused {
-    /// The link was opened before.
+    /// The state is not Idle.
+    #[error("the link was opened before")]
     NotIdle,
-    /// The link is not open.
+    /// The state is not Open.
+    #[error("the link is not open")]
     NotOpen,
-    /// No frame awaits an answer.
+    /// No frame awaits an answer; T200 is not running.
+    #[error("the timer T200 is not running: no frame awaits an answer")]
     NotRunning,
     /// The message has no octets.
+    #[error("the message is empty, expected at least one octet")]
     Empty,
-    /// The message has too many octets.
+    /// The message or information has too many octets.
+    #[error("the message is too long: more than 251 octets, or more than N201 in one frame")]
     TooLong,
     /// Eight messages are not wholly acknowledged.
+    #[error("eight messages are not wholly acknowledged, the most that a link holds")]
     Full,
 }
 
@@ -133,31 +139,31 @@ pub enum Refused {
 #[derive(Clone, Copy, PartialEq, Eq, Debug)]
 pub enum Acked {
     Nothing,
-    /// A piece that is not the last of its message.
+    /// A segment that is not the last of its message.
     Piece,
-    /// The last piece of the message of this number.
+    /// The last segment of the message with this number.
     Message(u64),
 }
 
-/// What becomes of a piece that comes in.
+/// What happens to a received segment.
 #[derive(Clone, Copy, PartialEq, Eq, Debug)]
 pub enum Info {
     Accepted(Joined),
-    /// The piece is dropped.
+    /// The segment is discarded.
     OutOfSequence {
         /// Whether a REJ is due.
         reject: bool,
     },
 }
 
-/// What becomes of the piece that waits when the timer runs out.
+/// What happens to the outstanding segment at T200 expiry.
 #[derive(Clone, Copy, PartialEq, Eq, Debug)]
 pub enum Timer {
-    /// It goes out again.
+    /// It is sent again.
     Again,
-    /// It went out again as often as it may.
+    /// It was already repeated N200 times.
     Spent,
-    /// No piece waits.
+    /// No segment is outstanding.
     NotRunning,
 }
 

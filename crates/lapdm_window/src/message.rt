@@ -1,21 +1,21 @@
-//! A message.
+//! A message of layer 3.
 ghost use Rattle.std.specs.Prelude.{◌≡◌, ◌≤◌, length};
-ghost use Rattle.segmenting.specs.Pieces.{longest};
+ghost use Rattle.segmenting.specs.Segments.{longest};
 
 use segmenting::LONGEST;
 use std::marker::Model;
 
-/// A message of at most 251 octets, which lie in the value itself.
+/// A message of at most 251 octets, stored inline.
 #[derive(Debug, Drop)]
 pub struct Message {
     held: [u8; LONGEST],
     len: usize,
 }
 
-// Clauses see the list of octets.
+// Contracts see a list of octets.
 impl Model for Message {
     ghost use Rattle.std.specs.Prelude.{◌≤◌, List, ℕ, take};
-    ghost use Rattle.segmenting.specs.Pieces.{longest};
+    ghost use Rattle.segmenting.specs.Segments.{longest};
 
     ghost Value = { List ℕ };
 
@@ -24,7 +24,7 @@ impl Model for Message {
     ghost invariant = { λ m. m.len ≤ longest };
 }
 
-// For lists of other crates whose unused places hold a message.
+// For lists of other crates, whose unused elements need a value.
 impl Default for Message {
     ghost use Rattle.std.specs.Prelude.{[]};
 
@@ -49,7 +49,7 @@ impl Message {
         Message { held, len }
     }
 
-    /// Holds these octets and no others.
+    /// Overwrites the message with these octets.
     pub fn write(&mut self, octets: &[u8])
         requires { length octets.now ≤ longest }
         ensures { self.new ≡ octets.now }

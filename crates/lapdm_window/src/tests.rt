@@ -1,6 +1,7 @@
 use super::*;
 use lapdm_frame::Channel;
 use std::process::Abort;
+use std::test::Fail;
 
 fn on_ack(rt: &impl Abort, window: &mut Window, nr: u8) -> Acked {
     assert!(rt; nr <= 7);
@@ -70,7 +71,7 @@ fn receives_by_a_worked_session(rt: HostRuntime) {
     assert_eq!(rt; window.vr(), 1);
 }
 
-// The next piece goes over, and its acknowledgement comes back.
+// Delivers the next segment, and its acknowledgement.
 fn carry(rt: &impl Abort, from: &mut Window, to: &mut Window) -> (Info, Acked) {
     assert!(rt; !from.on_reject());
     assert!(rt; from.send_next());
@@ -134,4 +135,33 @@ fn lists_effects_in_their_order(rt: HostRuntime) {
     assert!(rt;
         matches!(notices.as_slice(), [Notice::Got(m), Notice::Acked(3)] if m.octets() == [7, 8].as_slice())
     );
+}
+
+#[test]
+fn each_refusal_has_its_text(rt: HostRuntime) -> Result<(), Fail> {
+    let texts = [
+        (Refused::NotIdle, "the link was opened before"),
+        (Refused::NotOpen, "the link is not open"),
+        (
+            Refused::NotRunning,
+            "the timer T200 is not running: no frame awaits an answer",
+        ),
+        (
+            Refused::Empty,
+            "the message is empty, expected at least one octet",
+        ),
+        (
+            Refused::TooLong,
+            "the message is too long: more than 251 octets, or more than N201 in one frame",
+        ),
+        (
+            Refused::Full,
+            "eight messages are not wholly acknowledged, the most that a link holds",
+        ),
+    ];
+    for (refusal, text) in texts {
+        let shown = format!(in rt.alloc(); "{refusal}")?;
+        assert_eq!(rt; shown.as_str(), text);
+    }
+    Ok(())
 }

@@ -1,9 +1,9 @@
-//! The window of one frame.
+//! The window of one I frame.
 
 ghost use Rattle.std.specs.Prelude.{◌≡◌, ◌≢◌, ◌+◌, ◌<◌, ◌≤◌, ◌↔◌, length, [], slice_index_or, All};
 ghost use Rattle.std.specs.Prelude.{IsTrue, IsSome, IfSome};
 ghost use Rattle.lapdm_frame.specs.Layout.{n201, most_information};
-ghost use Rattle.segmenting.specs.Pieces.{IsMessage, longest, count_of};
+ghost use Rattle.segmenting.specs.Segments.{IsMessage, longest, count_of};
 
 use crate::held::Held;
 use crate::{Acked, Info, Refused, State, Timer, n200};
@@ -14,14 +14,14 @@ mod parts;
 
 pub use parts::WindowParts;
 
-/// The messages that are not wholly acknowledged, the piece that waits, and what came in.
+/// The messages not wholly acknowledged, the outstanding segment, and the reassembly of received segments.
 #[derive(Debug, Drop)]
 pub struct Window {
     held: Held,
     joiner: Joiner,
-    // The next piece, or the one that waits, as a place among the pieces of the first message.
+    // The index, among the segments of the first message, of the outstanding segment or else the next one.
     place: usize,
-    // How many messages are wholly acknowledged.
+    // The number of wholly acknowledged messages.
     done: u64,
     channel: Channel,
     vs: u8,
@@ -42,27 +42,27 @@ impl Window {
     ghost use Rattle.std.specs.Prelude.{OnOk, OnErr, if◌then◌else◌, Some, slice_get};
     ghost use Rattle.std.specs.Option.{option_map};
     ghost use Rattle.std.specs.Result.{result_err};
-    ghost use Rattle.segmenting.specs.Pieces.{pieces};
+    ghost use Rattle.segmenting.specs.Segments.{segments};
     ghost use Rattle.segmenting.specs.Joining.{latest};
     ghost use Rattle.lapdm_window.specs.declared.Sapi.{Sapi};
     ghost use Rattle.lapdm_window.specs.Ends.{EndState, Role, start, waits, vs, va, vr};
-    ghost use Rattle.lapdm_window.specs.Rules.{has_piece, with_next, counts};
+    ghost use Rattle.lapdm_window.specs.Rules.{has_segment, with_next, counts};
     ghost use Rattle.lapdm_window.specs.Calls.{with_taken};
-    ghost use Rattle.lapdm_window.specs.Answers.{put_refusal, waiting_piece, acked_by, info_answer, after_info, timer_answer, after_timer};
-    ghost use Rattle.lapdm_window.specs.Standing.{Stands, IsWaiting, channel_of};
+    ghost use Rattle.lapdm_window.specs.Answers.{put_refusal, waiting_segment, acked_by, info_answer, after_info, t200_answer, after_t200};
+    ghost use Rattle.lapdm_window.specs.Abstraction.{Represents, IsWaiting, channel_of};
 
-    /// The window of an end on SDCCH, which has taken nothing.
+    /// A window on SDCCH in its initial state.
     pub fn new() -> Window
-        ensures stands { (role : Role) (sapi : Sapi)
-            → Stands result (start role sapi Channel.Sdcch) }
+        ensures represents { (role : Role) (sapi : Sapi)
+            → Represents result (start role sapi Channel.Sdcch) }
         ensures channel { channel_of result ≡ Channel.Sdcch }
     {
         Window::new_on(Channel::Sdcch)
     }
 
-    /// The window of an end on the channel, which has taken nothing.
+    /// A window on the channel in its initial state.
     pub fn new_on(channel: Channel) -> Window
-        ensures stands { (role : Role) (sapi : Sapi) → Stands result (start role sapi channel) }
+        ensures represents { (role : Role) (sapi : Sapi) → Represents result (start role sapi channel) }
         ensures channel { channel_of result ≡ channel }
     {
         Window {
@@ -79,12 +79,12 @@ impl Window {
         }
     }
 
-    /// Takes a message.
+    /// Queues a message to send.
     pub fn put(&mut self, message: &[u8]) -> Result<(), Refused>
-        ensures answer { (e : EndState) → Stands self.old e
+        ensures answer { (e : EndState) → Represents self.old e
             → result_err result ≡ put_refusal message.now e }
-        ensures taken { (e : EndState) → Stands self.old e
-            → OnOk result (Stands self.new (with_taken message.now e)) }
+        ensures taken { (e : EndState) → Represents self.old e
+            → OnOk result (Represents self.new (with_taken message.now e)) }
         ensures refused { OnErr result (self.new ≡ self.old) }
         ensures channel { channel_of self.new ≡ channel_of self.old }
     {
@@ -101,11 +101,11 @@ impl Window {
         Ok(())
     }
 
-    /// Lets the next piece wait, where none waits and one is left.
+    /// Makes the next segment outstanding, if none is outstanding and one is left.
     pub fn send_next(&mut self) -> bool
-        ensures answer { (e : EndState) → Stands self.old e → result ≡ has_piece e }
-        ensures sent { (e : EndState) → Stands self.old e
-            → Stands self.new (if result then with_next e else e) }
+        ensures answer { (e : EndState) → Represents self.old e → result ≡ has_segment e }
+        ensures sent { (e : EndState) → Represents self.old e
+            → Represents self.new (if result then with_next e else e) }
         ensures waiting { IsTrue result → IsWaiting self.new }
         ensures channel { channel_of self.new ≡ channel_of self.old }
     {
@@ -117,10 +117,10 @@ impl Window {
         true
     }
 
-    /// The piece that waits for its acknowledgement.
+    /// The outstanding segment.
     pub fn waiting(&self) -> Option<Piece<'_>>
-        ensures piece { (e : EndState) → Stands self.now e
-            → option_map (λ p. (p.octets.now, p.more)) result ≡ waiting_piece e }
+        ensures piece { (e : EndState) → Represents self.now e
+            → option_map (λ p. (p.octets.now, p.more)) result ≡ waiting_segment e }
         ensures waiting { IsSome result ↔ IsWaiting self.now }
         ensures size { IfSome result (λ p. (1 ≤ length p.octets.now)
             × (length p.octets.now ≤ n201 (channel_of self.now))) }
@@ -131,11 +131,11 @@ impl Window {
         Some(self.next())
     }
 
-    /// Counts an N(R): it acknowledges the piece that waits where it is V(S), and nothing else.
+    /// Evaluates an N(R): it acknowledges the outstanding segment if it is V(S), and nothing else.
     pub fn on_ack(&mut self, nr: u8) -> Acked
         requires { nr ≤ 7 }
-        ensures answer { (e : EndState) → Stands self.old e → result ≡ acked_by nr e }
-        ensures counted { (e : EndState) → Stands self.old e → Stands self.new (counts nr e).after }
+        ensures answer { (e : EndState) → Represents self.old e → result ≡ acked_by nr e }
+        ensures counted { (e : EndState) → Represents self.old e → Represents self.new (counts nr e).after }
         ensures channel { channel_of self.new ≡ channel_of self.old }
     {
         if self.vs == self.va || nr != self.vs {
@@ -153,15 +153,15 @@ impl Window {
         Acked::Message(self.done)
     }
 
-    /// Takes the piece of an I frame with this N(S) and P.
+    /// Takes the segment of an I frame with this N(S) and P.
     pub fn on_info(&mut self, ns: u8, p: bool, piece: &[u8], more: bool) -> Info
         requires ns { ns ≤ 7 }
         requires some { 1 ≤ length piece.now }
         requires most { length piece.now ≤ most_information }
-        ensures answer { (e : EndState) → Stands self.old e
+        ensures answer { (e : EndState) → Represents self.old e
             → result ≡ info_answer ns p (piece.now, more) e }
-        ensures taken { (e : EndState) → Stands self.old e
-            → Stands self.new (after_info result (piece.now, more) e) }
+        ensures taken { (e : EndState) → Represents self.old e
+            → Represents self.new (after_info result (piece.now, more) e) }
         ensures channel { channel_of self.new ≡ channel_of self.old }
     {
         if ns != self.vr {
@@ -174,19 +174,19 @@ impl Window {
         Info::Accepted(self.joiner.take(piece, more))
     }
 
-    /// Whether a piece waits, which goes out again at a REJ.
+    /// Whether a segment is outstanding, to be sent again at a REJ.
     pub fn on_reject(&self) -> bool
-        ensures answer { (e : EndState) → Stands self.now e → result ≡ waits e }
+        ensures answer { (e : EndState) → Represents self.now e → result ≡ waits e }
         ensures waiting { IsTrue result ↔ IsWaiting self.now }
     {
         self.vs != self.va
     }
 
-    /// The timer has run out.
+    /// T200 expiry.
     pub fn on_timer(&mut self) -> Timer
-        ensures answer { (e : EndState) → Stands self.old e → result ≡ timer_answer e }
-        ensures counted { (e : EndState) → Stands self.old e
-            → Stands self.new (after_timer result e) }
+        ensures answer { (e : EndState) → Represents self.old e → result ≡ t200_answer e }
+        ensures counted { (e : EndState) → Represents self.old e
+            → Represents self.new (after_t200 result e) }
         ensures waiting { result ≡ Timer.Again → IsWaiting self.new }
         ensures unchanged { result ≢ Timer.Again → self.new ≡ self.old }
         ensures channel { channel_of self.new ≡ channel_of self.old }
@@ -201,43 +201,43 @@ impl Window {
         Timer::Again
     }
 
-    /// V(S), the number of the next piece that is sent.
+    /// V(S), the N(S) of the next segment to be sent.
     pub fn vs(&self) -> u8
-        ensures number { (e : EndState) → Stands self.now e → result ≡ vs e }
+        ensures number { (e : EndState) → Represents self.now e → result ≡ vs e }
         ensures fits { result ≤ 7 }
     {
         self.vs
     }
 
-    /// V(A), the number of the first piece that is not acknowledged.
+    /// V(A), the N(S) of the first unacknowledged segment.
     pub fn va(&self) -> u8
-        ensures number { (e : EndState) → Stands self.now e → result ≡ va e }
+        ensures number { (e : EndState) → Represents self.now e → result ≡ va e }
         ensures fits { result ≤ 7 }
     {
         self.va
     }
 
-    /// V(R), the number of the next piece that is accepted.
+    /// V(R), the N(S) of the next segment to be accepted.
     pub fn vr(&self) -> u8
-        ensures number { (e : EndState) → Stands self.now e → result ≡ vr e }
+        ensures number { (e : EndState) → Represents self.now e → result ≡ vr e }
         ensures fits { result ≤ 7 }
     {
         self.vr
     }
 
-    /// The message that the last piece accepted made whole, and no octets where it made none.
+    /// The message that the last accepted segment completed, or no octets if it completed none.
     pub fn message(&self) -> &[u8]
-        ensures latest { (e : EndState) → Stands self.now e → result.now ≡ latest e.accepted }
+        ensures latest { (e : EndState) → Represents self.now e → result.now ≡ latest e.accepted }
         ensures most { length result.now ≤ longest }
     {
         self.joiner.message()
     }
 
-    // The next piece of the first message, or the one that waits.
+    // The outstanding segment of the first message, or else the next one.
     fn next(&self) -> Piece<'_>
         requires { 1 ≤ length self.now.held.items }
         ensures { let first = slice_index_or self.now.held.items 0 [] in
-            slice_get (pieces (n201 self.now.channel) first) self.now.place
+            slice_get (segments (n201 self.now.channel) first) self.now.place
             ≡ Some (result.octets.now, result.more) }
     {
         Pieces::new_on(self.held.first(), self.channel).piece(self.place)

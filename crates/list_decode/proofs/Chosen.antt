@@ -1,23 +1,23 @@
--- The branch whose best list comes next, and the branches once that is given.
+-- The branch whose best word comes next, and the branches after it is returned.
 use Rattle.std.proofs.Common.{◌≡◌, ◌≢◌, ℕ, zero, suc, ◌+◌, ◌<◌, ◌≤◌, List, [], ◌∷◌, ◌++◌, map}
 use Rattle.std.proofs.Common.{length, get_or, set, take, drop, Some, None, refl, ap, ap₂, sym, ◌∙◌, subst, arith}
 use Rattle.std.specs.List.{All, Contains, slice_get}
 use Rattle.std.proofs.lemmas.List.{get_or_append_left, get_or_push, length-append, map-append, set-get_or, set_split}
 use Rattle.std.proofs.lemmas.List.Elements.{All-nil, All-cons, All-head, All-tail, All-append, All-drop, All-set, All-take, All-weaker}
-use Rattle.conv_code.specs.Likelihood.{FallsBehind}
-use Rattle.list_decode.specs.Branches.{IsBestStray, IsBranch, IsBranchOf, IsSpan, IsStray, class_of, leaving, stray_of}
-use Rattle.list_decode.specs.Choices.{IsAtMost, IsFirst, stray_list}
-use Rattle.list_decode.specs.Classes.{Class, Covers, StandsIn}
-use Rattle.list_decode.specs.Parting.{IsNext}
+use Rattle.weight_bound.specs.conv_code.Likelihood.{FallsBehind}
+use Rattle.list_decode.specs.Branches.{IsBestDeviation, IsBranch, IsBranchOf, IsSpan, IsDeviation, class_of, departures_in, deviation_of}
+use Rattle.list_decode.specs.Choices.{IsAtMost, IsFirst, IsDeviationOf, deviation_list}
+use Rattle.list_decode.specs.Classes.{Class, Covers, IsInClass}
+use Rattle.list_decode.specs.Partitioning.{IsNext}
 use Rattle.list_decode.specs.Passes.{IsPass, soft_of}
 use Rattle.list_decode.specs.Ranking.{IsCandidate}
 use Rattle.list_decode.specs.declared.branch.Branch.{Branch}
 use Rattle.list_decode.specs.declared.branch.Span.{Span}
-use Rattle.list_decode.specs.declared.branch.Stray.{Stray}
+use Rattle.list_decode.specs.declared.branch.Deviation.{Deviation}
 use Rattle.list_decode.specs.declared.choice.Choice.{Choice}
-use Rattle.list_decode.specs.declared.parting.Next.{Next}
+use Rattle.list_decode.specs.declared.partitioning.Next.{Next}
 use Rattle.list_decode.specs.declared.pass.Pass.{Pass}
-use Rattle.list_decode.proofs.Choices.{all_at, blank, given_at, given_within, stray_is}
+use Rattle.list_decode.proofs.Choices.{all_at, blank, branch_deviation, deviation_is}
 use Rattle.list_decode.proofs.NextLists.{below_best, goes_on}
 
 -- ---- the chosen branch
@@ -33,13 +33,13 @@ slice_get-is (c ∷ bs) b d zero at = (omega arith, same at)
     same e = all_at (λ x. c ≡ x) (c ∷ []) b zero (All-cons (λ x. c ≡ x) c [] refl (All-nil (λ x. c ≡ x))) e
 slice_get-is (c ∷ bs) b d (suc k) at = let rest = slice_get-is bs b d k at in (omega (arith, rest.0), rest.1)
 
--- a list u that was given, a span of it, and the best list that leaves it there
-pub record IsChosen (pass : Pass) (u : List ℕ) (span : Span) (x : Stray) : Type 0 where
+-- a returned word u, a span of it, and the best word that deviates there
+pub record IsChosen (pass : Pass) (u : List ℕ) (span : Span) (x : Deviation) : Type 0 where
   pub candidate : IsCandidate (soft_of pass) u
   pub is_span : IsSpan pass u span
-  pub stray : IsStray pass u x
-  pub from : span.from ≤ x.leave.place
-  pub to : x.leave.place < span.to
+  pub deviation : IsDeviation pass u x
+  pub from : span.from ≤ x.departure.place
+  pub to : x.departure.place < span.to
 
 module _ (pass : Pass) (us : List (List ℕ)) (branches : List Branch) (choice : Choice) (lists : All (IsCandidate (soft_of pass)) us)
     (all : All (IsBranchOf pass us) branches) (first : IsFirst pass us branches (Some choice)) where
@@ -49,39 +49,26 @@ module _ (pass : Pass) (us : List (List ℕ)) (branches : List Branch) (choice :
   pub chosen_branch : IsBranchOf pass us (get_or branches choice.branch blank)
   chosen_branch = all choice.branch blank within
 
-  best_is : (get_or branches choice.branch blank).best ≡ Some choice.stray
+  best_is : (get_or branches choice.branch blank).best ≡ Some choice.deviation
   best_is = ap (λ (b : Branch). b.best) (slice_get-is branches first.0.0 blank choice.branch first.0.1).1 ∙ first.0.2
 
-  pub best_chosen : IsBestStray pass (get_or us (get_or branches choice.branch blank).span.list [])
-      (get_or branches choice.branch blank).span (Some choice.stray)
+  pub best_chosen : IsBestDeviation pass (get_or us (get_or branches choice.branch blank).span.list [])
+      (get_or branches choice.branch blank).span (Some choice.deviation)
   best_chosen =
-      subst (IsBestStray pass (get_or us (get_or branches choice.branch blank).span.list []) (get_or branches choice.branch blank).span)
+      subst (IsBestDeviation pass (get_or us (get_or branches choice.branch blank).span.list []) (get_or branches choice.branch blank).span)
       best_is chosen_branch.is.best
 
   pub chosen : IsChosen pass (get_or us (get_or branches choice.branch blank).span.list [])
-      (get_or branches choice.branch blank).span choice.stray
+      (get_or branches choice.branch blank).span choice.deviation
   chosen = record {
     candidate = lists (get_or branches choice.branch blank).span.list [] chosen_branch.within;
     is_span = chosen_branch.is.span;
-    stray = best_chosen.0;
+    deviation = best_chosen.0;
     from = best_chosen.2;
     to = best_chosen.3;
   }
 
--- the same for the list as it is read
-pub chosen_read : (pass : Pass) (lists : List (List ℕ)) (branches : List Branch) (choice : Choice) →
-    All (IsCandidate (soft_of pass)) (map (take pass.bits) lists) → All (IsBranchOf pass (map (take pass.bits) lists)) branches →
-    IsFirst pass (map (take pass.bits) lists) branches (Some choice) →
-    IsChosen pass (take pass.bits (get_or lists (get_or branches choice.branch blank).span.list []))
-    (get_or branches choice.branch blank).span choice.stray
-chosen_read pass lists branches choice each all first =
-    let us = map (take pass.bits) lists in
-    let i = (get_or branches choice.branch blank).span.list in
-    subst (λ u. IsChosen pass u (get_or branches choice.branch blank).span choice.stray)
-    (given_at pass.bits lists i (given_within pass.bits lists i (chosen_branch pass us branches choice each all first).within))
-    (chosen pass us branches choice each all first)
-
--- ---- one list more
+-- ---- one more word
 
 get_or-kept : (us : List (List ℕ)) (u : List ℕ) (i : ℕ) → i < length us → get_or us i [] ≡ get_or (us ++ u ∷ []) i []
 get_or-kept us u i lt = sym (get_or_append_left us (u ∷ []) [] i lt)
@@ -96,10 +83,10 @@ classes_kept : (pass : Pass) (us : List (List ℕ)) (u : List ℕ) (bs : List Br
     map (class_of us) bs ≡ map (class_of (us ++ u ∷ [])) bs
 classes_kept pass us u [] all = refl
 classes_kept pass us u (b ∷ bs) all =
-    ap₂ (λ c cs. c ∷ cs) (ap (λ v. leaving v b.span) (get_or-kept us u b.span.list (All-head (IsBranchOf pass us) b bs all).within))
+    ap₂ (λ c cs. c ∷ cs) (ap (λ v. departures_in v b.span) (get_or-kept us u b.span.list (All-head (IsBranchOf pass us) b bs all).within))
     (classes_kept pass us u bs (All-tail (IsBranchOf pass us) b bs all))
 
--- a class of branches is that of one of them
+-- each of the classes is the class of one of the branches
 pub class_at : (us : List (List ℕ)) (bs : List Branch) (P : Branch → Type 0) (e : Class) → All P bs → Contains (map (class_of us) bs) e →
     (b : Branch) × P b × (class_of us b ≡ e)
 class_at us [] P e all found = absurd (omega (arith, found.1))
@@ -119,10 +106,17 @@ module _ (pass : Pass) (us : List (List ℕ)) (branches : List Branch) (choice :
   u = get_or us (get_or branches choice.branch blank).span.list []
 
   abbrev v : List ℕ
-  v = stray_of pass (get_or us (get_or branches choice.branch blank).span.list []) choice.stray
+  v = deviation_of pass (get_or us (get_or branches choice.branch blank).span.list []) choice.deviation
 
-  has : IsChosen pass (get_or us (get_or branches choice.branch blank).span.list []) (get_or branches choice.branch blank).span choice.stray
+  has : IsChosen pass (get_or us (get_or branches choice.branch blank).span.list []) (get_or branches choice.branch blank).span
+      choice.deviation
   has = chosen pass us branches choice lists all first
+
+  chosen_here : IsBranchOf pass us (get_or branches choice.branch blank)
+  chosen_here = chosen_branch pass us branches choice lists all first
+
+  best_here : (get_or branches choice.branch blank).best ≡ Some choice.deviation
+  best_here = best_is pass us branches choice lists all first
 
   inside : choice.branch < length branches
   inside = within pass us branches choice lists all first
@@ -130,8 +124,8 @@ module _ (pass : Pass) (us : List (List ℕ)) (branches : List Branch) (choice :
   u_within : (get_or branches choice.branch blank).span.list < length us
   u_within = (chosen_branch pass us branches choice lists all first).within
 
-  v_is : IsCandidate (soft_of pass) (stray_of pass (get_or us (get_or branches choice.branch blank).span.list []) choice.stray)
-  v_is = stray_is pass u choice.stray is has.candidate has.stray
+  v_is : IsCandidate (soft_of pass) (deviation_of pass (get_or us (get_or branches choice.branch blank).span.list []) choice.deviation)
+  v_is = deviation_is pass u choice.deviation is has.candidate has.deviation
 
   split : map (class_of us) branches ≡
       map (class_of us) (take choice.branch branches) ++ class_of us (get_or branches choice.branch blank) ∷ map (class_of us)
@@ -139,30 +133,30 @@ module _ (pass : Pass) (us : List (List ℕ)) (branches : List Branch) (choice :
   split = ap (map (class_of us)) (sym (set-get_or branches i blank) ∙ set_split branches i b inside)
       ∙ map-append (class_of us) (take i branches) (b ∷ drop (suc i) branches)
 
-  best : (e : Class) (w : List ℕ) → Contains (map (class_of us) branches) e → IsCandidate (soft_of pass) w → StandsIn e w →
-      w ≢ stray_of pass (get_or us (get_or branches choice.branch blank).span.list []) choice.stray →
-      FallsBehind (soft_of pass) w (stray_of pass (get_or us (get_or branches choice.branch blank).span.list []) choice.stray)
-  best e w member is_w stands ne =
-      let here : stray_list pass us choice.stray ≡ v = ap (λ k. stray_of pass (get_or us k []) choice.stray)
+  best : (e : Class) (w : List ℕ) → Contains (map (class_of us) branches) e → IsCandidate (soft_of pass) w → IsInClass e w →
+      w ≢ deviation_of pass (get_or us (get_or branches choice.branch blank).span.list []) choice.deviation →
+      FallsBehind (soft_of pass) w (deviation_of pass (get_or us (get_or branches choice.branch blank).span.list []) choice.deviation)
+  best e w member is_w in_class ne =
+      let here : deviation_list pass us choice.deviation ≡ v = ap (λ k. deviation_of pass (get_or us k []) choice.deviation)
       (best_chosen pass us branches choice lists all first).1 in
-      let found = class_at us branches (λ b. IsBranchOf pass us b × IsAtMost pass us choice.stray b.best) e
+      let found = class_at us branches (λ b. IsBranchOf pass us b × IsAtMost pass us choice.deviation b.best) e
       (λ k d lt. (all k d lt, first.1 k d lt)) member in
       subst (FallsBehind (soft_of pass) w) here
-      (below_best pass us found.0.span choice.stray w found.0.best found.1.0.is.best found.1.1 is_w
-      (subst (λ e. StandsIn e w) (sym found.2) stands) (λ e. ne (e ∙ here)))
+      (below_best pass us found.0.span choice.deviation w found.0.best found.1.0.is.best found.1.1 is_w
+      (subst (λ e. IsInClass e w) (sym found.2) in_class) (λ e. ne (e ∙ here)))
 
-  module _ (next : Next) (at : next.branch ≡ choice.branch) (value : next.likelihood ≡ choice.stray.likelihood)
+  module _ (next : Next) (at : next.branch ≡ choice.branch) (left : next.deviation ≡ choice.deviation)
       (before : IsBranch pass (get_or us (get_or branches choice.branch blank).span.list []) next.parts.before)
-      (behind_v : IsBranch pass (stray_of pass (get_or us (get_or branches choice.branch blank).span.list []) choice.stray)
+      (behind_v : IsBranch pass (deviation_of pass (get_or us (get_or branches choice.branch blank).span.list []) choice.deviation)
       next.parts.behind)
       (after : IsBranch pass (get_or us (get_or branches choice.branch blank).span.list []) next.parts.after)
       (before_span : (next.parts.before.span.list ≡ (get_or branches choice.branch blank).span.list) ×
       (next.parts.before.span.from ≡ (get_or branches choice.branch blank).span.from)
-      × (next.parts.before.span.to ≡ choice.stray.leave.place))
-      (behind_span : (next.parts.behind.span.list ≡ length us) × (next.parts.behind.span.from ≡ choice.stray.leave.place + 1) ×
+      × (next.parts.before.span.to ≡ choice.deviation.departure.place))
+      (behind_span : (next.parts.behind.span.list ≡ length us) × (next.parts.behind.span.from ≡ choice.deviation.departure.place + 1) ×
       (next.parts.behind.span.to + 4 ≡ pass.bits))
       (after_span : (next.parts.after.span.list ≡ (get_or branches choice.branch blank).span.list) ×
-      (next.parts.after.span.from ≡ choice.stray.leave.place + 1)
+      (next.parts.after.span.from ≡ choice.deviation.departure.place + 1)
       × (next.parts.after.span.to ≡ (get_or branches choice.branch blank).span.to)) where
     abbrev us' : List (List ℕ)
     us' = us ++ v ∷ []
@@ -170,7 +164,7 @@ module _ (pass : Pass) (us : List (List ℕ)) (branches : List Branch) (choice :
     abbrev f : Branch → Class
     f = class_of (us ++ v ∷ [])
 
-    -- a list that was given is the same once v is given
+    -- the words returned before v do not change
     same_u : (k : ℕ) → k ≡ (get_or branches choice.branch blank).span.list → get_or us' k [] ≡ u
     same_u k same = ap (λ k. get_or us' k []) same ∙ sym (get_or-kept us v b.span.list u_within)
 
@@ -199,17 +193,18 @@ module _ (pass : Pass) (us : List (List ℕ)) (branches : List Branch) (choice :
         (All-cons (IsBranchOf pass us') next.parts.after [] (old_branch next.parts.after after_span.0 after)
         (All-nil (IsBranchOf pass us')))
 
-    classes : ((map (class_of us) (take choice.branch branches) ++ leaving u next.parts.before.span ∷ map (class_of us)
+    classes : ((map (class_of us) (take choice.branch branches) ++ departures_in u next.parts.before.span ∷ map (class_of us)
         (drop (suc choice.branch) branches))
-        ++ leaving v next.parts.behind.span ∷ []) ++ leaving u next.parts.after.span ∷ [] ≡
+        ++ departures_in v next.parts.behind.span ∷ []) ++ departures_in u next.parts.after.span ∷ [] ≡
         map f ((set branches choice.branch next.parts.before ++ next.parts.behind ∷ []) ++ next.parts.after ∷ [])
     classes =
         let early = classes_kept pass us v (take i branches) (All-take (IsBranchOf pass us) i branches all) in
         let late = classes_kept pass us v (drop (suc i) branches) (All-drop (IsBranchOf pass us) (suc i) branches all) in
-        let one = ap (λ u. leaving u next.parts.before.span) (sym (same_u next.parts.before.span.list before_span.0)) in
-        let two = ap (λ u. leaving u next.parts.behind.span) (sym (same_v next.parts.behind.span.list behind_span.0)) in
-        let three = ap (λ u. leaving u next.parts.after.span) (sym (same_u next.parts.after.span.list after_span.0)) in
-        let old : map (class_of us) (take i branches) ++ leaving u next.parts.before.span ∷ map (class_of us) (drop (suc i) branches) ≡
+        let one = ap (λ u. departures_in u next.parts.before.span) (sym (same_u next.parts.before.span.list before_span.0)) in
+        let two = ap (λ u. departures_in u next.parts.behind.span) (sym (same_v next.parts.behind.span.list behind_span.0)) in
+        let three = ap (λ u. departures_in u next.parts.after.span) (sym (same_u next.parts.after.span.list after_span.0)) in
+        let old : map (class_of us) (take i branches)
+        ++ departures_in u next.parts.before.span ∷ map (class_of us) (drop (suc i) branches) ≡
         map f (set branches i next.parts.before) =
         ap₂ (λ xs ys. xs ++ ys) early (ap₂ (λ c cs. c ∷ cs) one late)
         ∙ sym (map-append f (take i branches) (next.parts.before ∷ drop (suc i) branches))
@@ -219,14 +214,18 @@ module _ (pass : Pass) (us : List (List ℕ)) (branches : List Branch) (choice :
         three
         ∙ sym (map-append f (set branches i next.parts.before ++ next.parts.behind ∷ []) (next.parts.after ∷ []))
 
-    is_next_stray : IsNext pass us branches (stray_of pass (get_or us (get_or branches choice.branch blank).span.list []) choice.stray) next
-    is_next_stray = record {
+    is_next_deviation : IsNext pass us branches
+        (deviation_of pass (get_or us (get_or branches choice.branch blank).span.list []) choice.deviation) next
+    is_next_deviation = record {
       within = subst (λ k. k < length branches) (sym at) inside;
-      value = value ∙ has.stray.value;
+      value = ap (λ (x : Deviation). x.likelihood) left ∙ has.deviation.value;
+      deviation = subst (IsDeviationOf pass us) (sym left) (branch_deviation pass us b choice.deviation chosen_here best_here);
+      written = ap (λ k. deviation_of pass (get_or us k []) choice.deviation) (sym (best_chosen pass us branches choice lists all first).1)
+          ∙ ap (deviation_list pass us) (sym left);
       each = subst (λ k. All (IsBranchOf pass us') ((set branches k next.parts.before ++ next.parts.behind ∷ []) ++ next.parts.after ∷ []))
           (sym at) each;
       covers = (λ ranked covers.
-          let went = goes_on pass us u b.span choice.stray is has.candidate has.stray v_is has.from has.to
+          let went = goes_on pass us u b.span choice.deviation is has.candidate has.deviation v_is has.from has.to
           (map (class_of us) (take i branches)) (map (class_of us) (drop (suc i) branches)) next.parts.before.span next.parts.behind.span
           next.parts.after.span
           ranked (subst (Covers (soft_of pass) us) split covers) (λ e w member. best e w (subst (λ cs. Contains cs e) (sym split) member))
@@ -237,6 +236,7 @@ module _ (pass : Pass) (us : List (List ℕ)) (branches : List Branch) (choice :
           ));
     }
 
-    pub is_next : (written : List ℕ) → written ≡ stray_of pass (get_or us (get_or branches choice.branch blank).span.list []) choice.stray →
+    pub is_next : (written : List ℕ) →
+        written ≡ deviation_of pass (get_or us (get_or branches choice.branch blank).span.list []) choice.deviation →
         IsNext pass us branches written next
-    is_next written same = subst (λ v. IsNext pass us branches v next) (sym same) is_next_stray
+    is_next written same = subst (λ v. IsNext pass us branches v next) (sym same) is_next_deviation

@@ -1,9 +1,9 @@
--- A class may give way to parts of it that hold the same candidates.
+-- A class can be replaced by parts of it that have the same candidates.
 use Rattle.std.proofs.Common.{◌⊎◌, ℕ, inl, inr, ℤ, List, [], ◌∷◌, ◌++◌, sym, subst}
 use Rattle.std.specs.List.{Contains}
 use Rattle.std.proofs.lemmas.List.Elements.{All-nil, All-cons, All-head, All-append, Contains-append_left, Contains-append_right}
 use Rattle.std.proofs.lemmas.List.Elements.{Contains-append_cases}
-use Rattle.list_decode.specs.Classes.{Class, StandsIn, Covers}
+use Rattle.list_decode.specs.Classes.{Class, IsInClass, Covers}
 use Rattle.list_decode.specs.Ranking.{IsCandidate}
 use Rattle.list_decode.proofs.ClassSteps.{Part, Disjoint, Listed, New, Apart-part, Apart-push, others_apart, All-replace, Contains-first}
 use Rattle.list_decode.proofs.ClassSteps.{Contains-split, Contains-after}
@@ -11,24 +11,24 @@ use Rattle.list_decode.proofs.Rankings.{All-after}
 
 module _ (s : List ℤ) (us : List (List ℕ)) (before after : List Class) (c : Class) (covers : Covers s us (before ++ c ∷ after)) where
   new_in : (e : Class) → Part e c → New us e
-  new_in e part w stands given = All-head (New us) c after (All-after (New us) before (c ∷ after) covers.new) w (part w stands) given
+  new_in e part w in_class given = All-head (New us) c after (All-after (New us) before (c ∷ after) covers.new) w (part w in_class) given
 
-  -- where a candidate stands once e is in the place of c
-  stood : (e : Class) (w : List ℕ) (d : Class) → Contains (before ++ c ∷ after) d → StandsIn d w →
-      StandsIn c w ⊎ ((d : Class) × Contains (before ++ e ∷ after) d × StandsIn d w)
-  stood e w d member stands = elim (Contains-append_cases before (c ∷ after) d member) [
-    | inl early ↦ inr (d, Contains-append_left before (e ∷ after) d early, stands)
+  -- the class of a candidate after e replaces c
+  stood : (e : Class) (w : List ℕ) (d : Class) → Contains (before ++ c ∷ after) d → IsInClass d w →
+      IsInClass c w ⊎ ((d : Class) × Contains (before ++ e ∷ after) d × IsInClass d w)
+  stood e w d member in_class = elim (Contains-append_cases before (c ∷ after) d member) [
+    | inl early ↦ inr (d, Contains-append_left before (e ∷ after) d early, in_class)
     | inr late ↦ elim (Contains-split c d after late) [
-      | inl same ↦ inl (subst (λ d. StandsIn d w) (sym same) stands)
-      | inr later ↦ inr (d, Contains-append_right before (e ∷ after) d (Contains-after e d after later), stands)
+      | inl same ↦ inl (subst (λ d. IsInClass d w) (sym same) in_class)
+      | inr later ↦ inr (d, Contains-append_right before (e ∷ after) d (Contains-after e d after later), in_class)
     ]
   ]
 
   here : (e : Class) → Contains (before ++ e ∷ after) e
   here e = Contains-append_right before (e ∷ after) e (Contains-first e after)
 
-  -- one part with all its candidates
-  pub narrow_covers : (e : Class) → IsCandidate s e.list → Part e c → ((w : List ℕ) → IsCandidate s w → StandsIn c w → StandsIn e w) →
+  -- one part that has all candidates of the class
+  pub narrow_covers : (e : Class) → IsCandidate s e.list → Part e c → ((w : List ℕ) → IsCandidate s w → IsInClass c w → IsInClass e w) →
       Covers s us (before ++ e ∷ after)
   narrow_covers e list part all = record {
     lists = All-replace (Listed s) before after c e covers.lists list;
@@ -36,13 +36,14 @@ module _ (s : List ℤ) (us : List (List ℕ)) (before after : List Class) (c : 
     apart = Apart-part before after c e part covers.apart;
     others = (λ w is. elim (covers.others w is) [
       | inl given ↦ inl given
-      | inr stands ↦ inr (elim (stood e w stands.0 stands.1 stands.2) [ inl in_c ↦ (e, here e, all w is in_c) | inr elsewhere ↦ elsewhere ])
+      | inr in_class ↦ inr (elim (stood e w in_class.0 in_class.1 in_class.2)
+          [ inl in_c ↦ (e, here e, all w is in_c) | inr elsewhere ↦ elsewhere ])
     ]);
   }
 
-  -- two parts with all its candidates between them
+  -- two parts that together have all candidates of the class
   pub split_covers : (a b : Class) → IsCandidate s a.list → IsCandidate s b.list → Part a c → Part b c → Disjoint a b →
-      ((w : List ℕ) → IsCandidate s w → StandsIn c w → StandsIn a w ⊎ StandsIn b w) → Covers s us ((before ++ a ∷ after) ++ b ∷ [])
+      ((w : List ℕ) → IsCandidate s w → IsInClass c w → IsInClass a w ⊎ IsInClass b w) → Covers s us ((before ++ a ∷ after) ++ b ∷ [])
   split_covers a b list_a list_b part_a part_b disjoint all = record {
     lists = All-append (Listed s) (before ++ a ∷ after) (b ∷ []) (All-replace (Listed s) before after c a covers.lists list_a)
         (All-cons (Listed s) b [] list_b (All-nil (Listed s)));
@@ -54,7 +55,7 @@ module _ (s : List ℤ) (us : List (List ℕ)) (before after : List Class) (c : 
         (All-append (λ d. Disjoint d b) before (a ∷ after) others.0 (All-cons (λ d. Disjoint d b) a after disjoint others.1));
     others = (λ w is. elim (covers.others w is) [
       | inl given ↦ inl given
-      | inr stands ↦ inr (elim (stood a w stands.0 stands.1 stands.2) [
+      | inr in_class ↦ inr (elim (stood a w in_class.0 in_class.1 in_class.2) [
         | inl in_c ↦ elim (all w is in_c) [
           | inl in_a ↦ (a, Contains-append_left (before ++ a ∷ after) (b ∷ []) a (here a), in_a)
           | inr in_b ↦ (b, Contains-append_right (before ++ a ∷ after) (b ∷ []) b (Contains-first b []), in_b)

@@ -1,28 +1,30 @@
--- The free place that loses least, one place more at a time.
+-- The free position with the least loss, after one more position.
 use Rattle.std.proofs.Common.{◌≡◌, ◌≢◌, ◌⊎◌, ℕ, zero, suc, ◌+◌, ◌<◌, ◌≤◌, Bool, true, inl, inr, ℤ}
-use Rattle.std.proofs.Common.{pos, ◌+ℤ◌, ◌-ℤ◌, List, get_or, take, Some, None, refl, ap, ap₂, sym, ◌∙◌, subst, arith}
+use Rattle.std.proofs.Common.{pos, ◌+ℤ◌, ◌-ℤ◌, List, get_or, take, refl, ap, ap₂, sym, ◌∙◌, subst, arith}
 use Rattle.std.specs.Prelude.{◌<ℤ◌, ◌≤ℤ◌}
 use Rattle.std.proofs.lemmas.Bool.{cases_lt}
 use Rattle.std.proofs.lemmas.Int.{ints}
 use Rattle.bit_blocks.specs.Bits.{AllBits}
-use Rattle.conv_code.proofs.Coding.{bit_at-most_1}
-use Rattle.list_decode.specs.Detours.{reached, loss_at, IsLeastFree}
-use Rattle.list_decode.specs.FreePlaces.{IsLeave, IsBestFree}
-use Rattle.list_decode.specs.declared.leaving.Leave.{Leave}
-use Rattle.conv_code.proofs.Lemmas.{same_number}
+use Rattle.weight_bound.proofs.conv_code.Coding.{bit_at-most_1}
+use Rattle.list_decode.specs.DeviatingLists.{state_after, loss_at, IsLeastFree}
+use Rattle.list_decode.specs.FreePlaces.{IsDeparture, IsSpot}
+use Rattle.list_decode.specs.declared.branch.Spot.{Spot}
+use Rattle.list_decode.specs.declared.departure.Departure.{Departure}
+use Rattle.weight_bound.proofs.conv_code.Lemmas.{same_number}
 use Rattle.list_decode.proofs.Losses.{below_limit, not_below_limit}
 
--- no place before n is free
+-- no position before n is free
 abbrev pub NoneFree : (free : ℕ → Bool) (n : ℕ) → Type 0
 NoneFree free n = (k : ℕ) → k < n → free k ≡ true → ⊥
 
--- a place as it was found
-pub is_leave : (u : List ℕ) (losses : List (List ℤ)) (k state : ℕ) (lost : ℤ) (leave : Leave) → AllBits u → state ≡ reached 0 (take k u) →
-    lost ≡ loss_at 0 u losses k → leave.place ≡ k → leave.state ≡ state → leave.loss ≡ lost →
-    leave.limit ≡ lost +ℤ pos 1 -ℤ pos (get_or u k 0) → IsLeave u losses leave
-is_leave u losses k state lost leave bits found is_lost at s l m = record {
-  bit = bit_at-most_1 u leave.place bits;
-  state = s ∙ found ∙ ap (λ k. reached 0 (take k u)) (sym at);
+-- a position that was found
+pub is_departure : (u : List ℕ) (losses : List (List ℤ)) (k state : ℕ) (lost : ℤ) (departure : Departure) → AllBits u →
+    state ≡ state_after 0 (take k u) →
+    lost ≡ loss_at 0 u losses k → departure.place ≡ k → departure.state ≡ state → departure.loss ≡ lost →
+    departure.limit ≡ lost +ℤ pos 1 -ℤ pos (get_or u k 0) → IsDeparture u losses departure
+is_departure u losses k state lost departure bits found is_lost at s l m = record {
+  bit = bit_at-most_1 u departure.place bits;
+  state = s ∙ found ∙ ap (λ k. state_after 0 (take k u)) (sym at);
   loss = l ∙ is_lost ∙ ap (loss_at 0 u losses) (sym at);
   limit = m ∙ ap₂ (λ lost place. lost +ℤ pos 1 -ℤ pos (get_or u place 0)) (sym l) (sym at);
 }
@@ -31,7 +33,7 @@ module _ (u : List ℕ) (losses : List (List ℤ)) (free : ℕ → Bool) (k : �
   abbrev loss : ℕ → ℤ
   loss = loss_at 0 u losses
 
-  -- the best place stays
+  -- the best position stays the best
   pub free_kept : (place : ℕ) → get_or u place 0 ≤ 1 → IsLeastFree u losses free k place →
       (free k ≡ true → (loss place <ℤ loss k) ⊎ ((loss k ≡ loss place) × (get_or u place 0 ≢ 0))) → IsLeastFree u losses free (k + 1) place
   free_kept place bit old more = record {
@@ -57,7 +59,7 @@ module _ (u : List ℕ) (losses : List (List ℤ)) (free : ℕ → Bool) (k : �
     one zero le ne = absurd (ne refl)
     one (suc x) le ne = omega arith
 
-  -- this one is the first
+  -- this is the first free position
   pub free_first : NoneFree free k → free k ≡ true → IsLeastFree u losses free (k + 1) k
   free_first none is_free = record {
     within = omega arith;
@@ -70,7 +72,7 @@ module _ (u : List ℕ) (losses : List (List ℤ)) (free : ℕ → Bool) (k : �
     after = (λ j late lt free_j equal. absurd (omega arith));
   }
 
-  -- this one is better
+  -- this position is better
   pub free_taken : (place : ℕ) → IsLeastFree u losses free k place → free k ≡ true →
       (loss k <ℤ loss place) ⊎ ((loss k ≡ loss place) × (get_or u place 0 ≡ 0)) → IsLeastFree u losses free (k + 1) k
   free_taken place old is_free less = record {
@@ -94,35 +96,31 @@ module _ (u : List ℕ) (losses : List (List ℤ)) (free : ℕ → Bool) (k : �
     after = (λ j late lt free_j equal. absurd (omega arith));
   }
 
-  -- what was found so far, and one place more
-  pub best_first : (new : Leave) → IsBestFree u losses free k None → free k ≡ true → IsLeave u losses new → new.place ≡ k →
-      IsBestFree u losses free (k + 1) (Some new)
-  best_first new none is_free is at = (is, subst (λ place. IsLeastFree u losses free (k + 1) place) (sym at) (free_first none is_free))
+  -- the best position so far, and one more
+  pub spot_first : (new : Spot) → NoneFree free k → free k ≡ true → new.place ≡ k → new.state ≡ state_after 0 (take k u) →
+      new.limit ≡ loss k +ℤ pos 1 -ℤ pos (get_or u k 0) → IsSpot u losses free (k + 1) new
+  spot_first new none is_free at state limit = record {
+    state = state ∙ ap (λ k. state_after 0 (take k u)) (sym at);
+    limit = limit ∙ ap (λ k. loss k +ℤ pos 1 -ℤ pos (get_or u k 0)) (sym at);
+    least = subst (λ place. IsLeastFree u losses free (k + 1) place) (sym at) (free_first none is_free);
+  }
 
-  pub best_taken : (best new : Leave) → IsBestFree u losses free k (Some best) → free k ≡ true → IsLeave u losses new → new.place ≡ k →
-      new.loss <ℤ best.limit → IsBestFree u losses free (k + 1) (Some new)
-  best_taken best new old is_free is at less =
-      let lost : new.loss ≡ loss k = is.loss ∙ ap loss at in
-      let lost' = old.0.loss in
-      let limit = old.0.limit in (
-        is,
-        subst (λ place. IsLeastFree u losses free (k + 1) place) (sym at) (free_taken best.place old.1 is_free
-            (elim (below_limit new.loss best.loss (get_or u best.place 0) old.0.bit (omega (arith, ints))) [
-              | inl less ↦ inl (omega (arith, ints))
-              | inr tie ↦ inr ((let e = tie.0 in omega (arith, ints)), tie.1)
-            ])),
-      )
+  pub spot_taken : (best new : Spot) → AllBits u → IsSpot u losses free k best → free k ≡ true → new.place ≡ k →
+      new.state ≡ state_after 0 (take k u) → new.limit ≡ loss k +ℤ pos 1 -ℤ pos (get_or u k 0) → loss k <ℤ best.limit →
+      IsSpot u losses free (k + 1) new
+  spot_taken best new bits old is_free at state limit less = record {
+    state = state ∙ ap (λ k. state_after 0 (take k u)) (sym at);
+    limit = limit ∙ ap (λ k. loss k +ℤ pos 1 -ℤ pos (get_or u k 0)) (sym at);
+    least = subst (λ place. IsLeastFree u losses free (k + 1) place) (sym at) (free_taken best.place old.least is_free
+        (below_limit (loss k) (loss best.place) (get_or u best.place 0) (bit_at-most_1 u best.place bits)
+        (subst (λ limit. loss k <ℤ limit) old.limit less)));
+  }
 
-  pub best_kept : (best new : Leave) → IsBestFree u losses free k (Some best) → IsLeave u losses new → new.place ≡ k →
-      best.limit ≤ℤ new.loss → IsBestFree u losses free (k + 1) (Some best)
-  best_kept best new old is at most =
-      let lost : new.loss ≡ loss k = is.loss ∙ ap loss at in
-      let lost' = old.0.loss in
-      let limit = old.0.limit in (
-        old.0,
-        free_kept best.place old.0.bit old.1 (λ is_free.
-            elim (not_below_limit new.loss best.loss (get_or u best.place 0) old.0.bit (omega (arith, ints))) [
-              | inl less ↦ inl (omega (arith, ints))
-              | inr tie ↦ inr ((let e = tie.0 in omega (arith, ints)), tie.1)
-            ]),
-      )
+  pub spot_kept : (best : Spot) → AllBits u → IsSpot u losses free k best → best.limit ≤ℤ loss k → IsSpot u losses free (k + 1) best
+  spot_kept best bits old most = record {
+    state = old.state;
+    limit = old.limit;
+    least = free_kept best.place (bit_at-most_1 u best.place bits) old.least (λ is_free.
+        not_below_limit (loss k) (loss best.place) (get_or u best.place 0) (bit_at-most_1 u best.place bits)
+        (subst (λ limit. limit ≤ℤ loss k) old.limit most));
+  }

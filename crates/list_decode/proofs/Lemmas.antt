@@ -1,4 +1,4 @@
--- What crates above cite of the two best lists: there is one pair at most, and every list has a second one beside it.
+-- Lemmas about the two best words for dependent crates: there is at most one pair, and every word has a second one.
 pub use Rattle.list_decode.proofs.Margins.{IsMargin-second, both_only, one_margin}
 pub use Rattle.list_decode.proofs.SecondExists.{some_second}
 pub use Rattle.list_decode.proofs.Rankings.{IsRanked-none, most_likely_is_ranked, beginning_is_ranked, one_ranking, first_to_pass_is_best}

@@ -1,4 +1,4 @@
--- The place that loses least, one place more at a time.
+-- The position with the least loss, after one more position.
 use Rattle.std.proofs.Common.{◌≡◌, ◌≢◌, ◌⊎◌, ℕ, zero, suc, ◌+◌, ◌/◌, ◌%◌, ◌^◌, ◌<◌, ◌≤◌}
 use Rattle.std.proofs.Common.{◌++◌, slice_set, inl, inr, ℤ, pos, ◌+ℤ◌, ◌-ℤ◌, List, [], ◌∷◌, length, get_or, take}
 use Rattle.std.proofs.Common.{drop, refl, ap, ap₂, sym, ◌∙◌, subst, arith, below_more}
@@ -6,35 +6,35 @@ use Rattle.std.specs.Prelude.{◌<ℤ◌, ◌≤ℤ◌}
 use Rattle.std.proofs.lemmas.Bool.{cases_lt}
 use Rattle.std.proofs.lemmas.Int.{ints, by_lt_z}
 use Rattle.trellis_decode.specs.Trellis.{next, read_out}
-use Rattle.list_decode.specs.Detours.{reached, loss_at, IsLeastLoss}
-use Rattle.list_decode.specs.Readings.{IsBestLeave, IsReading}
-use Rattle.list_decode.specs.declared.leaving.Leave.{Leave}
-use Rattle.list_decode.specs.declared.leaving.Reading.{Reading}
+use Rattle.list_decode.specs.DeviatingLists.{state_after, loss_at, IsLeastLoss}
+use Rattle.list_decode.specs.Readings.{IsBestDeparture, IsReading}
+use Rattle.list_decode.specs.declared.departure.Departure.{Departure}
+use Rattle.list_decode.specs.declared.departure.Reading.{Reading}
 use Rattle.trellis_decode.proofs.Lemmas.{length-read_out}
 use Rattle.std.proofs.lemmas.List.{take_more, take_more_set}
 
 pub reached_more : (u : List ℕ) (k state : ℕ) → k < length u →
-    reached state (take (k + 1) u) ≡ next (reached state (take k u)) (get_or u k 0)
+    state_after state (take (k + 1) u) ≡ next (state_after state (take k u)) (get_or u k 0)
 reached_more [] k state within = absurd (omega arith)
 reached_more (x ∷ u) zero state within = refl
 reached_more (x ∷ u) (suc k) state within =
     let more : suc k + 1 ≡ suc (k + 1) = omega arith in
     rw more (reached_more u k (next state x) (omega arith))
 
-pub reached_small : (state : ℕ) (u : List ℕ) → state < 16 → reached state u < 16
+pub reached_small : (state : ℕ) (u : List ℕ) → state < 16 → state_after state u < 16
 reached_small state [] small = small
 reached_small state (x ∷ u) small = reached_small (next state x) u (omega arith)
 
--- from a place on a list that the rows choose is what they choose from the state there on
+-- from a position on, a word of survivors is read out from the state at that position
 pub chosen_from : (rows : List ℕ) (state place : ℕ) → place ≤ length rows →
-    drop place (read_out rows state) ≡ read_out (drop place rows) (reached state (take place (read_out rows state)))
+    drop place (read_out rows state) ≡ read_out (drop place rows) (state_after state (take place (read_out rows state)))
 chosen_from rows state zero within = refl
 chosen_from [] state (suc place) within = absurd (omega arith)
 chosen_from (row ∷ rows) state (suc place) within = chosen_from rows (next state (row / 2 ^ state % 2)) place (omega arith)
 
--- a bit of what the rows choose
+-- a bit of the survivors
 pub chosen_bit : (rows : List ℕ) (state k : ℕ) → k < length rows →
-    get_or (read_out rows state) k 0 ≡ get_or rows k 0 / 2 ^ reached state (take k (read_out rows state)) % 2
+    get_or (read_out rows state) k 0 ≡ get_or rows k 0 / 2 ^ state_after state (take k (read_out rows state)) % 2
 chosen_bit [] state k within = absurd (omega arith)
 chosen_bit (row ∷ rows) state zero within = refl
 chosen_bit (row ∷ rows) state (suc k) within = chosen_bit rows (next state (row / 2 ^ state % 2)) k (omega arith)
@@ -45,22 +45,22 @@ bit_small (row ∷ rows) state zero = omega arith
 bit_small (row ∷ rows) state (suc k) = bit_small rows (next state (row / 2 ^ state % 2)) k
 
 pub chosen_behind : (rows u : List ℕ) (place state : ℕ) → u ≡ read_out rows 0 → place < length rows → length rows ≡ length u →
-    state ≡ reached 0 (take place u) → drop (place + 1) u ≡ read_out (drop (place + 1) rows) (next state (get_or u place 0))
+    state ≡ state_after 0 (take place u) → drop (place + 1) u ≡ read_out (drop (place + 1) rows) (next state (get_or u place 0))
 chosen_behind rows u place state is within count at =
-    let there : reached 0 (take (place + 1) u) ≡ next state (get_or u place 0) =
+    let there : state_after 0 (take (place + 1) u) ≡ next state (get_or u place 0) =
     reached_more u place 0 (omega arith) ∙ ap (λ s. next s (get_or u place 0)) (sym at) in
     ap (drop (place + 1)) is
     ∙ chosen_from rows 0 (place + 1) (omega arith)
-    ∙ ap (λ w. read_out (drop (place + 1) rows) (reached 0 (take (place + 1) w))) (sym is)
+    ∙ ap (λ w. read_out (drop (place + 1) rows) (state_after 0 (take (place + 1) w))) (sym is)
     ∙ ap (read_out (drop (place + 1) rows)) there
 
-pub leave_at : (u : List ℕ) (losses : List (List ℤ)) (k state : ℕ) (loss : ℤ) (new : Leave) → k + 4 < length u →
-    state ≡ reached 0 (take k u) → loss ≡ loss_at 0 u losses k → IsLeastLoss u losses (k + 1) k (loss_at 0 u losses k) → new.place ≡ k →
-    new.state ≡ state → new.loss ≡ loss → new.limit ≡ loss +ℤ pos 1 -ℤ pos (get_or u k 0) → IsBestLeave u losses (k + 1) new
-leave_at u losses k state loss new inside reached_is loss_is least at s l m = record {
+pub departure_at : (u : List ℕ) (losses : List (List ℤ)) (k state : ℕ) (loss : ℤ) (new : Departure) → k + 4 < length u →
+    state ≡ state_after 0 (take k u) → loss ≡ loss_at 0 u losses k → IsLeastLoss u losses (k + 1) k (loss_at 0 u losses k) → new.place ≡ k →
+    new.state ≡ state → new.loss ≡ loss → new.limit ≡ loss +ℤ pos 1 -ℤ pos (get_or u k 0) → IsBestDeparture u losses (k + 1) new
+departure_at u losses k state loss new inside reached_is loss_is least at s l m = record {
   found = omega arith;
   within = omega arith;
-  state = s ∙ reached_is ∙ ap (λ k. reached 0 (take k u)) (sym at);
+  state = s ∙ reached_is ∙ ap (λ k. state_after 0 (take k u)) (sym at);
   least = subst (λ place. IsLeastLoss u losses (k + 1) place new.loss) (sym at)
       (subst (IsLeastLoss u losses (k + 1) k) (sym (l ∙ loss_is)) least);
   limit = m ∙ ap₂ (λ loss place. loss +ℤ pos 1 -ℤ pos (get_or u place 0)) (sym l) (sym at);
@@ -105,7 +105,7 @@ least_taken u losses k place loss found old less = record {
   after = λ j late lt equal. absurd (omega arith);
 }
 
--- below the limit a later place comes first, and else it does not
+-- a later position is better exactly if its loss is below the limit
 pub below_limit : (loss least : ℤ) (bit : ℕ) → bit ≤ 1 → loss <ℤ (least +ℤ pos 1 -ℤ pos bit) →
     (loss <ℤ least) ⊎ ((loss ≡ least) × (bit ≡ 0))
 below_limit loss least zero one h = by_lt_z loss least (λ less. inl less) (λ not_less. inr (omega (arith, ints), refl))
@@ -119,7 +119,7 @@ not_below_limit loss least (suc zero) one h =
     by_lt_z least loss (λ less. inl less) (λ not_less. inr (omega (arith, ints), (λ e. omega arith)))
 not_below_limit loss least (suc (suc bit)) one h = absurd (omega arith)
 
--- ---- a list that is read out by one place more
+-- ---- reading out one more position
 
 module _ (rows : List ℕ) (losses : List (List ℤ)) (u : List ℕ) (k : ℕ) (old : Reading) (reading : IsReading rows losses u k old)
     (inside : k + 4 < length rows) where
@@ -141,19 +141,19 @@ module _ (rows : List ℕ) (losses : List (List ℤ)) (u : List ℕ) (k : ℕ) (
   bit_is : bit ≡ get_or chosen k 0
   bit_is = ap (λ s. get_or rows k 0 / 2 ^ s % 2) reading.state ∙ sym (chosen_bit rows 0 k (omega arith))
 
-  pub best_taken : (new : Leave) → lost <ℤ old.best.limit → new.place ≡ k → new.state ≡ old.state → new.loss ≡ lost →
-      new.limit ≡ lost +ℤ pos 1 -ℤ pos bit → IsBestLeave chosen losses (k + 1) new
+  pub best_taken : (new : Departure) → lost <ℤ old.best.limit → new.place ≡ k → new.state ≡ old.state → new.loss ≡ lost →
+      new.limit ≡ lost +ℤ pos 1 -ℤ pos bit → IsBestDeparture chosen losses (k + 1) new
   best_taken new less place state loss limit =
       let best = reading.best in
       let is = lost_is in
       let known = best.limit in
       let small = bit_small rows 0 old.best.place in
       let better = below_limit (loss_at 0 chosen losses k) old.best.loss (get_or chosen old.best.place 0) small (omega (arith, ints)) in
-      leave_at chosen losses k old.state lost new inside_chosen reading.state is
+      departure_at chosen losses k old.state lost new inside_chosen reading.state is
       (least_taken chosen losses k old.best.place old.best.loss best.found best.least better)
       place state loss (limit ∙ ap (λ (bit : ℕ). lost +ℤ pos 1 -ℤ pos bit) bit_is)
 
-  pub best_kept : old.best.limit ≤ℤ lost → IsBestLeave chosen losses (k + 1) old.best
+  pub best_kept : old.best.limit ≤ℤ lost → IsBestDeparture chosen losses (k + 1) old.best
   best_kept not_less =
       let best = reading.best in
       let is = lost_is in
@@ -169,7 +169,7 @@ module _ (rows : List ℕ) (losses : List (List ℤ)) (u : List ℕ) (k : ℕ) (
       }
 
   pub read_more : (new : Reading) (written : ℕ) → k < length u → written ≡ bit → new.state ≡ next old.state written →
-      IsBestLeave chosen losses (k + 1) new.best → IsReading rows losses (slice_set u k written) (k + 1) new
+      IsBestDeparture chosen losses (k + 1) new.best → IsReading rows losses (slice_set u k written) (k + 1) new
   read_more new written within is state best = record {
     small = omega arith;
     state = state ∙ ap₂ next reading.state (is ∙ bit_is) ∙ sym (reached_more chosen k 0 (let i = inside_chosen in omega arith));

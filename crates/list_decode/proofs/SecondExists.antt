@@ -1,18 +1,18 @@
--- Soft values have a second list beside every list: the best of all others, one list more at a time.
+-- For every word there is a second one: the best of all others, by induction on the number of words.
 use Rattle.std.proofs.Common.{◌≡◌, ◌≢◌, ◌⊎◌, ℕ, zero, suc, ◌+◌, ◌-◌, ◌*◌, ◌^◌, ◌<◌, ◌≤◌}
 use Rattle.std.proofs.Common.{inl, inr, ℤ, ◌<ℤ◌, List, length, get_or, ap, sym, ◌∙◌, subst, arith}
 use Rattle.std.proofs.Math.Nat.{div-eq_of_lt}
 use Rattle.std.proofs.lemmas.Bool.{cases_lt}
 use Rattle.std.proofs.lemmas.Int.{ints, by_lt_z}
 use Rattle.std.proofs.lemmas.Nat.{pow-add, pow_pos}
-use Rattle.conv_code.specs.Code.{coded}
-use Rattle.conv_code.specs.Likelihood.{likelihood, IsBefore, FallsBehind}
+use Rattle.weight_bound.specs.conv_code.Code.{encoding}
+use Rattle.weight_bound.specs.conv_code.Likelihood.{likelihood, IsBefore, FallsBehind}
 use Rattle.trellis_decode.specs.Words.{word}
-use Rattle.conv_code.proofs.Lemmas.{same_number}
+use Rattle.weight_bound.proofs.conv_code.Lemmas.{same_number}
 use Rattle.trellis_decode.proofs.Lemmas.{length-word, IsBefore-word, IsInformation-word, word-information}
 use Rattle.list_decode.specs.Ranking.{IsCandidate, IsSecond}
 
--- words in their order differ
+-- two words in lexicographic order differ
 differs_before : (u v : List ℕ) → IsBefore u v → u ≢ v
 differs_before u v before same = before.differs (ap (λ w. get_or w before.place 0) (sym same) ∙ before.zero)
 
@@ -20,32 +20,32 @@ module _ (soft : List ℤ) (n passed : ℕ) where
   abbrev list_of : ℕ → List ℕ
   list_of m = word n (16 * m)
 
-  -- the best of the lists with a lower number, but for the one that is passed over
+  -- the best word with a lower number, except for the one that is excluded
   record Leads (number : ℕ) : Type 0 where
     chosen : ℕ
     within : chosen < number
     other : chosen ≢ passed
     leads : (m : ℕ) → m < number → m ≢ chosen → m ≢ passed → FallsBehind soft (list_of m) (list_of chosen)
 
-  behind_more : (a b : List ℕ) (v : List ℕ) → FallsBehind soft v a → likelihood soft (coded a) <ℤ likelihood soft (coded b) →
+  behind_more : (a b : List ℕ) (v : List ℕ) → FallsBehind soft v a → likelihood soft (encoding a) <ℤ likelihood soft (encoding b) →
       FallsBehind soft v b
   behind_more a b v (inl less) more = inl (omega (arith, ints))
   behind_more a b v (inr same) more = let e = same.0 in inl (omega (arith, ints))
 
-  -- of two lists the one with the higher number is likelier, or falls behind
+  -- of two words, the one with the higher number is more likely or ranks after
   compared : (a b : ℕ) → a < b → 16 * b < 2 ^ n →
-      (likelihood soft (coded (list_of a)) <ℤ likelihood soft (coded (list_of b))) ⊎ FallsBehind soft (list_of b) (list_of a)
+      (likelihood soft (encoding (list_of a)) <ℤ likelihood soft (encoding (list_of b))) ⊎ FallsBehind soft (list_of b) (list_of a)
   compared a b less within =
       let lower : 16 * a < 2 ^ n = omega arith in
       let before : IsBefore (list_of a) (list_of b) =
       IsBefore-word n (16 * a) (16 * b) (omega arith) (div-eq_of_lt lower ∙ sym (div-eq_of_lt within)) in
-      by_lt_z (likelihood soft (coded (list_of a))) (likelihood soft (coded (list_of b)))
+      by_lt_z (likelihood soft (encoding (list_of a))) (likelihood soft (encoding (list_of b)))
       (λ more. inl more)
-      (λ most. inr (by_lt_z (likelihood soft (coded (list_of b))) (likelihood soft (coded (list_of a)))
+      (λ most. inr (by_lt_z (likelihood soft (encoding (list_of b))) (likelihood soft (encoding (list_of a)))
       (λ below. inl below)
       (λ equal. inr (omega (arith, ints), before))))
 
-  -- one list more is the best, or the best stays
+  -- one more word is the best, or the best stays the best
   one_more : (number : ℕ) → 16 * number < 2 ^ n → number ≢ passed → Leads number → Leads (suc number)
   one_more number room other before = elim (compared before.chosen number before.within room) [
     | inl more ↦ record {
@@ -53,7 +53,8 @@ module _ (soft : List ℤ) (n passed : ℕ) where
       within = omega arith;
       other = other;
       leads = (λ m lt ne ne'. elim (same_number m before.chosen) [
-        | inl same ↦ inl (subst (λ m. likelihood soft (coded (list_of m)) <ℤ likelihood soft (coded (list_of number))) (sym same) more)
+        | inl same ↦ inl (subst (λ m. likelihood soft (encoding (list_of m)) <ℤ likelihood soft (encoding (list_of number))) (sym same)
+            more)
         | inr differs ↦ behind_more (list_of before.chosen) (list_of number) (list_of m) (before.leads m (omega arith) differs ne') more
       ]);
     }
@@ -68,7 +69,7 @@ module _ (soft : List ℤ) (n passed : ℕ) where
     }
   ]
 
-  -- the list that is passed over changes nothing
+  -- the excluded word changes nothing
   none_more : (number : ℕ) → number ≡ passed → Leads number → Leads (suc number)
   none_more number same before = record {
     chosen = before.chosen;
@@ -95,7 +96,7 @@ module _ (soft : List ℤ) (n passed : ℕ) where
     ]
   ]
 
-  -- the best of all others comes next after the list that was passed over
+  -- the best of all others is the second word after the excluded one
   IsSecond-chosen : (lists : ℕ) → 5 ≤ n → length soft ≡ 2 * n → 16 * lists ≡ 2 ^ n → 16 * passed < 2 ^ n → (l : Leads lists) →
       IsSecond soft (list_of passed) (list_of l.chosen)
   IsSecond-chosen lists long pairs all known l = record {
@@ -103,7 +104,7 @@ module _ (soft : List ℤ) (n passed : ℕ) where
     differs = apart;
     others = every;
   } where
-    -- lists of different numbers differ
+    -- words with different numbers differ
     ordered : (a b : ℕ) → a < b → 16 * b < 2 ^ n → list_of a ≢ list_of b
     ordered a b less within =
         let lower : 16 * a < 2 ^ n = omega arith in
@@ -129,13 +130,13 @@ module _ (soft : List ℤ) (n passed : ℕ) where
         subst (λ w. FallsBehind soft w (list_of l.chosen)) is
         (l.leads m (omega arith) (λ same. ne' (sym is ∙ ap list_of same)) (λ same. ne (sym is ∙ ap list_of same)))
 
--- every list has a second one beside it
+-- every word has a second one
 pub some_second : (soft : List ℤ) (u : List ℕ) → IsCandidate soft u → (v : List ℕ) × IsSecond soft u v
 some_second soft u candidate =
     let n = length u in
     let long = candidate.information.count in
     let spelt = word-information u candidate.information in
-    let parted : 2 ^ n ≡ 16 * 2 ^ (n - 4) =
+    let partition : 2 ^ n ≡ 16 * 2 ^ (n - 4) =
     ap (λ k. 2 ^ k) (let e : n ≡ 4 + (n - 4) = omega arith in e) ∙ pow-add 2 4 (n - 4) in
     let halves : 2 ^ (n - 4) ≡ 2 * 2 ^ (n - 5) =
     ap (λ k. 2 ^ k) (let e : n - 4 ≡ 1 + (n - 5) = omega arith in e) ∙ pow-add 2 1 (n - 5) in
@@ -144,7 +145,7 @@ some_second soft u candidate =
       | inl l ↦ (
         word n (16 * l.chosen),
         subst (λ u. IsSecond soft u (word n (16 * l.chosen))) spelt.2
-            (IsSecond-chosen soft n spelt.0 (2 ^ (n - 4)) long candidate.count (sym parted) spelt.1 l),
+            (IsSecond-chosen soft n spelt.0 (2 ^ (n - 4)) long candidate.count (sym partition) spelt.1 l),
       )
       | inr none ↦
           let first = none 0 (omega arith) in

@@ -1,4 +1,4 @@
--- The span of a list, and the best list that leaves it there.
+-- A span of a word, and the best word that deviates in it.
 use Rattle.std.proofs.Common.{◌≡◌, ℕ, zero, suc, ◌+◌, ◌-◌, ◌*◌, ◌/◌, ◌%◌, ◌^◌, ◌<◌, ◌≤◌, true}
 use Rattle.std.proofs.Common.{ℤ, pos, negsuc, ◌-ℤ◌, List, [], ◌∷◌, length, get_or, take, drop, Some, None, refl, ap, sym}
 use Rattle.std.proofs.Common.{◌∙◌, subst, arith, w32, FitsSigned}
@@ -8,24 +8,25 @@ use Rattle.std.proofs.lemmas.Int.{ints}
 use Rattle.std.proofs.lemmas.List.Elements.{All-head, All-tail}
 use Rattle.bit_blocks.specs.Bits.{AllBits}
 use Rattle.bit_blocks.specs.SoftValues.{IsSoft, agreement}
-use Rattle.conv_code.specs.Code.{coded}
-use Rattle.conv_code.specs.Likelihood.{AllSoft, likelihood}
+use Rattle.weight_bound.specs.conv_code.Code.{encoding}
+use Rattle.weight_bound.specs.conv_code.Likelihood.{AllSoft, likelihood}
 use Rattle.trellis_decode.specs.Trellis.{next, read_out}
-use Rattle.list_decode.specs.Branches.{between, leaving, stray_of, IsSpan, IsStray, IsBestStray}
-use Rattle.list_decode.specs.Detours.{reached, Follows, stray, IsLeastFree}
+use Rattle.list_decode.specs.Branches.{between, departures_in, deviation_of, IsSpan, IsDeviation, IsBestDeviation}
+use Rattle.list_decode.specs.DeviatingLists.{state_after, FollowsRows, deviation, IsLeastFree}
 use Rattle.list_decode.specs.FreePlaces.{IsBestFree}
 use Rattle.list_decode.specs.Passes.{IsPass, soft_of, rows_of, losses_of}
 use Rattle.list_decode.specs.Ranking.{IsCandidate}
 use Rattle.list_decode.specs.declared.branch.Span.{Span}
-use Rattle.list_decode.specs.declared.branch.Stray.{Stray}
-use Rattle.list_decode.specs.declared.leaving.Leave.{Leave}
+use Rattle.list_decode.specs.declared.branch.Deviation.{Deviation}
+use Rattle.list_decode.specs.declared.departure.Exit.{Exit}
+use Rattle.list_decode.specs.declared.departure.Departure.{Departure}
 use Rattle.list_decode.specs.declared.pass.Pass.{Pass}
-use Rattle.conv_code.proofs.Lemmas.{AllBits-coded}
+use Rattle.weight_bound.proofs.conv_code.Lemmas.{AllBits-coded}
 use Rattle.trellis_decode.proofs.Lemmas.{agreement-one, agreement-zero}
 use Rattle.list_decode.proofs.Losses.{reached_more, reached_small}
-use Rattle.list_decode.proofs.Strays.{IsFollowed, none_stands, follows_behind, stray_candidate, stray_value, stray_best}
+use Rattle.list_decode.proofs.Deviations.{IsFollowed, none_in_class, follows_behind, deviation_candidate, deviation_value, deviation_best}
 
--- ---- places of a span
+-- ---- positions of a span
 
 pub is_between : (from to k : ℕ) → from ≤ k → k < to → between from to k ≡ true
 is_between from to k h g = grind (arith, nat_tests)
@@ -36,32 +37,33 @@ between_from from to k h = grind (arith, nat_tests)
 pub between_to : (from to k : ℕ) → between from to k ≡ true → k < to
 between_to from to k h = grind (arith, nat_tests)
 
--- ---- following the choices
+-- ---- following the survivors
 
-follows_all : (n : ℕ) (rows : List ℕ) (state : ℕ) → n ≤ length rows → Follows n (read_out rows state) rows state
+follows_all : (n : ℕ) (rows : List ℕ) (state : ℕ) → n ≤ length rows → FollowsRows n (read_out rows state) rows state
 follows_all zero rows state within = refl
 follows_all (suc n) [] state within = absurd (omega arith)
 follows_all (suc n) (row ∷ rows) state within = follows_all n rows (next state (row / 2 ^ state % 2)) (omega arith)
 
--- what follows the choices from a place on does so from later places on
-pub follows_later : (from n : ℕ) (u rows : List ℕ) (state : ℕ) → Follows from u rows state → from ≤ n → n ≤ length rows →
-    Follows n u rows state
-follows_later zero n u rows state follows le within = subst (λ u. Follows n u rows state) (sym follows) (follows_all n rows state within)
+-- a word that follows the survivors from a position on follows them from later positions on
+pub follows_later : (from n : ℕ) (u rows : List ℕ) (state : ℕ) → FollowsRows from u rows state → from ≤ n → n ≤ length rows →
+    FollowsRows n u rows state
+follows_later zero n u rows state follows le within =
+    subst (λ u. FollowsRows n u rows state) (sym follows) (follows_all n rows state within)
 follows_later (suc from) zero u rows state follows le within = absurd (omega arith)
 follows_later (suc from) (suc n) [] rows state follows le within = absurd follows
 follows_later (suc from) (suc n) (x ∷ u) [] state follows le within = absurd follows
 follows_later (suc from) (suc n) (x ∷ u) (row ∷ rows) state follows le within =
     follows_later from n u rows (next state x) follows (omega arith) (omega arith)
 
--- from that place on it is what the rows choose
-pub chosen_after : (n : ℕ) (u rows : List ℕ) (state : ℕ) → Follows n u rows state →
-    drop n u ≡ read_out (drop n rows) (reached state (take n u))
+-- from that position on it is read out of the survivors
+pub chosen_after : (n : ℕ) (u rows : List ℕ) (state : ℕ) → FollowsRows n u rows state →
+    drop n u ≡ read_out (drop n rows) (state_after state (take n u))
 chosen_after zero u rows state follows = follows
 chosen_after (suc n) [] rows state follows = absurd follows
 chosen_after (suc n) (x ∷ u) [] state follows = absurd follows
 chosen_after (suc n) (x ∷ u) (row ∷ rows) state follows = chosen_after n u rows (next state x) follows
 
--- ---- likelihoods fit
+-- ---- path metrics fit an i32
 
 agreement_low : (p : ℤ) (x : ℕ) → IsSoft p → x ≤ 1 → negsuc 126 ≤ℤ agreement p x
 agreement_low p zero soft bit = subst (λ a. negsuc 126 ≤ℤ a) (sym (agreement-zero p)) soft.0
@@ -96,11 +98,18 @@ likelihood_fits s c soft bits few = fits_wide (likelihood s c) (length s) few (l
     fits_wide (pos m) n few low high = record { sfits = omega (arith, ints) }
     fits_wide (negsuc m) n few low high = record { sfits = omega (arith, ints) }
 
--- ---- the best list that leaves u in a span
+-- ---- the best word that deviates from u in a span
+
+same_deviation : (d : Exit) (place state bit : ℕ) → d.place ≡ place → d.state ≡ state → d.bit ≡ bit →
+    d ≡ record { place = place; state = state; bit = bit }
+same_deviation d place state bit p s b =
+    ap (λ place. record { place = place; state = d.state; bit = d.bit }) p
+    ∙ ap (λ state. record { place = place; state = state; bit = d.bit }) s
+    ∙ ap (λ bit. record { place = place; state = state; bit = bit }) b
 
 module _ (pass : Pass) (u : List ℕ) (span : Span) (is : IsPass pass) (candidate : IsCandidate (soft_of pass) u)
     (is_span : IsSpan pass u span) where
-  followed : IsFollowed (soft_of pass) (rows_of pass) (losses_of pass) (leaving u span) span.from
+  followed : IsFollowed (soft_of pass) (rows_of pass) (losses_of pass) (departures_in u span) span.from
   followed = record {
     kept = is.kept;
     pairs = is.pairs ∙ ap (λ n. 2 * n) (sym is.places);
@@ -112,13 +121,13 @@ module _ (pass : Pass) (u : List ℕ) (span : Span) (is : IsPass pass) (candidat
   pub long : length u ≡ length (rows_of pass)
   long = let n = candidate.count in let m = is.pairs in let p = is.places in omega arith
 
-  -- where no place of the span is free, no candidate leaves u there
-  pub no_best : IsBestFree u (losses_of pass) (between span.from span.to) span.to None → IsBestStray pass u span None
-  no_best none w is_w at = none_stands (soft_of pass) (rows_of pass) (losses_of pass) (leaving u span) span.from followed
+  -- if no position of the span is free, no candidate deviates from u there
+  pub no_best : IsBestFree u (losses_of pass) (between span.from span.to) span.to None → IsBestDeviation pass u span None
+  no_best none w is_w at = none_in_class (soft_of pass) (rows_of pass) (losses_of pass) (departures_in u span) span.from followed
       (λ k within free. none k (between_to span.from span.to k free) free) w is_w at
 
-  module _ (leave : Leave) (best : IsBestFree u (losses_of pass) (between span.from span.to) span.to (Some leave)) where
-    least : IsLeastFree u (losses_of pass) (between span.from span.to) (length u - 4) leave.place
+  module _ (departure : Departure) (best : IsBestFree u (losses_of pass) (between span.from span.to) span.to (Some departure)) where
+    least : IsLeastFree u (losses_of pass) (between span.from span.to) (length u - 4) departure.place
     least =
         let old = best.1 in
         let end = is_span.end in record {
@@ -130,92 +139,102 @@ module _ (pass : Pass) (u : List ℕ) (span : Span) (is : IsPass pass) (candidat
         }
 
     v : List ℕ
-    v = stray u (rows_of pass) 0 leave.place
+    v = deviation u (rows_of pass) 0 departure.place
 
-    v_candidate : IsCandidate (soft_of pass) (stray u (rows_of pass) 0 leave.place)
-    v_candidate = stray_candidate (soft_of pass) (rows_of pass) (losses_of pass) (leaving u span) span.from followed leave.place least
+    v_candidate : IsCandidate (soft_of pass) (deviation u (rows_of pass) 0 departure.place)
+    v_candidate = deviation_candidate (soft_of pass) (rows_of pass) (losses_of pass) (departures_in u span) span.from followed
+        departure.place least
 
-    pub value_is : likelihood (soft_of pass) (coded (stray u (rows_of pass) 0 leave.place)) ≡ span.likelihood -ℤ leave.loss
+    pub value_is : likelihood (soft_of pass) (encoding (deviation u (rows_of pass) 0 departure.place)) ≡ span.likelihood -ℤ departure.loss
     value_is =
-        let value = stray_value (soft_of pass) (rows_of pass) (losses_of pass) (leaving u span) span.from followed leave.place least in
+        let value = deviation_value (soft_of pass) (rows_of pass) (losses_of pass) (departures_in u span) span.from followed
+        departure.place least in
         let a = is_span.value in
         let b = best.0.loss in
         omega (arith, ints)
 
-    pub value_fits : FitsSigned w32 (span.likelihood -ℤ leave.loss)
+    pub value_fits : FitsSigned w32 (span.likelihood -ℤ departure.loss)
     value_fits = subst (FitsSigned w32) value_is
-        (likelihood_fits (soft_of pass) (coded (stray u (rows_of pass) 0 leave.place)) is.soft
-        (AllBits-coded (stray u (rows_of pass) 0 leave.place)) (let p = is.pairs in let m = is.at_most in omega arith))
+        (likelihood_fits (soft_of pass) (encoding (deviation u (rows_of pass) 0 departure.place)) is.soft
+        (AllBits-coded (deviation u (rows_of pass) 0 departure.place)) (let p = is.pairs in let m = is.at_most in omega arith))
 
-    pub best_stray : (x : Stray) → x.list ≡ span.list → x.leave ≡ leave → x.likelihood ≡ span.likelihood -ℤ leave.loss →
-        IsBestStray pass u span (Some x)
-    best_stray x list left likely =
-        subst (λ leave. IsBestStray pass u span (Some (record { list = x.list; leave = leave; likelihood = x.likelihood }))) (sym left) (
+    pub best_deviation : (x : Deviation) → x.list ≡ span.list → x.departure.place ≡ departure.place → x.departure.state ≡ departure.state →
+        x.departure.bit ≡ get_or u departure.place 0 → x.likelihood ≡ span.likelihood -ℤ departure.loss →
+        IsBestDeviation pass u span (Some x)
+    best_deviation x list place state bit likely =
+        subst (λ departure. IsBestDeviation pass u span (Some (record { list = x.list; departure = departure; likelihood = x.likelihood })))
+        (sym (same_deviation x.departure departure.place departure.state (get_or u departure.place 0) place state bit)) (
           record {
             within = let i = best.1.within in let e = is_span.end in omega arith;
-            follows = follows_later span.from leave.place u (rows_of pass) 0 is_span.follows
-                (between_from span.from span.to leave.place best.1.unlocked)
+            follows = follows_later span.from departure.place u (rows_of pass) 0 is_span.follows
+                (between_from span.from span.to departure.place best.1.unlocked)
                 (let i = best.1.within in let e = is_span.end in let n = long in omega arith);
             value = likely ∙ sym value_is;
-            small = subst (λ state. state < 16) (sym best.0.state) (reached_small 0 (take leave.place u) (omega arith));
+            small = subst (λ state. state < 16) (sym best.0.state) (reached_small 0 (take departure.place u) (omega arith));
             state = best.0.state;
+            bit = refl;
           },
           list,
-          between_from span.from span.to leave.place best.1.unlocked,
-          between_to span.from span.to leave.place best.1.unlocked,
-          stray_best (soft_of pass) (rows_of pass) (losses_of pass) (leaving u span) span.from followed leave.place least,
+          between_from span.from span.to departure.place best.1.unlocked,
+          between_to span.from span.to departure.place best.1.unlocked,
+          deviation_best (soft_of pass) (rows_of pass) (losses_of pass) (departures_in u span) span.from followed departure.place least,
         )
 
--- ---- the spans behind a place at which a list leaves u
+-- ---- the spans after the position of a deviation from u
 
-take_stray : (u rows : List ℕ) (state place : ℕ) → length rows ≡ length u → take place (stray u rows state place) ≡ take place u
-take_stray [] rows state place same = refl
-take_stray (x ∷ u) [] state place same = absurd (omega arith)
-take_stray (x ∷ u) (row ∷ rows) state zero same = refl
-take_stray (x ∷ u) (row ∷ rows) state (suc place) same = ap (λ rest. x ∷ rest) (take_stray u rows (next state x) place (omega arith))
+take_deviation : (u rows : List ℕ) (state place : ℕ) → length rows ≡ length u → take place (deviation u rows state place) ≡ take place u
+take_deviation [] rows state place same = refl
+take_deviation (x ∷ u) [] state place same = absurd (omega arith)
+take_deviation (x ∷ u) (row ∷ rows) state zero same = refl
+take_deviation (x ∷ u) (row ∷ rows) state (suc place) same =
+    ap (λ rest. x ∷ rest) (take_deviation u rows (next state x) place (omega arith))
 
-module _ (pass : Pass) (u : List ℕ) (x : Stray) (is : IsPass pass) (candidate : IsCandidate (soft_of pass) u)
-    (is_stray : IsStray pass u x) where
+module _ (pass : Pass) (u : List ℕ) (x : Deviation) (is : IsPass pass) (candidate : IsCandidate (soft_of pass) u)
+    (is_deviation : IsDeviation pass u x) where
   u_long : length u ≡ length (rows_of pass)
   u_long = let n = candidate.count in let m = is.pairs in let p = is.places in omega arith
 
-  -- what is behind it in u
-  pub span_after : (old span : Span) → IsSpan pass u old → x.leave.place < old.to → span.from ≡ x.leave.place + 1 → span.to ≡ old.to →
-      span.likelihood ≡ old.likelihood → span.state ≡ next x.leave.state (get_or u x.leave.place 0) → IsSpan pass u span
+  -- the rest of the span of u
+  pub span_after : (old span : Span) → IsSpan pass u old → x.departure.place < old.to → span.from ≡ x.departure.place + 1 →
+      span.to ≡ old.to →
+      span.likelihood ≡ old.likelihood → span.state ≡ next x.departure.state (get_or u x.departure.place 0) → IsSpan pass u span
   span_after old span old_is within from to likely state =
-      let i = is_stray.within in
+      let i = is_deviation.within in
       let n = u_long in
       let end = old_is.end in record {
-        follows = subst (λ from. Follows from u (rows_of pass) 0) (sym from)
-            (follows_later x.leave.place (x.leave.place + 1) u (rows_of pass) 0 is_stray.follows (omega arith) (omega arith));
+        follows = subst (λ from. FollowsRows from u (rows_of pass) 0) (sym from)
+            (follows_later x.departure.place (x.departure.place + 1) u (rows_of pass) 0 is_deviation.follows (omega arith) (omega arith));
         value = likely ∙ old_is.value;
         order = omega arith;
         end = omega arith;
         small = omega arith;
-        state = state ∙ ap (λ s. next s (get_or u x.leave.place 0)) is_stray.state ∙ sym (reached_more u x.leave.place 0 (omega arith))
-            ∙ ap (λ from. reached 0 (take from u)) (sym from);
+        state = state ∙ ap (λ s. next s (get_or u x.departure.place 0)) is_deviation.state
+            ∙ sym (reached_more u x.departure.place 0 (omega arith))
+            ∙ ap (λ from. state_after 0 (take from u)) (sym from);
       }
 
-  -- what is behind it in the list that leaves u
-  pub span_behind : (v : List ℕ) (span : Span) → v ≡ stray_of pass u x → IsCandidate (soft_of pass) v → span.from ≡ x.leave.place + 1 →
-      span.to + 4 ≡ pass.bits → span.likelihood ≡ x.likelihood → span.state ≡ next x.leave.state (get_or v x.leave.place 0) →
+  -- the rest of the word that deviates from u
+  pub span_behind : (v : List ℕ) (span : Span) → v ≡ deviation_of pass u x → IsCandidate (soft_of pass) v →
+      span.from ≡ x.departure.place + 1 →
+      span.to + 4 ≡ pass.bits → span.likelihood ≡ x.likelihood → span.state ≡ next x.departure.state (get_or v x.departure.place 0) →
       IsSpan pass v span
   span_behind v span written v_is from to likely state =
-      let i = is_stray.within in
+      let i = is_deviation.within in
       let n = u_long in
       let p = is.places in
       let m = is.pairs in
       let c = v_is.count in record {
-        follows = subst (λ from. Follows from v (rows_of pass) 0) (sym from)
-            (subst (λ v. Follows (x.leave.place + 1) v (rows_of pass) 0) (sym written)
-            (follows_behind u (rows_of pass) 0 x.leave.place n (omega arith)));
-        value = likely ∙ is_stray.value ∙ ap (λ v. likelihood (soft_of pass) (coded v)) (sym written);
+        follows = subst (λ from. FollowsRows from v (rows_of pass) 0) (sym from)
+            (subst (λ v. FollowsRows (x.departure.place + 1) v (rows_of pass) 0) (sym written)
+            (follows_behind u (rows_of pass) 0 x.departure.place n (omega arith)));
+        value = likely ∙ is_deviation.value ∙ ap (λ v. likelihood (soft_of pass) (encoding v)) (sym written);
         order = omega arith;
         end = omega arith;
         small = omega arith;
         state = state
-            ∙ ap (λ s. next s (get_or v x.leave.place 0))
-            (is_stray.state ∙ ap (reached 0) (sym (ap (take x.leave.place) written ∙ take_stray u (rows_of pass) 0 x.leave.place (sym n))))
-            ∙ sym (reached_more v x.leave.place 0 (omega arith))
-            ∙ ap (λ from. reached 0 (take from v)) (sym from);
+            ∙ ap (λ s. next s (get_or v x.departure.place 0))
+            (is_deviation.state ∙ ap (state_after 0)
+            (sym (ap (take x.departure.place) written ∙ take_deviation u (rows_of pass) 0 x.departure.place (sym n))))
+            ∙ sym (reached_more v x.departure.place 0 (omega arith))
+            ∙ ap (λ from. state_after 0 (take from v)) (sym from);
       }

@@ -1,4 +1,4 @@
--- The order of lists of bits, by the test of the machine.
+-- Lexicographic order of words, as the slice comparison decides it.
 use Rattle.std.proofs.Common.{◌≡◌, ◌≢◌, ◌⊎◌, ℕ, ◌<◌, Bool, true, false, cond, eqb, ltb, inl, inr, List, []}
 use Rattle.std.proofs.Common.{◌∷◌, length, refl, sym, ◌∙◌, subst, arith, eq-eqb, ne_eqb, ap}
 use Rattle.std.specs.Ordering.{nat_cmp, is_lt, is_some_and}
@@ -7,9 +7,9 @@ use Rattle.std.specs.Prelude.{Some}
 use Rattle.std.proofs.lemmas.Cmp.{same_from_slice_cmp_tested}
 use Rattle.std.proofs.lemmas.Bool.Decides.{nat_tests}
 use Rattle.bit_blocks.specs.Bits.{AllBits}
-use Rattle.conv_code.specs.Likelihood.{IsBefore}
+use Rattle.weight_bound.specs.conv_code.Likelihood.{IsBefore}
 use Rattle.trellis_decode.specs.Trellis.{IsNotAfter}
-use Rattle.conv_code.proofs.Lemmas.{same_list, same_number}
+use Rattle.weight_bound.proofs.conv_code.Lemmas.{same_list, same_number}
 use Rattle.trellis_decode.proofs.Lemmas.{IsBefore-not_after}
 
 abbrev pub test : List ℕ → List ℕ → Bool
@@ -53,12 +53,12 @@ not_before (x ∷ u) (y ∷ v) same h = elim (same_number x y) [
   | inr other ↦ inl (not_less x y (head x y (test u v) (ltb x y) false other h) other)
 ]
 
--- where the test holds u stands before v
+-- if the comparison is true, u comes before v
 pub before_tested : (u v : List ℕ) → AllBits v → length v ≡ length u → test u v ≡ true → IsBefore u v
 before_tested u v bits same h = IsBefore-not_after u v bits same (not_after u v same h)
     (λ e. not_itself u (subst (λ v. test u v ≡ true) e h))
 
--- and where it does not, v is u or stands before it
+-- if it is false, v is u or comes before it
 pub behind_tested : (u v : List ℕ) → AllBits u → length v ≡ length u → test u v ≡ false → (u ≡ v) ⊎ IsBefore v u
 behind_tested u v bits same h = elim (same_list u v) [
   | inl equal ↦ inl equal

@@ -1,17 +1,24 @@
--- Where the best list leaves a given one at one of its free places.
+-- The free position of a word at which a deviation loses least.
 use Rattle.std.specs.Prelude.{ℕ, ◌≡◌, ◌≤◌, ◌<◌, Bool, true, ℤ, pos, ◌+ℤ◌, ◌-ℤ◌, List, slice_index, take}
 use Rattle.std.specs.Prelude.{Option, Some, None}
-use Rattle.list_decode.specs.Detours.{reached, loss_at, IsLeastFree}
-use Rattle.list_decode.specs.declared.leaving.Leave.{Leave}
+use Rattle.list_decode.specs.DeviatingLists.{state_after, loss_at, IsLeastFree}
+use Rattle.list_decode.specs.declared.branch.Spot.{Spot}
+use Rattle.list_decode.specs.declared.departure.Departure.{Departure}
 
--- a place of u with the state that finds it and what is lost there
-pub record IsLeave (u : List ℕ) (losses : List (List ℤ)) (leave : Leave) : Type 0 where
-  pub bit : slice_index u leave.place ≤ 1
-  pub state : leave.state ≡ reached 0 (take leave.place u)
-  pub loss : leave.loss ≡ loss_at 0 u losses leave.place
-  pub limit : leave.limit ≡ leave.loss +ℤ pos 1 -ℤ pos (slice_index u leave.place)
+-- a position of u, the trellis state before it and the loss there
+pub record IsDeparture (u : List ℕ) (losses : List (List ℤ)) (departure : Departure) : Type 0 where
+  pub bit : slice_index u departure.place ≤ 1
+  pub state : departure.state ≡ state_after 0 (take departure.place u)
+  pub loss : departure.loss ≡ loss_at 0 u losses departure.place
+  pub limit : departure.limit ≡ departure.loss +ℤ pos 1 -ℤ pos (slice_index u departure.place)
 
--- the free place before n where the least is lost, or none is free
-abbrev pub IsBestFree : List ℕ → List (List ℤ) → (ℕ → Bool) → ℕ → Option Leave → Type 0
+-- the free position before n with the least loss; `None` if no position is free
+abbrev pub IsBestFree : List ℕ → List (List ℤ) → (ℕ → Bool) → ℕ → Option Departure → Type 0
 IsBestFree u losses free n None = (k : ℕ) → k < n → free k ≡ true → ⊥
-IsBestFree u losses free n (Some leave) = IsLeave u losses leave × IsLeastFree u losses free n leave.place
+IsBestFree u losses free n (Some departure) = IsDeparture u losses departure × IsLeastFree u losses free n departure.place
+
+-- the free position before n with the least loss, and the trellis state before it
+pub record IsSpot (u : List ℕ) (losses : List (List ℤ)) (free : ℕ → Bool) (n : ℕ) (spot : Spot) : Type 0 where
+  pub state : spot.state ≡ state_after 0 (take spot.place u)
+  pub limit : spot.limit ≡ loss_at 0 u losses spot.place +ℤ pos 1 -ℤ pos (slice_index u spot.place)
+  pub least : IsLeastFree u losses free n spot.place

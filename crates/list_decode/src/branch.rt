@@ -1,45 +1,47 @@
-//! The places of a given list at which lists not yet given leave it, and the best of those.
+//! Spans of returned words, and the best deviation in each.
 
-ghost use Rattle.std.specs.Prelude.{◌≡◌, ◌≤◌, ◌+◌, ℕ, ◌<◌, ℤ, Bool, true, List, length, take};
+ghost use Rattle.std.specs.Prelude.{◌≡◌, ◌≤◌, ◌+◌, ℕ, ◌<◌, ℤ, Bool, true, pos, ◌+ℤ◌, ◌-ℤ◌, List};
+ghost use Rattle.std.specs.Prelude.{length, slice_index, take};
 ghost use Rattle.bit_blocks.specs.Bits.{AllBits};
-ghost use Rattle.list_decode.specs.Branches.{IsBranch, IsSpan, IsStray, between, stray_of};
-ghost use Rattle.list_decode.specs.Detours.{reached};
-ghost use Rattle.list_decode.specs.FreePlaces.{IsBestFree, IsLeave};
+ghost use Rattle.list_decode.specs.Branches.{IsBranch, IsSpan, IsDeviation, between, deviation_of};
+ghost use Rattle.list_decode.specs.DeviatingLists.{loss_at, state_after};
+ghost use Rattle.list_decode.specs.FreePlaces.{IsBestFree, IsSpot};
 ghost use Rattle.list_decode.specs.Passes.{IsPass, soft_of};
 ghost use Rattle.list_decode.specs.Ranking.{IsCandidate};
 
-use crate::leaving::{Leave, write_detour};
+use crate::departure::{Departure, Exit, take_deviation, write_deviation};
 use crate::pass::Pass;
+use bit_blocks::INFORMATION_BITS;
 
-/// The places of a given list from `from` on and before `to`, and the state that finds the first of them.
+/// The positions `from..to` of a returned word, its path metric, and the trellis state before `from`.
 #[derive(Clone, Copy)]
 pub(crate) struct Span {
-    /// The number of the list.
-    pub(crate) list: usize,
     pub(crate) likelihood: i32,
-    pub(crate) from: usize,
-    pub(crate) to: usize,
-    pub(crate) state: usize,
+    /// The number of the word.
+    pub(crate) list: u8,
+    pub(crate) from: u8,
+    pub(crate) to: u8,
+    pub(crate) state: u8,
 }
 
-/// A list that leaves a given one at a place, and from there on follows the choices of the pass.
+/// A word that deviates from a returned word at a position and follows the survivors from there on, and its path metric.
 #[derive(Clone, Copy)]
-pub(crate) struct Stray {
-    /// The number of the list that it leaves.
-    pub(crate) list: usize,
-    pub(crate) leave: Leave,
+pub(crate) struct Deviation {
     pub(crate) likelihood: i32,
+    pub(crate) departure: Exit,
+    /// The number of the word from which it deviates.
+    pub(crate) list: u8,
 }
 
-/// The lists that leave a given one in a span, and the best of them.
+/// A span and the best word that deviates in it.
 #[derive(Clone, Copy)]
 pub(crate) struct Branch {
     pub(crate) span: Span,
-    pub(crate) best: Option<Stray>,
+    pub(crate) best: Option<Deviation>,
 }
 
 impl Branch {
-    /// The branch of a span of the list `u`.
+    /// Finds the best word that deviates from `u` in a span.
     pub(crate) fn new(pass: &Pass, u: &[u8], span: Span) -> Branch
         requires pass { IsPass pass.now }
         requires list { IsCandidate (soft_of pass.now) u.now }
@@ -49,62 +51,103 @@ impl Branch {
     {
         let best = match find_best(u, &pass.losses[..pass.bits], &span) {
             None => None,
-            Some(leave) => Some(Stray {
+            Some(departure) => Some(Deviation {
+                likelihood: span.likelihood - departure.loss,
+                departure: Exit::new(departure.place, departure.state, u[departure.place]),
                 list: span.list,
-                leave,
-                likelihood: span.likelihood - leave.loss,
             }),
         };
         Branch { span, best }
     }
 }
 
-impl Stray {
-    /// Writes the list that leaves `u`.
+impl Deviation {
+    /// Writes the word that deviates from `u`.
     pub(crate) fn write(&self, pass: &Pass, u: &[u8], v: &mut [u8])
         requires pass { IsPass pass.now }
         requires list { IsCandidate (soft_of pass.now) u.now }
-        requires stray { IsStray pass.now u.now self.now }
+        requires deviation { IsDeviation pass.now u.now self.now }
         requires count { length v.old ≡ length u.now }
-        ensures { v.new ≡ stray_of pass.now u.now self.now }
+        ensures { v.new ≡ deviation_of pass.now u.now self.now }
     {
-        write_detour(u, &pass.rows[..pass.bits], self.leave, v);
+        write_deviation(u, &pass.rows[..pass.bits], self.departure, v);
+    }
+
+    /// Replaces `u` by the word that deviates from it.
+    pub(crate) fn take(&self, pass: &Pass, u: &mut [u8])
+        requires pass { IsPass pass.now }
+        requires list { IsCandidate (soft_of pass.now) u.old }
+        requires deviation { IsDeviation pass.now u.old self.now }
+        ensures { u.new ≡ deviation_of pass.now u.old self.now }
+    {
+        take_deviation(&pass.rows[..pass.bits], self.departure, u);
     }
 }
 
-/// The place of a span where the least is lost; of equal places that whose list comes first in the order of words.
-fn find_best(list: &[u8], losses: &[[i16; 16]], span: &Span) -> Option<Leave>
+/// The position of a span with the least loss. Of equal losses, the one whose word comes first in lexicographic order.
+fn find_best(list: &[u8], losses: &[[i16; 16]], span: &Span) -> Option<Departure>
     requires bits { AllBits list.now }
     requires order { span.now.from ≤ span.now.to }
     requires end { span.now.to + 4 ≤ length list.now }
-    requires at_most { length list.now ≤ 228 }
+    requires at_most { length list.now ≤ INFORMATION_BITS }
     requires same { length losses.now ≡ length list.now }
     requires small { span.now.state < 16 }
-    requires state { span.now.state ≡ reached 0 (take span.now.from list.now) }
+    requires state { span.now.state ≡ state_after 0 (take span.now.from list.now) }
     ensures { IsBestFree list.now losses.now (between span.now.from span.now.to) span.now.to result }
 {
-    let mut best = None;
-    let mut state = span.state;
-    for k in span.from..span.to {
-        best = better(best, Leave::new(k, state, losses[k][state], list[k]));
+    let from = usize::from(span.from);
+    let to = usize::from(span.to);
+    if from >= to {
+        return None;
+    }
+    let state = usize::from(span.state);
+    let mut best = Spot::new(from, state, losses[from][state], list[from]);
+    let mut state = (2 * state + usize::from(list[from])) % 16;
+    for k in from + 1..to {
+        best = best.or(k, state, losses[k][state], list[k]);
         state = (2 * state + usize::from(list[k])) % 16;
     }
-    best
+    Some(Departure::new(
+        best.place,
+        best.state,
+        losses[best.place][best.state],
+        list[best.place],
+    ))
 }
 
-/// The better of what was found so far and a later place.
-fn better(best: Option<Leave>, new: Leave) -> Option<Leave>
-    ensures { (u : List ℕ) (losses : List (List ℤ)) (free : ℕ → Bool) (k : ℕ) → IsBestFree u losses free k best → free k ≡ true →
-        IsLeave u losses new → new.place ≡ k → IsBestFree u losses free (k + 1) result }
-{
-    match best {
-        None => Some(new),
-        Some(leave) => {
-            if leave.comes_after(new.loss) {
-                Some(new)
-            } else {
-                Some(leave)
-            }
+/// The best position so far, the trellis state before it, and the limit below which the loss of a later position is better.
+#[derive(Clone, Copy)]
+struct Spot {
+    place: usize,
+    state: usize,
+    limit: i32,
+}
+
+impl Spot {
+    fn new(place: usize, state: usize, loss: i16, bit: u8) -> Spot
+        requires { bit ≤ 1 }
+        ensures place { result.place ≡ place }
+        ensures state { result.state ≡ state }
+        ensures limit { result.limit ≡ loss +ℤ pos 1 -ℤ pos bit }
+    {
+        Spot {
+            place,
+            state,
+            limit: i32::from(loss) + 1 - i32::from(bit),
+        }
+    }
+
+    /// The better of this position and a later one.
+    fn or(self, place: usize, state: usize, loss: i16, bit: u8) -> Spot
+        requires { bit ≤ 1 }
+        ensures { (u : List ℕ) (losses : List (List ℤ)) (free : ℕ → Bool) → IsSpot u losses free place self → free place ≡ true →
+            state ≡ state_after 0 (take place u) → loss ≡ loss_at 0 u losses place → bit ≡ slice_index u place → AllBits u →
+            IsSpot u losses free (place + 1) result }
+    {
+        if i32::from(loss) < self.limit {
+            Spot::new(place, state, loss, bit)
+        } else {
+            self
         }
     }
 }

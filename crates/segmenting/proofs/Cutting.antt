@@ -1,4 +1,5 @@
--- The pieces of a message: that they are what they should be, that nothing else is, and each by its place.
+-- Segmentation: `pieces` is the only correct segmentation, and gives each segment by
+-- its index. By induction on the number of full segments.
 use Rattle.std.proofs.Common.{◌≡◌, refl, sym, ◌∙◌, ap, subst, arith, ℕ, zero, suc, ◌+◌, ◌-◌, ◌*◌, ◌/◌}
 use Rattle.std.proofs.Common.{◌<◌, ◌≤◌, min, Bool, true, false, List, [], ◌∷◌, ◌++◌, length, take, drop, nat_lt, Some}
 use Rattle.std.proofs.Common.{inl, inr, ◌↔◌, slice_get}
@@ -10,9 +11,9 @@ use Rattle.std.proofs.lemmas.List.{append-nil, take-append-drop, length-take-le,
 use Rattle.lapdm_frame.specs.declared.Channel.{Channel}
 use Rattle.lapdm_frame.specs.declared.Channel.TheVariants.{Sdcch, Sacch}
 use Rattle.lapdm_frame.specs.Layout.{n201}
-use Rattle.segmenting.specs.Pieces.{Message, Piece, IsMessage, IsFull, AreCut, joined_octets, ArePieces, cut, pieces, most_pieces}
+use Rattle.segmenting.specs.Segments.{Message, Segment, IsMessage, IsFull, AreCut, joined_octets, AreSegments, cut, segments, most_segments}
 
--- a list of k times n octets and then some, at most n: it fills k pieces, and a last one
+-- m fills k segments of n octets and leaves 1 to n octets for the last
 pub record Fills (n k : ℕ) (m : List ℕ) : Type 0 where
   pub above : k * n < length m
   pub below : length m ≤ k * n + n
@@ -30,7 +31,7 @@ fills_rest n k m h =
       below = omega (arith, suc-mul k n, length-drop n m, h.above, h.below);
     }
 
-AreCut-cons : (n : ℕ) (p : Piece) (ps : List Piece) → IsFull n p → AreCut n ps → AreCut n (p ∷ ps)
+AreCut-cons : (n : ℕ) (p : Segment) (ps : List Segment) → IsFull n p → AreCut n ps → AreCut n (p ∷ ps)
 AreCut-cons n p [] h rest = absurd rest
 AreCut-cons n p (q ∷ ps) h rest = (h, rest)
 
@@ -44,17 +45,17 @@ joined_octets-cut : (n k : ℕ) (m : List ℕ) → joined_octets (cut n k m) ≡
 joined_octets-cut n zero m = append-nil m
 joined_octets-cut n (suc k) m = ap (λ rest. take n m ++ rest) (joined_octets-cut n k (drop n m)) ∙ take-append-drop n m
 
--- the pieces of a message as a list are its pieces
-pub are_pieces : (n : ℕ) (m : Message) → 0 < n → IsMessage m → ArePieces n m (pieces n m)
-are_pieces n m some_room h =
+pub are_segments : (n : ℕ) (m : Message) → 0 < n → IsMessage m → AreSegments n m (segments n m)
+are_segments n m some_room h =
     record { octets = joined_octets-cut n _ m; cut = AreCut-cut n _ m (fills n m some_room h) }
 
--- what is cut so is cut by counting
-record IsCounted (n : ℕ) (ps : List Piece) (k : ℕ) : Type 0 where
+-- the segments are those that `cut` gives for their octets, k full ones and the last
+record IsCounted (n : ℕ) (ps : List Segment) (k : ℕ) : Type 0 where
   same : ps ≡ cut n k (joined_octets ps)
   fill : Fills n k (joined_octets ps)
 
-one_more : (n k : ℕ) (octets : List ℕ) (ps : List Piece) → length octets ≡ n → IsCounted n ps k → IsCounted n ((octets, true) ∷ ps) (suc k)
+one_more : (n k : ℕ) (octets : List ℕ) (ps : List Segment) → length octets ≡ n → IsCounted n ps k →
+    IsCounted n ((octets, true) ∷ ps) (suc k)
 one_more n k octets ps size h =
     let rest = joined_octets ps in
     let first : take n (octets ++ rest) ≡ octets = ap (λ i. take i (octets ++ rest)) (sym size) ∙ take-append_seam octets rest in
@@ -68,12 +69,12 @@ one_more n k octets ps size h =
       };
     }
 
-counted : (n : ℕ) (ps : List Piece) → AreCut n ps → (k : ℕ) × IsCounted n ps k
+counted : (n : ℕ) (ps : List Segment) → AreCut n ps → (k : ℕ) × IsCounted n ps k
 counted n [] h = absurd h
 counted n ((octets, more) ∷ []) h = (
   0,
   record {
-    same = ap (λ (p : Piece). p ∷ []) (cc (append-nil octets, h.more));
+    same = ap (λ (p : Segment). p ∷ []) (cc (append-nil octets, h.more));
     fill = record {
       above = omega (arith, ap length (append-nil octets), h.some);
       below = omega (arith, ap length (append-nil octets), h.most);
@@ -93,30 +94,28 @@ count_is n k m some_room h =
     let rest : length m - 1 ≡ k * n + (length m - 1 - k * n) = omega (arith, h.above) in
     ap (λ l. l / n) rest ∙ div-mul-add k n (length m - 1 - k * n) (omega (arith, h.above, h.below))
 
--- and nothing else is
-pub only_pieces : (n : ℕ) (m : Message) (ps : List Piece) → 0 < n → ArePieces n m ps → ps ≡ pieces n m
-only_pieces n m ps some_room h =
+pub only_segments : (n : ℕ) (m : Message) (ps : List Segment) → 0 < n → AreSegments n m ps → ps ≡ segments n m
+only_segments n m ps some_room h =
     let c = counted n ps h.cut in
     let e : joined_octets ps ≡ m = h.octets in
     let k : (length (joined_octets ps) - 1) / n ≡ c.0 = count_is n c.0 (joined_octets ps) some_room c.1.fill in
-    c.1.same ∙ ap (λ i. cut n i (joined_octets ps)) (sym k) ∙ ap (pieces n) e
+    c.1.same ∙ ap (λ i. cut n i (joined_octets ps)) (sym k) ∙ ap (segments n) e
 
-pub one_cutting : (n : ℕ) (m : Message) (ps : List Piece) → 0 < n → IsMessage m → ArePieces n m ps ↔ (ps ≡ pieces n m)
+pub one_cutting : (n : ℕ) (m : Message) (ps : List Segment) → 0 < n → IsMessage m → AreSegments n m ps ↔ (ps ≡ segments n m)
 one_cutting n m ps some_room h =
-    (only_pieces n m ps some_room, λ e. subst (ArePieces n m) (sym e) (are_pieces n m some_room h))
+    (only_segments n m ps some_room, λ e. subst (AreSegments n m) (sym e) (are_segments n m some_room h))
 
 length-cut : (n k : ℕ) (m : List ℕ) → length (cut n k m) ≡ k + 1
 length-cut n zero m = refl
 length-cut n (suc k) m = omega (arith, length-cut n k (drop n m))
 
--- how many pieces there are
-pub length-pieces : (n : ℕ) (m : Message) → length (pieces n m) ≡ (length m - 1) / n + 1
-length-pieces n m = length-cut n _ m
+pub length-segments : (n : ℕ) (m : Message) → length (segments n m) ≡ (length m - 1) / n + 1
+length-segments n m = length-cut n _ m
 
 drop-drop_next : (n i : ℕ) (m : List ℕ) → drop (i * n) (drop n m) ≡ drop (suc i * n) m
 drop-drop_next n i m = drop-drop (i * n) n m ∙ ap (λ j. drop j m) (omega (arith, suc-mul i n))
 
--- the piece at a place: full before the last, and then what is left
+-- segment i: full if i < k, else what is left of the message
 pub slice_get-cut_full : (n k i : ℕ) (m : List ℕ) → i < k → slice_get (cut n k m) i ≡ Some (take n (drop (i * n) m), true)
 slice_get-cut_full n zero i m h = absurd (omega (arith, h))
 slice_get-cut_full n (suc k) zero m h = let none : 0 ≡ 0 * n = omega arith in ap (λ j. Some (take n (drop j m), true)) none
@@ -127,59 +126,59 @@ pub slice_get-cut_last : (n k : ℕ) (m : List ℕ) → slice_get (cut n k m) k 
 slice_get-cut_last n zero m = let none : 0 ≡ 0 * n = omega arith in ap (λ j. Some (drop j m, false)) none
 slice_get-cut_last n (suc k) m = slice_get-cut_last n k (drop n m) ∙ ap (λ (rest : List ℕ). Some (rest, false)) (drop-drop_next n k m)
 
--- a frame has room for some octets on either channel
-pub record HasRoom (n : ℕ) : Type 0 where
+-- N201 of a channel: 1 to 20 octets
+pub record HasSpace (n : ℕ) : Type 0 where
   pub some : 1 ≤ n
   pub most : n ≤ 20
 
-pub room_of : (channel : Channel) → HasRoom (n201 channel)
+pub room_of : (channel : Channel) → HasSpace (n201 channel)
 room_of Sdcch = record { some = omega arith; most = omega arith }
 room_of Sacch = record { some = omega arith; most = omega arith }
 
--- a piece begins within its message
-pub begins_within : (n i : ℕ) (m : Message) → 1 ≤ n → 1 ≤ length m → i < length (pieces n m) → i * n < length m
+-- segment i begins within the message
+pub begins_within : (n i : ℕ) (m : Message) → 1 ≤ n → 1 ≤ length m → i < length (segments n m) → i * n < length m
 begins_within n i m room some_octets h =
     let k = (length m - 1) / n in
-    let below : i ≤ k = omega (arith, length-pieces n m) in
+    let below : i ≤ k = omega (arith, length-segments n m) in
     let f : k * n < length m = grind arith in
     omega (arith, mul-le-mul_right n below)
 
--- and the piece at a place is this part of it
-pub piece_is : (n i : ℕ) (m : Message) → 0 < n → IsMessage m → i < length (pieces n m) →
-    slice_get (pieces n m) i ≡ Some (take (min (length m - i * n) n) (drop (i * n) m), nat_lt n (length m - i * n))
-piece_is n i m room h within =
+-- segment i is the octets of the message from i * n on
+pub segment_is : (n i : ℕ) (m : Message) → 0 < n → IsMessage m → i < length (segments n m) →
+    slice_get (segments n m) i ≡ Some (take (min (length m - i * n) n) (drop (i * n) m), nat_lt n (length m - i * n))
+segment_is n i m room h within =
     let k = (length m - 1) / n in
     let f = fills n m room h in
-    let at_most : i ≤ k = omega (arith, length-pieces n m) in
+    let at_most : i ≤ k = omega (arith, length-segments n m) in
     elim (eq-or-lt_of_le at_most) [
       | inr below ↦
           let more : n < length m - i * n = omega (arith, f.above, mul-le-mul_right n below, suc-mul i n) in
-          slice_get-cut_full n k i m below ∙ ap (λ (p : Piece). Some p) (grind (arith, nat_tests))
+          slice_get-cut_full n k i m below ∙ ap (λ (p : Segment). Some p) (grind (arith, nat_tests))
       | inl same ↦
           let size : length (drop (i * n) m) ≡ length m - i * n = length-drop (i * n) m in
           let all : take (length m - i * n) (drop (i * n) m) ≡ drop (i * n) m = ap
           (λ j. take j (drop (i * n) m)) (sym size) ∙ take-length (drop (i * n) m) in
           let last : length m - i * n ≤ n = subst (λ (j : ℕ). length m - j * n ≤ n) (sym same) (omega (arith, f.below)) in
           ap (λ j. slice_get (cut n k m) j) same ∙ slice_get-cut_last n k m ∙ ap (λ j. Some (drop (j * n) m, false)) (sym same) ∙ ap
-          (λ (p : Piece). Some p) (grind (arith, nat_tests))
+          (λ (p : Segment). Some p) (grind (arith, nat_tests))
     ]
 
--- the same for a number known to be the room of a channel
-pub begins_at : (channel : Channel) (r i : ℕ) (m : Message) → r ≡ n201 channel → 1 ≤ length m → i < length (pieces (n201 channel) m) →
+-- the same for a number r that is N201 of a channel
+pub begins_at : (channel : Channel) (r i : ℕ) (m : Message) → r ≡ n201 channel → 1 ≤ length m → i < length (segments (n201 channel) m) →
     i * r < length m
 begins_at channel r i m same some_octets h =
     subst (λ (n : ℕ). i * n < length m) (sym same) (begins_within (n201 channel) i m (room_of channel).some some_octets h)
 
-pub piece_at : (channel : Channel) (r i l : ℕ) (m : Message) → r ≡ n201 channel → l ≡ min (length m - i * r) r → IsMessage m →
-    i < length (pieces (n201 channel) m) → slice_get (pieces (n201 channel) m) i
+pub segment_at : (channel : Channel) (r i l : ℕ) (m : Message) → r ≡ n201 channel → l ≡ min (length m - i * r) r → IsMessage m →
+    i < length (segments (n201 channel) m) → slice_get (segments (n201 channel) m) i
     ≡ Some (take (i * r + l - i * r) (drop (i * r) m), nat_lt r (length m - i * r))
-piece_at channel r i l m same size h within =
+segment_at channel r i l m same size h within =
     let e : min (length m - i * r) r ≡ i * r + l - i * r = omega arith in
-    subst (λ (n : ℕ). slice_get (pieces (n201 channel) m) i ≡ Some
+    subst (λ (n : ℕ). slice_get (segments (n201 channel) m) i ≡ Some
     (take (min (length m - i * n) n) (drop (i * n) m), nat_lt n (length m - i * n))) (sym same)
-    (piece_is (n201 channel) i m (room_of channel).some h within) ∙ ap
+    (segment_is (n201 channel) i m (room_of channel).some h within) ∙ ap
     (λ j. Some (take j (drop (i * r) m), nat_lt r (length m - i * r))) e
 
-pub few_pieces : (channel : Channel) (r l : ℕ) → r ≡ n201 channel → l ≤ 251 → (l - 1) / r + 1 ≤ most_pieces channel
-few_pieces Sdcch r l same h = subst (λ (n : ℕ). (l - 1) / n + 1 ≤ 13) (sym same) (grind arith)
-few_pieces Sacch r l same h = subst (λ (n : ℕ). (l - 1) / n + 1 ≤ 14) (sym same) (grind arith)
+pub few_segments : (channel : Channel) (r l : ℕ) → r ≡ n201 channel → l ≤ 251 → (l - 1) / r + 1 ≤ most_segments channel
+few_segments Sdcch r l same h = subst (λ (n : ℕ). (l - 1) / n + 1 ≤ 13) (sym same) (grind arith)
+few_segments Sacch r l same h = subst (λ (n : ℕ). (l - 1) / n + 1 ≤ 14) (sym same) (grind arith)

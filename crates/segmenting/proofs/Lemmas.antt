@@ -1,5 +1,5 @@
--- What crates above cite: the pieces of a message, what pieces end, and what their first ones do.
-pub use Rattle.segmenting.proofs.Cutting.{length-pieces, are_pieces, room_of, begins_within, piece_is, few_pieces}
+-- The lemmas that other crates cite.
+pub use Rattle.segmenting.proofs.Cutting.{length-segments, are_segments, room_of, begins_within, segment_is, few_segments}
 pub use Rattle.segmenting.proofs.Fronts.{endings-all, endings-append, ended-take, ended-endings, messages_of, ended-append, ended-all}
 pub use Rattle.segmenting.proofs.Fronts.{ended-whole}
 pub use Rattle.segmenting.proofs.Joins.{within_some, latest_after-last, endings-more, endings-last, messages-push}

@@ -1,23 +1,24 @@
--- Pieces that lead to whatever a joiner holds.
+-- Some list of segments, of any length modulo 8, leads to whatever a joiner holds:
+-- empty segments with M = 0, then the octets held as one segment.
 use Rattle.std.proofs.Common.{◌≡◌, refl, sym, ◌∙◌, ap, subst, arith, ℕ, zero, suc, ◌+◌, ◌%◌, ◌≤◌, true, false}
 use Rattle.std.proofs.Common.{List, [], ◌∷◌, ◌++◌, length, take, replicate}
 use Rattle.std.proofs.lemmas.List.{length-append, length-replicate, length-take}
 use Rattle.segmenting.specs.declared.joiner.Part.{Part}
 use Rattle.segmenting.specs.declared.joiner.Part.TheVariants as P
 use Rattle.segmenting.specs.declared.joiner.Joiner.{Joiner}
-use Rattle.segmenting.specs.Pieces.{Piece, longest}
+use Rattle.segmenting.specs.Segments.{Segment, longest}
 use Rattle.segmenting.specs.Joining.{open_part}
 use Rattle.segmenting.specs.Joiners.{HasJoined}
 use Rattle.segmenting.proofs.Taking.{goes_on, completes, goes_over}
 
--- these are held after some pieces, whose count is this modulo 8
+-- segments that lead to what is held, and whose number modulo 8 is `number`
 pub record HasPast (part : Part) (held : List ℕ) (number : ℕ) : Type 0 where
-  pub taken : List Piece
+  pub taken : List Segment
   pub count : length taken % 8 ≡ number
   pub joined : HasJoined part held taken
 
--- so many pieces, each of which ends a message
-abbrev ends_of : ℕ → List Piece
+-- k segments without octets, each with M = 0
+abbrev ends_of : ℕ → List Segment
 ends_of zero = []
 ends_of (suc k) = ([], false) ∷ ends_of k
 
@@ -35,10 +36,10 @@ begins k octets = ap (λ front. front ++ octets) (sym (nothing_open k))
 number_of : (r : ℕ) → r ≤ 7 → ((r + 7) % 8 + 1) % 8 ≡ r
 number_of r few = grind arith
 
-counted : (r : ℕ) (piece : Piece) → r ≤ 7 → length (ends_of ((r + 7) % 8) ++ piece ∷ []) % 8 ≡ r
-counted r piece few =
+counted : (r : ℕ) (segment : Segment) → r ≤ 7 → length (ends_of ((r + 7) % 8) ++ segment ∷ []) % 8 ≡ r
+counted r segment few =
     let k = (r + 7) % 8 in
-    ap (λ n. n % 8) (length-append (ends_of k) (piece ∷ []) ∙ ap (λ n. n + 1) (length-ends_of k)) ∙ number_of r few
+    ap (λ n. n % 8) (length-append (ends_of k) (segment ∷ []) ∙ ap (λ n. n + 1) (length-ends_of k)) ∙ number_of r few
 
 past_of : (part : Part) (held : List ℕ) (r : ℕ) → r ≤ 7 → length held ≤ longest → (part ≡ P.Over → held ≡ []) → HasPast part held r
 past_of P.Open held r few fits dropped =

@@ -1,19 +1,19 @@
--- Pieces worked by hand.
+-- Worked examples of segmentation and reassembly.
 use Rattle.std.proofs.Common.{◌≡◌, true, false, [], ◌∷◌, ◌++◌, replicate, refl}
 use Rattle.segmenting.specs.declared.joiner.Joined.TheVariants.{More, Whole, Oversize}
-use Rattle.segmenting.specs.Pieces.{pieces}
+use Rattle.segmenting.specs.Segments.{segments}
 use Rattle.segmenting.specs.Joining.{messages, answer_to, latest}
 
-two_whole_pieces : pieces 20 (replicate 40 7) ≡ (replicate 20 7, true) ∷ (replicate 20 7, false) ∷ []
-two_whole_pieces = refl
+two_whole_segments : segments 20 (replicate 40 7) ≡ (replicate 20 7, true) ∷ (replicate 20 7, false) ∷ []
+two_whole_segments = refl
 
-thirteen_on_sdcch : pieces 20 (replicate 251 7) ≡ replicate 12 (replicate 20 7, true) ++ (replicate 11 7, false) ∷ []
+thirteen_on_sdcch : segments 20 (replicate 251 7) ≡ replicate 12 (replicate 20 7, true) ++ (replicate 11 7, false) ∷ []
 thirteen_on_sdcch = refl
 
-fourteen_on_sacch : pieces 18 (replicate 251 7) ≡ replicate 13 (replicate 18 7, true) ++ (replicate 17 7, false) ∷ []
+fourteen_on_sacch : segments 18 (replicate 251 7) ≡ replicate 13 (replicate 18 7, true) ++ (replicate 17 7, false) ∷ []
 fourteen_on_sacch = refl
 
--- 251 octets are a message, 252 are none, and the next piece begins another
+-- 251 octets are a message, 252 are not, and the next segment begins another message
 longest_message : messages (replicate 12 (replicate 20 7, true) ++ (replicate 11 8, false) ∷ []) ≡ (replicate 240 7 ++ replicate 11 8) ∷ []
 longest_message = refl
 

@@ -1,6 +1,6 @@
-pub mod Pieces
+pub mod Segments
 pub mod Joining
 pub mod Joiners
 pub mod Cuttings
 pub mod Parts
-pub mod Rooms
+pub mod Buffers

@@ -1,37 +1,37 @@
-//! Pieces to messages.
+//! Reassembles messages from segments.
 
 ghost use Rattle.std.specs.Prelude.{◌≡◌, ◌≤◌, length};
 ghost use Rattle.lapdm_frame.specs.Layout.{most_information};
-ghost use Rattle.segmenting.specs.Pieces.{longest};
+ghost use Rattle.segmenting.specs.Segments.{longest};
 ghost use Rattle.segmenting.specs.declared.joiner.Part.TheVariants.{Over};
 
 use crate::LONGEST;
 
 mod parts;
 
-/// What a piece brings.
+/// The result of taking a segment.
 #[derive(Clone, Copy, PartialEq, Eq, Debug)]
 pub enum Joined {
-    /// The message goes on in the next piece.
+    /// The message continues in the next segment.
     More,
-    /// The message is whole.
+    /// The message is complete.
     Whole,
-    /// The pieces have more octets than a message may have, and the message is dropped.
+    /// The message has more than 251 octets and is discarded.
     Oversize,
 }
 
-/// What the octets are that a joiner holds.
+/// What the octets of a `Joiner` are.
 #[derive(Clone, Copy, PartialEq, Eq, Debug)]
 pub enum Part {
-    /// The beginning of a message that goes on.
+    /// The first octets of an incomplete message.
     Open,
-    /// A message that was handed up.
+    /// A message that was delivered.
     Whole,
-    /// Nothing: what the message had was too long, and it goes on.
+    /// None: the rest of an oversize message is being discarded.
     Over,
 }
 
-/// Joins pieces to messages.
+/// Reassembles messages of at most 251 octets.
 #[derive(Debug, Drop)]
 pub struct Joiner {
     octets: [u8; LONGEST],
@@ -43,11 +43,11 @@ pub struct Joiner {
 
 impl Joiner {
     ghost use Rattle.std.specs.Prelude.{◌+◌, ◌<◌, List, [], ◌∷◌, ◌++◌, take, IfSome, MatchOption};
-    ghost use Rattle.segmenting.specs.Pieces.{Piece};
+    ghost use Rattle.segmenting.specs.Segments.{Segment};
     ghost use Rattle.segmenting.specs.Joining.{answer_to, open_part, latest};
     ghost use Rattle.segmenting.specs.Joiners.{HasTaken};
 
-    /// Nothing is held.
+    /// A joiner that has taken no segment.
     pub fn new() -> Joiner
         ensures { HasTaken result [] }
     {
@@ -58,14 +58,14 @@ impl Joiner {
         }
     }
 
-    /// Takes the next piece. After `Oversize` for a piece that goes on, everything up to and with the
-    /// next piece that does not is dropped, and each of these answers `Oversize` too.
+    /// Takes the next segment. After `Oversize` for a segment with `more`, all segments up
+    /// to the next one without `more`, and that one, are discarded; each answers `Oversize`.
     pub fn take(&mut self, piece: &[u8], more: bool) -> Joined
         requires some { 1 ≤ length piece.now }
         requires most { length piece.now ≤ most_information }
-        ensures answer { (taken : List Piece) → HasTaken self.old taken
+        ensures answer { (taken : List Segment) → HasTaken self.old taken
             → result ≡ answer_to taken (piece.now, more) }
-        ensures after { (taken : List Piece) → HasTaken self.old taken
+        ensures after { (taken : List Segment) → HasTaken self.old taken
             → HasTaken self.new (taken ++ (piece.now, more) ∷ []) }
     {
         let Some(start) = self.place_for(piece) else {
@@ -84,9 +84,9 @@ impl Joiner {
         Joined::Whole
     }
 
-    /// The message, where the last piece taken completed one, and no octets otherwise.
+    /// The message that the last segment completed, or no octets if it completed none.
     pub fn message(&self) -> &[u8]
-        ensures latest { (taken : List Piece) → HasTaken self.now taken
+        ensures latest { (taken : List Segment) → HasTaken self.now taken
             → result.now ≡ latest taken }
         ensures most { length result.now ≤ longest }
     {
@@ -96,10 +96,10 @@ impl Joiner {
         }
     }
 
-    // Where the piece goes, if its message is not too long with it.
+    // Where to write the segment, unless it makes the message too long.
     fn place_for(&self, piece: &[u8]) -> Option<usize>
-        ensures room { IfSome result (λ start. start + length piece.now ≤ longest) }
-        ensures place { (taken : List Piece) → HasTaken self.now taken → MatchOption result
+        ensures space { IfSome result (λ start. start + length piece.now ≤ longest) }
+        ensures place { (taken : List Segment) → HasTaken self.now taken → MatchOption result
             (longest < length (open_part taken ++ piece.now))
             (λ start. take start self.now.octets ≡ open_part taken) }
     {

@@ -1,16 +1,16 @@
-//! Messages cut into the pieces that fit into I frames, and pieces joined to messages (GSM 04.06). No
-//! call takes memory, and a piece is borrowed from its message.
+//! Segmentation of messages into I frames, and reassembly (GSM 04.06). A `Segment` is a
+//! segment; it borrows its octets from the message. No call allocates.
 #![tactic(auto)]
 
+mod buffers;
 mod joiner;
 mod laws;
 mod pieces;
-mod rooms;
 
+pub use buffers::PlainMessage;
 pub use joiner::{Joined, Joiner, Part};
-pub use laws::{law_fronts, law_messages_come_back, law_one_cutting, law_what_is_handed_up};
+pub use laws::{law_fronts, law_messages_come_back, law_one_cutting, law_what_is_delivered};
 pub use pieces::{Piece, Pieces};
-pub use rooms::PlainMessage;
 
 /// The most octets of a message.
 pub const LONGEST: usize = 251;

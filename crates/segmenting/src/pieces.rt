@@ -1,20 +1,20 @@
-//! Messages to pieces.
+//! Cuts messages into segments.
 
 ghost use Rattle.std.specs.Prelude.{◌≡◌, ◌<◌, ◌≤◌, length};
 ghost use Rattle.lapdm_frame.specs.Layout.{n201};
-ghost use Rattle.segmenting.specs.Pieces.{longest};
+ghost use Rattle.segmenting.specs.Segments.{longest};
 
 use lapdm_frame::Channel;
 
-/// A part of a message, as one I frame carries it.
+/// A segment: the part of a message that one I frame carries.
 #[derive(Clone, Copy, PartialEq, Eq, Debug)]
 pub struct Piece<'a> {
     pub octets: &'a [u8],
-    /// Whether the message goes on in the next piece.
+    /// The M bit: the message continues in the next segment.
     pub more: bool,
 }
 
-/// The pieces of a message, each borrowed from it.
+/// The segments of a message, each borrowed from it.
 #[derive(Clone, Copy, Debug)]
 pub struct Pieces<'a> {
     message: &'a [u8],
@@ -25,42 +25,42 @@ pub struct Pieces<'a> {
 
 impl<'a> Pieces<'a> {
     ghost use Rattle.std.specs.Prelude.{slice_get, Some};
-    ghost use Rattle.segmenting.specs.Pieces.{pieces, most_pieces};
-    ghost use Rattle.segmenting.specs.Cuttings.{pieces_of, cut_for, LiesIn};
+    ghost use Rattle.segmenting.specs.Segments.{segments, most_segments};
+    ghost use Rattle.segmenting.specs.Cuttings.{segments_of, cut_for, LiesIn};
 
-    /// The pieces of the message for SDCCH, of at most 20 octets each.
+    /// The segments of the message for SDCCH, of at most 20 octets each.
     pub fn new(message: &'a [u8]) -> Pieces<'a>
         requires some { 1 ≤ length message.now }
         requires most { length message.now ≤ longest }
-        ensures pieces { pieces_of result ≡ pieces (n201 Channel.Sdcch) message.now }
+        ensures pieces { segments_of result ≡ segments (n201 Channel.Sdcch) message.now }
         ensures channel { cut_for result ≡ Channel.Sdcch }
     {
         Pieces::new_on(message, Channel::Sdcch)
     }
 
-    /// The pieces of the message, of at most N201 octets of the channel each.
+    /// The segments of the message, of at most N201 octets of the channel each.
     pub fn new_on(message: &'a [u8], channel: Channel) -> Pieces<'a>
         requires some { 1 ≤ length message.now }
         requires most { length message.now ≤ longest }
-        ensures pieces { pieces_of result ≡ pieces (n201 channel) message.now }
+        ensures pieces { segments_of result ≡ segments (n201 channel) message.now }
         ensures channel { cut_for result ≡ channel }
     {
         Pieces { message, channel }
     }
 
-    /// How many pieces there are: at most 13 on SDCCH, and 14 on SACCH.
+    /// The number of segments: at most 13 on SDCCH, 14 on SACCH.
     pub fn count(&self) -> usize
-        ensures count { result ≡ length (pieces_of self.now) }
+        ensures count { result ≡ length (segments_of self.now) }
         ensures some { 1 ≤ result }
-        ensures most { result ≤ most_pieces (cut_for self.now) }
+        ensures most { result ≤ most_segments (cut_for self.now) }
     {
         (self.message.len() - 1) / self.channel.n201() + 1
     }
 
-    /// One of the pieces, counted from 0.
+    /// Segment i, from 0.
     pub fn piece(&self, i: usize) -> Piece<'a>
-        requires { i < length (pieces_of self.now) }
-        ensures value { slice_get (pieces_of self.now) i ≡ Some (result.octets.now, result.more) }
+        requires { i < length (segments_of self.now) }
+        ensures value { slice_get (segments_of self.now) i ≡ Some (result.octets.now, result.more) }
         ensures lent { LiesIn self.now i result.octets }
     {
         let most = self.channel.n201();

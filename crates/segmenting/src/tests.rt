@@ -11,12 +11,12 @@ fn counted() -> [u8; 252] {
     octets
 }
 
-fn pieces_of<'a>(rt: &impl Abort, message: &'a [u8], channel: Channel) -> Pieces<'a> {
+fn segments_of<'a>(rt: &impl Abort, message: &'a [u8], channel: Channel) -> Pieces<'a> {
     assert!(rt; !message.is_empty() && message.len() <= LONGEST);
     Pieces::new_on(message, channel)
 }
 
-fn piece_at<'a>(rt: &impl Abort, pieces: &Pieces<'a>, i: usize) -> Piece<'a> {
+fn segment_at<'a>(rt: &impl Abort, pieces: &Pieces<'a>, i: usize) -> Piece<'a> {
     assert!(rt; i < pieces.count());
     pieces.piece(i)
 }
@@ -29,37 +29,37 @@ fn take(rt: &impl Abort, joiner: &mut Joiner, piece: &[u8], more: bool) -> Joine
 #[test]
 fn cuts_worked_messages(rt: HostRuntime) {
     let octets = counted();
-    let two = pieces_of(&rt, &octets[..40], Channel::Sdcch);
+    let two = segments_of(&rt, &octets[..40], Channel::Sdcch);
     assert_eq!(rt; two.count(), 2);
     assert_eq!(rt;
-        piece_at(&rt, &two, 0),
+        segment_at(&rt, &two, 0),
         Piece {
             octets: &octets[..20],
             more: true
         }
     );
     assert_eq!(rt;
-        piece_at(&rt, &two, 1),
+        segment_at(&rt, &two, 1),
         Piece {
             octets: &octets[20..40],
             more: false
         }
     );
 
-    let longest = pieces_of(&rt, &octets[..251], Channel::Sdcch);
+    let longest = segments_of(&rt, &octets[..251], Channel::Sdcch);
     assert_eq!(rt; longest.count(), 13);
     assert_eq!(rt;
-        piece_at(&rt, &longest, 12),
+        segment_at(&rt, &longest, 12),
         Piece {
             octets: &octets[240..251],
             more: false
         }
     );
 
-    let on_sacch = pieces_of(&rt, &octets[..251], Channel::Sacch);
+    let on_sacch = segments_of(&rt, &octets[..251], Channel::Sacch);
     assert_eq!(rt; on_sacch.count(), 14);
     assert_eq!(rt;
-        piece_at(&rt, &on_sacch, 13),
+        segment_at(&rt, &on_sacch, 13),
         Piece {
             octets: &octets[234..251],
             more: false
@@ -74,11 +74,11 @@ fn joins_what_it_cut(rt: HostRuntime) {
     for channel in [Channel::Sdcch, Channel::Sacch] {
         for size in [251, 1, 20, 18, 21] {
             assert!(rt; size <= 251);
-            let pieces = pieces_of(&rt, &octets[..size], channel);
+            let pieces = segments_of(&rt, &octets[..size], channel);
             let mut last = Joined::More;
             for i in 0..pieces.count() {
                 assert_eq!(rt; last, Joined::More);
-                let piece = piece_at(&rt, &pieces, i);
+                let piece = segment_at(&rt, &pieces, i);
                 last = take(&rt, &mut joiner, piece.octets, piece.more);
             }
             assert_eq!(rt; last, Joined::Whole);

@@ -1,4 +1,4 @@
--- Correlations, one place more at a time, and those of sums.
+-- Correlations extended by one soft bit, and the correlation of a sum of soft bits.
 use Rattle.std.proofs.Common.{zero, suc, ◌≤◌, [], refl, ◌≡◌, ℕ, ◌+◌, ◌<◌, List, ◌∷◌, length, drop, get_or, ap}
 use Rattle.std.proofs.Common.{ℤ, pos, ◌+ℤ◌, arith}
 use Rattle.std.proofs.lemmas.List.{drop_more}
@@ -18,7 +18,7 @@ correlation_more soft bits i total all hs hb before =
     rw (drop_more soft i (pos 0), drop_more bits i 0) at before in
     omega (arith, ints)
 
--- the wrong places from one place on
+-- the wrong soft bits from index i on are those from i + 1 on, plus one if soft bit i is wrong
 pub wrong_more : (soft : List ℤ) (bits : List ℕ) (i : ℕ) → i < length soft → i < length bits →
     wrong_places (drop i soft) (drop i bits) ≡ wrong_at soft i (sign_of (get_or bits i 0)) + wrong_places (drop (i + 1) soft)
     (drop (i + 1) bits)

@@ -1,23 +1,22 @@
--- The first of the greatest scores, one number more at a time.
+-- The first greatest of some scores, as a loop finds it.
 use Rattle.std.proofs.Common.{◌≡◌, ◌≢◌, ◌⊎◌, inl, inr, ℕ, zero, suc, sym, subst, ◌+◌, ◌<◌, ◌≤◌, ℤ}
 use Rattle.std.proofs.Common.{◌<ℤ◌, ◌≤ℤ◌, arith}
 use Rattle.std.proofs.lemmas.Int.{ints, by_lt_z}
 use Rattle.std.proofs.lemmas.Bool.{cases_eq}
 use Rattle.training_seq.specs.Choice.{IsFirstGreatest}
 
--- every other number below the end has a smaller score, or an equal one and comes later
+-- every other index below `end` has a smaller score, or an equal one and comes later
 pub record LeadsBelow (score : ℕ → ℤ) (end best : ℕ) : Type 0 where
   pub within : best < end
   pub others : (n : ℕ) → n < end → n ≢ best → (score n <ℤ score best) ⊎ ((score n ≡ score best) × (best < n))
 
--- a number alone leads
 pub LeadsBelow-one : (score : ℕ → ℤ) → LeadsBelow score 1 0
 LeadsBelow-one score = record {
   within = omega arith;
   others = λ n h ne. absurd (omega arith);
 }
 
--- the next number has a greater score, and leads
+-- the next index has a greater score and becomes the best
 pub LeadsBelow-overtaken : (score : ℕ → ℤ) (end best : ℕ) → LeadsBelow score end best → score best <ℤ score end →
     LeadsBelow score (end + 1) end
 LeadsBelow-overtaken score end best leads more = record {
@@ -31,7 +30,7 @@ LeadsBelow-overtaken score end best leads more = record {
     | inr equal ↦ let e = equal.0 in omega (arith, ints)
   ]
 
--- the next number has no greater score
+-- the next index has no greater score
 pub LeadsBelow-kept : (score : ℕ → ℤ) (end best : ℕ) → LeadsBelow score end best → score end ≤ℤ score best →
     LeadsBelow score (end + 1) best
 LeadsBelow-kept score end best leads less = record {
@@ -52,7 +51,7 @@ IsFirstGreatest-from_LeadsBelow score best leads = record {
   others = λ n h ne. leads.others n (omega arith) ne;
 }
 
--- scores that are equal up to the last number have the same first greatest one
+-- equal scores have the same first greatest index
 pub IsFirstGreatest-same : (score total : ℕ → ℤ) (last best : ℕ) → ((n : ℕ) → n ≤ last → score n ≡ total n) →
     IsFirstGreatest score last best → IsFirstGreatest total last best
 IsFirstGreatest-same score total last best same first = record {
@@ -75,12 +74,11 @@ leads score (suc n) =
     (λ more. (n + 1, subst (λ k. LeadsBelow score k (n + 1)) longer (LeadsBelow-overtaken score (n + 1) before.0 before.1 more)))
     (λ less. (before.0, subst (λ k. LeadsBelow score k before.0) longer (LeadsBelow-kept score (n + 1) before.0 before.1 less)))
 
--- some number has the first greatest score
 pub some_first_greatest : (score : ℕ → ℤ) → (best : ℕ) × IsFirstGreatest score 7 best
 some_first_greatest score =
     let found = leads score 7 in (found.0, IsFirstGreatest-from_LeadsBelow score found.0 found.1)
 
--- and no other
+-- it is unique
 pub one_first_greatest : (score : ℕ → ℤ) (last m n : ℕ) → IsFirstGreatest score last m → IsFirstGreatest score last n → m ≡ n
 one_first_greatest score last m n h g = elim (cases_eq m n) [
   | inl same ↦ same

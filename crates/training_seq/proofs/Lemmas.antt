@@ -1,3 +1,3 @@
--- What crates above cite of the training sequences and of the choice of one.
+-- Lemmas that other crates cite.
 pub use Rattle.training_seq.proofs.SequenceTable.{length-training_sequence, AllBits-training_sequence}
 pub use Rattle.training_seq.proofs.Greatest.{some_first_greatest, one_first_greatest}

@@ -1,4 +1,4 @@
--- What holds of each of the eight training sequences, found by computing.
+-- Properties of the eight training sequences, checked by computation.
 use Rattle.std.proofs.Common.{◌≡◌, ℕ, zero, suc, ◌<◌, ◌≤◌, Bool, eqb, leb, pos, List, [], ◌∷◌, length, get_or}
 use Rattle.std.proofs.Common.{refl, sym, subst, arith, rules, tests}
 use Rattle.std.proofs.lemmas.Int.{ints}
@@ -25,7 +25,6 @@ AllBits-training_sequence tsc h k d lt =
     let bit = AllPass-from_list_all (λ bit. leb bit 1) (training_sequence tsc) found k d lt in
     search (rules, tests)
 
--- a sign is 1 or -1
 sign-small : (bit : ℕ) → bit ≤ 1 → IsWithin 1 (sign_of bit)
 sign-small zero h = (omega (arith, ints), omega (arith, ints))
 sign-small (suc zero) h = (omega (arith, ints), omega (arith, ints))

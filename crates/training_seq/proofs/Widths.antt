@@ -1,9 +1,9 @@
--- Sums of four soft values fit sixteen bits.
+-- Sums of four soft bits fit 16 bits.
 use Rattle.std.proofs.Common.{◌≡◌, ℤ, ◌+ℤ◌, FitsSigned, w16, to_z, of_z, arith}
 use Rattle.std.proofs.lemmas.Int.{ints}
 use Rattle.training_seq.specs.Ranges.{IsWithin}
 
--- a value written in sixteen bits and read again
+-- a value converted to 16 bits and back
 abbrev pub kept : ℤ → ℤ
 kept z = to_z w16 (of_z w16 z)
 

@@ -1,11 +1,11 @@
 -- The training sequences of the normal burst (GSM 05.02 section 5.2.3).
 use Rattle.std.specs.Prelude.{ℕ, ◌-◌, List, [], ◌∷◌, map, codes, slice_index_or}
 
--- the bits that a row of digits 0 and 1 shows
+-- the bits of a text of digits 0 and 1, given by its character codes
 abbrev pub bits_of_text : List ℕ → List ℕ
 bits_of_text digits = map (λ digit. digit - 48) digits
 
--- the sequences of the training sequence codes 0 to 7
+-- the 26 bits of the training sequences with codes 0 to 7
 abbrev pub training_sequences : List (List ℕ)
 training_sequences =
     bits_of_text (codes "00100101110000100010010111") ∷
@@ -17,6 +17,6 @@ training_sequences =
     bits_of_text (codes "10100111110110001010011111") ∷
     bits_of_text (codes "11101111000100101110111100") ∷ []
 
--- the training sequence with this code
+-- the training sequence with a code from 0 to 7
 abbrev pub training_sequence : ℕ → List ℕ
 training_sequence tsc = slice_index_or training_sequences tsc []

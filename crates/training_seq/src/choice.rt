@@ -1,5 +1,5 @@
-//! The choice of a sequence by correlation (this project's own rule): the soft values of four bursts are added place by
-//! place, and the sums weighed against each sequence's signs.
+//! The choice of a training sequence by correlation (this project's own rule): the soft bits of four bursts are added element by element,
+//! and the sums correlated with each sequence.
 ghost use Rattle.std.specs.Prelude.{◌≡◌, ◌+◌, ◌<◌, ◌≤◌, ◌+ℤ◌, length, All};
 ghost use Rattle.training_seq.specs.Choice.{IsFirstGreatest, IsBestSequence, total_wrong_places};
 ghost use Rattle.bit_blocks.specs.SoftValues.{likelihood};
@@ -7,11 +7,11 @@ ghost use Rattle.training_seq.specs.Ranges.{IsWithin};
 ghost use Rattle.training_seq.specs.Sequences.{training_sequence};
 ghost use Rattle.training_seq.specs.Sums.{add_values, value_at, wrong_at};
 
-use crate::correlation::{correlate_sums, turned};
+use crate::correlation::{correlate_sums, times_sign};
 use crate::sequences::signs;
 
-/// The training sequence that the training parts of four bursts agree with most, and how many of their 104 places
-/// are wrong for it.
+/// The training sequence code with the greatest total correlation with the midambles of four bursts, and the number of wrong soft bits
+/// among their 104.
 pub fn best(a: &[i8], b: &[i8], c: &[i8], d: &[i8]) -> (u8, u32)
     requires a { length a.now ≡ 26 }
     requires b { length b.now ≡ 26 }
@@ -24,7 +24,7 @@ pub fn best(a: &[i8], b: &[i8], c: &[i8], d: &[i8]) -> (u8, u32)
     (tsc, count_wrong(a, b, c, d, tsc))
 }
 
-// One list of sums in place of four parts, so that each sequence is weighed once.
+// The four midambles are added first, so that each sequence is correlated once.
 fn sums_of(a: &[i8], b: &[i8], c: &[i8], d: &[i8]) -> [i16; 26]
     requires a { length a.now ≡ 26 }
     requires b { length b.now ≡ 26 }
@@ -95,12 +95,12 @@ fn wrong_in_four(a: &[i8], b: &[i8], c: &[i8], d: &[i8], i: usize, sign: i16) ->
     wrong_at(a, i, sign) + wrong_at(b, i, sign) + wrong_at(c, i, sign) + wrong_at(d, i, sign)
 }
 
-// Sixteen bits, as wide as the signs, so that eight places fit a vector.
+// The result has 16 bits like the signs, so that a vector holds eight.
 fn wrong_at(values: &[i8], i: usize, sign: i16) -> u16
     requires within { i < length values.now }
     requires sign { IsWithin 1 sign }
     ensures value { result ≡ wrong_at values.now i sign }
     ensures bit { result ≤ 1 }
 {
-    u16::from(turned(i16::from(values[i]), sign) <= 0)
+    u16::from(times_sign(i16::from(values[i]), sign) <= 0)
 }

@@ -1,4 +1,4 @@
-//! The correlation of soft values with a sequence: a product and a sum for each place.
+//! The correlation of soft bits with a training sequence, as a sum of products.
 ghost use Rattle.std.specs.Prelude.{◌≡◌, ◌≤◌, length, All, neg_ℤ, pos, ◌*ℤ◌, ◌≤ℤ◌};
 ghost use Rattle.bit_blocks.specs.SoftValues.{likelihood};
 ghost use Rattle.training_seq.specs.Ranges.{IsWithin};
@@ -6,7 +6,7 @@ ghost use Rattle.training_seq.specs.Sequences.{training_sequence};
 
 use crate::sequences::signs;
 
-/// The sum of the 26 soft values of a training part, each with its sign turned where the sequence has a 1.
+/// The correlation of 26 soft bits with a training sequence: their sum, each negated where the sequence has a 1.
 pub fn correlate(soft: &[i8], tsc: u8) -> i32
     requires count { length soft.now ≡ 26 }
     requires known { tsc ≤ 7 }
@@ -35,13 +35,13 @@ pub(crate) fn correlate_sums(sums: &[i16; 26], tsc: u8) -> i16
     let signs = signs(tsc);
     let mut total = 0;
     for (i, value) in sums.iter().enumerate() {
-        total += turned(*value, signs[i]);
+        total += times_sign(*value, signs[i]);
     }
     total
 }
 
-/// A value as it is for the sign 1, turned for -1.
-pub(crate) fn turned(value: i16, sign: i16) -> i16
+/// The value if `sign` is 1, negated if it is -1.
+pub(crate) fn times_sign(value: i16, sign: i16) -> i16
     requires small { IsWithin 512 value }
     requires sign { IsWithin 1 sign }
     ensures value { result ≡ value *ℤ sign }

@@ -1,5 +1,5 @@
-//! The eight training sequences of the normal burst, its midambles (GSM 05.02 section 5.2.3, today 3GPP TS 45.002), and which
-//! of them a block was sent with.
+//! The eight training sequences (midambles) of the normal burst (GSM 05.02, today 3GPP TS 45.002, section 5.2.3), and the choice of the
+//! one that a block was sent with.
 #![tactic(auto)]
 
 mod choice;
@@ -14,7 +14,7 @@ pub use sequences::sequence;
 mod tests {
     use super::*;
 
-    // The codes 0 to 7 in order.
+    // Codes 0 to 7.
     const DIGITS: [&[u8; 26]; 8] = [
         b"00100101110000100010010111",
         b"00101101110111100010110111",
@@ -51,7 +51,7 @@ mod tests {
         assert_eq!(rt; best(&lost, &lost, &lost, &lost), (0, 104));
     }
 
-    // The codes 5 and 2 differ in 8 places.
+    // Sequences 5 and 2 differ in 8 bits.
     #[test]
     fn strength_outweighs_the_number_of_parts(rt: HostRuntime) {
         let strong = received(DIGITS[5]);

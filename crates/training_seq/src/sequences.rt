@@ -1,4 +1,4 @@
-//! The table of sequences, as bits and as signs.
+//! The table of training sequences, as bits and as signs.
 ghost use Rattle.std.specs.Prelude.{◌≡◌, ◌≤◌, take, drop};
 ghost use Rattle.bit_blocks.specs.Bits.{AllBits};
 ghost use Rattle.training_seq.specs.Sequences.{training_sequence};
@@ -62,7 +62,7 @@ static SIGNS: [[i16; 26]; 8] = [
     ],
 ];
 
-/// The training sequence of a normal burst (GSM 05.02 section 5.2.3).
+/// The 26 bits of a training sequence (GSM 05.02 section 5.2.3).
 pub fn sequence(tsc: u8) -> [u8; 26]
     requires { tsc ≤ 7 }
     ensures value { result ≡ training_sequence tsc }

@@ -1,33 +1,33 @@
--- A most likely information list exists for any soft values.
+-- A most likely information list exists for all soft bits: induction over all lists, in lexicographic order.
 use Rattle.std.proofs.Common.{◌≡◌, ◌≢◌, ℕ, zero, suc, ◌+◌, ◌-◌, ◌*◌, ◌^◌, ◌<◌, ◌≤◌, ℤ, List}
 use Rattle.std.proofs.Common.{length, ap, sym, ◌∙◌, arith}
 use Rattle.std.proofs.lemmas.Int.{by_lt_z}
 use Rattle.std.proofs.lemmas.Nat.{pow-add, pow_pos}
-use Rattle.conv_code.specs.Code.{coded}
+use Rattle.conv_code.specs.Code.{encoding}
 use Rattle.conv_code.specs.Likelihood.{FallsBehind, IsMostLikely, likelihood}
 use Rattle.trellis_decode.specs.Words.{word}
 use Rattle.trellis_decode.proofs.Searching.{new_leads, old_leads, IsMostLikely-chosen}
 use Rattle.trellis_decode.proofs.WordLists.{length-word}
 
--- the first of the most likely among the lists up to a number
+-- the best of the first `number` lists, and the first of equals
 record Leading (soft : List ℤ) (n number : ℕ) : Type 0 where
   chosen : ℕ
   within : chosen < number
   others : (m : ℕ) → m < number → m ≢ chosen → FallsBehind soft (word n (16 * m)) (word n (16 * chosen))
 
 leading : (soft : List ℤ) (n number : ℕ) → 16 * (number + 1) ≤ 2 ^ n → Leading soft n (number + 1)
-leading soft n zero room = record {
+leading soft n zero headroom = record {
   chosen = 0;
   within = omega arith;
   others = λ m h ne. absurd (omega arith);
 }
-leading soft n (suc number) room =
+leading soft n (suc number) headroom =
     let before = leading soft n number (omega arith) in
     let chosen = before.chosen in
     let within = before.within in
     let last : ℕ = number + 1 in
     let inside : 16 * last < 2 ^ n = omega arith in
-    let value : ℕ → ℤ = λ m. likelihood soft (coded (word n (16 * m))) in
+    let value : ℕ → ℤ = λ m. likelihood soft (encoding (word n (16 * m))) in
     by_lt_z (value chosen) (value last)
     (λ more. record {
       chosen = last;

@@ -1,4 +1,4 @@
--- The bits that the states take, in one vector of sixteen.
+-- The decisions of the sixteen states, in one vector, select entries of a survivor map.
 use Rattle.std.proofs.Common.{◌≡◌, ℕ, zero, suc, ◌+◌, ◌-◌, ◌<◌, ◌⊎◌, inl, inr, if◌then◌else◌, ℤ, pos}
 use Rattle.std.proofs.Common.{negsuc, List, [], ◌∷◌, ◌++◌}
 use Rattle.std.proofs.Common.{map, length, get_or, replicate, refl, ap, ap₂, sym, ◌∙◌, subst, arith, int_lt, w8, FitsSigned}
@@ -6,11 +6,11 @@ use Rattle.std.specs.Int.{cast_signed, cast_unsigned}
 use Rattle.std.proofs.lemmas.Bool.{cases_lt}
 use Rattle.trellis_decode.specs.Hard.{AreSmall}
 use Rattle.trellis_decode.specs.Lanes.{lane}
-use Rattle.trellis_decode.specs.Turned.{choices, place, turned, AreTaken, taken_bit}
-use Rattle.trellis_decode.proofs.EdgeLanes.{each}
-use Rattle.trellis_decode.proofs.TurnedSteps.{each_state, low_choice, high_choice}
+use Rattle.trellis_decode.specs.AcsLanes.{choices, lane_of, bit_reversed, AreTaken, taken_bit}
+use Rattle.trellis_decode.proofs.BranchMetricLanes.{each}
+use Rattle.trellis_decode.proofs.AcsSteps.{each_state, low_choice, high_choice}
 
--- -1 or 0, as bits and back
+-- -1 and 0 survive the conversion to an octet and back
 kept : (x : ℤ) → (x ≡ negsuc 0) ⊎ (x ≡ pos 0) → cast_signed w8 (cast_unsigned w8 x) ≡ x
 kept x (inl is) = subst (λ x. cast_signed w8 (cast_unsigned w8 x) ≡ x) (sym is) refl
 kept x (inr is) = subst (λ x. cast_signed w8 (cast_unsigned w8 x) ≡ x) (sym is) refl
@@ -23,7 +23,7 @@ bit_taken : (x : ℤ) → (x ≡ negsuc 0) ⊎ (x ≡ pos 0) → (if int_lt x (p
 bit_taken x (inl is) = subst (λ x. (if int_lt x (pos 0) then 1 else 0) ≡ taken_bit x) (sym is) refl
 bit_taken x (inr is) = subst (λ x. (if int_lt x (pos 0) then 1 else 0) ≡ taken_bit x) (sym is) refl
 
--- one of the lanes of two vectors
+-- one lane of two concatenated vectors
 octet_first : (a : List ℤ) (rest : List ℕ) (k : ℕ) → k < length a → get_or (map (cast_unsigned w8) a ++ rest) k 0
     ≡ cast_unsigned w8 (lane a k)
 octet_first [] rest k lt = absurd (omega arith)
@@ -55,11 +55,11 @@ none_at = each (λ k. lane none k ≡ pos 0) 16
 pub AreSmall-none : AreSmall none
 AreSmall-none = record { count = refl; fits = λ k lt. subst (FitsSigned w8) (sym (none_at k lt)) (record { sfits = omega arith }) }
 
-place_low : (k : ℕ) → k < 8 → place (turned k) ≡ k
-place_low = each (λ k. place (turned k) ≡ k) 8 ((((((((tt, refl), refl), refl), refl), refl), refl), refl), refl)
+place_low : (k : ℕ) → k < 8 → lane_of (bit_reversed k) ≡ k
+place_low = each (λ k. lane_of (bit_reversed k) ≡ k) 8 ((((((((tt, refl), refl), refl), refl), refl), refl), refl), refl)
 
-place_high : (k : ℕ) → k < 8 → place (8 + turned k) ≡ 8 + k
-place_high = each (λ k. place (8 + turned k) ≡ 8 + k) 8 ((((((((tt, refl), refl), refl), refl), refl), refl), refl), refl)
+place_high : (k : ℕ) → k < 8 → lane_of (8 + bit_reversed k) ≡ 8 + k
+place_high = each (λ k. lane_of (8 + bit_reversed k) ≡ 8 + k) 8 ((((((((tt, refl), refl), refl), refl), refl), refl), refl), refl)
 
 module _ (low high : List ℤ) (hl : AreTaken low) (hh : AreTaken high) where
   abbrev at : ℕ → ℤ
@@ -94,11 +94,10 @@ module _ (low high : List ℤ) (hl : AreTaken low) (hh : AreTaken high) where
     ];
   }
 
-  -- the bit of each state
-  pub joined_choice : (s : ℕ) → s < 16 → (if int_lt (lane joined (place s)) (lane none (place s)) then 1 else 0)
+  pub joined_choice : (s : ℕ) → s < 16 → (if int_lt (lane joined (lane_of s)) (lane none (lane_of s)) then 1 else 0)
       ≡ get_or (choices low high) s 0
   joined_choice = each_state
-      (λ s. (if int_lt (lane joined (place s)) (lane none (place s)) then 1 else 0) ≡ get_or (choices low high) s 0)
+      (λ s. (if int_lt (lane joined (lane_of s)) (lane none (lane_of s)) then 1 else 0) ≡ get_or (choices low high) s 0)
       (λ k lt. ap (λ p. if int_lt (lane joined p) (lane none p) then 1 else 0) (place_low k lt)
       ∙ ap₂ (λ x z. if int_lt x z then 1 else 0) (low_at k lt) (none_at k (omega arith)) ∙ bit_taken (lane low k) (hl.each k lt)
       ∙ sym (low_choice low high k lt))

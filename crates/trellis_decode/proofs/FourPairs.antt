@@ -1,4 +1,4 @@
--- What four pairs of soft values count, from eight lanes.
+-- The branch metrics of four positions, computed from eight soft bits in one vector.
 use Rattle.std.proofs.Common.{◌≡◌, ℕ, zero, suc, ◌+◌, ◌-◌, ◌%◌, ◌<◌, ◌≤◌, ℤ, pos, negsuc, ◌+ℤ◌}
 use Rattle.std.proofs.Common.{◌-ℤ◌, ◌≤ℤ◌, List, [], ◌∷◌, ◌++◌, map}
 use Rattle.std.proofs.Common.{length, get_or, take, drop, refl, ap, ap₂, sym, ◌∙◌, subst, arith, lit≤, w8, w16, FitsSigned}
@@ -7,55 +7,56 @@ use Rattle.std.proofs.lemmas.Int.{ints, to_z-of_z, of_z-to_z}
 use Rattle.std.proofs.lemmas.List.{get_or-take, get_or-drop, drop-drop, drop-take, take-take, take-append-drop, length-take, length-drop}
 use Rattle.std.proofs.lemmas.List.Elements.{All-head, All-tail, All-take, All-drop}
 use lib.Lanes.{Each1}
-use Rattle.trellis_decode.specs.Lanes.{lane, IsOctet, AreOctets}
-use Rattle.trellis_decode.specs.Trellis.{edge}
-use Rattle.trellis_decode.specs.Turned.{AreEdges, HasEdges, turned}
-use Rattle.trellis_decode.proofs.EdgeLanes.{each, zero_edges, zero_lanes}
-use Rattle.trellis_decode.proofs.TurnedVectors.{fits_between, sum-lane, difference-lane}
+use Rattle.trellis_decode.specs.Lanes.{lane, IsSignedOctet, AreSignedOctets}
+use Rattle.trellis_decode.specs.Trellis.{branch_metric}
+use Rattle.trellis_decode.specs.AcsLanes.{AreBranchMetrics, HasBranchMetrics, bit_reversed}
+use Rattle.trellis_decode.proofs.BranchMetricLanes.{each, zero_branch_metrics, zero_lanes}
+use Rattle.trellis_decode.proofs.AcsVectors.{fits_between, sum-lane, difference-lane}
 
--- ---- octets in lanes of 16 bits
+-- ---- octets widened to 16-bit lanes
 
-pub fits_octet : (x : ℤ) → IsOctet x → FitsSigned w8 x
+pub fits_octet : (x : ℤ) → IsSignedOctet x → FitsSigned w8 x
 fits_octet (pos n) h = record { sfits = omega (arith, ints, h.0, h.1) }
 fits_octet (negsuc n) h = record { sfits = omega (arith, ints, h.0, h.1) }
 
-fits_wide : (x : ℤ) → IsOctet x → FitsSigned w16 x
+fits_wide : (x : ℤ) → IsSignedOctet x → FitsSigned w16 x
 fits_wide x h = let low = h.0 in let high = h.1 in fits_between x (omega (arith, ints)) (omega (arith, ints))
 
-pub widened_fits : (soft : List ℤ) → AreOctets soft → Each1 (λ a. FitsSigned w16 (cast_signed w8 a)) (map (cast_unsigned w8) soft)
+pub widened_fits : (soft : List ℤ) → AreSignedOctets soft → Each1 (λ a. FitsSigned w16 (cast_signed w8 a)) (map (cast_unsigned w8) soft)
 widened_fits [] octets = tt
 widened_fits (x ∷ soft) octets =
-    let head = All-head IsOctet x soft octets in (
+    let head = All-head IsSignedOctet x soft octets in (
       subst (FitsSigned w16) (sym (to_z-of_z w8 x (fits_octet x head))) (fits_wide x head),
-      widened_fits soft (All-tail IsOctet x soft octets),
+      widened_fits soft (All-tail IsSignedOctet x soft octets),
     )
 
-pub widened_same : (soft : List ℤ) → AreOctets soft →
+pub widened_same : (soft : List ℤ) → AreSignedOctets soft →
     map (cast_signed w16) (map (λ a. cast_unsigned w16 (cast_signed w8 a)) (map (cast_unsigned w8) soft)) ≡ soft
 widened_same [] octets = refl
 widened_same (x ∷ soft) octets =
-    let head = All-head IsOctet x soft octets in
+    let head = All-head IsSignedOctet x soft octets in
     ap₂ (λ y ys. y ∷ ys)
     (ap (λ y. cast_signed w16 (cast_unsigned w16 y)) (to_z-of_z w8 x (fits_octet x head)) ∙ to_z-of_z w16 x (fits_wide x head))
-    (widened_same soft (All-tail IsOctet x soft octets))
+    (widened_same soft (All-tail IsSignedOctet x soft octets))
 
--- ---- one place
+-- ---- one position
 
--- what the bit 0 counts in the states below 8, each where its bits turned round stand
-abbrev edge_lanes : ℤ → ℤ → ℤ → ℤ → List ℤ
-edge_lanes a b c d = a ∷ c ∷ a ∷ c ∷ b ∷ d ∷ b ∷ d ∷ []
+-- the branch metrics of bit 0 in states 0 to 7, in bit-reversed order
+abbrev branch_metric_lanes : ℤ → ℤ → ℤ → ℤ → List ℤ
+branch_metric_lanes a b c d = a ∷ c ∷ a ∷ c ∷ b ∷ d ∷ b ∷ d ∷ []
 
 module _ (pair : List ℤ) (count : length pair ≡ 2) (a b c d : ℤ)
     (at_a : a ≡ lane pair 0 +ℤ lane pair 1) (at_b : b ≡ lane pair 0 -ℤ lane pair 1) (at_c : c ≡ pos 0 -ℤ a) (at_d : d ≡ pos 0 -ℤ b) where
-  counted : (s : ℕ) → s < 16 → lane (zero_lanes pair count a b c d at_a at_b at_c at_d) s ≡ edge s 0 pair
-  counted = zero_edges pair count a b c d at_a at_b at_c at_d
+  counted : (s : ℕ) → s < 16 → lane (zero_lanes pair count a b c d at_a at_b at_c at_d) s ≡ branch_metric s 0 pair
+  counted = zero_branch_metrics pair count a b c d at_a at_b at_c at_d
 
-  zero_lane : (k : ℕ) → k < 8 → lane (edge_lanes a b c d) k ≡ lane (zero_lanes pair count a b c d at_a at_b at_c at_d) (turned k)
-  zero_lane = each (λ k. lane (edge_lanes a b c d) k ≡ lane (zero_lanes pair count a b c d at_a at_b at_c at_d) (turned k)) 8
+  zero_lane : (k : ℕ) → k < 8 →
+      lane (branch_metric_lanes a b c d) k ≡ lane (zero_lanes pair count a b c d at_a at_b at_c at_d) (bit_reversed k)
+  zero_lane = each (λ k. lane (branch_metric_lanes a b c d) k ≡ lane (zero_lanes pair count a b c d at_a at_b at_c at_d) (bit_reversed k)) 8
       ((((((((tt, refl), refl), refl), refl), refl), refl), refl), refl)
 
-  HasEdges-pair : HasEdges (edge_lanes a b c d) pair
-  HasEdges-pair = record { count = count; each = λ k lt. zero_lane k lt ∙ counted (turned k) (omega arith) }
+  HasBranchMetrics-pair : HasBranchMetrics (branch_metric_lanes a b c d) pair
+  HasBranchMetrics-pair = record { count = count; each = λ k lt. zero_lane k lt ∙ counted (bit_reversed k) (omega arith) }
 
   module _ (lp : negsuc 127 ≤ℤ lane pair 0) (hp : lane pair 0 ≤ℤ pos 127) (lq : negsuc 127 ≤ℤ lane pair 1)
       (hq : lane pair 1 ≤ℤ pos 127) where
@@ -83,18 +84,18 @@ module _ (pair : List ℤ) (count : length pair ≡ 2) (a b c d : ℤ)
     high_d : d ≤ℤ pos 256
     high_d = omega (arith, ints)
 
-    AreEdges-pair : AreEdges (edge_lanes a b c d)
-    AreEdges-pair = record {
+    AreBranchMetrics-pair : AreBranchMetrics (branch_metric_lanes a b c d)
+    AreBranchMetrics-pair = record {
       count = refl;
-      low = each (λ k. negsuc 255 ≤ℤ lane (edge_lanes a b c d) k) 8
+      low = each (λ k. negsuc 255 ≤ℤ lane (branch_metric_lanes a b c d) k) 8
           ((((((((tt, low_a), low_c), low_a), low_c), low_b), low_d), low_b), low_d);
-      high = each (λ k. lane (edge_lanes a b c d) k ≤ℤ pos 256) 8
+      high = each (λ k. lane (branch_metric_lanes a b c d) k ≤ℤ pos 256) 8
           ((((((((tt, high_a), high_c), high_a), high_c), high_b), high_d), high_b), high_d);
     }
 
--- ---- the places of eight soft values
+-- ---- four positions
 
--- a soft value as the lane of a vector
+-- a soft bit as an unsigned lane
 abbrev bits_at : List ℤ → ℕ → ℕ
 bits_at soft k = get_or (map (cast_unsigned w16) soft ++ map (cast_unsigned w16) soft) k 0
 
@@ -104,17 +105,17 @@ sum_at soft i j = (bits_at soft i + bits_at soft j) % 65536
 abbrev difference_at : List ℤ → ℕ → ℕ → ℕ
 difference_at soft i j = (bits_at soft i + (65536 - bits_at soft j)) % 65536
 
-abbrev turned_round : ℕ → ℕ
-turned_round x = (0 + (65536 - x)) % 65536
+abbrev bit_reversed_round : ℕ → ℕ
+bit_reversed_round x = (0 + (65536 - x)) % 65536
 
--- the lanes of the pair that begins at a place
-abbrev pub edges_at : List ℤ → ℕ → List ℤ
-edges_at soft i = edge_lanes
+-- the branch metrics of the pair at index i
+abbrev pub branch_metrics_at : List ℤ → ℕ → List ℤ
+branch_metrics_at soft i = branch_metric_lanes
     (cast_signed w16 (sum_at soft i (i + 1))) (cast_signed w16 (difference_at soft i (i + 1)))
-    (cast_signed w16 (turned_round (sum_at soft i (i + 1)))) (cast_signed w16 (turned_round (difference_at soft i (i + 1))))
+    (cast_signed w16 (bit_reversed_round (sum_at soft i (i + 1)))) (cast_signed w16 (bit_reversed_round (difference_at soft i (i + 1))))
 
-module _ (soft : List ℤ) (octets : AreOctets soft) (count : length soft ≡ 8) where
-  octet_at : (k : ℕ) → k < 8 → IsOctet (lane soft k)
+module _ (soft : List ℤ) (octets : AreSignedOctets soft) (count : length soft ≡ 8) where
+  octet_at : (k : ℕ) → k < 8 → IsSignedOctet (lane soft k)
   octet_at k lt = octets k (pos 0) (omega arith)
 
   bits_are : (k : ℕ) → k < 8 → bits_at soft k ≡ cast_unsigned w16 (lane soft k)
@@ -144,16 +145,16 @@ module _ (soft : List ℤ) (octets : AreOctets soft) (count : length soft ≡ 8)
       ∙ difference-lane (lane soft i) (lane soft j) (fits_at i hi) (fits_at j hj)
       (fits_between (lane soft i -ℤ lane soft j) (omega (arith, ints, a.0, a.1, b.0, b.1)) (omega (arith, ints, a.0, a.1, b.0, b.1)))
 
-  turned_is : (x : ℕ) (y : ℤ) → x < 65536 → cast_signed w16 x ≡ y → negsuc 32766 ≤ℤ y → y ≤ℤ pos 32767 →
-      cast_signed w16 (turned_round x) ≡ pos 0 -ℤ y
-  turned_is x y small is low high =
+  bit_reversed_is : (x : ℕ) (y : ℤ) → x < 65536 → cast_signed w16 x ≡ y → negsuc 32766 ≤ℤ y → y ≤ℤ pos 32767 →
+      cast_signed w16 (bit_reversed_round x) ≡ pos 0 -ℤ y
+  bit_reversed_is x y small is low high =
       ap (λ x. cast_signed w16 ((0 + (65536 - x)) % 65536)) (sym (of_z-to_z w16 x small) ∙ ap (cast_unsigned w16) is)
       ∙ difference-lane (pos 0) y (fits_between (pos 0) (omega (arith, ints)) (omega (arith, ints)))
       (fits_between y (omega (arith, ints)) (omega (arith, ints)))
       (fits_between (pos 0 -ℤ y) (omega (arith, ints)) (omega (arith, ints)))
 
-  -- the pair that begins at an even place
-  module _ (i : ℕ) (room : i + 2 ≤ 8) where
+  -- the pair at index i
+  module _ (i : ℕ) (headroom : i + 2 ≤ 8) where
     abbrev pair : List ℤ
     pair = take 2 (drop i soft)
 
@@ -182,10 +183,10 @@ module _ (soft : List ℤ) (octets : AreOctets soft) (count : length soft ≡ 8)
     b = cast_signed w16 (difference_at soft i (i + 1))
 
     abbrev c : ℤ
-    c = cast_signed w16 (turned_round (sum_at soft i (i + 1)))
+    c = cast_signed w16 (bit_reversed_round (sum_at soft i (i + 1)))
 
     abbrev d : ℤ
-    d = cast_signed w16 (turned_round (difference_at soft i (i + 1)))
+    d = cast_signed w16 (bit_reversed_round (difference_at soft i (i + 1)))
 
     at_a : a ≡ lane pair 0 +ℤ lane pair 1
     at_a = sum_is i (i + 1) hi hj ∙ sym (ap₂ (λ x y. x +ℤ y) first_there second_there)
@@ -199,7 +200,8 @@ module _ (soft : List ℤ) (octets : AreOctets soft) (count : length soft ≡ 8)
         let q = octet_at (i + 1) hj in
         let is = sum_is i (i + 1) hi hj in
         let small : sum_at soft i (i + 1) < 65536 = omega arith in
-        turned_is (sum_at soft i (i + 1)) a small refl (omega (arith, ints, p.0, p.1, q.0, q.1)) (omega (arith, ints, p.0, p.1, q.0, q.1))
+        bit_reversed_is (sum_at soft i (i + 1)) a small refl (omega (arith, ints, p.0, p.1, q.0, q.1))
+        (omega (arith, ints, p.0, p.1, q.0, q.1))
 
     at_d : d ≡ pos 0 -ℤ b
     at_d =
@@ -207,34 +209,34 @@ module _ (soft : List ℤ) (octets : AreOctets soft) (count : length soft ≡ 8)
         let q = octet_at (i + 1) hj in
         let is = difference_is i (i + 1) hi hj in
         let small : difference_at soft i (i + 1) < 65536 = omega arith in
-        turned_is (difference_at soft i (i + 1)) b small refl (omega (arith, ints, p.0, p.1, q.0, q.1))
+        bit_reversed_is (difference_at soft i (i + 1)) b small refl (omega (arith, ints, p.0, p.1, q.0, q.1))
         (omega (arith, ints, p.0, p.1, q.0, q.1))
 
-    pub HasEdges-at : HasEdges (edges_at soft i) pair
-    HasEdges-at = HasEdges-pair pair length_pair a b c d at_a at_b at_c at_d
+    pub HasBranchMetrics-at : HasBranchMetrics (branch_metrics_at soft i) pair
+    HasBranchMetrics-at = HasBranchMetrics-pair pair length_pair a b c d at_a at_b at_c at_d
 
-    pub AreEdges-at : AreEdges (edges_at soft i)
-    AreEdges-at =
+    pub AreBranchMetrics-at : AreBranchMetrics (branch_metrics_at soft i)
+    AreBranchMetrics-at =
         let p = octet_at i hi in
         let q = octet_at (i + 1) hj in
-        AreEdges-pair pair length_pair a b c d at_a at_b at_c at_d
+        AreBranchMetrics-pair pair length_pair a b c d at_a at_b at_c at_d
         (subst (λ x. negsuc 127 ≤ℤ x) (sym first_there) p.0) (subst (λ x. x ≤ℤ pos 127) (sym first_there) p.1)
         (subst (λ x. negsuc 127 ≤ℤ x) (sym second_there) q.0) (subst (λ x. x ≤ℤ pos 127) (sym second_there) q.1)
 
--- ---- the pairs of a list
+-- ---- pairs of a longer list
 
--- the pair that begins at a place
+-- the pair at index i
 abbrev pub pair_at : List ℤ → ℕ → List ℤ
 pair_at soft i = take 2 (drop i soft)
 
-pub AreOctets-pair : (soft : List ℤ) (i : ℕ) → AreOctets soft → AreOctets (pair_at soft i)
-AreOctets-pair soft i octets = All-take IsOctet 2 (drop i soft) (All-drop IsOctet i soft octets)
+pub AreSignedOctets-pair : (soft : List ℤ) (i : ℕ) → AreSignedOctets soft → AreSignedOctets (pair_at soft i)
+AreSignedOctets-pair soft i octets = All-take IsSignedOctet 2 (drop i soft) (All-drop IsSignedOctet i soft octets)
 
 pub pair_and_after : (soft : List ℤ) (i j : ℕ) → i + 2 ≡ j → pair_at soft i ++ drop j soft ≡ drop i soft
 pair_and_after soft i j e =
     ap (λ rest. pair_at soft i ++ rest) (ap (λ n. drop n soft) (sym e) ∙ sym (drop-drop 2 i soft)) ∙ take-append-drop 2 (drop i soft)
 
--- a pair of a part of a list
+-- a pair of a slice is a pair of the whole list
 pub pair_of_part : (soft : List ℤ) (from n i j : ℕ) → i + 2 ≤ n → from + i ≡ j → pair_at (take n (drop from soft)) i ≡ pair_at soft j
 pair_of_part soft from n i j inside e =
     let all : i + (n - i) ≡ n = omega arith in

@@ -1,4 +1,4 @@
--- The operations on vectors of sixteen 8-bit numbers, lane by lane. A lane stands in them as its bits.
+-- The vector operations on sixteen 8-bit lanes, lane by lane. The operations themselves work on unsigned lanes.
 use Rattle.std.proofs.Common.{◌≡◌, ℕ, zero, suc, ◌+◌, ◌-◌, ◌*◌, ◌/◌, ◌%◌, ◌^◌, ◌<◌, ◌≤◌, Bool}
 use Rattle.std.proofs.Common.{true, false, if◌then◌else◌, ℤ, pos, negsuc}
 use Rattle.std.proofs.Common.{◌+ℤ◌, ◌-ℤ◌, ◌≤ℤ◌, List, [], ◌∷◌, ◌++◌, map, length, get_or, replicate, refl}
@@ -11,8 +11,8 @@ use Rattle.std.proofs.lemmas.Simd.{SwzOk, SwzOk-from_below, Each1-from_get_or, s
 use Rattle.std.proofs.lemmas.Simd.{bit_mask_l}
 use lib.Lanes.{zip2, sel_l, mask_l, top}
 use Rattle.trellis_decode.specs.Lanes.{lane}
-use Rattle.trellis_decode.specs.Hard.{AreSmall, AreUnits, HasRoom, one_place, sign, zero_place}
-use Rattle.trellis_decode.proofs.EdgeLanes.{each}
+use Rattle.trellis_decode.specs.Hard.{AreSmall, AreUnits, HasHeadroom, one_place, sign, zero_place}
+use Rattle.trellis_decode.proofs.BranchMetricLanes.{each}
 
 abbrev bits : List ℤ → List ℕ
 bits = map (cast_unsigned w8)
@@ -22,7 +22,6 @@ bits_at [] k lt = absurd (omega arith)
 bits_at (x ∷ a) zero lt = refl
 bits_at (x ∷ a) (suc k) lt = let lt' : k < length a = omega arith in bits_at a k lt'
 
--- one operation on each lane
 zip-lane : (f : ℕ → ℕ → ℕ) (xs ys : List ℕ) (k : ℕ) → k < length xs → k < length ys →
     lane (map (cast_signed w8) (zip2 f xs ys)) k ≡ cast_signed w8 (f (get_or xs k 0) (get_or ys k 0))
 zip-lane f [] ys k lx ly = absurd (omega arith)
@@ -42,17 +41,17 @@ fits_between : (x : ℤ) → negsuc 127 ≤ℤ x → x ≤ℤ pos 127 → FitsSi
 fits_between (pos n) low high = record { sfits = omega (arith, ints) }
 fits_between (negsuc n) low high = record { sfits = omega (arith, ints) }
 
-AreSmall-room : (a : List ℤ) → HasRoom a → (k : ℕ) → k < 16 → FitsSigned w8 (lane a k)
-AreSmall-room a h k lt = let low = h.low k lt in let high = h.high k lt in fits_between (lane a k) (omega (arith, ints))
+AreSmall-headroom : (a : List ℤ) → HasHeadroom a → (k : ℕ) → k < 16 → FitsSigned w8 (lane a k)
+AreSmall-headroom a h k lt = let low = h.low k lt in let high = h.high k lt in fits_between (lane a k) (omega (arith, ints))
     (omega (arith, ints))
 
 AreSmall-units : (a : List ℤ) → AreUnits a → (k : ℕ) → k < 16 → FitsSigned w8 (lane a k)
 AreSmall-units a h k lt = let low = h.low k lt in let high = h.high k lt in fits_between (lane a k) (omega (arith, ints))
     (omega (arith, ints))
 
--- ---- the ways of either bit
+-- ---- the candidates of bit 0 and of bit 1
 
--- the lanes of the states that each state comes to by either bit
+-- a vector permuted to the next states after bit 0, and after bit 1
 abbrev pub next_zero : List ℕ → List ℕ
 next_zero xs =
     get_or xs 0 0 ∷ get_or xs 8 0 ∷ get_or xs 1 0 ∷ get_or xs 9 0 ∷ get_or xs 2 0 ∷ get_or xs 10 0 ∷ get_or xs 3 0 ∷ get_or xs 11 0 ∷
@@ -71,75 +70,78 @@ next_one-at : (xs : List ℕ) (k : ℕ) → k < 16 → get_or (next_one xs) k 0 
 next_one-at xs = each (λ k. get_or (next_one xs) k 0 ≡ get_or xs (one_place k) 0) 16
     ((((((((((((((((tt, refl), refl), refl), refl), refl), refl), refl), refl), refl), refl), refl), refl), refl), refl), refl), refl)
 
-module _ (a edges : List ℤ) (ha : HasRoom a) (he : AreUnits edges) where
+module _ (a branch_metrics : List ℤ) (ha : HasHeadroom a) (he : AreUnits branch_metrics) where
   twice_at : (i : ℕ) → i < 16 → get_or (bits a ++ bits a) i 0 ≡ cast_unsigned w8 (lane a i)
   twice_at i lt =
       let within : i < length (bits a) = omega (arith, length-map a (cast_unsigned w8), ha.count) in
       get_or_append_left (bits a) (bits a) 0 i within ∙ bits_at a i (omega (arith, ha.count))
 
-  edge_at : (k : ℕ) → k < 16 → get_or (bits edges) k 0 ≡ cast_unsigned w8 (lane edges k)
-  edge_at k lt = bits_at edges k (omega (arith, he.count))
+  branch_metric_at : (k : ℕ) → k < 16 → get_or (bits branch_metrics) k 0 ≡ cast_unsigned w8 (lane branch_metrics k)
+  branch_metric_at k lt = bits_at branch_metrics k (omega (arith, he.count))
 
-  long : (k : ℕ) → k < 16 → k < length (bits edges)
-  long k lt = omega (arith, length-map edges (cast_unsigned w8), he.count)
+  long : (k : ℕ) → k < 16 → k < length (bits branch_metrics)
+  long k lt = omega (arith, length-map branch_metrics (cast_unsigned w8), he.count)
 
-  sum_fits : (i k : ℕ) → i < 16 → k < 16 → FitsSigned w8 (lane a i +ℤ lane edges k)
+  sum_fits : (i k : ℕ) → i < 16 → k < 16 → FitsSigned w8 (lane a i +ℤ lane branch_metrics k)
   sum_fits i k li lk =
       let low = ha.low i li in
       let high = ha.high i li in
       let low' = he.low k lk in
       let high' = he.high k lk in
-      fits_between (lane a i +ℤ lane edges k) (omega (arith, ints)) (omega (arith, ints))
+      fits_between (lane a i +ℤ lane branch_metrics k) (omega (arith, ints)) (omega (arith, ints))
 
-  difference_fits : (i k : ℕ) → i < 16 → k < 16 → FitsSigned w8 (lane a i -ℤ lane edges k)
+  difference_fits : (i k : ℕ) → i < 16 → k < 16 → FitsSigned w8 (lane a i -ℤ lane branch_metrics k)
   difference_fits i k li lk =
       let low = ha.low i li in
       let high = ha.high i li in
       let low' = he.low k lk in
       let high' = he.high k lk in
-      fits_between (lane a i -ℤ lane edges k) (omega (arith, ints)) (omega (arith, ints))
+      fits_between (lane a i -ℤ lane branch_metrics k) (omega (arith, ints)) (omega (arith, ints))
 
   abbrev pub zeros : List ℤ
-  zeros = map (cast_signed w8) (zip2 (λ x y. (x + y) % 256) (next_zero (bits a ++ bits a)) (bits edges))
+  zeros = map (cast_signed w8) (zip2 (λ x y. (x + y) % 256) (next_zero (bits a ++ bits a)) (bits branch_metrics))
 
   abbrev pub ones : List ℤ
-  ones = map (cast_signed w8) (zip2 (λ x y. (x + (256 - y)) % 256) (next_one (bits a ++ bits a)) (bits edges))
+  ones = map (cast_signed w8) (zip2 (λ x y. (x + (256 - y)) % 256) (next_one (bits a ++ bits a)) (bits branch_metrics))
 
-  pub lane-zeros : (k : ℕ) → k < 16 → lane zeros k ≡ lane a (zero_place k) +ℤ lane edges k
+  pub lane-zeros : (k : ℕ) → k < 16 → lane zeros k ≡ lane a (zero_place k) +ℤ lane branch_metrics k
   lane-zeros k lt =
       let inside : zero_place k < 16 = omega arith in
-      zip-lane (λ x y. (x + y) % 256) (next_zero (bits a ++ bits a)) (bits edges) k lt (long k lt)
-      ∙ ap₂ (λ x y. cast_signed w8 ((x + y) % 256)) (next_zero-at (bits a ++ bits a) k lt ∙ twice_at (zero_place k) inside) (edge_at k lt)
-      ∙ wrapping_add_is w8 (lane a (zero_place k)) (lane edges k) (AreSmall-room a ha (zero_place k) inside) (AreSmall-units edges he k lt)
+      zip-lane (λ x y. (x + y) % 256) (next_zero (bits a ++ bits a)) (bits branch_metrics) k lt (long k lt)
+      ∙ ap₂ (λ x y. cast_signed w8 ((x + y) % 256)) (next_zero-at (bits a ++ bits a) k lt ∙ twice_at (zero_place k) inside)
+      (branch_metric_at k lt)
+      ∙ wrapping_add_is w8 (lane a (zero_place k)) (lane branch_metrics k) (AreSmall-headroom a ha (zero_place k) inside)
+      (AreSmall-units branch_metrics he k lt)
       ∙ int_wrap_fits w8 _ (sum_fits (zero_place k) k inside lt)
 
-  pub lane-ones : (k : ℕ) → k < 16 → lane ones k ≡ lane a (one_place k) -ℤ lane edges k
+  pub lane-ones : (k : ℕ) → k < 16 → lane ones k ≡ lane a (one_place k) -ℤ lane branch_metrics k
   lane-ones k lt =
       let inside : one_place k < 16 = omega arith in
-      zip-lane (λ x y. (x + (256 - y)) % 256) (next_one (bits a ++ bits a)) (bits edges) k lt (long k lt)
+      zip-lane (λ x y. (x + (256 - y)) % 256) (next_one (bits a ++ bits a)) (bits branch_metrics) k lt (long k lt)
       ∙ ap₂ (λ x y. cast_signed w8 ((x + (256 - y)) % 256)) (next_one-at (bits a ++ bits a) k lt ∙ twice_at (one_place k) inside)
-      (edge_at k lt)
-      ∙ wrapping_sub_is w8 (lane a (one_place k)) (lane edges k) (AreSmall-room a ha (one_place k) inside) (AreSmall-units edges he k lt)
+      (branch_metric_at k lt)
+      ∙ wrapping_sub_is w8 (lane a (one_place k)) (lane branch_metrics k) (AreSmall-headroom a ha (one_place k) inside)
+      (AreSmall-units branch_metrics he k lt)
       ∙ int_wrap_fits w8 _ (difference_fits (one_place k) k inside lt)
 
-  counted : 16 ≡ length (bits edges)
-  counted = omega (arith, length-map edges (cast_unsigned w8), he.count)
+  counted : 16 ≡ length (bits branch_metrics)
+  counted = omega (arith, length-map branch_metrics (cast_unsigned w8), he.count)
 
   pub AreSmall-zeros : AreSmall zeros
   AreSmall-zeros = record {
-    count = length-zip (λ x y. (x + y) % 256) (next_zero (bits a ++ bits a)) (bits edges) counted;
+    count = length-zip (λ x y. (x + y) % 256) (next_zero (bits a ++ bits a)) (bits branch_metrics) counted;
     fits = λ k lt. subst (FitsSigned w8) (sym (lane-zeros k lt)) (sum_fits (zero_place k) k (omega arith) lt);
   }
 
   pub AreSmall-ones : AreSmall ones
   AreSmall-ones = record {
-    count = length-zip (λ x y. (x + (256 - y)) % 256) (next_one (bits a ++ bits a)) (bits edges) counted;
+    count = length-zip (λ x y. (x + (256 - y)) % 256) (next_one (bits a ++ bits a)) (bits branch_metrics) counted;
     fits = λ k lt. subst (FitsSigned w8) (sym (lane-ones k lt)) (difference_fits (one_place k) k (omega arith) lt);
   }
 
--- ---- the better of both
+-- ---- the better candidate
 
--- where a lane is less than that of another vector, as its bits all 1
+-- the comparison "less than" of one lane: all ones or 0
 abbrev compared : ℕ → ℕ → ℕ
 compared x y = if int_lt (cast_signed w8 x) (cast_signed w8 y) then 255 else 0
 
@@ -149,7 +151,7 @@ top-compared x y = elim (int_lt (cast_signed w8 x) (cast_signed w8 y)) as (λ t.
   | false ↦ refl
 ]
 
--- a lane of either of two vectors, by a comparison
+-- a comparison selects a lane of one of two vectors
 chosen-at : (a b xs ys : List ℕ) (k : ℕ) → k < length a → k < length b → k < length xs → k < length ys →
     get_or (sel_l (map (top 7) (zip2 compared a b)) xs ys) k 0
     ≡ (if int_lt (cast_signed w8 (get_or a k 0)) (cast_signed w8 (get_or b k 0)) then get_or xs k 0 else get_or ys k 0)
@@ -177,7 +179,7 @@ length-chosen (a ∷ rest) (b ∷ bs) (x ∷ xs) (y ∷ ys) eb ex ey =
     let ey' : length ys ≡ length rest = omega arith in
     ap suc (length-chosen rest bs xs ys eb' ex' ey')
 
--- the places that the states come to by either bit
+-- for each lane, the lane of the next state after bit 0, and after bit 1
 abbrev zero_places : List ℕ
 zero_places = 0 ∷ 8 ∷ 1 ∷ 9 ∷ 2 ∷ 10 ∷ 3 ∷ 11 ∷ 0 ∷ 8 ∷ 1 ∷ 9 ∷ 2 ∷ 10 ∷ 3 ∷ 11 ∷ []
 
@@ -192,50 +194,54 @@ one_places-at : (k : ℕ) → k < 16 → get_or one_places k 0 ≡ one_place k
 one_places-at = each (λ k. get_or one_places k 0 ≡ one_place k) 16
     ((((((((((((((((tt, refl), refl), refl), refl), refl), refl), refl), refl), refl), refl), refl), refl), refl), refl), refl), refl)
 
-module _ (zero_ways one_ways : List ℤ) (hz : AreSmall zero_ways) (ho : AreSmall one_ways) where
+module _ (zero_candidates one_candidates : List ℤ) (hz : AreSmall zero_candidates) (ho : AreSmall one_candidates) where
   abbrev less : ℕ → Bool
-  less k = int_lt (lane zero_ways k) (lane one_ways k)
+  less k = int_lt (lane zero_candidates k) (lane one_candidates k)
 
-  zero_back : (k : ℕ) → k < 16 → cast_signed w8 (get_or (bits zero_ways) k 0) ≡ lane zero_ways k
-  zero_back k lt = ap (cast_signed w8) (bits_at zero_ways k (omega (arith, hz.count))) ∙ to_z-of_z w8 (lane zero_ways k) (hz.fits k lt)
+  zero_back : (k : ℕ) → k < 16 → cast_signed w8 (get_or (bits zero_candidates) k 0) ≡ lane zero_candidates k
+  zero_back k lt = ap (cast_signed w8) (bits_at zero_candidates k (omega (arith, hz.count)))
+      ∙ to_z-of_z w8 (lane zero_candidates k) (hz.fits k lt)
 
-  one_back : (k : ℕ) → k < 16 → cast_signed w8 (get_or (bits one_ways) k 0) ≡ lane one_ways k
-  one_back k lt = ap (cast_signed w8) (bits_at one_ways k (omega (arith, ho.count))) ∙ to_z-of_z w8 (lane one_ways k) (ho.fits k lt)
+  one_back : (k : ℕ) → k < 16 → cast_signed w8 (get_or (bits one_candidates) k 0) ≡ lane one_candidates k
+  one_back k lt = ap (cast_signed w8) (bits_at one_candidates k (omega (arith, ho.count)))
+      ∙ to_z-of_z w8 (lane one_candidates k) (ho.fits k lt)
 
-  zero_long : length (bits zero_ways) ≡ 16
-  zero_long = length-map zero_ways (cast_unsigned w8) ∙ hz.count
+  zero_long : length (bits zero_candidates) ≡ 16
+  zero_long = length-map zero_candidates (cast_unsigned w8) ∙ hz.count
 
-  one_long : length (bits one_ways) ≡ 16
-  one_long = length-map one_ways (cast_unsigned w8) ∙ ho.count
+  one_long : length (bits one_candidates) ≡ 16
+  one_long = length-map one_candidates (cast_unsigned w8) ∙ ho.count
 
   pub picked : (xs ys : List ℕ) → length xs ≡ 16 → length ys ≡ 16 → (k : ℕ) → k < 16 →
-      get_or (sel_l (map (top 7) (zip2 compared (bits zero_ways) (bits one_ways))) xs ys) k 0
+      get_or (sel_l (map (top 7) (zip2 compared (bits zero_candidates) (bits one_candidates))) xs ys) k 0
       ≡ (if less k then get_or xs k 0 else get_or ys k 0)
   picked xs ys ex ey k lt =
       let ez = zero_long in
       let eo = one_long in
-      chosen-at (bits zero_ways) (bits one_ways) xs ys k (omega arith) (omega arith) (omega arith) (omega arith)
+      chosen-at (bits zero_candidates) (bits one_candidates) xs ys k (omega arith) (omega arith) (omega arith) (omega arith)
       ∙ ap₂ (λ a b. if int_lt a b then get_or xs k 0 else get_or ys k 0) (zero_back k lt) (one_back k lt)
 
   pub length-picked : (xs ys : List ℕ) → length xs ≡ 16 → length ys ≡ 16 →
-      length (sel_l (map (top 7) (zip2 compared (bits zero_ways) (bits one_ways))) xs ys) ≡ 16
+      length (sel_l (map (top 7) (zip2 compared (bits zero_candidates) (bits one_candidates))) xs ys) ≡ 16
   length-picked xs ys ex ey =
-      length-chosen (bits zero_ways) (bits one_ways) xs ys (one_long ∙ sym zero_long) (ex ∙ sym zero_long) (ey ∙ sym zero_long) ∙ zero_long
+      length-chosen (bits zero_candidates) (bits one_candidates) xs ys (one_long ∙ sym zero_long) (ex ∙ sym zero_long) (ey ∙ sym zero_long)
+      ∙ zero_long
 
   abbrev larger : List ℤ
-  larger = map (cast_signed w8) (sel_l (map (top 7) (zip2 compared (bits zero_ways) (bits one_ways))) (bits one_ways) (bits zero_ways))
+  larger = map (cast_signed w8)
+      (sel_l (map (top 7) (zip2 compared (bits zero_candidates) (bits one_candidates))) (bits one_candidates) (bits zero_candidates))
 
   count-larger : length larger ≡ 16
-  count-larger = length-map _ (cast_signed w8) ∙ length-picked (bits one_ways) (bits zero_ways) one_long zero_long
+  count-larger = length-map _ (cast_signed w8) ∙ length-picked (bits one_candidates) (bits zero_candidates) one_long zero_long
 
-  pub lane-larger : (k : ℕ) → k < 16 → lane larger k ≡ (if less k then lane one_ways k else lane zero_ways k)
+  pub lane-larger : (k : ℕ) → k < 16 → lane larger k ≡ (if less k then lane one_candidates k else lane zero_candidates k)
   lane-larger k lt =
-      get_or-map (cast_signed w8) (sel_l (map (top 7) (zip2 compared (bits zero_ways) (bits one_ways))) (bits one_ways)
-      (bits zero_ways)) k 0
-      (pos 0) (let n = length-picked (bits one_ways) (bits zero_ways) one_long zero_long in omega arith)
-      ∙ ap (cast_signed w8) (picked (bits one_ways) (bits zero_ways) one_long zero_long k lt)
-      ∙ elim (less k) as (λ t. cast_signed w8 (if t then get_or (bits one_ways) k 0 else get_or (bits zero_ways) k 0)
-      ≡ (if t then lane one_ways k else lane zero_ways k)) [
+      get_or-map (cast_signed w8) (sel_l (map (top 7) (zip2 compared (bits zero_candidates) (bits one_candidates))) (bits one_candidates)
+      (bits zero_candidates)) k 0
+      (pos 0) (let n = length-picked (bits one_candidates) (bits zero_candidates) one_long zero_long in omega arith)
+      ∙ ap (cast_signed w8) (picked (bits one_candidates) (bits zero_candidates) one_long zero_long k lt)
+      ∙ elim (less k) as (λ t. cast_signed w8 (if t then get_or (bits one_candidates) k 0 else get_or (bits zero_candidates) k 0)
+      ≡ (if t then lane one_candidates k else lane zero_candidates k)) [
         | true ↦ one_back k lt
         | false ↦ zero_back k lt
       ]
@@ -244,15 +250,15 @@ module _ (zero_ways one_ways : List ℤ) (hz : AreSmall zero_ways) (ho : AreSmal
   AreSmall-larger = record {
     count = count-larger;
     fits = λ k lt. subst (FitsSigned w8) (sym (lane-larger k lt))
-        (elim (less k) as (λ t. FitsSigned w8 (if t then lane one_ways k else lane zero_ways k)) [
+        (elim (less k) as (λ t. FitsSigned w8 (if t then lane one_candidates k else lane zero_candidates k)) [
           | true ↦ ho.fits k lt
           | false ↦ hz.fits k lt
         ]);
   }
 
-  -- the places of the states that each state comes to
+  -- for each lane, the lane of the next state by the better bit
   abbrev next_places : List ℕ
-  next_places = sel_l (map (top 7) (zip2 compared (bits zero_ways) (bits one_ways))) one_places zero_places
+  next_places = sel_l (map (top 7) (zip2 compared (bits zero_candidates) (bits one_candidates))) one_places zero_places
 
   next_place : (k : ℕ) → k < 16 → get_or next_places k 0 ≡ (if less k then one_place k else zero_place k)
   next_place k lt = picked one_places zero_places refl refl k lt
@@ -281,7 +287,28 @@ module _ (zero_ways one_ways : List ℤ) (hz : AreSmall zero_ways) (ho : AreSmal
   pub length-followed : (xs : List ℕ) → length (swz_l w8 16 xs 0 next_places) ≡ 16
   length-followed xs = length-swz_l w8 16 xs 0 next_places ∙ length-picked one_places zero_places refl refl
 
--- ---- the signs of eight soft values
+  -- a map with one bit more at the front, by two fixed swizzles
+  abbrev selected : List ℕ → List ℕ
+  selected xs = sel_l (map (top 7) (zip2 compared (bits zero_candidates) (bits one_candidates))) (next_one (xs ++ xs))
+      (next_zero (xs ++ xs))
+
+  pub lane-selected : (xs : List ℕ) → length xs ≡ 16 → (k : ℕ) → k < 16 →
+      get_or (selected xs) k 0 ≡ get_or xs (if less k then one_place k else zero_place k) 0
+  lane-selected xs counted k lt =
+      picked (next_one (xs ++ xs)) (next_zero (xs ++ xs)) refl refl k lt
+      ∙ ap₂ (λ x y. if less k then x else y)
+      (next_one-at (xs ++ xs) k lt ∙ get_or_append_left xs xs 0 (one_place k) (omega arith))
+      (next_zero-at (xs ++ xs) k lt ∙ get_or_append_left xs xs 0 (zero_place k) (omega arith))
+      ∙ elim (less k) as (λ t. (if t then get_or xs (one_place k) 0 else get_or xs (zero_place k) 0)
+      ≡ get_or xs (if t then one_place k else zero_place k) 0) [
+        | true ↦ refl
+        | false ↦ refl
+      ]
+
+  pub length-selected : (xs : List ℕ) → length (selected xs) ≡ 16
+  length-selected xs = length-picked (next_one (xs ++ xs)) (next_zero (xs ++ xs)) refl refl
+
+-- ---- the signs of eight soft bits
 
 abbrev signs_below : ℕ → List ℤ → List Bool
 signs_below n a = map (top 7) (zip2 compared (bits a) (replicate n 0))

@@ -1,8 +1,9 @@
-mod EdgeLanes
+pub use Rattle.conv_code.proofs as conv_code
+mod BranchMetricLanes
 mod Existence
 mod HardLanes
 mod HardSteps
-mod Kept
+mod Decisions
 pub mod Lemmas
 mod Likelihoods
 mod Lists
@@ -12,7 +13,7 @@ mod Searching
 mod Followed
 mod Leads
 mod FourPairs
-mod TurnedSteps
-mod TurnedVectors
+mod AcsSteps
+mod AcsVectors
 mod Walks
 mod WordLists

@@ -1,4 +1,4 @@
--- Likelihoods, one place more at a time.
+-- The path metric, extended by one soft bit.
 use Rattle.std.proofs.Common.{◌≡◌, ℕ, zero, suc, ◌<◌, ℤ, pos, ◌+ℤ◌, List, [], ◌∷◌, length, get_or, take, arith}
 use Rattle.std.proofs.lemmas.Int.{ints}
 use Rattle.conv_code.specs.Likelihood.{agreement, likelihood}

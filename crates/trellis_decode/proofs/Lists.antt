@@ -1,4 +1,4 @@
--- From paths that begin in state 0 to whole lists.
+-- The best list from state 0 is the most likely information list: the encoder starts in state 0.
 use Rattle.std.proofs.Common.{◌≡◌, ◌≢◌, ℕ, zero, suc, ◌-◌, ◌*◌, ◌<◌, ◌≤◌, inl, inr, ℤ, List, []}
 use Rattle.std.proofs.Common.{◌∷◌, length, get_or, drop, refl, ap, ap₂}
 use Rattle.std.proofs.Common.{sym, ◌∙◌, arith}
@@ -6,21 +6,21 @@ use Rattle.std.proofs.lemmas.Bool.{cases_lt}
 use Rattle.std.proofs.lemmas.List.Elements.{All-nil, All-cons, All-head, All-tail}
 use Rattle.std.specs.List.{All}
 use Rattle.bit_blocks.specs.Bits.{AllBits, IsBit}
-use Rattle.conv_code.specs.Code.{coded, IsInformation}
+use Rattle.conv_code.specs.Code.{encoding, IsInformation}
 use Rattle.conv_code.specs.Likelihood.{likelihood, IsBefore, FallsBehind, IsMostLikely}
 use Rattle.conv_code.proofs.Lemmas.{coded_from_start}
-use Rattle.trellis_decode.specs.Trellis.{gain, Ends, IsNotAfter, Less, Later, IsBest}
+use Rattle.trellis_decode.specs.Trellis.{gain, HasTail, IsNotAfter, Less, Later, IsBest}
 
-pub gain-start : (soft : List ℤ) (u : List ℕ) → AllBits u → gain 0 u soft ≡ likelihood soft (coded u)
+pub gain-start : (soft : List ℤ) (u : List ℕ) → AllBits u → gain 0 u soft ≡ likelihood soft (encoding u)
 unfolding gain
 gain-start soft u bits = ap (likelihood soft) (sym (coded_from_start u bits))
 
-pub Ends-from_tail : (u : List ℕ) → AllBits u → All (λ bit. bit ≡ 0) (drop (length u - 4) u) → Ends u
-Ends-from_tail [] bits tail = tt
-Ends-from_tail (x ∷ u) bits tail = (
+pub HasTail-from_tail : (u : List ℕ) → AllBits u → All (λ bit. bit ≡ 0) (drop (length u - 4) u) → HasTail u
+HasTail-from_tail [] bits tail = tt
+HasTail-from_tail (x ∷ u) bits tail = (
   All-head IsBit x u bits,
   (λ short. let all : suc (length u) - 4 ≡ 0 = omega arith in All-head (λ bit. bit ≡ 0) x u (rw all at tail)),
-  Ends-from_tail u (All-tail IsBit x u bits) (elim (cases_lt (length u) 4) [
+  HasTail-from_tail u (All-tail IsBit x u bits) (elim (cases_lt (length u) 4) [
     | inl short ↦
         let all : suc (length u) - 4 ≡ 0 = omega arith in
         let all' : length u - 4 ≡ 0 = omega arith in
@@ -29,14 +29,14 @@ Ends-from_tail (x ∷ u) bits tail = (
   ]),
 )
 
-pub Ends-bits : (u : List ℕ) → Ends u → AllBits u
-Ends-bits [] ends = All-nil IsBit
-Ends-bits (x ∷ u) ends = All-cons IsBit x u ends.0 (Ends-bits u ends.2)
+pub HasTail-bits : (u : List ℕ) → HasTail u → AllBits u
+HasTail-bits [] ends = All-nil IsBit
+HasTail-bits (x ∷ u) ends = All-cons IsBit x u ends.0 (HasTail-bits u ends.2)
 
-Ends-tail : (u : List ℕ) → Ends u → All (λ bit. bit ≡ 0) (drop (length u - 4) u)
-Ends-tail [] ends = All-nil (λ bit. bit ≡ 0)
-Ends-tail (x ∷ u) ends =
-    let rest = Ends-tail u ends.2 in
+HasTail-tail : (u : List ℕ) → HasTail u → All (λ bit. bit ≡ 0) (drop (length u - 4) u)
+HasTail-tail [] ends = All-nil (λ bit. bit ≡ 0)
+HasTail-tail (x ∷ u) ends =
+    let rest = HasTail-tail u ends.2 in
     elim (cases_lt (length u) 4) [
       | inl short ↦
           let all : suc (length u) - 4 ≡ 0 = omega arith in
@@ -45,8 +45,8 @@ Ends-tail (x ∷ u) ends =
       | inr long ↦ let one_more : suc (length u) - 4 ≡ suc (length u - 4) = omega arith in rw one_more rest
     ]
 
-pub IsInformation-ends : (u : List ℕ) → 5 ≤ length u → Ends u → IsInformation u
-IsInformation-ends u count ends = record { count = count; bits = Ends-bits u ends; tail = Ends-tail u ends }
+pub IsInformation-ends : (u : List ℕ) → 5 ≤ length u → HasTail u → IsInformation u
+IsInformation-ends u count ends = record { count = count; bits = HasTail-bits u ends; tail = HasTail-tail u ends }
 
 pub IsBefore-not_after : (u v : List ℕ) → AllBits v → length v ≡ length u → IsNotAfter u v → v ≢ u → IsBefore u v
 IsBefore-not_after [] [] bits count h ne = absurd (ne refl)
@@ -64,7 +64,6 @@ IsBefore-not_after (x ∷ u) (y ∷ v) bits count (inr rest) ne =
     same tail zero lt = rest.0
     same tail (suc j) lt = tail.same j (omega arith)
 
--- the best list from state 0 is the most likely of all
 pub IsMostLikely-best : (soft : List ℤ) (u : List ℕ) (value : ℤ) → 5 ≤ length u → length soft ≡ 2 * length u →
     IsBest 0 u soft value → IsMostLikely soft u
 IsMostLikely-best soft u value count pairs best = record {
@@ -74,13 +73,13 @@ IsMostLikely-best soft u value count pairs best = record {
 } where
   others : (v : List ℕ) → IsInformation v → length v ≡ length u → v ≢ u → FallsBehind soft v u
   others v information count ne =
-      let ends = Ends-from_tail v information.bits information.tail in
-      let gu = gain-start soft u (Ends-bits u best.ends) in
+      let ends = HasTail-from_tail v information.bits information.tail in
+      let gu = gain-start soft u (HasTail-bits u best.ends) in
       let gv = gain-start soft v information.bits in
       elim (best.wins v ends count) [
         | Less h ↦ inl (rw (← gu, ← gv) h)
         | Later h after ↦ inr (sym gv ∙ h ∙ gu, IsBefore-not_after u v information.bits count after ne)
       ]
 
-pub likelihood-best : (soft : List ℤ) (u : List ℕ) (value : ℤ) → IsBest 0 u soft value → value ≡ likelihood soft (coded u)
-likelihood-best soft u value best = best.gained ∙ gain-start soft u (Ends-bits u best.ends)
+pub likelihood-best : (soft : List ℤ) (u : List ℕ) (value : ℤ) → IsBest 0 u soft value → value ≡ likelihood soft (encoding u)
+likelihood-best soft u value best = best.gained ∙ gain-start soft u (HasTail-bits u best.ends)

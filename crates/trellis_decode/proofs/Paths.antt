@@ -1,4 +1,5 @@
--- The best list from a state on, one place more at a time.
+-- Viterbi's survivor argument, backward: the best list from a state is the better of two candidates, each a first bit followed by the
+-- best list from the next state. Bit 0 wins a tie, so the best list is lexicographically first.
 use Rattle.std.proofs.Common.{◌≡◌, ℕ, zero, suc, ◌*◌, ◌/◌, ◌%◌, ◌^◌, ◌<◌, ◌≤◌, inl, inr, ℤ, pos}
 use Rattle.std.proofs.Common.{◌+ℤ◌, ◌-ℤ◌, List, [], ◌∷◌, ◌++◌, length}
 use Rattle.std.proofs.Common.{get_or, replicate, refl, ap, sym, ◌∙◌, subst, arith}
@@ -9,15 +10,16 @@ use Rattle.std.proofs.lemmas.List.Elements.{All-nil, All-cons, All-head, All-tai
 use Rattle.std.specs.List.{All}
 use Rattle.bit_blocks.specs.Bits.{AllBits, IsBit}
 use Rattle.conv_code.specs.Likelihood.{likelihood}
-use Rattle.trellis_decode.proofs.EdgeLanes.{agreement-zero, agreement-one}
-use Rattle.trellis_decode.specs.Lanes.{IsOctet, AreOctets}
-use Rattle.trellis_decode.specs.Trellis.{next, first_bit, second_bit, coded_from, gain, edge, Ends, IsNotAfter, Loses, Less, Later}
-use Rattle.trellis_decode.specs.Trellis.{read_out, IsBest, way, Chooses}
+use Rattle.trellis_decode.proofs.BranchMetricLanes.{agreement-zero, agreement-one}
+use Rattle.trellis_decode.specs.Lanes.{IsSignedOctet, AreSignedOctets}
+use Rattle.trellis_decode.specs.Trellis.{next, first_bit, second_bit, coded_from, gain, branch_metric, HasTail, IsNotAfter, Loses, Less}
+use Rattle.trellis_decode.specs.Trellis.{Later}
+use Rattle.trellis_decode.specs.Trellis.{read_out, IsBest, candidate, Chooses}
 
--- one bit, and then the rest of the list
+-- the metric of a list is the branch metric of its first bit plus the metric of the rest
 pub gain-cons : (state x : ℕ) (u : List ℕ) (pair soft : List ℤ) → length pair ≡ 2 →
-    gain state (x ∷ u) (pair ++ soft) ≡ edge state x pair +ℤ gain (next state x) u soft
-unfolding gain edge
+    gain state (x ∷ u) (pair ++ soft) ≡ branch_metric state x pair +ℤ gain (next state x) u soft
+unfolding gain branch_metric
 gain-cons state x u [] soft e = absurd (omega arith)
 gain-cons state x u (p ∷ []) soft e = absurd (omega arith)
 gain-cons state x u (p ∷ q ∷ []) soft e = omega (arith, ints)
@@ -31,7 +33,7 @@ pub IsNotAfter-refl : (u : List ℕ) → IsNotAfter u u
 IsNotAfter-refl [] = tt
 IsNotAfter-refl (x ∷ u) = inr (refl, IsNotAfter-refl u)
 
--- the first bit of both is the same
+-- an equal first bit keeps the order of two lists
 pub Loses-same : (state x : ℕ) (v u : List ℕ) (pair soft : List ℤ) → length pair ≡ 2 →
     Loses (next state x) soft v u → Loses state (pair ++ soft) (x ∷ v) (x ∷ u)
 Loses-same state x v u pair soft e (Less h) =
@@ -43,30 +45,30 @@ Loses-same state x v u pair soft e (Later h after) =
     let gu = gain-cons state x u pair soft e in
     Later (omega (arith, ints)) (inr (refl, after))
 
--- no list that begins with a bit gives more than that bit's way
-way_bounds : (after pair soft : List ℤ) (state bit : ℕ) (u v : List ℕ) → length pair ≡ 2 →
-    IsBest (next state bit) u soft (get_or after (next state bit) (pos 0)) → Ends v → length v ≡ length u →
-    gain state (bit ∷ v) (pair ++ soft) ≤ℤ way after pair state bit
-unfolding way
-way_bounds after pair soft state bit u v e best ends count =
+-- no list that begins with `bit` has a greater metric than that bit's candidate
+candidate_bounds : (after pair soft : List ℤ) (state bit : ℕ) (u v : List ℕ) → length pair ≡ 2 →
+    IsBest (next state bit) u soft (get_or after (next state bit) (pos 0)) → HasTail v → length v ≡ length u →
+    gain state (bit ∷ v) (pair ++ soft) ≤ℤ candidate after pair state bit
+unfolding candidate
+candidate_bounds after pair soft state bit u v e best ends count =
     let g = gain-cons state bit v pair soft e in
     let value = best.gained in
     elim (best.wins v ends count) [ Less h ↦ omega (arith, ints) | Later h later ↦ omega (arith, ints) ]
 
-pub way_reached : (after pair soft : List ℤ) (state bit : ℕ) (u : List ℕ) → length pair ≡ 2 →
+pub candidate_reached : (after pair soft : List ℤ) (state bit : ℕ) (u : List ℕ) → length pair ≡ 2 →
     IsBest (next state bit) u soft (get_or after (next state bit) (pos 0)) →
-    way after pair state bit ≡ gain state (bit ∷ u) (pair ++ soft)
-unfolding way
-way_reached after pair soft state bit u e best =
+    candidate after pair state bit ≡ gain state (bit ∷ u) (pair ++ soft)
+unfolding candidate
+candidate_reached after pair soft state bit u e best =
     let g = gain-cons state bit u pair soft e in
     let value = best.gained in
     omega (arith, ints)
 
--- the best lists of both bits, and the better way
+-- the survivors of both next states, and the better candidate
 module _ (after pair soft : List ℤ) (state : ℕ) (zeros ones : List ℕ) (e : length pair ≡ 2) (same : length ones ≡ length zeros)
     (best0 : IsBest (next state 0) zeros soft (get_or after (next state 0) (pos 0)))
     (best1 : IsBest (next state 1) ones soft (get_or after (next state 1) (pos 0))) where
-  zero_wins : (way after pair state 1) ≤ℤ (way after pair state 0) → (v : List ℕ) → Ends v → length v ≡ suc (length zeros) →
+  zero_wins : (candidate after pair state 1) ≤ℤ (candidate after pair state 0) → (v : List ℕ) → HasTail v → length v ≡ suc (length zeros) →
       Loses state (pair ++ soft) v (0 ∷ zeros)
   zero_wins h [] ends count = absurd (omega arith)
   zero_wins h (zero ∷ v) ends count =
@@ -74,26 +76,26 @@ module _ (after pair soft : List ℤ) (state : ℕ) (zeros ones : List ℕ) (e :
       Loses-same state 0 v zeros pair soft e (best0.wins v ends.2 count')
   zero_wins h (suc zero ∷ v) ends count =
       let count' : length v ≡ length ones = omega arith in
-      let bound = way_bounds after pair soft state 1 ones v e best1 ends.2 count' in
-      let value = way_reached after pair soft state 0 zeros e best0 in
+      let bound = candidate_bounds after pair soft state 1 ones v e best1 ends.2 count' in
+      let value = candidate_reached after pair soft state 0 zeros e best0 in
       by_lt_z (gain state (1 ∷ v) (pair ++ soft)) (gain state (0 ∷ zeros) (pair ++ soft))
       (λ less. Less less) (λ not_less. Later (omega (arith, ints)) (inl (omega arith)))
   zero_wins h (suc (suc x) ∷ v) ends count = absurd (omega (arith, ends.0))
 
-  one_wins : (way after pair state 0) <ℤ (way after pair state 1) → (v : List ℕ) → Ends v → length v ≡ suc (length ones) →
+  one_wins : (candidate after pair state 0) <ℤ (candidate after pair state 1) → (v : List ℕ) → HasTail v → length v ≡ suc (length ones) →
       Loses state (pair ++ soft) v (1 ∷ ones)
   one_wins h [] ends count = absurd (omega arith)
   one_wins h (zero ∷ v) ends count =
       let count' : length v ≡ length zeros = omega arith in
-      let bound = way_bounds after pair soft state 0 zeros v e best0 ends.2 count' in
-      let value = way_reached after pair soft state 1 ones e best1 in
+      let bound = candidate_bounds after pair soft state 0 zeros v e best0 ends.2 count' in
+      let value = candidate_reached after pair soft state 1 ones e best1 in
       Less (omega (arith, ints))
   one_wins h (suc zero ∷ v) ends count =
       let count' : length v ≡ length ones = omega arith in
       Loses-same state 1 v ones pair soft e (best1.wins v ends.2 count')
   one_wins h (suc (suc x) ∷ v) ends count = absurd (omega (arith, ends.0))
 
--- where a bit is free
+-- one more position, before the tail
 pub IsBest-bit : (after pair soft : List ℤ) (state bit : ℕ) (lists : ℕ → List ℕ) (value : ℤ) → length pair ≡ 2 →
     4 ≤ length (lists (next state 1)) → length (lists (next state 1)) ≡ length (lists (next state 0)) →
     IsBest (next state 0) (lists (next state 0)) soft (get_or after (next state 0) (pos 0)) →
@@ -107,12 +109,12 @@ IsBest-bit after pair soft state bit lists value e free same best0 best1 choice 
     let BestAt : ℕ → Type 0 = λ bit. IsBest state (bit ∷ lists (next state bit)) (pair ++ soft) value in
     elim choice [
       | inl h ↦ subst BestAt (sym h.0) (record {
-        gained = h.1 ∙ way_reached after pair soft state 0 zeros e best0;
+        gained = h.1 ∙ candidate_reached after pair soft state 0 zeros e best0;
         ends = (omega arith, (λ _. refl), best0.ends);
         wins = zero_wins after pair soft state zeros ones e same best0 best1 h.2;
       })
       | inr h ↦ subst BestAt (sym h.0) (record {
-        gained = h.1 ∙ way_reached after pair soft state 1 ones e best1;
+        gained = h.1 ∙ candidate_reached after pair soft state 1 ones e best1;
         ends = (omega arith, long, best1.ends);
         wins = one_wins after pair soft state zeros ones e same best0 best1 h.2;
       })
@@ -128,16 +130,16 @@ IsBest-more after pair soft state row rows value e free =
     let count1 = length-read_out rows (next state 1) in
     IsBest-bit after pair soft state (row / 2 ^ state % 2) (read_out rows) value e (omega arith) (count1 ∙ sym count0)
 
--- where a bit is not free
+-- one more position of the tail, where the bit must be 0
 pub IsBest-closing : (after pair soft : List ℤ) (state : ℕ) (u : List ℕ) → length pair ≡ 2 → length u < 4 →
     IsBest (next state 0) u soft (get_or after (next state 0) (pos 0)) →
-    IsBest state (0 ∷ u) (pair ++ soft) (way after pair state 0)
+    IsBest state (0 ∷ u) (pair ++ soft) (candidate after pair state 0)
 IsBest-closing after pair soft state u e closing best = record {
-  gained = way_reached after pair soft state 0 u e best;
+  gained = candidate_reached after pair soft state 0 u e best;
   ends = (omega arith, (λ _. refl), best.ends);
   wins = closing_wins;
 } where
-  closing_wins : (v : List ℕ) → Ends v → length v ≡ suc (length u) → Loses state (pair ++ soft) v (0 ∷ u)
+  closing_wins : (v : List ℕ) → HasTail v → length v ≡ suc (length u) → Loses state (pair ++ soft) v (0 ∷ u)
   closing_wins [] ends count = absurd (omega arith)
   closing_wins (x ∷ v) ends count =
       let count' : length v ≡ length u = omega arith in
@@ -145,29 +147,29 @@ IsBest-closing after pair soft state u e closing best = record {
       subst (λ x. Loses state (pair ++ soft) (x ∷ v) (0 ∷ u)) (sym (ends.1 short))
       (Loses-same state 0 v u pair soft e (best.wins v ends.2 count'))
 
--- before the end no list is worth more than another
+-- at the end of the trellis each path metric is 0
 pub IsBest-none : (state : ℕ) → IsBest state [] [] (pos 0)
 unfolding gain
 IsBest-none state = record { gained = refl; ends = tt; wins = none } where
-  none : (v : List ℕ) → Ends v → length v ≡ 0 → Loses state [] v []
+  none : (v : List ℕ) → HasTail v → length v ≡ 0 → Loses state [] v []
   none [] ends count = Later refl tt
   none (x ∷ v) ends count = absurd (omega arith)
 
--- ---- soft values are octets, so that what a list is worth stays small
+-- ---- bounds: soft bits are octets
 
-pub likelihood_bound : (soft : List ℤ) (c : List ℕ) → AreOctets soft → AllBits c →
+pub likelihood_bound : (soft : List ℤ) (c : List ℕ) → AreSignedOctets soft → AllBits c →
     ((pos 0 -ℤ pos (128 * length soft)) ≤ℤ likelihood soft c) × (likelihood soft c ≤ℤ pos (128 * length soft))
 likelihood_bound [] c octets bits = (omega (arith, ints), omega (arith, ints))
 likelihood_bound (p ∷ s) [] octets bits = (omega (arith, ints), omega (arith, ints))
 likelihood_bound (p ∷ s) (zero ∷ c) octets bits =
-    let head = All-head IsOctet p s octets in
+    let head = All-head IsSignedOctet p s octets in
     let e = agreement-zero p in
-    let rest = likelihood_bound s c (All-tail IsOctet p s octets) (All-tail IsBit 0 c bits) in
+    let rest = likelihood_bound s c (All-tail IsSignedOctet p s octets) (All-tail IsBit 0 c bits) in
     (omega (arith, ints, head.0, head.1, rest.0, rest.1), omega (arith, ints, head.0, head.1, rest.0, rest.1))
 likelihood_bound (p ∷ s) (suc zero ∷ c) octets bits =
-    let head = All-head IsOctet p s octets in
+    let head = All-head IsSignedOctet p s octets in
     let e = agreement-one p in
-    let rest = likelihood_bound s c (All-tail IsOctet p s octets) (All-tail IsBit 1 c bits) in
+    let rest = likelihood_bound s c (All-tail IsSignedOctet p s octets) (All-tail IsBit 1 c bits) in
     (omega (arith, ints, head.0, head.1, rest.0, rest.1), omega (arith, ints, head.0, head.1, rest.0, rest.1))
 likelihood_bound (p ∷ s) (suc (suc x) ∷ c) octets bits =
     let head = All-head IsBit (suc (suc x)) c bits in
@@ -187,7 +189,7 @@ pub IsBest-same : (s : ℕ) {u u' : List ℕ} {soft soft' : List ℤ} {value val
 IsBest-same s {u} {u'} {soft} {soft'} {value} {value'} eu es ev best =
     subst (λ u. IsBest s u soft' value') eu (subst (λ soft. IsBest s u soft value') es (subst (λ value. IsBest s u soft value) ev best))
 
--- rows of zeros choose zeros
+-- decision rows of zeros give zeros
 pub read_out-zeros : (rows : List ℕ) (state : ℕ) → All (λ row. row ≡ 0) rows → read_out rows state ≡ replicate (length rows) 0
 read_out-zeros [] state zeros = refl
 read_out-zeros (row ∷ rows) state zeros =

@@ -1,4 +1,4 @@
--- All information lists in their order.
+-- All information lists in lexicographic order, numbered by the binary numbers that they spell.
 use Rattle.std.proofs.Common.{◌≡◌, ℕ, zero, suc, ◌+◌, ◌-◌, ◌*◌, ◌/◌, ◌%◌, ◌^◌, ◌<◌, ◌≤◌, inl}
 use Rattle.std.proofs.Common.{inr, List, [], ◌∷◌, length, get_or, drop}
 use Rattle.std.proofs.Common.{refl, ap, ap₂, sym, ◌∙◌, subst, arith}
@@ -59,7 +59,7 @@ IsInformation-word n number long = record {
       (All-cons (λ bit. bit ≡ 0) _ (word 1 (16 * number)) b2
       (All-cons (λ bit. bit ≡ 0) _ [] b1 (All-nil (λ bit. bit ≡ 0)))))
 
--- the bits above the n-th count for nothing
+-- `word n` ignores bits from n on
 word-high : (n r x : ℕ) → word n (r + 2 ^ n * x) ≡ word n r
 word-high zero r x = refl
 word-high (suc n) r x =
@@ -68,7 +68,7 @@ word-high (suc n) r x =
     let bit : (r + 2 ^ n * (2 * x)) / 2 ^ n % 2 ≡ r / 2 ^ n % 2 = rw half (omega arith) in
     ap (word (suc n)) doubled ∙ ap₂ (λ bit rest. bit ∷ rest) bit (word-high n r (2 * x))
 
--- each list of bits is a word
+-- each bit list spells a number
 spelled : (v : List ℕ) → AllBits v → (number : ℕ) × (number < 2 ^ length v) × (word (length v) number ≡ v)
 spelled [] bits = (0, omega arith, refl)
 spelled (x ∷ v) bits =
@@ -97,7 +97,7 @@ div-le a b power above le = elim (cases_lt (b / power) (a / power)) [
   | inr fine ↦ fine
 ]
 
--- the order of numbers is that of their words
+-- numeric order is lexicographic order
 pub IsBefore-word : (n a b : ℕ) → a < b → a / 2 ^ n ≡ b / 2 ^ n → IsBefore (word n a) (word n b)
 IsBefore-word zero a b less same = absurd (let same' : a ≡ b = sym (div-one a) ∙ same ∙ div-one b in omega arith)
 IsBefore-word (suc n) a b less same =
@@ -127,7 +127,7 @@ IsBefore-word (suc n) a b less same =
       differs = rest.differs;
     }
 
--- each information list is one of the words that end in four zeros
+-- each information list spells a multiple of 16
 pub word-information : (v : List ℕ) → IsInformation v → (number : ℕ) × (16 * number < 2 ^ length v) × (word (length v) (16 * number) ≡ v)
 word-information v h =
     let spelt = spelled v h.bits in

@@ -1,8 +1,9 @@
+pub use Rattle.conv_code.specs as conv_code
 pub mod Hard
-pub mod Kept
+pub mod Decisions
 pub mod Lanes
 pub mod Trellis
-pub mod Turned
+pub mod AcsLanes
 pub mod Walks
-pub mod Ways
+pub mod Candidates
 pub mod Words

@@ -1,31 +1,30 @@
-//! The most likely list by trying them all: what it means to be the most likely, as a program. This project's own check
-//! of the faster way.
+//! Decoding by trying every information list: the definition of the most likely list as a program. Tests compare `decode` with it.
 
 ghost use Rattle.std.specs.Prelude.{◌≡◌, ℕ, ◌*◌, ◌^◌, ◌<◌, ◌≤◌, pos, ◌-ℤ◌, ◌≤ℤ◌, List, length};
 ghost use Rattle.bit_blocks.specs.Bits.{AllBits, IsBit};
-ghost use Rattle.conv_code.specs.Code.{coded, IsInformation};
+ghost use Rattle.conv_code.specs.Code.{encoding, IsInformation};
 ghost use Rattle.conv_code.specs.Likelihood.{agreement, AllSoft, IsMostLikely, likelihood};
 ghost use Rattle.trellis_decode.specs.Words.{word};
 
 use conv_code::encode;
 
-/// What `decode` answers, by trying every information list in the order of words: slow, and for short lists alone.
+/// Writes and returns what `decode` does, by trying every information list in lexicographic order. Slow, so only for short lists.
 pub fn search(soft: &[i8], u: &mut [u8]) -> i32
     requires count { length soft.now ≡ 2 * length u.old }
     requires at_least { 5 ≤ length u.old }
     requires at_most { length u.old ≤ 20 }
     requires soft { AllSoft soft.now }
     ensures best { IsMostLikely soft.now u.new }
-    ensures value { result ≡ likelihood soft.now (coded u.new) }
+    ensures value { result ≡ likelihood soft.now (encoding u.new) }
     ensures only { (v : List ℕ) → IsMostLikely soft.now v → v ≡ u.new }
 {
     let lists = list_count(u.len());
     let mut chosen = 0;
     write_list(chosen, u);
-    let mut best = worth(soft, u);
+    let mut best = path_metric(soft, u);
     for number in 1..lists {
         write_list(number, u);
-        let value = worth(soft, u);
+        let value = path_metric(soft, u);
         if value > best {
             chosen = number;
             best = value;
@@ -35,7 +34,7 @@ pub fn search(soft: &[i8], u: &mut [u8]) -> i32
     best
 }
 
-/// How many information lists of so many bits there are.
+/// The number of information lists of `bits` bits, of which the last four are 0.
 fn list_count(bits: usize) -> u32
     requires at_least { 5 ≤ bits }
     requires at_most { bits ≤ 20 }
@@ -44,7 +43,7 @@ fn list_count(bits: usize) -> u32
     1 << (bits - 4)
 }
 
-/// Writes the bits of a number and then four zeros.
+/// Writes `number` in binary, most significant bit first, and four zeros.
 fn write_list(number: u32, u: &mut [u8])
     requires at_least { 5 ≤ length u.old }
     requires at_most { length u.old ≤ 20 }
@@ -59,12 +58,12 @@ fn write_list(number: u32, u: &mut [u8])
     }
 }
 
-/// The likelihood of the coded list of a short information list.
-fn worth(soft: &[i8], u: &[u8]) -> i32
+/// The path metric of an information list: the likelihood of its coded bits.
+fn path_metric(soft: &[i8], u: &[u8]) -> i32
     requires count { length soft.now ≡ 2 * length u.now }
     requires at_most { length u.now ≤ 20 }
     requires information { IsInformation u.now }
-    ensures { result ≡ likelihood soft.now (coded u.now) }
+    ensures { result ≡ likelihood soft.now (encoding u.now) }
 {
     let mut coded = [0; 40];
     let coded = &mut coded[..soft.len()];
@@ -72,7 +71,7 @@ fn worth(soft: &[i8], u: &[u8]) -> i32
     agreements(soft, coded)
 }
 
-/// The sum of what the soft values count for the bits.
+/// The sum of the agreements of all coded bits with their soft values.
 fn agreements(soft: &[i8], coded: &[u8]) -> i32
     requires count { length soft.now ≡ length coded.now }
     requires at_most { length soft.now ≤ 40 }
@@ -86,7 +85,7 @@ fn agreements(soft: &[i8], coded: &[u8]) -> i32
     sum
 }
 
-/// What a soft value counts for a bit.
+/// The agreement of a bit with its soft value: the soft value for 0, the negated one for 1.
 fn agreement_of(value: i8, bit: u8) -> i32
     requires { IsBit bit }
     ensures exact { result ≡ agreement value bit }

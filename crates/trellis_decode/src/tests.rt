@@ -1,9 +1,10 @@
 use super::*;
+use bit_blocks::{CODED_BITS, INFORMATION_BITS};
 use std::test::Fail;
 
-// What `decode` answers where its conditions hold.
+// `decode`, or `None` if a condition of its contract does not hold.
 fn decoded(soft: &[i8], u: &mut [u8]) -> Option<i32> {
-    if soft.len() != 2 * u.len() || u.len() < 5 || u.len() > 228 {
+    if soft.len() != 2 * u.len() || u.len() < 5 || u.len() > INFORMATION_BITS {
         return None;
     }
     if !soft.iter().all(|value| *value != -128) {
@@ -24,10 +25,10 @@ fn searched(soft: &[i8], u: &mut [u8]) -> Option<i32> {
 
 #[test]
 fn takes_the_first_list_where_nothing_is_known(rt: HostRuntime) -> Result<(), Fail> {
-    let soft = [0; 456];
-    for length in [5, 6, 7, 8, 17, 18, 39, 127, 227, 228] {
-        let mut u = [9; 228];
-        assert!(rt; length <= 228);
+    let soft = [0; CODED_BITS];
+    for length in [5, 6, 7, 8, 17, 18, 39, 127, 227, INFORMATION_BITS] {
+        let mut u = [9; INFORMATION_BITS];
+        assert!(rt; length <= INFORMATION_BITS);
         assert_eq!(rt; decoded(&soft[..2 * length], &mut u[..length]), Some(0));
         assert!(rt; u[..length].iter().all(|bit| *bit == 0));
     }
@@ -55,7 +56,7 @@ fn ends_with_four_zeros(rt: HostRuntime) -> Result<(), Fail> {
     Ok(())
 }
 
-// Hard values: 127 for a 0, -127 for a 1.
+// Hard bits: 127 for a 0, -127 for a 1.
 fn hard(coded: &[u8], soft: &mut [i8]) {
     for (value, bit) in soft.iter_mut().zip(coded) {
         *value = if *bit == 0 { 127 } else { -127 };
@@ -81,7 +82,7 @@ fn reads_a_synchronisation_word(rt: HostRuntime) -> Result<(), Fail> {
     Ok(())
 }
 
-// Pseudo-random values: -1, 0 and 1, so that many lists tie, and now and then a strong one.
+// Pseudo-random values of -1, 0 and 1, so that many lists tie, and a few of 127.
 fn noise(soft: &mut [i8], start: u32) {
     let mut seed = start;
     for value in soft.iter_mut() {

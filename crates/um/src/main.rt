@@ -1,4 +1,5 @@
-//! The program `um`: it passes its words and its streams to `run`, and ends with the status's number.
+//! The program `um`: calls `run` with its arguments and standard streams, and exits with the number
+//! of the status.
 #![tactic(auto)]
 
 use std::env;
@@ -8,7 +9,7 @@ use um_block::PlainRadio;
 use um_cli::{Words, run};
 use um_io::{ReadSource, WriteSink};
 
-/// The program's end where the system names want of memory for its words, and where it names another cause.
+/// Exit status if memory is lacking to read the arguments; `NO_WORDS` for any other failure.
 const NO_MEMORY: u8 = 6;
 
 const NO_WORDS: u8 = 8;

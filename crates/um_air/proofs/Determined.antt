@@ -1,12 +1,13 @@
--- Events determine their answers and the air that they lead to.
+-- Events determine their answers and the state after them: coding, reception and reading each have one result.
 use Rattle.um_air.proofs.Words.{arith, ◌≡◌, refl, sym, ◌∙◌, ap, ap₂, subst, ℕ, List, [], ◌∷◌, map, Option, inl, inr}
-use Rattle.um_air.proofs.Words.{Channel, Refusal, Frame, IsFrame, octets_of, IsRefused, same_frame, one_reading, Role, Received, softened}
-use Rattle.um_air.proofs.Words.{one_received_block, one_sent_block, with_more, sender_of, Deed, deed, taken, Octets, Block, Event}
-use Rattle.um_air.proofs.Words.{as_read, AirState, Reads, Hears, Arrives, AreSent, Step, Answer, Refuses, Does, Happens, AirStep, AirRun}
-use Rattle.um_air.proofs.Words.{turned}
+use Rattle.um_air.proofs.Words.{Channel, Refusal, Frame, IsFrame, octets_of, IsRefused, same_frame, one_reading, Role, Received, soft_bits}
+use Rattle.um_air.proofs.Words.{one_received_block, one_sent_block, with_more, sender_of, SideStep, side_step, without_taken, Octets, Block}
+use Rattle.um_air.proofs.Words.{Event}
+use Rattle.um_air.proofs.Words.{as_read, AirState, Reads, ReceivesBlock, Arrives, AreSent, Step, Answer, Refuses, Does, Happens, AirStep}
+use Rattle.um_air.proofs.Words.{AirRun}
+use Rattle.um_air.proofs.Words.{with_flips}
 use Rattle.lapdm_link.specs.Events as E
 
--- octets are not both a frame and refused
 never_both : (channel : Channel) (octets : List ℕ) (f : Frame) (why : Refusal) → IsFrame channel f octets → IsRefused channel octets why → ⊥
 never_both channel octets f why h g = elim (one_reading channel octets h.count) [
   | inl (k, only) ↦ only.unrefused why g
@@ -16,16 +17,16 @@ never_both channel octets f why h g = elim (one_reading channel octets h.count) 
 pub one_read : (channel : Channel) (o : Option Octets) (f g : Option Frame) → Reads channel o f → Reads channel o g → f ≡ g
 one_read channel o f g h k = grind (arith, same_frame, never_both)
 
-one_hearing : (a : AirState) (sender : Role) (places : List ℕ) (r s : Received) (f g : Option Frame) → Hears a sender places r f →
-    Hears a sender places s g → (r ≡ s) × (f ≡ g)
-one_hearing a sender places r s f g h k =
+one_reception : (a : AirState) (sender : Role) (places : List ℕ) (r s : Received) (f g : Option Frame) → ReceivesBlock a sender places r f →
+    ReceivesBlock a sender places s g → (r ≡ s) × (f ≡ g)
+one_reception a sender places r s f g h k =
     let block : h.block ≡ k.block = cc (h.first, k.first) in
-    let same : r ≡ s = one_received_block (map softened (turned places k.block)) r s (rw block at h.received) k.received in
+    let same : r ≡ s = one_received_block (map soft_bits (with_flips places k.block)) r s (rw block at h.received) k.received in
     (same, one_read a.channel s.accepted f g (rw same at h.reads) k.reads)
 
 one_arrival : (a : AirState) (event : Event) (o p : Option Received) (f g : Option Frame) → Arrives a event o f → Arrives a event p g →
     (o ≡ p) × (as_read f event ≡ as_read g event)
-one_arrival a event o p f g h k = grind (arith, one_hearing)
+one_arrival a event o p f g h k = grind (arith, one_reception)
 
 same_blocks : (channel : Channel) (tsc : ℕ) (fs : List Frame) (bs cs : List Block) → AreSent channel tsc fs bs → AreSent channel tsc fs cs →
     bs ≡ cs
@@ -39,21 +40,21 @@ pub same_step : (s t : Step) → s.who ≡ t.who → s.sapi ≡ t.sapi → s.rec
 same_step s t who sapi received frames notices =
     λ i. record { who = who i; sapi = sapi i; received = received i; frames = frames i; notices = notices i }
 
--- the air that an event leaves where it is one of frames, and what is reported of it
+-- the state after an event and its step, given the event of frames, the report and the blocks sent
 abbrev pub left : AirState → Event → E.Event → List Block → AirState
 left a event e blocks =
-    let d : Deed = deed e a.ends in
-    record a { ends = d.after; ways = with_more (sender_of d.who) blocks (taken event a.ways) }
+    let d : SideStep = side_step e a.ends in
+    record a { ends = d.after; queues = with_more (sender_of d.who) blocks (without_taken event a.queues) }
 
 abbrev pub done : AirState → E.Event → Option Received → Step
 done a e report =
-    let d : Deed = deed e a.ends in
+    let d : SideStep = side_step e a.ends in
     record { who = d.who; sapi = d.sapi; received = report; frames = map (octets_of a.channel) d.frames; notices = d.notices }
 
 one_happening : (a : AirState) (event : Event) (b c : AirState) (s t : Step) → Happens a event b s → Happens a event c t → (b ≡ c) × (s ≡ t)
 one_happening a event b c s t h k =
     let same = one_arrival a event s.received t.received h.read k.read h.arrives k.arrives in
-    let blocks : h.blocks ≡ k.blocks = same_blocks a.channel a.tsc (deed (as_read k.read event) a.ends).frames h.blocks k.blocks
+    let blocks : h.blocks ≡ k.blocks = same_blocks a.channel a.tsc (side_step (as_read k.read event) a.ends).frames h.blocks k.blocks
     (rw same.1 at h.sent) k.sent in (
       h.after ∙ ap₂ (left a event) same.1 blocks ∙ sym k.after,
       h.step_is ∙ ap₂ (done a) same.1 same.0 ∙ sym (k.step_is),

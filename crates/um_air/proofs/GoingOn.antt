@@ -1,15 +1,19 @@
--- There is an answer to every event, where messages are octets: a session can always go on.
+-- Every event of octets has an answer, so a session can always continue: each frame
+-- can be coded, and each block can be decoded and read.
 use Rattle.um_air.proofs.Words.{◌≡◌, refl, sym, subst, arith, ℕ, ℤ, ◌-◌, ◌<◌, ◌≤◌, List, [], ◌∷◌, length}
 use Rattle.um_air.proofs.Words.{Option, None, ◌∙◌, ◌/◌, ◌%◌, map, get_or, set, nat_eq, Some, All, inl, inr, IfSome}
 use Rattle.um_air.proofs.Words.{cases_lt, length-set, length-map, set_past, All-nil, All-cons, All-head, All-tail, All-append}
-use Rattle.um_air.proofs.Words.{All-replicate, All-set, All-map, Channel, header, n201, Content, Frame, information, goes_on, address}
+use Rattle.um_air.proofs.Words.{All-replicate, All-set, All-map, Channel, header, n201, Content, Frame, information, more_follows, address}
 use Rattle.um_air.proofs.Words.{control, length_octet, NumbersFit, Fits, octets_of, octets_canonical, bit_bound, one_reading}
-use Rattle.um_air.proofs.Words.{information_bound, Sapi, Notice, Role, Received, softened, IsReceivedBlock, IsSentBlock, some_sent_block}
-use Rattle.um_air.proofs.Words.{sent_block_bits, some_received_block, accepted_count, Ways, way, no_ways, Deliver, Who, End, Why, deed}
-use Rattle.um_air.proofs.Words.{Nothing, unless, bounded, World, notice_lines, answer_lines, KnowsBy, LineOctets, AllSay, EndOctets}
-use Rattle.um_air.proofs.Words.{SaysOctets, WorldOctets, octets-step, start-octets, AllFit, deed-fits, deed-holds, Octets, Event, as_read}
-use Rattle.um_air.proofs.Words.{AirState, start_on, Answer, AirStep, AirRun, Block, Reads, Hears, Arrives, AreSent, Happens, Refuses}
-use Rattle.um_air.proofs.Words.{Does, refusal, turned_at, turned, AreOctets, IsOctetEvent, after}
+use Rattle.um_air.proofs.Words.{information_bound, Sapi, Notice, Role, Received, soft_bits, IsReceivedBlock, IsSentBlock, some_sent_block}
+use Rattle.um_air.proofs.Words.{sent_block_bits, some_received_block, accepted_count, Queues, queue_of, empty_queues, Deliver, Who, BySide}
+use Rattle.um_air.proofs.Words.{Why, side_step}
+use Rattle.um_air.proofs.Words.{Nothing, unless, bounded_air, World, notice_lines, answer_lines, KnowsBy, LineOctets, AllSay, EndOctets}
+use Rattle.um_air.proofs.Words.{SaysOctets, WorldOctets, octets-step, start-octets, AllFit, side_step-fits, side_step-holds, Octets, Event}
+use Rattle.um_air.proofs.Words.{as_read}
+use Rattle.um_air.proofs.Words.{AirState, start_on, Answer, AirStep, AirRun, Block, Reads, ReceivesBlock, Arrives, AreSent, Happens}
+use Rattle.um_air.proofs.Words.{Refuses}
+use Rattle.um_air.proofs.Words.{Does, refusal, with_flip, with_flips, AreOctets, IsOctetEvent, queues_after}
 use Rattle.lapdm_link.specs as L
 use Rattle.um_air.proofs.Determined.{left, done, one_run}
 use Rattle.um_air.proofs.Carrying.{Coded, world_of, refusal-same, known-read, IsSeenAt, seen-step, start-seen}
@@ -24,24 +28,24 @@ octets_small channel f h info =
     let small : ℕ → Type 0 = λ octet. octet < 256 in
     let most : length (information f.content) ≤ n201 channel = information_bound channel f.content h.information in
     let room : n201 channel ≤ 20 = grind arith in
-    let last : length_octet f.content < 256 = omega (arith, most, room, bit_bound (goes_on f.content)) in
+    let last : length_octet f.content < 256 = omega (arith, most, room, bit_bound (more_follows f.content)) in
     let head = All-cons small (address f) (control f.content ∷ length_octet f.content ∷ []) (omega (arith, h.sapi, bit_bound f.cr))
     (All-cons small (control f.content) (length_octet f.content ∷ []) (control_small f.content h.numbers)
     (All-cons small (length_octet f.content) [] last (All-nil small))) in
     All-append small _ _ (All-append small _ _ (All-append small _ _ (All-replicate small (header channel) 0 (omega arith)) head) info)
     (All-replicate small (n201 channel - length (information f.content)) 0x2b (omega arith))
 
--- ---- what arrives: a block that was sent is four bursts of 148, whatever bits are turned over
+-- ---- what arrives: a block that was sent has four bursts of 148 bits, also after inversions
 
 abbrev IsWhole : Block → Type 0
 IsWhole block = (length block ≡ 4) × All (λ burst. length burst ≡ 148) block
 
-turned-whole : (places : List ℕ) (block : Block) → IsWhole block → IsWhole (turned places block)
-turned-whole [] block h = h
-turned-whole (p ∷ ps) block h =
+flipped-whole : (places : List ℕ) (block : Block) → IsWhole block → IsWhole (with_flips places block)
+flipped-whole [] block h = h
+flipped-whole (p ∷ ps) block h =
     let burst : List ℕ = get_or block (p / 148) [] in
     let new : List ℕ = set burst (p % 148) (1 - get_or burst (p % 148) 0) in
-    turned-whole ps (turned_at p block) (elim (cases_lt (p / 148) (length block)) [
+    flipped-whole ps (with_flip p block) (elim (cases_lt (p / 148) (length block)) [
       | inl within ↦ (
         length-set block (p / 148) new ∙ h.0,
         All-set (λ burst. length burst ≡ 148) block (p / 148) new (length-set burst (p % 148) _ ∙ h.1 (p / 148) [] within) h.1,
@@ -49,21 +53,21 @@ turned-whole (p ∷ ps) block h =
       | inr past ↦ subst IsWhole (sym (set_past block (p / 148) new past)) h
     ])
 
--- and four bursts of 148 soft values
+-- four bursts of 148 soft values
 abbrev IsWholeSoft : List (List ℤ) → Type 0
 IsWholeSoft bursts = (length bursts ≡ 4) × All (λ burst. length burst ≡ 148) bursts
 
-soft-whole : (bursts : Block) → IsWhole bursts → IsWholeSoft (map softened bursts)
+soft-whole : (bursts : Block) → IsWhole bursts → IsWholeSoft (map soft_bits bursts)
 soft-whole bursts whole = (
-  length-map bursts softened ∙ whole.0,
-  All-map (λ burst. length burst ≡ 148) softened bursts (λ k d l. length-map (get_or bursts k d) _ ∙ whole.1 k d l),
+  length-map bursts soft_bits ∙ whole.0,
+  All-map (λ burst. length burst ≡ 148) soft_bits bursts (λ k d l. length-map (get_or bursts k d) _ ∙ whole.1 k d l),
 )
 
-pub turned_shape : (octets : List ℕ) (tsc : ℕ) (block : Block) (places : List ℕ) → IsSentBlock octets tsc block →
-    IsWholeSoft (map softened (turned places block))
-turned_shape octets tsc block places sent =
+pub flipped_shape : (octets : List ℕ) (tsc : ℕ) (block : Block) (places : List ℕ) → IsSentBlock octets tsc block →
+    IsWholeSoft (map soft_bits (with_flips places block))
+flipped_shape octets tsc block places sent =
     let bits = sent_block_bits octets tsc block sent in
-    soft-whole (turned places block) (turned-whole places block (bits.0, λ k d l. (bits.1 k d l).many))
+    soft-whole (with_flips places block) (flipped-whole places block (bits.0, λ k d l. (bits.1 k d l).many))
 
 pub some_reading : (channel : Channel) (o : Option Octets) → IfSome o (λ octets. length octets ≡ 23) →
     (f : Option Frame) × Reads channel o f
@@ -73,24 +77,24 @@ some_reading channel (Some octets) h = elim (one_reading channel octets h) [
   | inr (why, only) ↦ (None, (why, only.refused))
 ]
 
-some_hearing : (a : AirState) (sender : Role) (places : List ℕ) (fs : List Frame) (blocks : List Block) (more : Option Why) →
-    AreSent a.channel a.tsc fs blocks → way sender a.ways ≡ blocks → unless (nat_eq (length blocks) 0) Nothing more ≡ None →
-    (report : Received) × (read : Option Frame) × Hears a sender places report read
-some_hearing a sender places fs [] more sent is none = absurd (cc none)
-some_hearing a sender places (f ∷ fs) (block ∷ others) more sent is none =
-    let shape = turned_shape (octets_of a.channel f) a.tsc block places sent.0 in
-    let r = some_received_block (map softened (turned places block)) shape.0 shape.1 in
+some_reception : (a : AirState) (sender : Role) (places : List ℕ) (fs : List Frame) (blocks : List Block) (more : Option Why) →
+    AreSent a.channel a.tsc fs blocks → queue_of sender a.queues ≡ blocks → unless (nat_eq (length blocks) 0) Nothing more ≡ None →
+    (report : Received) × (read : Option Frame) × ReceivesBlock a sender places report read
+some_reception a sender places fs [] more sent is none = absurd (cc none)
+some_reception a sender places (f ∷ fs) (block ∷ others) more sent is none =
+    let shape = flipped_shape (octets_of a.channel f) a.tsc block places sent.0 in
+    let r = some_received_block (map soft_bits (with_flips places block)) shape.0 shape.1 in
     let read = some_reading a.channel r.0.accepted (accepted_count _ r.0 r.1) in
     (r.0, read.0, record { block = block; others = others; first = is; received = r.1; reads = read.1 })
-some_hearing a sender places fs blocks more sent is none = absurd assumption
+some_reception a sender places fs blocks more sent is none = absurd assumption
 
-some_arrival : (a : AirState) (fs : Ways Frame) (event : Event) → Coded a.channel a.tsc fs a.ways → refusal event a ≡ None →
+some_arrival : (a : AirState) (fs : Queues Frame) (event : Event) → Coded a.channel a.tsc fs a.queues → refusal event a ≡ None →
     (report : Option Received) × (read : Option Frame) × Arrives a event report read
 some_arrival a fs (Deliver sender places) sent none =
-    let r = some_hearing a sender places (way sender fs) (way sender a.ways) _ (sent sender) refl none in (Some r.0, r.1, r.2)
+    let r = some_reception a sender places (queue_of sender fs) (queue_of sender a.queues) _ (sent sender) refl none in (Some r.0, r.1, r.2)
 some_arrival a fs event sent none = (None, None, tt)
 
--- ---- what goes out
+-- ---- what is sent
 
 some_blocks : (channel : Channel) (tsc : ℕ) (fs : List Frame) → tsc ≤ 7 → AllFit channel fs → AllSay fs →
     (bs : List Block) × AreSent channel tsc fs bs
@@ -104,30 +108,30 @@ some_blocks channel tsc (f ∷ fs) known h said =
 
 -- ---- a session whose messages are octets
 
--- the lines of an event say octets
-told_octets : (who : Who) (s : Sapi) (ns : List Notice) → LineOctets (notice_lines who s ns)
-told_octets (End r) s [] = tt
-told_octets (End r) s (n ∷ ns) = told_octets (End r) s ns
-told_octets who s ns = tt
+notified_octets : (who : Who) (s : Sapi) (ns : List Notice) → LineOctets (notice_lines who s ns)
+notified_octets (BySide r) s [] = tt
+notified_octets (BySide r) s (n ∷ ns) = notified_octets (BySide r) s ns
+notified_octets who s ns = tt
 
 line_octets : (read : Option Frame) (event : Event) (answer : L.Events.Answer) → IsOctetEvent event →
     LineOctets (answer_lines (as_read read event) answer)
-line_octets read event answer h = grind (arith, told_octets)
+line_octets read event answer h = grind (arith, notified_octets)
 
--- what holds between two steps
+-- the invariant between two steps
 record IsSpoken (a : AirState) : Type 0 where
-  octets : Ways Octets
+  octets : Queues Octets
   at : IsSeenAt a octets
   small : WorldOctets (world_of a at.frames)
   known : a.tsc ≤ 7
 
 start-spoken : (tsc : ℕ) (channel : Channel) → tsc ≤ 7 → IsSpoken (start_on tsc channel)
 start-spoken tsc channel known =
-    record { octets = no_ways; at = start-seen tsc channel; small = start-octets bounded channel; known = known }
+    record { octets = empty_queues; at = start-seen tsc channel; small = start-octets bounded_air channel; known = known }
 
 module _ (a : AirState) (h : IsSpoken a) (event : Event) (says : IsOctetEvent event) where
   octets-next : (read : Option Frame) → (let e : L.Events.Event = as_read read event in
-      let w : World = world_of a h.at.frames in KnowsBy (L.Worlds.refusal e w) (λ r f. SaysOctets f) e → WorldOctets (L.Worlds.after e w))
+      let w : World = world_of a h.at.frames in
+      KnowsBy (L.Worlds.refusal e w) (λ r f. SaysOctets f) e → WorldOctets (L.Worlds.world_after e w))
   octets-next read reads =
       let e : L.Events.Event = as_read read event in
       let w : World = world_of a h.at.frames in
@@ -137,20 +141,20 @@ module _ (a : AirState) (h : IsSpoken a) (event : Event) (says : IsOctetEvent ev
   spoken-next answer b t =
       let s = seen-step a h.octets h.at event answer b t in
       let small = subst WorldOctets s.1.later (octets-next s.0 s.1.known) in
-      record { octets = after event answer h.octets; at = s.1.next; small = small; known = rw s.1.tsc h.known }
+      record { octets = queues_after event answer h.octets; at = s.1.next; small = small; known = rw s.1.tsc h.known }
 
   some_answer_at : (o : Option Why) → refusal event a ≡ o → (b : AirState) × (answer : Answer) × AirStep a event b answer
   some_answer_at (Some why) is = (a, Refuses why, (is, refl))
   some_answer_at None is =
-      let fs : Ways Frame = h.at.frames in
+      let fs : Queues Frame = h.at.frames in
       let t = some_arrival a fs event h.at.blocks is in
       let e : L.Events.Event = as_read t.1 event in
       let w : World = world_of a fs in
       let none : L.Worlds.refusal e w ≡ None = refusal-same a fs t.1 event h.at.blocks ∙ is in
       let known = known-read (L.Worlds.refusal e w) a event t.0 t.1 t.2 in
       let next = octets-next t.1 known.1 in
-      let bs = some_blocks a.channel a.tsc (deed e a.ends).frames h.known (deed-fits a.channel w e known.0 h.at.fit none)
-      (deed-holds (λ s x. EndOctets x) SaysOctets next.0 w e (L.Worlds.refusal e w) none next.1) in
+      let bs = some_blocks a.channel a.tsc (side_step e a.ends).frames h.known (side_step-fits a.channel w e known.0 h.at.fit none)
+      (side_step-holds (λ s x. EndOctets x) SaysOctets next.0 w e (L.Worlds.refusal e w) none next.1) in
       let happens : Happens a event (left a event e bs.0) (done a e t.0) =
       record { read = t.1; blocks = bs.0; arrives = t.2; sent = bs.1; after = refl; step_is = refl } in
       (left a event e bs.0, Does (done a e t.0), (is, happens))
@@ -169,7 +173,7 @@ pub some_run : (tsc : ℕ) (channel : Channel) (events : List Event) → tsc ≤
 some_run tsc channel events known said =
     let r = going_on events (start_on tsc channel) (start-spoken tsc channel known) said in (r.0, r.1, r.2)
 
--- every session of these events ends as that one does
+-- a session constructed from these events ends in the given state, since events determine it
 pub some_answer : (tsc : ℕ) (channel : Channel) (events : List Event) (answers : List Answer) (a : AirState) → tsc ≤ 7 →
     All IsOctetEvent events → AirRun (start_on tsc channel) events answers a →
     (event : Event) → IsOctetEvent event → (b : AirState) × (answer : Answer) × AirStep a event b answer

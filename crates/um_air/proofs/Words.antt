@@ -1,4 +1,4 @@
--- The words of the library and of the specs, and the lemmas of the crates below, that these proofs cite.
+-- The names of the library and of the specs, and the lemmas of lower crates, that these proofs cite.
 pub use Rattle.std.proofs.Common.{◌≡◌, refl, sym, ◌∙◌, ap, subst, ℕ, List, [], ◌∷◌, map, Option, Some, None, inl, inr}
 pub use Rattle.std.proofs.Common.{◌≢◌, arith, ◌+◌, ◌%◌, ◌<◌, ◌≤◌, Bool, true, false, if◌then◌else◌, nat_eq}
 pub use Rattle.std.proofs.Common.{length, get_or, take, drop, All, ◌-◌, ◌++◌, ap₂, ◌*◌, ◌/◌, ◌||◌, ◌==◌, ℤ}
@@ -14,39 +14,42 @@ pub use Rattle.std.proofs.Math.ListN.{get_or-map}
 pub use Rattle.std.proofs.Math.Seq.{map-set_same}
 pub use Rattle.std.specs.List.{AllZip}
 pub use Rattle.std.proofs.lemmas.Slice.Zip.{AllZip-long}
-pub use Rattle.lapdm_frame.specs.declared.Channel.{Channel}
-pub use Rattle.lapdm_frame.specs.Content.{Frame, information, Content, goes_on}
-pub use Rattle.lapdm_window.specs.Ends.{Role}
-pub use Rattle.lapdm_link.specs.Ways.{with_more, Ways, way, IsAsSent, no_ways, count, with_way}
-pub use Rattle.lapdm_link.specs.Events.{Deliver, sender_of, Deed, deed, taken, Ends, Why, End, unless, bounded, refusal_by, Who, Nothing}
-pub use Rattle.lapdm_frame.specs.Frames.{Fits, IsFrame, octets_of, address, control, length_octet, NumbersFit}
+pub use Rattle.lapdm_link.specs.lapdm_frame.declared.Channel.{Channel}
+pub use Rattle.lapdm_link.specs.lapdm_frame.Content.{Frame, information, Content, more_follows}
+pub use Rattle.lapdm_link.specs.lapdm_window.Ends.{Role}
+pub use Rattle.lapdm_link.specs.Queues.{with_more, Queues, queue_of, IsAsSent, empty_queues, count, with_queue}
+pub use Rattle.lapdm_link.specs.Events.{Deliver, sender_of, SideStep, side_step, without_taken, Ends, Why, BySide, unless, bounded_air}
+pub use Rattle.lapdm_link.specs.Events.{refusal_by, Who, Nothing}
+pub use Rattle.lapdm_link.specs.lapdm_frame.Frames.{Fits, IsFrame, octets_of, address, control, length_octet, NumbersFit}
 pub use Rattle.lapdm_link.specs.Worlds.{World, answer_by, after_by}
 pub use Rattle.lapdm_link.specs.Claims.{Line, notice_lines, answer_lines, Claims, OrderClaims, CountsAgree, event_lines}
-pub use Rattle.lapdm_frame.specs.Layout.{n201, header}
-pub use Rattle.lapdm_window.specs.declared.Sapi.{Sapi}
-pub use Rattle.lapdm_window.specs.declared.Notice.{Notice}
-pub use Rattle.lapdm_frame.specs.declared.Refusal.{Refusal}
-pub use Rattle.lapdm_frame.specs.Refusals.{IsRefused}
-pub use Rattle.lapdm_frame.proofs.Uniqueness.{same_frame, information_bound}
-pub use Rattle.lapdm_frame.proofs.Existence.{one_reading}
+pub use Rattle.lapdm_link.specs.lapdm_frame.Layout.{n201, header}
+pub use Rattle.lapdm_link.specs.lapdm_window.declared.Sapi.{Sapi}
+pub use Rattle.lapdm_link.specs.lapdm_window.declared.Notice.{Notice}
+pub use Rattle.lapdm_link.specs.lapdm_frame.declared.Refusal.{Refusal}
+pub use Rattle.lapdm_link.specs.lapdm_frame.Refusals.{IsRefused}
+pub use Rattle.lapdm_link.proofs.lapdm_frame.Uniqueness.{same_frame, information_bound}
+pub use Rattle.lapdm_link.proofs.lapdm_frame.Existence.{one_reading}
 pub use Rattle.um_block.specs.declared.received.Received.{Received}
-pub use Rattle.um_block.specs.Received.{softened, soft_value, coded_places, IsReceivedBlock}
+pub use Rattle.um_block.specs.Received.{soft_bits, soft_value, coded_places, IsReceivedBlock}
 pub use Rattle.um_block.proofs.Lemmas.{one_received_block, one_sent_block, AreBits, few_spoilt, clean_gathered, coded_block_bits}
 pub use Rattle.um_block.proofs.Lemmas.{restored_block, accepted_octets, some_sent_block, sent_block_bits, some_received_block}
 pub use Rattle.um_block.proofs.Lemmas.{accepted_count}
-pub use Rattle.um_air.specs.Air.{Octets, Block, Event, as_read, AirState, Reads, Hears, Arrives, AreSent, Step, Answer, Refuses, Does}
-pub use Rattle.um_air.specs.Air.{Happens, AirStep, AirRun, turned, turned_at, refusal, start_on}
-pub use Rattle.bit_blocks.specs.SoftValues.{wrong_places}
-pub use Rattle.interleave.specs.Places.{burst_of, place_of, burst_place}
-pub use Rattle.interleave.specs.Bursts.{IsInterleaved}
-pub use Rattle.interleave.proofs.Lemmas.{burst_place-lower, burst_place-upper, burst_of-below, halves-at}
-pub use Rattle.weight_bound.specs.Restoring.{IsLightlyDamaged}
-pub use Rattle.weight_bound.proofs.Lemmas.{IsLightlyDamaged-equal}
+pub use Rattle.um_air.specs.Air.{Octets, Block, Event, as_read, AirState, Reads, ReceivesBlock, Arrives, AreSent, Step, Answer, Refuses}
+pub use Rattle.um_air.specs.Air.{Does}
+pub use Rattle.um_air.specs.Air.{Happens, AirStep, AirRun, with_flips, with_flip, refusal, start_on}
+pub use Rattle.um_block.specs.bit_blocks.SoftValues.{wrong_places}
+pub use Rattle.um_block.specs.interleave.Places.{burst_of, place_of, burst_place}
+pub use Rattle.um_block.specs.interleave.Bursts.{IsInterleaved}
+pub use Rattle.um_block.proofs.interleave.Lemmas.{burst_place-lower, burst_place-upper, burst_of-below, halves-at}
+pub use Rattle.um_block.specs.weight_bound.Restoring.{IsLightlyDamaged}
+pub use Rattle.um_block.proofs.weight_bound.Lemmas.{IsLightlyDamaged-equal}
 pub use Rattle.um_block.specs.Sent.{IsSentBlock}
-pub use Rattle.lapdm_frame.proofs.Canonical.{octets_canonical}
+pub use Rattle.lapdm_link.proofs.lapdm_frame.Canonical.{octets_canonical}
 pub use Rattle.lapdm_link.proofs.Lemmas.{KnowsBy, SaysOctets, AllFit, IsFitting, fits-step, AllReported, in_order-step, start-reported}
 pub use Rattle.lapdm_link.proofs.Lemmas.{order_claims, start-fits, claims, counts, LineOctets, AllSay, EndOctets, WorldOctets}
-pub use Rattle.lapdm_link.proofs.Lemmas.{octets-step, start-octets, deed-fits, deed-holds}
-pub use Rattle.um_air.specs.Sessions.{told, after, IsHarmlessStep, AreOctets, IsKindEvent, lines, IsHarmlessAfter, IsHarmless, IsKind}
+pub use Rattle.lapdm_link.proofs.Lemmas.{octets-step, start-octets, side_step-fits, side_step-holds}
+pub use Rattle.um_air.specs.Sessions.{ends_answer, queues_after, IsHarmlessStep, AreOctets, IsBenignEvent, lines, IsHarmlessAfter}
+pub use Rattle.um_air.specs.Sessions.{IsHarmless, IsBenign}
 pub use Rattle.um_air.specs.Sessions.{IsOctetEvent}
-pub use Rattle.lapdm_frame.proofs.Controls.{bit_bound}
+pub use Rattle.lapdm_link.proofs.lapdm_frame.Controls.{bit_bound}

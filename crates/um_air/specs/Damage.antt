@@ -1,12 +1,12 @@
--- Soft values that reach an end damaged (this project's own rule).
+-- Damaged soft values (this project's own rule).
 use Rattle.std.specs.Prelude.{◌≡◌, ℕ, ℤ, All, List, length, map}
-use Rattle.interleave.specs.Bursts.{IsInterleaved}
-use Rattle.weight_bound.specs.Restoring.{IsLightlyDamaged}
+use Rattle.um_block.specs.interleave.Bursts.{IsInterleaved}
+use Rattle.um_block.specs.weight_bound.Restoring.{IsLightlyDamaged}
 use Rattle.um_block.specs.Sent.{IsCodedBlock}
 use Rattle.um_block.specs.Received.{coded_places}
 
--- these are four bursts of soft values, lightly damaged against the coded bits of a block: of its 456 coded bits at most three are
--- wrong, and all values are nearly as strong
+-- four bursts of 148 soft values; of their 456 soft values of coded bits at most three are wrong against
+-- the coded block, and four times the least absolute value is more than three times the greatest
 pub record AreLightlyDamaged (octets : List ℕ) (bursts : List (List ℤ)) : Type 0 where
   pub bits : List ℕ
   pub coded : IsCodedBlock octets bits

@@ -1,25 +1,25 @@
-//! Both ends of both links over blocks of bits that are turned over or lost. A law does nothing: it is called for its
-//! contract.
+//! Laws of sessions over blocks that may be lost or have inverted bits, on both links.
+//! A law has an empty body; call it for its contract.
 #![tactic(auto)]
 
 ghost use Rattle.std.specs.Prelude.{◌≡◌, ℕ, ℤ, ◌<◌, ◌≤◌, List, ◌∷◌, [], ◌++◌, map, length, All, Some};
-ghost use Rattle.lapdm_frame.specs.declared.Channel.{Channel};
+ghost use Rattle.lapdm_link.specs.lapdm_frame.declared.Channel.{Channel};
 ghost use Rattle.um_block.specs.Sent.{IsSentBlock};
-ghost use Rattle.um_block.specs.Received.{softened, IsReceivedBlock};
+ghost use Rattle.um_block.specs.Received.{soft_bits, IsReceivedBlock};
 ghost use Rattle.um_block.specs.declared.received.Received.{Received};
 ghost use Rattle.lapdm_link.specs.Claims.{Claims, OrderClaims, CountsAgree};
-ghost use Rattle.um_air.specs.Air.{Event, Answer, AirState, start_on, AirStep, AirRun, Block, turned};
+ghost use Rattle.um_air.specs.Air.{Event, Answer, AirState, start_on, AirStep, AirRun, Block, with_flips};
 ghost use Rattle.um_air.specs.Damage.{AreLightlyDamaged};
-ghost use Rattle.um_air.specs.Sessions.{lines, IsHarmless, IsOctetEvent, IsKind};
+ghost use Rattle.um_air.specs.Sessions.{lines, IsHarmless, IsOctetEvent, IsBenign};
 
-/// Law: an event has at most one answer, and leads to one state of the air.
+/// Law: an event has at most one answer, and leads to one state.
 #[tactic(auto, using(crate::proofs::Determined::one_answer))]
 pub fn law_one_answer()
     ensures { (a : AirState) (event : Event) (b c : AirState) (x y : Answer) →
         AirStep a event b x → AirStep a event c y → (b ≡ c) × (x ≡ y) }
 {}
 
-/// Law: whatever came before in a session, every event has an answer, where messages are octets.
+/// Law: in any session, every event whose message is octets has an answer.
 #[tactic(auto, using(crate::proofs::GoingOn::some_answer))]
 pub fn law_some_answer()
     ensures { (tsc : ℕ) (channel : Channel) (events : List Event) (answers : List Answer)
@@ -28,14 +28,14 @@ pub fn law_some_answer()
         (b : AirState) × (answer : Answer) × AirStep a event b answer }
 {}
 
-/// Law: the events of a session determine all answers, and how it ends.
+/// Law: the events of a session determine all answers and the last state.
 #[tactic(auto, using(crate::proofs::Determined::one_run))]
 pub fn law_one_run()
     ensures { (a : AirState) (events : List Event) (b c : AirState) (xs ys : List Answer) →
         AirRun a events xs b → AirRun a events ys c → (b ≡ c) × (xs ≡ ys) }
 {}
 
-/// Law: whatever the events are, there is a session of them, where messages are octets.
+/// Law: any events whose messages are octets have a session.
 #[tactic(auto, using(crate::proofs::GoingOn::some_run))]
 pub fn law_some_run()
     ensures { (tsc : ℕ) (channel : Channel) (events : List Event) → tsc ≤ 7 →
@@ -43,8 +43,8 @@ pub fn law_some_run()
         (answers : List Answer) × (b : AirState) × AirRun (start_on tsc channel) events answers b }
 {}
 
-/// Law: where each block is accepted with the octets that were sent, or not at all, the claims on delivery hold of a
-/// session.
+/// Law: the claims on delivery hold of each benign session, in which each block is
+/// accepted as it was sent or not at all.
 #[tactic(auto, using(crate::proofs::Carrying::air_claims))]
 pub fn law_run_delivery()
     ensures { (tsc : ℕ) (channel : Channel) (events : List Event) (answers : List Answer)
@@ -52,14 +52,14 @@ pub fn law_run_delivery()
         IsHarmless events answers → Claims (lines events answers) }
 {}
 
-/// Law: at no end of such a session are more messages acknowledged than the other end handed up.
+/// Law: in a benign session each endpoint has at most as many messages acknowledged as the other delivered.
 pub fn law_run_counts()
     ensures { (tsc : ℕ) (channel : Channel) (events : List Event) (answers : List Answer)
         (b : AirState) → AirRun (start_on tsc channel) events answers b →
         IsHarmless events answers → CountsAgree (lines events answers) }
 {}
 
-/// Law: whatever blocks are accepted, the claims on order hold of a session.
+/// Law: the claims on order hold of each session, whatever blocks are accepted.
 #[tactic(auto, using(crate::proofs::Carrying::air_order))]
 pub fn law_run_order()
     ensures { (tsc : ℕ) (channel : Channel) (events : List Event) (answers : List Answer)
@@ -67,8 +67,7 @@ pub fn law_run_order()
         OrderClaims (lines events answers) }
 {}
 
-/// Law: where each block is accepted with the octets that were sent, or not at all, the claims on delivery hold after
-/// any step of a session.
+/// Law: the claims on delivery hold after one more step of a session that is benign with that step.
 #[tactic(auto, using(crate::proofs::Carrying::step_claims))]
 pub fn law_delivery()
     ensures { (tsc : ℕ) (channel : Channel) (events : List Event) (answers : List Answer)
@@ -78,7 +77,7 @@ pub fn law_delivery()
         Claims (lines (events ++ event ∷ []) (answers ++ answer ∷ [])) }
 {}
 
-/// Law: whatever blocks are accepted, the claims on order hold after any step of a session.
+/// Law: the claims on order hold after one more step of a session, whatever blocks are accepted.
 #[tactic(auto, using(crate::proofs::Carrying::step_order))]
 pub fn law_order()
     ensures { (tsc : ℕ) (channel : Channel) (events : List Event) (answers : List Answer)
@@ -87,26 +86,26 @@ pub fn law_order()
         OrderClaims (lines (events ++ event ∷ []) (answers ++ answer ∷ [])) }
 {}
 
-/// Law: a block of which at most three bits were turned over is accepted with the octets that were sent.
-pub fn law_three_turned()
+/// Law: a block with at most three inverted bits is accepted with the octets that were sent.
+pub fn law_three_flipped()
     ensures { (octets : List ℕ) (tsc : ℕ) (block : Block) (places : List ℕ) (r : Received) →
         IsSentBlock octets tsc block → length places ≤ 3 →
-        IsReceivedBlock (map softened (turned places block)) r → r.accepted ≡ Some octets }
+        IsReceivedBlock (map soft_bits (with_flips places block)) r → r.accepted ≡ Some octets }
 {}
 
-/// Law: bursts that are lightly damaged are received as the block that was sent, and bursts of which at most three bits were turned over
-/// are lightly damaged.
+/// Law: lightly damaged bursts are received as the block that was sent, and bursts with
+/// at most three inverted bits are lightly damaged.
 pub fn law_damaged()
     ensures received { (octets : List ℕ) (bursts : List (List ℤ)) (r : Received) → AreLightlyDamaged octets bursts →
         IsReceivedBlock bursts r → r.accepted ≡ Some octets }
-    ensures turned { (octets : List ℕ) (tsc : ℕ) (block : Block) (places : List ℕ) → IsSentBlock octets tsc block →
-        length places ≤ 3 → AreLightlyDamaged octets (map softened (turned places block)) }
+    ensures flipped { (octets : List ℕ) (tsc : ℕ) (block : Block) (places : List ℕ) → IsSentBlock octets tsc block →
+        length places ≤ 3 → AreLightlyDamaged octets (map soft_bits (with_flips places block)) }
 {}
 
-/// Law: where at most three bits of each block are turned over, each block is accepted with the octets that were sent.
-#[tactic(auto, using(crate::proofs::Carrying::kind_is_harmless))]
-pub fn law_kind()
+/// Law: a session with at most three inverted bits a block is benign.
+#[tactic(auto, using(crate::proofs::Carrying::benign_is_harmless))]
+pub fn law_benign()
     ensures { (tsc : ℕ) (channel : Channel) (events : List Event) (answers : List Answer)
         (b : AirState) → AirRun (start_on tsc channel) events answers b →
-        IsKind events → IsHarmless events answers }
+        IsBenign events → IsHarmless events answers }
 {}

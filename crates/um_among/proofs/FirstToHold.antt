@@ -1,4 +1,4 @@
--- The first list whose parity holds: there is one at most, or none holds; and of all lists that hold it is the most likely one.
+-- The first word whose CRC holds is unique, and it is the most likely of all words whose CRC holds.
 use Rattle.std.proofs.Common.{◌≡◌, ◌≢◌, inl, inr, false, true, ℕ, zero, suc, ◌+◌, ◌<◌, ◌≤◌, ℤ, Option, Some}
 use Rattle.std.proofs.Common.{None, List, [], ◌∷◌, ◌++◌, length, take, drop, get_or, length-append, refl, ap, ap₂, sym}
 use Rattle.std.proofs.Common.{◌∙◌, subst, arith}
@@ -8,10 +8,10 @@ use Rattle.std.proofs.Math.Seq.{get_or-append_seam}
 use Rattle.std.proofs.lemmas.Bool.{cases_lt}
 use Rattle.std.proofs.lemmas.List.{length-take-le, take-append-drop}
 use Rattle.std.proofs.lemmas.List.Elements.{All-nil, All-take, All-contains, Contains-append_right, Contains-append_cases}
-use Rattle.conv_code.specs.Code.{IsInformation}
-use Rattle.conv_code.specs.Likelihood.{FallsBehind, IsMostLikely}
+use Rattle.um_block.specs.conv_code.Code.{IsInformation}
+use Rattle.um_block.specs.conv_code.Likelihood.{FallsBehind, IsMostLikely}
 use Rattle.list_decode.specs.Ranking.{IsCandidate, IsRanked}
-use Rattle.conv_code.proofs.Lemmas.{IsMostLikely-only}
+use Rattle.um_block.proofs.conv_code.Lemmas.{IsMostLikely-only}
 use Rattle.list_decode.proofs.Lemmas.{most_likely_is_ranked, beginning_is_ranked, one_ranking}
 use Rattle.um_among.specs.Among.{IsFirstToHold, NoneHolds, IsTaken}
 
@@ -25,7 +25,7 @@ only_one : (u v : List ℕ) → Contains (u ∷ []) v → v ≡ u
 only_one u v (zero, lt, e) = sym e
 only_one u v (suc k, lt, e) = absurd (omega arith)
 
--- of two rankings the shorter begins the longer
+-- the shorter of two rankings is a prefix of the longer
 All-shorter : (s : List ℤ) (P : List ℕ → Type 0) (us vs : List (List ℕ)) → IsRanked s us → IsRanked s vs → length us ≤ length vs →
     All P vs → All P us
 All-shorter s P us vs ranked ranked' few all =
@@ -51,7 +51,7 @@ module _ (Holds : List ℕ → Type 0) (s : List ℤ) (most : ℕ) where
   later r r' u u' h g less =
       fails_earlier h.before g.before u h.ranked (beginning_is_ranked s g.before (u' ∷ []) g.ranked) (omega arith) g.fail h.holds
 
-  -- there is one at most
+  -- uniqueness
   one_first : (r r' : ℕ) (u u' : List ℕ) → IsFirstToHold Holds s most r u → IsFirstToHold Holds s most r' u' → (r ≡ r') × (u ≡ u')
   one_first r r' u u' h g = elim (cases_lt (length h.before) (length g.before)) [
     | inl less ↦ absurd (later r r' u u' h g less)
@@ -82,17 +82,17 @@ module _ (Holds : List ℕ → Type 0) (s : List ℤ) (most : ℕ) where
     few : r ≡ length h.before + 1 → r ≤ most → length none.tried ≡ most → length h.before + 1 ≤ length none.tried
     few place tried many = omega arith
 
-  -- one list is taken, and is told of in one way
-  pub taken_once : {X : Type 0} (told : List ℕ → X) (r r' : ℕ) (u u' : List ℕ) (a a' : Option X) → IsTaken Holds told s most r u a →
-      IsTaken Holds told s most r' u' a' → (r ≡ r') × (u ≡ u') × (a ≡ a')
-  taken_once told r r' u u' None None h g = (h.2 ∙ sym g.2, IsMostLikely-only s u' u g.1 h.1, refl)
-  taken_once told r r' u u' None (Some x) h g = absurd (not_both r' u' g.0 h.0)
-  taken_once told r r' u u' (Some x) None h g = absurd (not_both r u h.0 g.0)
-  taken_once told r r' u u' (Some x) (Some x') h g =
+  -- the word taken and its report are unique
+  pub taken_once : {X : Type 0} (data_of : List ℕ → X) (r r' : ℕ) (u u' : List ℕ) (a a' : Option X) → IsTaken Holds data_of s most r u a →
+      IsTaken Holds data_of s most r' u' a' → (r ≡ r') × (u ≡ u') × (a ≡ a')
+  taken_once data_of r r' u u' None None h g = (h.2 ∙ sym g.2, IsMostLikely-only s u' u g.1 h.1, refl)
+  taken_once data_of r r' u u' None (Some x) h g = absurd (not_both r' u' g.0 h.0)
+  taken_once data_of r r' u u' (Some x) None h g = absurd (not_both r u h.0 g.0)
+  taken_once data_of r r' u u' (Some x) (Some x') h g =
       let same = one_first r r' u u' h.0 g.0 in
-      (same.0, same.1, ap Some (h.1 ∙ ap told same.1 ∙ sym g.1))
+      (same.0, same.1, ap Some (h.1 ∙ ap data_of same.1 ∙ sym g.1))
 
-  -- of all lists that hold it is the most likely one
+  -- it is the most likely word whose CRC holds
   pub first_is_best : (r : ℕ) (u : List ℕ) → IsFirstToHold Holds s most r u → (v : List ℕ) → IsCandidate s v → Holds v → v ≢ u →
       FallsBehind s v u
   first_is_best r u h v is holds ne = elim (h.ranked.others v is) [
@@ -103,20 +103,20 @@ module _ (Holds : List ℕ → Type 0) (s : List ℤ) (most : ℕ) where
     | inr behind ↦ All-last (FallsBehind s v) h.before u behind
   ]
 
-  -- nothing is accepted exactly where none holds
-  pub taken_lost : {X : Type 0} (told : List ℕ → X) (r : ℕ) (u : List ℕ) (a : Option X) → IsTaken Holds told s most r u a →
+  -- nothing is accepted if and only if no CRC holds
+  pub taken_lost : {X : Type 0} (data_of : List ℕ → X) (r : ℕ) (u : List ℕ) (a : Option X) → IsTaken Holds data_of s most r u a →
       (IsNone a ↔ NoneHolds Holds s most)
-  taken_lost told r u None h = (λ _. h.0, λ _. refl)
-  taken_lost told r u (Some x) h = (λ e. absurd (never (sym e)), λ none. absurd (not_both r u h.0 none))
+  taken_lost data_of r u None h = (λ _. h.0, λ _. refl)
+  taken_lost data_of r u (Some x) h = (λ e. absurd (never (sym e)), λ none. absurd (not_both r u h.0 none))
 
-  -- the list in the first place is the most likely one
+  -- the word of rank 1 is the most likely one
   pub first_place : (u : List ℕ) → IsFirstToHold Holds s most 1 u → IsMostLikely s u
   first_place u h = alone s h.before u h.ranked (none h.place)
     where
       none : 1 ≡ length h.before + 1 → length h.before ≡ 0
       none e = omega arith
 
-  -- the most likely list is taken where it holds
+  -- the most likely word is taken if its CRC holds
   pub most_likely_holds : (u : List ℕ) → 1 ≤ most → IsMostLikely s u → Holds u → IsFirstToHold Holds s most 1 u
   most_likely_holds u some best holds = record {
     before = [];
@@ -127,46 +127,48 @@ module _ (Holds : List ℕ → Type 0) (s : List ℤ) (most : ℕ) where
     holds = holds;
   }
 
-  -- ---- what was taken
+  -- ---- the word taken
 
-  pub taken_best : {X : Type 0} (told : List ℕ → X) (r : ℕ) (u : List ℕ) (a : Option X) → IsTaken Holds told s most r u a → IsSome a →
+  pub taken_best : {X : Type 0} (data_of : List ℕ → X) (r : ℕ) (u : List ℕ) (a : Option X) → IsTaken Holds data_of s most r u a → IsSome a →
       (v : List ℕ) → IsCandidate s v → Holds v → v ≢ u → FallsBehind s v u
-  taken_best told r u None h some = absurd (never some)
-  taken_best told r u (Some x) h some = first_is_best r u h.0
+  taken_best data_of r u None h some = absurd (never some)
+  taken_best data_of r u (Some x) h some = first_is_best r u h.0
 
-  pub taken_first : {X : Type 0} (told : List ℕ → X) (r : ℕ) (u : List ℕ) (a : Option X) → 1 ≤ most → r ≡ 1 →
-      IsTaken Holds told s most r u a →
-      IsMostLikely s u × MatchOption a (¬ Holds u) (λ x. Holds u × (x ≡ told u))
-  taken_first told r u None some e h = (h.1, λ holds. not_both 1 u (most_likely_holds u some h.1 holds) h.0)
-  taken_first told r u (Some x) some e h = (first_place u (subst (λ n. IsFirstToHold Holds s most n u) e h.0), (h.0.holds, h.1))
+  pub taken_first : {X : Type 0} (data_of : List ℕ → X) (r : ℕ) (u : List ℕ) (a : Option X) → 1 ≤ most → r ≡ 1 →
+      IsTaken Holds data_of s most r u a →
+      IsMostLikely s u × MatchOption a (¬ Holds u) (λ x. Holds u × (x ≡ data_of u))
+  taken_first data_of r u None some e h = (h.1, λ holds. not_both 1 u (most_likely_holds u some h.1 holds) h.0)
+  taken_first data_of r u (Some x) some e h = (first_place u (subst (λ n. IsFirstToHold Holds s most n u) e h.0), (h.0.holds, h.1))
 
-  pub taken_of_one : {X : Type 0} (told : List ℕ → X) (r : ℕ) (u : List ℕ) (a : Option X) → most ≡ 1 → IsTaken Holds told s most r u a →
+  pub taken_of_one : {X : Type 0} (data_of : List ℕ → X) (r : ℕ) (u : List ℕ) (a : Option X) → most ≡ 1 →
+      IsTaken Holds data_of s most r u a →
       r ≡ 1
-  taken_of_one told r u None e h = h.2
-  taken_of_one told r u (Some x) e h = place h.0.place h.0.tried
+  taken_of_one data_of r u None e h = h.2
+  taken_of_one data_of r u (Some x) e h = place h.0.place h.0.tried
     where
       place : r ≡ length h.0.before + 1 → r ≤ most → r ≡ 1
       place one two = omega arith
 
-  -- what is taken where the most likely list holds
-  pub taken_at_once : {X : Type 0} (told : List ℕ → X) (u : List ℕ) (a : Option X) → 1 ≤ most → IsMostLikely s u →
-      MatchOption a (¬ Holds u) (λ x. Holds u × (x ≡ told u)) → IsSome a → IsTaken Holds told s most 1 u a
-  taken_at_once told u None some best h is = absurd (never is)
-  taken_at_once told u (Some x) some best h is = (most_likely_holds u some best h.0, h.1)
+  -- the CRC of the most likely word holds
+  pub taken_at_once : {X : Type 0} (data_of : List ℕ → X) (u : List ℕ) (a : Option X) → 1 ≤ most → IsMostLikely s u →
+      MatchOption a (¬ Holds u) (λ x. Holds u × (x ≡ data_of u)) → IsSome a → IsTaken Holds data_of s most 1 u a
+  taken_at_once data_of u None some best h is = absurd (never is)
+  taken_at_once data_of u (Some x) some best h is = (most_likely_holds u some best h.0, h.1)
 
-  -- what is taken where a list that holds is found
-  pub taken_found : {X : Type 0} (told : List ℕ → X) (r : ℕ) (u : List ℕ) (a : Option X) → IsFirstToHold Holds s most r u →
-      MatchOption a (¬ Holds u) (λ x. Holds u × (x ≡ told u)) → IsTaken Holds told s most r u a
-  taken_found told r u None first h = absurd (h first.holds)
-  taken_found told r u (Some x) first h = (first, h.1)
+  -- a word whose CRC holds was found
+  pub taken_found : {X : Type 0} (data_of : List ℕ → X) (r : ℕ) (u : List ℕ) (a : Option X) → IsFirstToHold Holds s most r u →
+      MatchOption a (¬ Holds u) (λ x. Holds u × (x ≡ data_of u)) → IsTaken Holds data_of s most r u a
+  taken_found data_of r u None first h = absurd (h first.holds)
+  taken_found data_of r u (Some x) first h = (first, h.1)
 
-  -- what is taken where none holds
-  pub taken_none : {X : Type 0} (told : List ℕ → X) (u : List ℕ) (a : Option X) → NoneHolds Holds s most → IsMostLikely s u → ¬ IsSome a →
-      IsTaken Holds told s most 1 u a
-  taken_none told u None none best lacks = (none, best, refl)
-  taken_none told u (Some x) none best lacks = absurd (lacks refl)
+  -- no CRC holds
+  pub taken_none : {X : Type 0} (data_of : List ℕ → X) (u : List ℕ) (a : Option X) → NoneHolds Holds s most → IsMostLikely s u →
+      ¬ IsSome a →
+      IsTaken Holds data_of s most 1 u a
+  taken_none data_of u None none best lacks = (none, best, refl)
+  taken_none data_of u (Some x) none best lacks = absurd (lacks refl)
 
-  pub taken_information : {X : Type 0} (told : List ℕ → X) (r : ℕ) (u : List ℕ) (a : Option X) → IsTaken Holds told s most r u a →
+  pub taken_information : {X : Type 0} (data_of : List ℕ → X) (r : ℕ) (u : List ℕ) (a : Option X) → IsTaken Holds data_of s most r u a →
       IsInformation u
-  taken_information told r u None h = h.1.information
-  taken_information told r u (Some x) h = (candidate r u h.0).information
+  taken_information data_of r u None h = h.1.information
+  taken_information data_of r u (Some x) h = (candidate r u h.0).information

@@ -1,14 +1,14 @@
--- Bursts are received among lists in one way, and where the list in the first place is taken as they are received without a choice.
+-- The report is unique, and if the word of rank 1 is taken it is the report of `receive_block` and its like.
 use Rattle.std.proofs.Common.{◌≡◌, ◌≢◌, ℕ, ◌≤◌, ℤ, Option, List, map, take, subst, ap, ap₂, sym, ◌∙◌}
 use Rattle.std.specs.Prelude.{MatchOption, IsSome, IsNone, ◌↔◌}
 use Rattle.bit_blocks.specs.Octets.{octets_of}
 use Rattle.bit_blocks.specs.SoftValues.{likelihood}
-use Rattle.conv_code.specs.Code.{coded, IsInformation}
-use Rattle.conv_code.specs.Likelihood.{FallsBehind}
-use Rattle.training_seq.specs.Choice.{total_correlation}
-use Rattle.training_seq.proofs.Lemmas.{one_first_greatest}
-use Rattle.interleave.specs.Bursts.{IsInterleaved}
-use Rattle.interleave.proofs.Lemmas.{same_coded}
+use Rattle.um_block.specs.conv_code.Code.{encoding, IsInformation}
+use Rattle.um_block.specs.conv_code.Likelihood.{FallsBehind}
+use Rattle.burst_map.specs.training_seq.Choice.{total_correlation}
+use Rattle.burst_map.proofs.training_seq.Lemmas.{one_first_greatest}
+use Rattle.um_block.specs.interleave.Bursts.{IsInterleaved}
+use Rattle.um_block.proofs.interleave.Lemmas.{same_coded}
 use Rattle.list_decode.specs.Ranking.{IsCandidate}
 use Rattle.um_block.specs.Received.{coded_places, access_places, sync_places, training_of, wrong_training_places, IsReceivedBlock}
 use Rattle.um_block.specs.Received.{IsReceivedAccess, IsReceivedSync}
@@ -23,7 +23,7 @@ use Rattle.um_among.specs.Among.{IsTaken, IsFirstToHold, NoneHolds, IsBlockAmong
 use Rattle.um_among.proofs.FirstToHold.{taken_once, taken_best, taken_lost, taken_information, taken_first, taken_of_one, taken_at_once}
 use Rattle.um_among.proofs.FirstToHold.{taken_found, taken_none}
 
--- ---- in one way
+-- ---- uniqueness
 
 same_block : (r r' : BlockAmong) → r.rank ≡ r'.rank → r.report.u ≡ r'.report.u → r.report.metric ≡ r'.report.metric →
     r.report.tsc ≡ r'.report.tsc → r.report.wrong_training ≡ r'.report.wrong_training → r.report.accepted ≡ r'.report.accepted → r ≡ r'
@@ -56,14 +56,14 @@ pub one_block_among : (bursts : List (List ℤ)) (most : ℕ) (r r' : BlockAmong
     IsBlockAmong bursts most r' → r ≡ r'
 one_block_among bursts most r r' h g =
     let score = total_correlation (training_of bursts 0) (training_of bursts 1) (training_of bursts 2) (training_of bursts 3) in
-    let told : List ℕ → List ℕ = λ u. octets_of (take 184 u) in
+    let data_of : List ℕ → List ℕ = λ u. octets_of (take 184 u) in
     let soft : h.soft ≡ g.soft = same_coded h.soft g.soft (map coded_places bursts) h.gathered g.gathered in
-    let taken = subst (λ s. IsTaken HoldsInBlock told s most r.rank r.report.u r.report.accepted) soft h.taken in
-    let same = taken_once HoldsInBlock g.soft most told r.rank r'.rank r.report.u r'.report.u
+    let taken = subst (λ s. IsTaken HoldsInBlock data_of s most r.rank r.report.u r.report.accepted) soft h.taken in
+    let same = taken_once HoldsInBlock g.soft most data_of r.rank r'.rank r.report.u r'.report.u
     r.report.accepted r'.report.accepted taken g.taken in
     let tsc = one_first_greatest score 7 r.report.tsc r'.report.tsc h.tsc g.tsc in
     same_block r r' same.0 same.1
-    (h.metric ∙ ap₂ (λ s v. likelihood s (coded v)) soft same.1 ∙ sym g.metric)
+    (h.metric ∙ ap₂ (λ s v. likelihood s (encoding v)) soft same.1 ∙ sym g.metric)
     tsc
     (h.wrong_training ∙ ap (wrong_training_places bursts) tsc ∙ sym g.wrong_training)
     same.2
@@ -75,7 +75,7 @@ one_access_among burst bsic most r r' h g =
     let same = taken_once (HoldsInAccess bsic) soft most (take 8) r.rank r'.rank r.report.u r'.report.u
     r.report.accepted r'.report.accepted h.taken g.taken in
     same_access r r' same.0 same.1
-    (h.metric ∙ ap (λ v. likelihood soft (coded v)) same.1 ∙ sym g.metric)
+    (h.metric ∙ ap (λ v. likelihood soft (encoding v)) same.1 ∙ sym g.metric)
     (h.wrong_training ∙ sym g.wrong_training)
     same.2
 
@@ -85,41 +85,41 @@ one_sync_among burst most r r' h g =
     let same = taken_once HoldsInSync soft most (take 25) r.rank r'.rank r.report.u r'.report.u
     r.report.accepted r'.report.accepted h.taken g.taken in
     same_sync r r' same.0 same.1
-    (h.metric ∙ ap (λ v. likelihood soft (coded v)) same.1 ∙ sym g.metric)
+    (h.metric ∙ ap (λ v. likelihood soft (encoding v)) same.1 ∙ sym g.metric)
     (h.wrong_training ∙ sym g.wrong_training)
     same.2
 
--- ---- what was taken of a block
+-- ---- the word taken for a block
 
--- no list that holds goes before the one that is accepted
+-- no word whose CRC holds ranks before the accepted one
 pub block_best : (bursts : List (List ℤ)) (most : ℕ) (r : BlockAmong) → IsBlockAmong bursts most r → IsSome r.report.accepted →
     (soft : List ℤ) (v : List ℕ) → IsInterleaved soft (map coded_places bursts) → IsCandidate soft v → HoldsInBlock v → v ≢ r.report.u →
     FallsBehind soft v r.report.u
 block_best bursts most r h some soft v gathered =
     let same : h.soft ≡ soft = same_coded h.soft soft (map coded_places bursts) h.gathered gathered in
-    let told : List ℕ → List ℕ = λ u. octets_of (take 184 u) in
-    let taken = subst (λ s. IsTaken HoldsInBlock told s most r.rank r.report.u r.report.accepted) same h.taken in
-    taken_best HoldsInBlock soft most told r.rank r.report.u r.report.accepted taken some v
+    let data_of : List ℕ → List ℕ = λ u. octets_of (take 184 u) in
+    let taken = subst (λ s. IsTaken HoldsInBlock data_of s most r.rank r.report.u r.report.accepted) same h.taken in
+    taken_best HoldsInBlock soft most data_of r.rank r.report.u r.report.accepted taken some v
 
--- nothing is accepted exactly where none of the lists tried holds
+-- nothing is accepted if and only if no tried word's CRC holds
 pub block_none : (bursts : List (List ℤ)) (most : ℕ) (r : BlockAmong) → IsBlockAmong bursts most r → (soft : List ℤ) →
     IsInterleaved soft (map coded_places bursts) → (IsNone r.report.accepted ↔ NoneHolds HoldsInBlock soft most)
 block_none bursts most r h soft gathered =
     let same : h.soft ≡ soft = same_coded h.soft soft (map coded_places bursts) h.gathered gathered in
-    let told : List ℕ → List ℕ = λ u. octets_of (take 184 u) in
-    let taken = subst (λ s. IsTaken HoldsInBlock told s most r.rank r.report.u r.report.accepted) same h.taken in
-    taken_lost HoldsInBlock soft most told r.rank r.report.u r.report.accepted taken
+    let data_of : List ℕ → List ℕ = λ u. octets_of (take 184 u) in
+    let taken = subst (λ s. IsTaken HoldsInBlock data_of s most r.rank r.report.u r.report.accepted) same h.taken in
+    taken_lost HoldsInBlock soft most data_of r.rank r.report.u r.report.accepted taken
 
 pub block_information : (bursts : List (List ℤ)) (most : ℕ) (r : BlockAmong) → IsBlockAmong bursts most r → IsInformation r.report.u
 block_information bursts most r h =
     taken_information HoldsInBlock h.soft most (λ u. octets_of (take 184 u)) r.rank r.report.u r.report.accepted h.taken
 
--- in the first place it is what is received without a choice
+-- at rank 1 the report is that of the most likely word alone
 pub block_alone : (bursts : List (List ℤ)) (most : ℕ) (r : BlockAmong) → 1 ≤ most → IsBlockAmong bursts most r → r.rank ≡ 1 →
     IsReceivedBlock bursts r.report
 block_alone bursts most r some h first =
-    let told : List ℕ → List ℕ = λ u. octets_of (take 184 u) in
-    let taken = taken_first HoldsInBlock h.soft most told r.rank r.report.u r.report.accepted some first h.taken in
+    let data_of : List ℕ → List ℕ = λ u. octets_of (take 184 u) in
+    let taken = taken_first HoldsInBlock h.soft most data_of r.rank r.report.u r.report.accepted some first h.taken in
     record {
       soft = h.soft;
       gathered = h.gathered;
@@ -134,7 +134,7 @@ pub block_of_one : (bursts : List (List ℤ)) (most : ℕ) (r : BlockAmong) → 
 block_of_one bursts most r h one =
     taken_of_one HoldsInBlock h.soft most (λ u. octets_of (take 184 u)) r.rank r.report.u r.report.accepted one h.taken
 
--- what is accepted without a choice is taken at once
+-- if the CRC of the most likely word holds, that word is taken
 pub block_at_once : (bursts : List (List ℤ)) (most : ℕ) (r : Received) → 1 ≤ most → IsReceivedBlock bursts r → IsSome r.accepted →
     IsBlockAmong bursts most (record { report = r; rank = 1 })
 block_at_once bursts most r some h accepted = record {
@@ -169,23 +169,23 @@ block_lost bursts most r soft h lacks gathered none =
 pub block_found : (bursts : List (List ℤ)) (most rank : ℕ) (r : Received) (soft : List ℤ) (u v : List ℕ) (metric : ℤ)
     (accepted : Option (List ℕ)) →
     v ≡ u → IsReceivedBlock bursts r → IsInterleaved soft (map coded_places bursts) → IsFirstToHold HoldsInBlock soft most rank u →
-    metric ≡ likelihood soft (coded u) →
+    metric ≡ likelihood soft (encoding u) →
     MatchOption accepted (¬ HoldsInBlock u) (λ octets. HoldsInBlock u × (octets ≡ octets_of (take 184 u))) →
     IsBlockAmong bursts most (record {
       report = record { u = v; metric = metric; tsc = r.tsc; wrong_training = r.wrong_training; accepted = accepted };
       rank = rank;
     })
-block_found bursts most rank r soft u v metric accepted same h gathered first value told = record {
+block_found bursts most rank r soft u v metric accepted same h gathered first value data_of = record {
   soft = soft;
   gathered = gathered;
   taken = subst (λ w. IsTaken HoldsInBlock (λ u. octets_of (take 184 u)) soft most rank w accepted) (sym same)
-      (taken_found HoldsInBlock soft most (λ u. octets_of (take 184 u)) rank u accepted first told);
-  metric = value ∙ ap (λ w. likelihood soft (coded w)) (sym same);
+      (taken_found HoldsInBlock soft most (λ u. octets_of (take 184 u)) rank u accepted first data_of);
+  metric = value ∙ ap (λ w. likelihood soft (encoding w)) (sym same);
   tsc = h.tsc;
   wrong_training = h.wrong_training;
 }
 
--- ---- of an access burst
+-- ---- access bursts
 
 pub access_best : (burst : List ℤ) (bsic : List ℕ) (most : ℕ) (r : AccessAmong) → IsAccessAmong burst bsic most r →
     IsSome r.report.accepted →
@@ -241,21 +241,21 @@ access_lost burst bsic most r soft is h lacks none = record {
 
 pub access_found : (burst : List ℤ) (bsic : List ℕ) (most rank : ℕ) (r : ReceivedAccess) (soft : List ℤ) (u v : List ℕ) (metric : ℤ)
     (accepted : Option (List ℕ)) → soft ≡ access_places burst → v ≡ u → IsReceivedAccess burst bsic r →
-    IsFirstToHold (HoldsInAccess bsic) soft most rank u → metric ≡ likelihood soft (coded u) →
+    IsFirstToHold (HoldsInAccess bsic) soft most rank u → metric ≡ likelihood soft (encoding u) →
     MatchOption accepted (¬ HoldsInAccess bsic u) (λ info. HoldsInAccess bsic u × (info ≡ take 8 u)) →
     IsAccessAmong burst bsic most (record {
       report = record { u = v; metric = metric; wrong_training = r.wrong_training; accepted = accepted };
       rank = rank;
     })
-access_found burst bsic most rank r soft u v metric accepted is same h first value told = record {
+access_found burst bsic most rank r soft u v metric accepted is same h first value data_of = record {
   taken = subst (λ s. IsTaken (HoldsInAccess bsic) (take 8) s most rank v accepted) is
       (subst (λ w. IsTaken (HoldsInAccess bsic) (take 8) soft most rank w accepted) (sym same)
-      (taken_found (HoldsInAccess bsic) soft most (take 8) rank u accepted first told));
-  metric = value ∙ ap₂ (λ s w. likelihood s (coded w)) is (sym same);
+      (taken_found (HoldsInAccess bsic) soft most (take 8) rank u accepted first data_of));
+  metric = value ∙ ap₂ (λ s w. likelihood s (encoding w)) is (sym same);
   wrong_training = h.wrong_training;
 }
 
--- ---- of a synchronisation burst
+-- ---- synchronisation bursts
 
 pub sync_best : (burst : List ℤ) (most : ℕ) (r : SyncAmong) → IsSyncAmong burst most r → IsSome r.report.accepted →
     (v : List ℕ) → IsCandidate (sync_places burst) v → HoldsInSync v → v ≢ r.report.u → FallsBehind (sync_places burst) v r.report.u
@@ -305,16 +305,16 @@ sync_lost burst most r soft is h lacks none = record {
 pub sync_found : (burst : List ℤ) (most rank : ℕ) (r : ReceivedSync) (soft : List ℤ) (u v : List ℕ) (metric : ℤ)
     (accepted : Option (List ℕ)) →
     soft ≡ sync_places burst → v ≡ u → IsReceivedSync burst r → IsFirstToHold HoldsInSync soft most rank u →
-    metric ≡ likelihood soft (coded u) →
+    metric ≡ likelihood soft (encoding u) →
     MatchOption accepted (¬ HoldsInSync u) (λ info. HoldsInSync u × (info ≡ take 25 u)) →
     IsSyncAmong burst most (record {
       report = record { u = v; metric = metric; wrong_training = r.wrong_training; accepted = accepted };
       rank = rank;
     })
-sync_found burst most rank r soft u v metric accepted is same h first value told = record {
+sync_found burst most rank r soft u v metric accepted is same h first value data_of = record {
   taken = subst (λ s. IsTaken HoldsInSync (take 25) s most rank v accepted) is
       (subst (λ w. IsTaken HoldsInSync (take 25) soft most rank w accepted) (sym same)
-      (taken_found HoldsInSync soft most (take 25) rank u accepted first told));
-  metric = value ∙ ap₂ (λ s w. likelihood s (coded w)) is (sym same);
+      (taken_found HoldsInSync soft most (take 25) rank u accepted first data_of));
+  metric = value ∙ ap₂ (λ s w. likelihood s (encoding w)) is (sym same);
   wrong_training = h.wrong_training;
 }

@@ -1,35 +1,35 @@
-//! Access and synchronisation bursts: the first of the most likely lists whose parity holds.
+//! Access and synchronisation bursts: the first of the most likely words whose CRC holds.
 //!
-//! Their parities are short. A list that was not sent holds by chance once in 64 tries in an access burst, which has six bits of
-//! parity, and once in 1,024 in a synchronisation burst, which has ten, and is accepted about that often for each list tried. So these
-//! calls should be asked for more than one list only where something else tells a wrong burst.
+//! Their CRCs are short: six bits in an access burst and ten in a synchronisation burst. The CRC of a word that was not sent holds by
+//! chance once in 64 or 1,024 words tried. Ask for more than one word only if another check rejects wrong bursts.
 ghost use Rattle.std.specs.Prelude.{◌≡◌, ◌≢◌, ◌≤◌, ◌↔◌, ℕ, IsNone, IsSome, List};
 ghost use Rattle.bit_blocks.specs.SoftValues.{AllSoft};
-ghost use Rattle.conv_code.specs.Code.{IsInformation};
-ghost use Rattle.conv_code.specs.Likelihood.{FallsBehind};
+ghost use Rattle.um_block.specs.conv_code.Code.{IsInformation};
+ghost use Rattle.um_block.specs.conv_code.Likelihood.{FallsBehind};
 ghost use Rattle.list_decode.specs.Ranking.{IsCandidate};
 ghost use Rattle.um_block.specs.Received.{IsReceivedAccess, IsReceivedSync, access_places, sync_places};
 ghost use Rattle.um_among.specs.Among.{IsAccessAmong, IsSyncAmong, NoneHolds};
 ghost use Rattle.um_among.specs.Parities.{HoldsInAccess, HoldsInSync};
 
-use crate::parity::Parity;
+use crate::crc::Crc;
 use crate::reports::{AccessAmong, SyncAmong};
 use crate::search::first_to_hold;
 use bit_blocks::Bits;
-use burst_map::{AccessView, SyncView};
+use burst_map::{AccessView, BURST_BITS, SyncView};
+use list_decode::MOST_LISTS;
 use um_block::{
     ReceivedAccess, ReceivedSync, access_data, join_halves, receive_access, receive_sync, sync_data,
 };
 
-/// What an access burst is received as under the six bits of a base station's colour code (BSIC), where the first of the `most` most
-/// likely lists whose parity holds is taken, with `most` from 1 to 64.
+/// Receives an access burst under the six bits of a base station's identity code (BSIC): takes the first of the `most` most likely
+/// words, 1 to 64, whose CRC holds.
 ///
-/// Its parity of six bits holds by chance about once in 64 lists tried, so that with many lists a wrong one is accepted mostly where
-/// the right one is not the first: ask with a `most` above 1 only where something else tells wrong bits.
+/// The CRC of six bits holds by chance about once in 64 words tried, so with many words a wrong one is usually accepted when the right
+/// one is not the first. Use a `most` above 1 only if another check rejects wrong bits.
 pub fn receive_access_among(burst: &[i8; 88], bsic: &Bits<6>, most: u32) -> AccessAmong
     requires soft { AllSoft burst.now }
     requires at_least { 1 ≤ most }
-    requires at_most { most ≤ 64 }
+    requires at_most { most ≤ MOST_LISTS }
     ensures received { IsAccessAmong burst.now bsic.now most result }
     ensures only { (other : AccessAmong) → IsAccessAmong burst.now bsic.now most other → other ≡ result }
     ensures best { IsSome result.report.accepted → (v : List ℕ) → IsCandidate (access_places burst.now) v → HoldsInAccess bsic.now v →
@@ -44,11 +44,11 @@ pub fn receive_access_among(burst: &[i8; 88], bsic: &Bits<6>, most: u32) -> Acce
     taken_access(burst, bsic, most)
 }
 
-/// The definition alone: what else is promised follows from it.
+/// Proves the definition. The other guarantees follow from it.
 fn taken_access(burst: &[i8; 88], bsic: &Bits<6>, most: u32) -> AccessAmong
     requires soft { AllSoft burst.now }
     requires at_least { 1 ≤ most }
-    requires at_most { most ≤ 64 }
+    requires at_most { most ≤ MOST_LISTS }
     ensures { IsAccessAmong burst.now bsic.now most result }
 {
     let report = receive_access(burst, bsic);
@@ -57,7 +57,7 @@ fn taken_access(burst: &[i8; 88], bsic: &Bits<6>, most: u32) -> AccessAmong
     }
     let parts = AccessView::new(burst);
     let mut u = [0; 18];
-    let Some(found) = first_to_hold(&Parity::Access(*bsic), parts.body(), most, &mut u) else {
+    let Some(found) = first_to_hold(&Crc::Access(*bsic), parts.body(), most, &mut u) else {
         return AccessAmong { report, rank: 1 };
     };
     AccessAmong {
@@ -71,15 +71,14 @@ fn taken_access(burst: &[i8; 88], bsic: &Bits<6>, most: u32) -> AccessAmong
     }
 }
 
-/// What a synchronisation burst is received as where the first of the `most` most likely lists whose parity holds is taken, with
-/// `most` from 1 to 64.
+/// Receives a synchronisation burst: takes the first of the `most` most likely words, 1 to 64, whose CRC holds.
 ///
-/// Its parity of ten bits holds by chance about once in 1,024 lists tried, so that of 64 lists a wrong one is accepted once in some
-/// sixteen bursts of noise: ask with a `most` above 1 only where something else tells wrong bits.
-pub fn receive_sync_among(burst: &[i8; 148], most: u32) -> SyncAmong
+/// The CRC of ten bits holds by chance about once in 1,024 words tried, so with 64 words a wrong one is accepted in about one of sixteen
+/// bursts of noise. Use a `most` above 1 only if another check rejects wrong bits.
+pub fn receive_sync_among(burst: &[i8; BURST_BITS], most: u32) -> SyncAmong
     requires soft { AllSoft burst.now }
     requires at_least { 1 ≤ most }
-    requires at_most { most ≤ 64 }
+    requires at_most { most ≤ MOST_LISTS }
     ensures received { IsSyncAmong burst.now most result }
     ensures only { (other : SyncAmong) → IsSyncAmong burst.now most other → other ≡ result }
     ensures best { IsSome result.report.accepted → (v : List ℕ) → IsCandidate (sync_places burst.now) v → HoldsInSync v →
@@ -93,11 +92,11 @@ pub fn receive_sync_among(burst: &[i8; 148], most: u32) -> SyncAmong
     taken_sync(burst, most)
 }
 
-/// The definition alone: what else is promised follows from it.
-fn taken_sync(burst: &[i8; 148], most: u32) -> SyncAmong
+/// Proves the definition. The other guarantees follow from it.
+fn taken_sync(burst: &[i8; BURST_BITS], most: u32) -> SyncAmong
     requires soft { AllSoft burst.now }
     requires at_least { 1 ≤ most }
-    requires at_most { most ≤ 64 }
+    requires at_most { most ≤ MOST_LISTS }
     ensures { IsSyncAmong burst.now most result }
 {
     let report = receive_sync(burst);
@@ -107,7 +106,7 @@ fn taken_sync(burst: &[i8; 148], most: u32) -> SyncAmong
     let parts = SyncView::new(burst);
     let mut u = [0; 39];
     let Some(found) = first_to_hold(
-        &Parity::Sync,
+        &Crc::Sync,
         &join_halves(parts.first(), parts.second()),
         most,
         &mut u,

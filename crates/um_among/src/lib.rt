@@ -1,15 +1,13 @@
-//! What bursts are received as where not the most likely list alone is tried, but the first of the most likely ones whose parity
-//! holds is taken.
+//! Reception with a list decoder: the most likely words are tried in order of rank, and the first whose CRC holds is taken.
 //!
-//! A receiver that decodes the convolutional code alone and then looks at the parity loses the burst where the parity fails. Here the
-//! parity chooses instead: the information lists are tried in the order of their likelihood, and the first that holds is, of all
-//! lists that hold, the most likely one. (List Viterbi decoding: Seshadri and Sundberg 1994.) The most likely list is decoded as
-//! without a choice; only where it fails are the lists given one after the other.
+//! A receiver that decodes only the most likely word loses the burst if its CRC fails. These calls try further words (list Viterbi
+//! decoding: Seshadri and Sundberg, 1994). The word that they take is the most likely one of all whose CRC holds. The list decoder
+//! runs only if the CRC of the most likely word fails.
 #![tactic(auto)]
 
 mod blocks;
 mod bursts;
-mod parity;
+mod crc;
 mod reports;
 mod search;
 #[cfg(test)]

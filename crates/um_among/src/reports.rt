@@ -1,33 +1,33 @@
-//! What a receiver reports that tries more than one list.
+//! The reports of a receiver that tries more than one word.
 
 use um_block::{Received, ReceivedAccess, ReceivedSync};
 
-/// What four bursts of a block are received as.
+/// The report of a block.
 #[derive(Clone, Copy, PartialEq, Eq, Debug)]
 pub struct BlockAmong {
-    /// As `receive_block` reports, of the list that was taken: the first whose parity holds, or the most likely one where none of
+    /// The report of `receive_block` for the word that was taken: the first whose CRC holds, or the most likely one if none of
     /// those tried does.
     pub report: Received,
-    /// The place of that list among all, 1 for the most likely one.
+    /// The rank of that word, 1 for the most likely one.
     pub rank: u32,
 }
 
-/// What an access burst is received as.
+/// The report of an access burst.
 #[derive(Clone, Copy, PartialEq, Eq, Debug)]
 pub struct AccessAmong {
-    /// As `receive_access` reports, of the list that was taken: the first whose parity holds, or the most likely one where none of
+    /// The report of `receive_access` for the word that was taken: the first whose CRC holds, or the most likely one if none of
     /// those tried does.
     pub report: ReceivedAccess,
-    /// The place of that list among all, 1 for the most likely one.
+    /// The rank of that word, 1 for the most likely one.
     pub rank: u32,
 }
 
-/// What a synchronisation burst is received as.
+/// The report of a synchronisation burst.
 #[derive(Clone, Copy, PartialEq, Eq, Debug)]
 pub struct SyncAmong {
-    /// As `receive_sync` reports, of the list that was taken: the first whose parity holds, or the most likely one where none of
+    /// The report of `receive_sync` for the word that was taken: the first whose CRC holds, or the most likely one if none of
     /// those tried does.
     pub report: ReceivedSync,
-    /// The place of that list among all, 1 for the most likely one.
+    /// The rank of that word, 1 for the most likely one.
     pub rank: u32,
 }

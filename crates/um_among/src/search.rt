@@ -1,36 +1,36 @@
-//! The first list whose parity holds.
+//! The search for the first word whose CRC holds.
 ghost use Rattle.std.specs.Prelude.{◌≡◌, ◌*◌, ◌≤◌, MatchOption, length};
 ghost use Rattle.bit_blocks.specs.SoftValues.{AllSoft};
-ghost use Rattle.conv_code.specs.Code.{coded, IsInformation};
-ghost use Rattle.conv_code.specs.Likelihood.{likelihood};
+ghost use Rattle.um_block.specs.conv_code.Code.{encoding, IsInformation};
+ghost use Rattle.um_block.specs.conv_code.Likelihood.{likelihood};
 ghost use Rattle.um_among.specs.Parities.{Holds, places};
 ghost use Rattle.um_among.specs.Among.{IsFirstToHold, NoneHolds};
 
-use crate::parity::Parity;
-use list_decode::Ranked;
+use crate::crc::Crc;
+use list_decode::{MOST_LISTS, Ranked};
 
-/// Where the list was found, and its likelihood.
+/// The rank of the word that was found, and its path metric.
 #[derive(Clone, Copy)]
 pub(crate) struct Found {
     pub(crate) rank: u32,
     pub(crate) metric: i32,
 }
 
-/// Writes the first list whose parity holds, of as many as are to be tried.
-pub(crate) fn first_to_hold(parity: &Parity, soft: &[i8], most: u32, u: &mut [u8]) -> Option<Found>
-    requires places { length u.old ≡ places parity.now }
+/// Writes the first of the `most` most likely words whose CRC holds.
+pub(crate) fn first_to_hold(crc: &Crc, soft: &[i8], most: u32, u: &mut [u8]) -> Option<Found>
+    requires places { length u.old ≡ places crc.now }
     requires pairs { length soft.now ≡ 2 * length u.old }
     requires soft { AllSoft soft.now }
-    requires at_most { most ≤ 64 }
+    requires at_most { most ≤ MOST_LISTS }
     ensures { MatchOption result
-        (NoneHolds (Holds parity.now) soft.now most)
-        (λ found. IsFirstToHold (Holds parity.now) soft.now most found.rank u.new
-        × (found.metric ≡ likelihood soft.now (coded u.new)) × IsInformation u.new) }
+        (NoneHolds (Holds crc.now) soft.now most)
+        (λ found. IsFirstToHold (Holds crc.now) soft.now most found.rank u.new
+        × (found.metric ≡ likelihood soft.now (encoding u.new)) × IsInformation u.new) }
 {
     let mut ranked = Ranked::new(soft);
     for tried in 0..most {
         let metric = ranked.next(u)?;
-        if parity.holds(u) {
+        if crc.holds(u) {
             return Some(Found {
                 rank: tried + 1,
                 metric,

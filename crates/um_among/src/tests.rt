@@ -6,6 +6,7 @@ use crate::{
     receive_sync_among,
 };
 use bit_blocks::Bits;
+use burst_map::BURST_BITS;
 use std::process::Abort;
 use um_block::{send_block, soften};
 
@@ -15,7 +16,7 @@ fn are_soft(values: &[i8]) -> bool
     values.iter().all(|value| *value != -128)
 }
 
-fn block(rt: &impl Abort, bursts: &[[i8; 148]; 4], most: u32) -> BlockAmong {
+fn block(rt: &impl Abort, bursts: &[[i8; BURST_BITS]; 4], most: u32) -> BlockAmong {
     let all_soft = bursts.iter().all(|burst| are_soft(burst));
     assert!(rt; all_soft);
     assert!(rt; most >= 1);
@@ -32,21 +33,21 @@ fn access(rt: &impl Abort, burst: &[i8; 88], bsic: [u8; 6], most: u32) -> Access
     receive_access_among(burst, &Bits::from_array(bsic), most)
 }
 
-fn sync(rt: &impl Abort, burst: &[i8; 148], most: u32) -> SyncAmong {
+fn sync(rt: &impl Abort, burst: &[i8; BURST_BITS], most: u32) -> SyncAmong {
     assert!(rt; are_soft(burst));
     assert!(rt; most >= 1);
     assert!(rt; most <= 64);
     receive_sync_among(burst, most)
 }
 
-fn softened(rt: &impl Abort, burst: &[u8; 148]) -> [i8; 148] {
+fn softened(rt: &impl Abort, burst: &[u8; BURST_BITS]) -> [i8; BURST_BITS] {
     let are_bits = burst.iter().all(|bit| *bit <= 1);
     assert!(rt; are_bits);
     soften(burst)
 }
 
-// Of the seven places at which the sent list and its neighbour differ four are as the neighbour has them, so that this is the
-// likelier by one place and the sent list comes next.
+// The sent word and its neighbour differ in seven positions. Four of them are flipped, so the neighbour is more likely by one position
+// and the sent word has rank 2.
 #[test]
 fn the_second_list_is_the_one_sent(rt: HostRuntime) {
     let mut octets = [0x2b; 23];
@@ -72,19 +73,18 @@ fn the_second_list_is_the_one_sent(rt: HostRuntime) {
     }
 }
 
-// All lists are equally likely, so that they come in the order of words: zeros, and of the forty bits of parity, which would
-// have to be ones, the last six in all their ways.
+// All words are equally likely, so they come in lexicographic order: zeros, with all values of the last six of the forty CRC bits.
+// The CRC of zeros would be ones.
 #[test]
 fn a_lost_block_stays_lost(rt: HostRuntime) {
-    let lost = block(&rt, &[[0; 148]; 4], 64);
+    let lost = block(&rt, &[[0; BURST_BITS]; 4], 64);
     assert_eq!(rt; lost.report.accepted, None);
     assert_eq!(rt; lost.report.u, Bits::zero());
     assert_eq!(rt; lost.report.wrong_training, 104);
     assert_eq!(rt; lost.rank, 1);
 }
 
-// Equally likely too: with data of zeros the six bits of parity are those of the code turned over, which is the place among
-// the first 64 lists.
+// All words are equally likely. For zeros the six CRC bits are the inverted BSIC, which gives the rank among the first 64 words.
 #[test]
 fn a_lost_access_burst_fits_each_code(rt: HostRuntime) {
     for (bsic, rank) in [
@@ -109,7 +109,7 @@ fn a_lost_access_burst_fits_each_code(rt: HostRuntime) {
 
 #[test]
 fn a_lost_synchronisation_burst_stays_lost(rt: HostRuntime) {
-    let lost = sync(&rt, &[0; 148], 64);
+    let lost = sync(&rt, &[0; BURST_BITS], 64);
     assert_eq!(rt; lost.report.accepted, None);
     assert_eq!(rt; lost.report.u, Bits::zero());
     assert_eq!(rt; lost.rank, 1);

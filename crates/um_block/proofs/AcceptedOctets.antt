@@ -1,4 +1,4 @@
--- What is accepted of a block are 23 octets.
+-- An accepted block consists of 23 octets.
 use Rattle.std.proofs.Common.{◌≡◌, ℕ, ℤ, List, length, take, Option, Some, None, ap, subst, sym, ◌∙◌, arith}
 use Rattle.std.proofs.lemmas.List.Elements.{All-take}
 use Rattle.std.specs.Prelude.{IfSome, MatchOption}

@@ -1,4 +1,4 @@
--- The octets of a block with their parity, and the coded bits that come of them.
+-- The octets of a block with their Fire code bits, padded with zeros, and their packed coded bits.
 use Rattle.std.proofs.Common.{◌≡◌, ℕ, ◌*◌, ◌≤◌, List, ◌++◌, length, length-append, take, drop, replicate, ap, ap₂}
 use Rattle.std.proofs.Common.{sym, subst, ◌∙◌, append_assoc, arith}
 use Rattle.std.proofs.lemmas.Grind.{flat_map-append}
@@ -7,33 +7,33 @@ use borrow.Rule.Slice.PartMut.{put_mid}
 use Rattle.bit_blocks.specs.Octets.{octet_bits, bits_of}
 use Rattle.bit_blocks.specs.Packed.{ArePacked}
 use Rattle.fire_code.specs.Words.{IsXcchWord}
-use Rattle.conv_code.specs.Code.{coded}
+use Rattle.conv_code.specs.Code.{encoding}
 use Rattle.conv_code.proofs.Lemmas.{ArePacked-front}
 use Rattle.um_block.specs.Sent.{with_tail}
 
--- parity is written behind the octets
-pub behind_octets : (octets parity front part : List ℕ) → length octets ≡ 23 → front ≡ octets → part ≡ parity →
-    put_mid 23 5 (front ++ replicate 9 0) part ≡ octets ++ parity ++ replicate 4 0
-behind_octets octets parity front part long one two =
+-- the Fire code octets are written after the information octets
+pub behind_octets : (octets crc front part : List ℕ) → length octets ≡ 23 → front ≡ octets → part ≡ crc →
+    put_mid 23 5 (front ++ replicate 9 0) part ≡ octets ++ crc ++ replicate 4 0
+behind_octets octets crc front part long one two =
     let many : length front ≡ 23 = ap length one ∙ long in
     let before : take 23 (front ++ replicate 9 0) ≡ front = take_at front (replicate 9 0) 23 many in
     let after : drop 5 (drop 23 (front ++ replicate 9 0)) ≡ replicate 4 0 = ap (drop 5) (drop_at front (replicate 9 0) 23 many) in
     ap₂ (λ xs ys. xs ++ (part ++ ys)) before after
     ∙ ap₂ (λ xs ys. xs ++ (ys ++ replicate 4 0)) one two
-    ∙ sym (append_assoc octets parity (replicate 4 0))
+    ∙ sym (append_assoc octets crc (replicate 4 0))
 
-module _ (octets parity word : List ℕ) (is : word ≡ octets ++ parity ++ replicate 4 0) where
-  -- the information list, and 28 zeros more
-  bits_of_word : bits_of word ≡ with_tail (bits_of octets ++ bits_of parity) ++ replicate 28 0
+module _ (octets crc word : List ℕ) (is : word ≡ octets ++ crc ++ replicate 4 0) where
+  -- the bits are the information list and 28 more zeros
+  bits_of_word : bits_of word ≡ with_tail (bits_of octets ++ bits_of crc) ++ replicate 28 0
   bits_of_word =
       ap bits_of is
-      ∙ flat_map-append octet_bits (octets ++ parity) (replicate 4 0)
-      ∙ ap (λ bits. bits ++ replicate 32 0) (flat_map-append octet_bits octets parity)
-      ∙ sym (append_assoc (bits_of octets ++ bits_of parity) (replicate 4 0) (replicate 28 0))
+      ∙ flat_map-append octet_bits (octets ++ crc) (replicate 4 0)
+      ∙ ap (λ bits. bits ++ replicate 32 0) (flat_map-append octet_bits octets crc)
+      ∙ sym (append_assoc (bits_of octets ++ bits_of crc) (replicate 4 0) (replicate 28 0))
 
-  pub ArePacked-block : (packed : List ℕ) → IsXcchWord (bits_of octets ++ bits_of parity) → ArePacked 64 (coded (bits_of word)) packed →
-      ArePacked 57 (coded (with_tail (bits_of octets ++ bits_of parity))) packed
+  pub ArePacked-block : (packed : List ℕ) → IsXcchWord (bits_of octets ++ bits_of crc) → ArePacked 64 (encoding (bits_of word)) packed →
+      ArePacked 57 (encoding (with_tail (bits_of octets ++ bits_of crc))) packed
   ArePacked-block packed holds are =
-      let u = with_tail (bits_of octets ++ bits_of parity) in
-      let long : 4 * 57 ≤ length u = omega (arith, holds.count, length-append (bits_of octets ++ bits_of parity) (replicate 4 0)) in
-      ArePacked-front 64 57 u (replicate 28 0) packed (omega arith) long (subst (λ w. ArePacked 64 (coded w) packed) bits_of_word are)
+      let u = with_tail (bits_of octets ++ bits_of crc) in
+      let long : 4 * 57 ≤ length u = omega (arith, holds.count, length-append (bits_of octets ++ bits_of crc) (replicate 4 0)) in
+      ArePacked-front 64 57 u (replicate 28 0) packed (omega arith) long (subst (λ w. ArePacked 64 (encoding w) packed) bits_of_word are)

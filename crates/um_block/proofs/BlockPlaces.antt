@@ -1,4 +1,4 @@
--- Where the coded bits of a block stand among the 592 places of its bursts, and how many of them few places can spoil.
+-- Each coded bit has a position of its own among the 592 bits of four bursts, so n damaged bits make at most n coded bits wrong.
 use Rattle.std.proofs.Common.{◌≡◌, ◌≢◌, refl, sym, ◌∙◌, ap, subst, arith, ℕ, zero, suc, ◌+◌, ◌-◌, ◌*◌}
 use Rattle.std.proofs.Common.{◌<◌, ◌≤◌, Bool, true, false, ◌||◌, if◌then◌else◌, nat_eq, ℤ, pos, List, [], ◌∷◌}
 use Rattle.std.proofs.Common.{◌++◌, map, length, get_or, drop, Contains}
@@ -16,19 +16,19 @@ use Rattle.interleave.specs.Bursts.{IsInterleaved}
 use Rattle.interleave.proofs.Lemmas.{burst_of-below, halves-at, burst_place-lower, burst_place-upper, burst_place-below}
 use Rattle.interleave.proofs.Lemmas.{burst_place-differs}
 use Rattle.um_block.specs.Sent.{IsCodedBlock, IsSentBlock}
-use Rattle.um_block.specs.Received.{soft_value, softened, coded_places, end_to_end}
+use Rattle.um_block.specs.Received.{soft_value, soft_bits, coded_places, end_to_end}
 use Rattle.um_block.proofs.Words.{coded_block_bits}
 use Rattle.um_block.proofs.SentOnce.{one_coded_block}
 use Rattle.um_block.proofs.SentShapes.{sent_block_bits}
 use Rattle.um_block.proofs.CleanBursts.{halves, parts_of_bursts}
 use Rattle.um_block.proofs.CleanRestoring.{clean_gathered}
 
--- ---- places
+-- ---- positions
 
 abbrev pub IsBurst : {X : Type 0} → List X → Type 0
 IsBurst burst = length burst ≡ 148
 
--- place i of burst b, end to end with the others
+-- bit i of burst b among the concatenated bursts
 end_to_end-at : {X : Type 0} (bursts : List (List X)) (b i : ℕ) (d : X) → All IsBurst bursts → b < length bursts → i < 148 →
     get_or (end_to_end bursts) (148 * b + i) d ≡ get_or (get_or bursts b []) i d
 end_to_end-at [] b i d each hb hi = absurd (omega arith)
@@ -46,7 +46,7 @@ end_to_end-at (burst ∷ bursts) (suc b) i d each hb hi =
 range-at : {X : Type 0} (s : List X) (i j k : ℕ) (d : X) → k < j - i → get_or (slice_range s i j) k d ≡ get_or s (i + k) d
 range-at s i j k d h = get_or-take (j - i) (drop i s) k d h ∙ get_or-drop i s k d
 
--- coded bit k has the value at its place
+-- coded bit k is at its position among the 592 bits
 pub at_burst_place : {X : Type 0} (bursts : List (List X)) (c : List X) (k : ℕ) (d : X) → length bursts ≡ 4 → All IsBurst bursts →
     IsInterleaved c (map halves bursts) → k < 456 → get_or c k d ≡ get_or (end_to_end bursts) (burst_place k) d
 at_burst_place bursts c k d four each gathered h =
@@ -90,7 +90,7 @@ pub received_place : (bursts : List (List ℤ)) (soft : List ℤ) → length bur
     (k : ℕ) (d : ℤ) → k < 456 → get_or soft k d ≡ get_or (end_to_end bursts) (burst_place k) d
 received_place bursts soft four each gathered k d h = at_burst_place bursts soft k d four each gathered h
 
--- ---- wrong places
+-- ---- wrong bits
 
 unfoldable pub listed : ℕ → List ℕ → Bool
 listed q [] = false
@@ -100,11 +100,11 @@ or_false : (a b : Bool) → (a || b) ≡ false → (a ≡ false) × (b ≡ false
 or_false true b h = absurd (false≢true (sym h))
 or_false false b h = (refl, h)
 
--- whether the place of coded bit k is listed
+-- whether the position of coded bit k is in the list
 spoilt : List ℕ → ℕ → Bool
 spoilt places k = listed (burst_place k) places
 
--- how many of n coded bits from a on pass
+-- the number of indices from a to a + n - 1 that pass a test
 hits : (ℕ → Bool) → ℕ → ℕ → ℕ
 hits test a zero = 0
 hits test a (suc n) = (if test a then 1 else 0) + hits test (a + 1) n
@@ -139,7 +139,7 @@ wrong-hits (p ∷ soft) (x ∷ c) places a e bits same =
     same (suc k) (omega arith) (ap (spoilt places) (sym next) ∙ h)) in
     at_most_hit (is_wrong p x) (spoilt places a) (wrong_places soft c) (hits (spoilt places) (a + 1) (length soft)) here rest
 
--- a place is that of one coded bit at most
+-- whether coded bit k is at position p; at most one is
 stands_at : ℕ → ℕ → Bool
 stands_at p k = nat_eq (burst_place k) p
 
@@ -185,7 +185,7 @@ unfolding spoilt listed
 few_hits [] a n h = omega (arith, no_hits (spoilt []) a n (λ k low high. refl))
 few_hits (p ∷ ps) a n h = omega (arith, one_hit p a n h, either_hits p ps a n, few_hits ps a n h)
 
--- values that are sure for all bits but those of listed places have no more wrong places than are listed
+-- soft bits that are those of the coded bits except at the listed positions: at most as many are wrong
 pub few_spoilt : (soft : List ℤ) (c places : List ℕ) → length soft ≡ 456 → length c ≡ 456 → AllBits c →
     ((k : ℕ) → k < 456 → listed (burst_place k) places ≡ false → get_or soft k (pos 0) ≡ soft_value (get_or c k 0)) →
     wrong_places soft c ≤ length places
@@ -195,7 +195,7 @@ few_spoilt soft c places count long bits same =
     (λ k lt h. let e : k ≡ 0 + k = omega arith in same k (omega arith) (ap (λ i. listed (burst_place i) places) e ∙ h)) in
     omega (arith, most, few_hits places 0 (length soft) (omega arith))
 
--- a place that is not listed is none of the places
+-- a position that fails the test is not in the list
 not_among : (q : ℕ) (places : List ℕ) → listed q places ≡ false → Contains places q → ⊥
 unfolding listed
 not_among q [] h (n, lt, e) = omega arith
@@ -207,16 +207,16 @@ not_among q (p ∷ ps) h (zero, lt, e) =
     false≢true (sym apart ∙ found)
 not_among q (p ∷ ps) h (suc n, lt, e) = not_among q ps (or_false (nat_eq q p) (listed q ps) h).1 (n, omega arith, e)
 
--- bursts that are as they were sent but at these places
+-- bursts received as sent except at the listed positions
 pub few_wrong : (octets c : List ℕ) (tsc : ℕ) (sent : List (List ℕ)) (bursts : List (List ℤ)) (soft : List ℤ) (places : List ℕ) →
     IsSentBlock octets tsc sent → IsCodedBlock octets c → length bursts ≡ 4 → All (λ burst. length burst ≡ 148) bursts →
     IsInterleaved soft (map coded_places bursts) →
     ((q : ℕ) → q < 592 → (Contains places q → ⊥) →
-    get_or (end_to_end bursts) q (pos 0) ≡ get_or (end_to_end (map softened sent)) q (pos 0)) → wrong_places soft c ≤ length places
+    get_or (end_to_end bursts) q (pos 0) ≡ get_or (end_to_end (map soft_bits sent)) q (pos 0)) → wrong_places soft c ≤ length places
 few_wrong octets c tsc sent bursts soft places s code four each gathered same =
     let bits = coded_block_bits octets c code in
-    let clean : IsInterleaved (softened c) (map coded_places (map softened sent)) =
-    subst (λ x. IsInterleaved (softened x) (map coded_places (map softened sent))) (one_coded_block octets s.coded_bits c s.code code)
+    let clean : IsInterleaved (soft_bits c) (map coded_places (map soft_bits sent)) =
+    subst (λ x. IsInterleaved (soft_bits x) (map coded_places (map soft_bits sent))) (one_coded_block octets s.coded_bits c s.code code)
     (clean_gathered octets tsc sent s) in
     let shape = sent_block_bits octets tsc sent s in
     few_spoilt soft c places gathered.coded_count bits.many bits.each
@@ -224,11 +224,11 @@ few_wrong octets c tsc sent bursts soft places s code four each gathered same =
     let q = burst_place k in
     received_place bursts soft four each gathered k (pos 0) h
     ∙ same q (burst_place-below k) (not_among q places unlisted)
-    ∙ sym (received_place (map softened sent) (softened c) (length-map sent softened ∙ shape.0)
+    ∙ sym (received_place (map soft_bits sent) (soft_bits c) (length-map sent soft_bits ∙ shape.0)
     (softened_bursts sent (λ b d lt. (shape.1 b d lt).many)) clean k (pos 0) h)
     ∙ get_or-map soft_value c k 0 (pos 0) (omega (arith, bits.many)))
   where
-    softened_bursts : (xs : List (List ℕ)) → All IsBurst xs → All (λ burst. length burst ≡ 148) (map softened xs)
+    softened_bursts : (xs : List (List ℕ)) → All IsBurst xs → All (λ burst. length burst ≡ 148) (map soft_bits xs)
     softened_bursts xs each b d h =
-        let within : b < length xs = subst (λ n. b < n) (length-map xs softened) h in
-        ap length (get_or-map softened xs b [] d within) ∙ length-map (get_or xs b []) soft_value ∙ each b [] within
+        let within : b < length xs = subst (λ n. b < n) (length-map xs soft_bits) h in
+        ap length (get_or-map soft_bits xs b [] d within) ∙ length-map (get_or xs b []) soft_value ∙ each b [] within

@@ -1,4 +1,4 @@
--- The parts of a burst that comes as it was sent.
+-- The parts of a burst that is received as it was sent.
 use Rattle.std.proofs.Common.{◌≡◌, ◌⊎◌, inl, inr, ℕ, zero, suc, ◌-◌, ◌<◌, ◌≤◌, Bool, true, false, ◌||◌}
 use Rattle.std.proofs.Common.{eqb, int_lt, ℤ, List, [], ◌∷◌, ◌++◌, map, take, drop, length, get_or, ap, ap₂, sym, ◌∙◌}
 use Rattle.std.proofs.Common.{refl, arith, append_assoc, length-append, zero-add}
@@ -18,28 +18,28 @@ use Rattle.burst_map.specs.Tails.{tail_bits}
 use Rattle.burst_map.specs.NormalBurst as N
 use Rattle.burst_map.specs.AccessBurst as A
 use Rattle.burst_map.specs.SyncBurst as S
-use Rattle.um_block.specs.Received.{soft_value, softened, coded_places}
+use Rattle.um_block.specs.Received.{soft_value, soft_bits, coded_places}
 
 -- ---- parts
 
--- the part behind the first i places
+-- the slice between a front and a back
 pub range_at : {X : Type 0} (front part back : List X) (i j : ℕ) → length front ≡ i → length part ≡ j - i →
     slice_range (front ++ (part ++ back)) i j ≡ part
 range_at front part back i j hf hp = ap (take (j - i)) (drop_at front (part ++ back) i hf) ∙ take_at part back (j - i) hp
 
-pub softened-range : (bits : List ℕ) (i j : ℕ) → slice_range (softened bits) i j ≡ softened (slice_range bits i j)
+pub softened-range : (bits : List ℕ) (i j : ℕ) → slice_range (soft_bits bits) i j ≡ soft_bits (slice_range bits i j)
 softened-range bits i j = ap (take (j - i)) (drop-map soft_value i bits) ∙ take-map soft_value (j - i) (drop i bits)
 
--- a part of a burst, which the burst has between two others
+-- the same for a burst given as three parts
 part_at : (burst front part back : List ℕ) (i j : ℕ) → burst ≡ front ++ (part ++ back) → length front ≡ i → length part ≡ j - i →
     slice_range burst i j ≡ part
 part_at burst front part back i j whole hf hp = ap (λ b. slice_range b i j) whole ∙ range_at front part back i j hf hp
 
--- the same part of the softened burst
+-- the same slice of the burst as soft bits
 softened_part : (burst front part back : List ℕ) (i j : ℕ) → burst ≡ front ++ (part ++ back) → length front ≡ i → length part ≡ j - i →
-    slice_range (softened burst) i j ≡ softened part
+    slice_range (soft_bits burst) i j ≡ soft_bits part
 softened_part burst front part back i j whole hf hp =
-    softened-range burst i j ∙ ap softened (part_at burst front part back i j whole hf hp)
+    softened-range burst i j ∙ ap soft_bits (part_at burst front part back i j whole hf hp)
 
 module _ (a b c d e f g : List ℕ) where
   second_of_seven : a ++ b ++ c ++ d ++ e ++ f ++ g ≡ a ++ (b ++ (c ++ d ++ e ++ f ++ g))
@@ -85,11 +85,11 @@ module _ (first second : List ℕ) (tsc : ℕ) (known : tsc ≤ 7) (hf : length 
         length-append tail_bits first,
       )) hs
 
--- the 114 coded places of a burst
+-- the 114 coded bits of a normal burst
 abbrev pub halves : {X : Type 0} → List X → List X
 halves burst = slice_range burst 3 60 ++ slice_range burst 88 145
 
--- the burst of 114 coded bits
+-- the normal burst of 114 coded bits
 abbrev pub burst_of_part : ℕ → List ℕ → List ℕ
 burst_of_part tsc part = N.normal_burst (take 57 part) (drop 57 part) tsc
 
@@ -107,10 +107,10 @@ module _ (part : List ℕ) (tsc : ℕ) (known : tsc ≤ 7) (count : length part 
       (normal_second (take 57 part) (drop 57 part) tsc known front_half back_half)
       ∙ take-append-drop 57 part
 
-  clean_training : N.training (softened (burst_of_part tsc part)) ≡ softened (training_sequence tsc)
+  clean_training : N.training (soft_bits (burst_of_part tsc part)) ≡ soft_bits (training_sequence tsc)
   clean_training =
       softened-range (burst_of_part tsc part) 61 87
-      ∙ ap softened (normal_training (take 57 part) (drop 57 part) tsc known front_half back_half)
+      ∙ ap soft_bits (normal_training (take 57 part) (drop 57 part) tsc known front_half back_half)
 
 abbrev IsPart : List ℕ → Type 0
 IsPart part = length part ≡ 114
@@ -121,8 +121,8 @@ parts_of_bursts (part ∷ parts) tsc known each =
     ap₂ (λ x y. x ∷ y) (part_halves part tsc known (All-head IsPart part parts each))
     (parts_of_bursts parts tsc known (All-tail IsPart part parts each))
 
--- the coded places of softened bursts
-pub softened_halves : (bursts : List (List ℕ)) → map coded_places (map softened bursts) ≡ map softened (map halves bursts)
+-- the coded soft bits of bursts are the soft bits of their coded bits
+pub softened_halves : (bursts : List (List ℕ)) → map coded_places (map soft_bits bursts) ≡ map soft_bits (map halves bursts)
 softened_halves [] = refl
 softened_halves (burst ∷ bursts) =
     ap₂ (λ x y. x ∷ y)
@@ -131,26 +131,26 @@ softened_halves (burst ∷ bursts) =
     (softened_halves bursts)
 
 pub clean_training_of : (parts : List (List ℕ)) (tsc b : ℕ) → tsc ≤ 7 → All IsPart parts → b < length parts →
-    N.training (get_or (map softened (map (burst_of_part tsc) parts)) b []) ≡ softened (training_sequence tsc)
+    N.training (get_or (map soft_bits (map (burst_of_part tsc) parts)) b []) ≡ soft_bits (training_sequence tsc)
 clean_training_of [] tsc b known each h = absurd (omega arith)
 clean_training_of (part ∷ parts) tsc zero known each h = clean_training part tsc known (All-head IsPart part parts each)
 clean_training_of (part ∷ parts) tsc (suc b) known each h =
     clean_training_of parts tsc b known (All-tail IsPart part parts each) (omega arith)
 
--- ---- the training places
+-- ---- training sequences
 
--- no place of a sequence is wrong against itself
-pub wrong_places-own : (bits : List ℕ) → AllBits bits → wrong_places (softened bits) bits ≡ 0
+-- no soft bit of a sequence is wrong for that sequence
+pub wrong_places-own : (bits : List ℕ) → AllBits bits → wrong_places (soft_bits bits) bits ≡ 0
 wrong_places-own [] all = refl
 wrong_places-own (zero ∷ bits) all = zero-add _ ∙ wrong_places-own bits (All-tail IsBit 0 bits all)
 wrong_places-own (suc zero ∷ bits) all = zero-add _ ∙ wrong_places-own bits (All-tail IsBit 1 bits all)
 wrong_places-own (suc (suc x) ∷ bits) all =
     let head = All-head IsBit (suc (suc x)) bits all in absurd (omega arith)
 
--- the sum of the correlations of four training parts that come as they were sent
+-- the total correlation of four midambles received as sent with any training sequence
 total : ℕ → ℕ → ℤ
 total sent tsc =
-    let soft = softened (training_sequence sent) in
+    let soft = soft_bits (training_sequence sent) in
     total_correlation soft soft soft soft tsc
 
 abbrev falls_behind : ℕ → ℕ → Bool
@@ -165,7 +165,7 @@ either_true true y h = inl refl
 either_true false y h = inr h
 
 pub best_own : (sent : ℕ) → sent ≤ 7 →
-    let soft = softened (training_sequence sent) in IsFirstGreatest (total_correlation soft soft soft soft) 7 sent
+    let soft = soft_bits (training_sequence sent) in IsFirstGreatest (total_correlation soft soft soft soft) 7 sent
 unfolding total
 best_own sent known = record {
   within = known;
@@ -181,12 +181,12 @@ best_own sent known = record {
 -- ---- the access burst and the synchronisation burst
 
 module _ (c : List ℕ) (count : length c ≡ 36) where
-  pub clean_body : A.body (softened (A.access_burst c)) ≡ softened c
+  pub clean_body : A.body (soft_bits (A.access_burst c)) ≡ soft_bits c
   clean_body =
       softened_part (A.access_burst c) (A.extended_tail_bits ++ A.access_sequence) c tail_bits 49 85
       (append_assoc (A.extended_tail_bits ++ A.access_sequence) c tail_bits) refl count
 
-  pub clean_access_training : A.training (softened (A.access_burst c)) ≡ softened A.access_sequence
+  pub clean_access_training : A.training (soft_bits (A.access_burst c)) ≡ soft_bits A.access_sequence
   clean_access_training =
       softened_part (A.access_burst c) A.extended_tail_bits A.access_sequence (c ++ tail_bits) 8 49
       (append_assoc (A.extended_tail_bits ++ A.access_sequence) c tail_bits) refl refl
@@ -202,8 +202,8 @@ module _ (a b c d e : List ℕ) where
   fourth_of_five = simp append_assoc
 
 module _ (first second : List ℕ) (hf : length first ≡ 39) (hs : length second ≡ 39) where
-  pub clean_halves : S.first_half (softened (S.sync_burst first second)) ++ S.second_half (softened (S.sync_burst first second)) ≡
-      softened (first ++ second)
+  pub clean_halves : S.first_half (soft_bits (S.sync_burst first second)) ++ S.second_half (soft_bits (S.sync_burst first second)) ≡
+      soft_bits (first ++ second)
   clean_halves =
       ap₂ (λ x y. x ++ y)
       (softened_part (S.sync_burst first second) tail_bits first _ 3 42
@@ -213,7 +213,7 @@ module _ (first second : List ℕ) (hf : length first ≡ 39) (hs : length secon
       (omega (arith, length-append (tail_bits ++ first) S.sync_sequence, length-append tail_bits first)) hs)
       ∙ sym (map-append soft_value first second)
 
-  pub clean_sync_training : S.training (softened (S.sync_burst first second)) ≡ softened S.sync_sequence
+  pub clean_sync_training : S.training (soft_bits (S.sync_burst first second)) ≡ soft_bits S.sync_sequence
   clean_sync_training =
       softened_part (S.sync_burst first second) (tail_bits ++ first) S.sync_sequence (second ++ tail_bits) 42 106
       (third_of_five tail_bits first S.sync_sequence second tail_bits) (omega (arith, length-append tail_bits first)) refl

@@ -1,4 +1,4 @@
--- A coded list that comes as it was sent is the most likely one: every other differs from it, and so agrees less.
+-- Coded bits received as sent decode to their information list: every other list has different coded bits, and so a smaller path metric.
 use Rattle.std.proofs.Common.{◌≡◌, ◌≢◌, ◌⊎◌, inl, inr, ℕ, zero, suc, ◌+◌, ◌*◌, ◌/◌, ◌%◌, ◌≤◌}
 use Rattle.std.proofs.Common.{ℤ, pos, negsuc, ◌<ℤ◌, List, [], ◌∷◌, length, subst, ap, ap₂, sym, ◌∙◌, refl, arith}
 use Rattle.std.proofs.lemmas.Int.{ints}
@@ -6,13 +6,13 @@ use Rattle.std.proofs.lemmas.Bool.{cases_eq}
 use Rattle.std.proofs.lemmas.List.{length-map}
 use Rattle.std.proofs.lemmas.List.Elements.{All-head, All-tail}
 use Rattle.bit_blocks.specs.Bits.{IsBit, AllBits}
-use Rattle.conv_code.specs.Code.{coded, IsInformation}
+use Rattle.conv_code.specs.Code.{encoding, IsInformation}
 use Rattle.conv_code.proofs.Lemmas.{AllBits-coded, length-coded, coded_from_start, IsMostLikely-only}
 use Rattle.conv_code.specs.Likelihood.{agreement, likelihood, IsMostLikely}
 use Rattle.conv_code.specs.States.{next, first_bit, coded_from}
-use Rattle.um_block.specs.Received.{soft_value, softened}
+use Rattle.um_block.specs.Received.{soft_value, soft_bits}
 
--- a sure value counts 127 for its own bit, and -127 for the other
+-- a soft bit of full confidence adds 127 for its own bit, and -127 for the other
 agreement-own : (x : ℕ) → x ≤ 1 → agreement (soft_value x) x ≡ pos 127
 agreement-own zero h = refl
 agreement-own (suc zero) h = refl
@@ -27,16 +27,16 @@ agreement-other (suc (suc x)) y hx hy ne = absurd (omega arith)
 agreement-other zero (suc (suc y)) hx hy ne = absurd (omega arith)
 agreement-other (suc zero) (suc (suc y)) hx hy ne = absurd (omega arith)
 
-likelihood-own : (c : List ℕ) → AllBits c → likelihood (softened c) c ≡ pos (127 * length c)
+likelihood-own : (c : List ℕ) → AllBits c → likelihood (soft_bits c) c ≡ pos (127 * length c)
 likelihood-own [] bits = refl
 likelihood-own (x ∷ c) bits =
     let here = agreement-own x (All-head IsBit x c bits) in
     let rest = likelihood-own c (All-tail IsBit x c bits) in
     omega (arith, ints, here, rest)
 
--- bits are the same as those of the sure values, or agree less
+-- other bits than those of the soft bits have a smaller path metric
 agrees_less : (c d : List ℕ) → AllBits c → AllBits d → length c ≡ length d →
-    (c ≡ d) ⊎ (likelihood (softened c) d <ℤ pos (127 * length c))
+    (c ≡ d) ⊎ (likelihood (soft_bits c) d <ℤ pos (127 * length c))
 agrees_less [] [] bc bd e = inl refl
 agrees_less [] (y ∷ d) bc bd e = absurd (omega arith)
 agrees_less (x ∷ c) [] bc bd e = absurd (omega arith)
@@ -57,7 +57,7 @@ agrees_less (x ∷ c) (y ∷ d) bc bd e =
           let here = agreement-other x y hx hy other in
           elim rest [
             | inl all ↦
-                let own : likelihood (softened c) d ≡ pos (127 * length c) = ap (likelihood (softened c)) (sym all)
+                let own : likelihood (soft_bits c) d ≡ pos (127 * length c) = ap (likelihood (soft_bits c)) (sym all)
                 ∙ likelihood-own c bc' in
                 inr (omega (arith, ints, here, own))
             | inr less ↦ inr (omega (arith, ints, here, less))
@@ -67,7 +67,7 @@ agrees_less (x ∷ c) (y ∷ d) bc bd e =
 same_bit : (x y a b : ℕ) → x ≤ 1 → y ≤ 1 → (x + a + b) % 2 ≡ (y + a + b) % 2 → x ≡ y
 same_bit x y a b hx hy e = omega arith
 
--- from one state two lists have different coded bits
+-- from one state, different lists have different coded bits
 same_information : (state : ℕ) (u v : List ℕ) → AllBits u → AllBits v → length u ≡ length v →
     coded_from state u ≡ coded_from state v → u ≡ v
 same_information state [] [] bu bv e same = refl
@@ -83,35 +83,35 @@ same_information state (x ∷ u) (y ∷ v) bu bv e same =
     ap₂ (λ z w. z ∷ w) head
     (same_information (next state x) u v (All-tail IsBit x u bu) (All-tail IsBit y v bv) e' tail')
 
--- two information lists of one length have different coded lists
-pub one_information : (u v : List ℕ) → AllBits u → AllBits v → length u ≡ length v → coded u ≡ coded v → u ≡ v
+-- different information lists have different coded bits
+pub one_information : (u v : List ℕ) → AllBits u → AllBits v → length u ≡ length v → encoding u ≡ encoding v → u ≡ v
 one_information u v bu bv e same =
     same_information 0 u v bu bv e (sym (coded_from_start u bu) ∙ same ∙ coded_from_start v bv)
 
-clean_most_likely : (w : List ℕ) → IsInformation w → IsMostLikely (softened (coded w)) w
+clean_most_likely : (w : List ℕ) → IsInformation w → IsMostLikely (soft_bits (encoding w)) w
 clean_most_likely w information = record {
   information = information;
-  count = length-map (coded w) soft_value ∙ length-coded w;
+  count = length-map (encoding w) soft_value ∙ length-coded w;
   others = λ v other count ne.
-      let long : length (coded w) ≡ length (coded v) = length-coded w ∙ ap (λ n. 2 * n) (sym count) ∙ sym (length-coded v) in
-      elim (agrees_less (coded w) (coded v) (AllBits-coded w) (AllBits-coded v) long) [
+      let long : length (encoding w) ≡ length (encoding v) = length-coded w ∙ ap (λ n. 2 * n) (sym count) ∙ sym (length-coded v) in
+      elim (agrees_less (encoding w) (encoding v) (AllBits-coded w) (AllBits-coded v) long) [
         | inl same ↦ absurd (ne (sym (one_information w v information.bits other.bits (sym count) same)))
-        | inr less ↦ let own = likelihood-own (coded w) (AllBits-coded w) in inl (omega (arith, ints, own, less))
+        | inr less ↦ let own = likelihood-own (encoding w) (AllBits-coded w) in inl (omega (arith, ints, own, less))
       ];
 }
 
--- the most likely list of sure values is the one that was sent, and each of its coded bits counts 127
+-- v is the information list w that was sent, and its path metric is 127 for each coded bit
 pub record IsHeard (soft : List ℤ) (w v : List ℕ) : Type 0 where
   pub same : v ≡ w
-  pub value : likelihood soft (coded v) ≡ pos (127 * (2 * length w))
+  pub value : likelihood soft (encoding v) ≡ pos (127 * (2 * length w))
 
-pub heard : (soft : List ℤ) (w v : List ℕ) → IsInformation w → soft ≡ softened (coded w) → IsMostLikely soft v → IsHeard soft w v
+pub heard : (soft : List ℤ) (w v : List ℕ) → IsInformation w → soft ≡ soft_bits (encoding w) → IsMostLikely soft v → IsHeard soft w v
 heard soft w v information sure best =
     let same : v ≡ w =
-    IsMostLikely-only (softened (coded w)) w v (clean_most_likely w information) (subst (λ s. IsMostLikely s v) sure best) in
+    IsMostLikely-only (soft_bits (encoding w)) w v (clean_most_likely w information) (subst (λ s. IsMostLikely s v) sure best) in
     record {
       same = same;
-      value = ap₂ (λ s u. likelihood s (coded u)) sure same
-          ∙ likelihood-own (coded w) (AllBits-coded w)
+      value = ap₂ (λ s u. likelihood s (encoding u)) sure same
+          ∙ likelihood-own (encoding w) (AllBits-coded w)
           ∙ ap (λ n. pos (127 * n)) (length-coded w);
     }

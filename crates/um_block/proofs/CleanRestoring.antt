@@ -1,4 +1,4 @@
--- A block or a burst that comes as it was sent is restored.
+-- A block or burst received as it was sent is accepted, with the greatest possible metric and no wrong training bit.
 use Rattle.std.proofs.Common.{◌≡◌, ℕ, ◌+◌, ◌*◌, ◌<◌, pos, Option, Some, None, List, map, take, drop, length, subst}
 use Rattle.std.proofs.Common.{ap, ap₂, sym, ◌∙◌, refl, arith, lit<}
 use Rattle.std.specs.Prelude.{MatchOption}
@@ -7,7 +7,7 @@ use Rattle.bit_blocks.specs.Octets.{bits_of, octets_of}
 use Rattle.bit_blocks.specs.SoftValues.{wrong_places}
 use Rattle.bit_blocks.proofs.Lemmas.{AllBits-table, octets_of-bits_of}
 use Rattle.fire_code.specs.Words.{IsXcchWord, IsRachWord, IsSchWord}
-use Rattle.conv_code.specs.Code.{coded}
+use Rattle.conv_code.specs.Code.{encoding}
 use Rattle.interleave.specs.Bursts.{IsInterleaved}
 use Rattle.interleave.proofs.Lemmas.{same_coded, IsInterleaved-map}
 use Rattle.training_seq.specs.Choice.{IsFirstGreatest, total_correlation, total_wrong_places}
@@ -16,7 +16,7 @@ use Rattle.training_seq.proofs.Lemmas.{AllBits-training_sequence, one_first_grea
 use Rattle.burst_map.specs.AccessBurst as A
 use Rattle.burst_map.specs.SyncBurst as S
 use Rattle.um_block.specs.Sent.{Carries, IsSentBlock, IsSentAccess, IsSentSync}
-use Rattle.um_block.specs.Received.{soft_value, softened, coded_places, access_places, sync_places, training_of, IsReceivedBlock}
+use Rattle.um_block.specs.Received.{soft_value, soft_bits, coded_places, access_places, sync_places, training_of, IsReceivedBlock}
 use Rattle.um_block.specs.Received.{IsReceivedAccess, IsReceivedSync}
 use Rattle.um_block.specs.Restored.{IsCleanBlock, IsCleanAccess, IsCleanSync}
 use Rattle.um_block.specs.declared.received.Received.{Received}
@@ -27,7 +27,7 @@ use Rattle.um_block.proofs.CleanCodewords.{IsHeard, heard}
 use Rattle.um_block.proofs.CleanBursts.{halves, parts_of_bursts, softened_halves, clean_training_of, wrong_places-own, best_own}
 use Rattle.um_block.proofs.CleanBursts.{clean_body, clean_access_training, clean_halves, clean_sync_training}
 
--- what is accepted of a list that carries information
+-- a word whose CRC holds is accepted with its information
 pub accepted_of : {X : Type 0} (IsWord : List ℕ → Type 0) (answer : List ℕ → X) (n k : ℕ) (u v d : List ℕ) (x : X) (a : Option X) →
     Carried IsWord n k u d → v ≡ u → answer d ≡ x →
     MatchOption a (¬ IsWord (take n v)) (λ y. IsWord (take n v) × (y ≡ answer (take k v))) → a ≡ Some x
@@ -36,37 +36,37 @@ accepted_of IsWord answer n k u v d x (Some y) c same is h = ap Some (h.1 ∙ ap
 
 -- ---- a block
 
--- the soft values of a block that comes as it was sent are those of its coded bits
+-- the deinterleaved soft bits of a block received as sent are those of its coded bits
 pub clean_gathered : (octets : List ℕ) (tsc : ℕ) (sent : List (List ℕ)) (s : IsSentBlock octets tsc sent) →
-    IsInterleaved (softened s.coded_bits) (map coded_places (map softened sent))
+    IsInterleaved (soft_bits s.coded_bits) (map coded_places (map soft_bits sent))
 clean_gathered octets tsc sent s =
-    let bursts : map coded_places (map softened sent) ≡ map softened s.parts =
-    softened_halves sent ∙ ap (λ x. map softened (map halves x)) s.layout
-    ∙ ap (map softened) (parts_of_bursts s.parts tsc s.known s.spread.each_count) in
-    subst (IsInterleaved (softened s.coded_bits)) (sym bursts) (IsInterleaved-map soft_value 0 s.coded_bits s.parts s.spread)
+    let bursts : map coded_places (map soft_bits sent) ≡ map soft_bits s.parts =
+    softened_halves sent ∙ ap (λ x. map soft_bits (map halves x)) s.layout
+    ∙ ap (map soft_bits) (parts_of_bursts s.parts tsc s.known s.spread.each_count) in
+    subst (IsInterleaved (soft_bits s.coded_bits)) (sym bursts) (IsInterleaved-map soft_value 0 s.coded_bits s.parts s.spread)
 
 module _ (octets : List ℕ) (tsc : ℕ) (sent : List (List ℕ)) (r : Received)
-    (s : IsSentBlock octets tsc sent) (h : IsReceivedBlock (map softened sent) r) where
+    (s : IsSentBlock octets tsc sent) (h : IsReceivedBlock (map soft_bits sent) r) where
   carried : Carried IsXcchWord 224 184 s.code.u (bits_of octets)
   carried = block_carried octets s.coded_bits s.code
 
-  soft_values : h.soft ≡ softened (coded s.code.u)
+  soft_values : h.soft ≡ soft_bits (encoding s.code.u)
   soft_values =
-      same_coded h.soft (softened s.coded_bits) (map coded_places (map softened sent)) h.gathered (clean_gathered octets tsc sent s)
-      ∙ ap softened s.code.code
+      same_coded h.soft (soft_bits s.coded_bits) (map coded_places (map soft_bits sent)) h.gathered (clean_gathered octets tsc sent s)
+      ∙ ap soft_bits s.code.code
 
   is_heard : IsHeard h.soft s.code.u r.u
   is_heard = heard h.soft s.code.u r.u carried.information soft_values h.best
 
-  training : (b : ℕ) → b < 4 → training_of (map softened sent) b ≡ softened (training_sequence tsc)
+  training : (b : ℕ) → b < 4 → training_of (map soft_bits sent) b ≡ soft_bits (training_sequence tsc)
   training b lt =
-      ap (λ x. training_of (map softened x) b) s.layout
+      ap (λ x. training_of (map soft_bits x) b) s.layout
       ∙ clean_training_of s.parts tsc b s.known s.spread.each_count (subst (λ n. b < n) (sym s.spread.burst_count) lt)
 
   sequence : r.tsc ≡ tsc
   sequence =
-      let bursts = map softened sent in
-      let own = softened (training_sequence tsc) in
+      let bursts = map soft_bits sent in
+      let own = soft_bits (training_sequence tsc) in
       let parts : total_correlation (training_of bursts 0) (training_of bursts 1) (training_of bursts 2) (training_of bursts 3)
       ≡ total_correlation own own own own =
       ap₂ (λ a b. total_correlation a b (training_of bursts 2) (training_of bursts 3)) (training 0 (lit< tt)) (training 1 (lit< tt))
@@ -76,8 +76,8 @@ module _ (octets : List ℕ) (tsc : ℕ) (sent : List (List ℕ)) (r : Received)
 
   wrong : r.wrong_training ≡ 0
   wrong =
-      let bursts = map softened sent in
-      let own = softened (training_sequence tsc) in
+      let bursts = map soft_bits sent in
+      let own = soft_bits (training_sequence tsc) in
       let none = wrong_places-own (training_sequence tsc) (AllBits-training_sequence tsc s.known) in
       h.wrong_training
       ∙ ap₂ (λ a b. total_wrong_places a b (training_of bursts 2) (training_of bursts 3) r.tsc) (training 0 (lit< tt))
@@ -99,17 +99,17 @@ module _ (octets : List ℕ) (tsc : ℕ) (sent : List (List ℕ)) (r : Received)
 -- ---- the other bursts
 
 pub clean_access : (info bsic sent : List ℕ) (r : ReceivedAccess) → IsSentAccess info bsic sent →
-    IsReceivedAccess (softened sent) bsic r → IsCleanAccess info bsic r
+    IsReceivedAccess (soft_bits sent) bsic r → IsCleanAccess info bsic r
 clean_access info bsic sent r s h =
     let c = s.coded_bits in
     let IsWord : List ℕ → Type 0 = λ w. IsRachWord w bsic in
     let carried = rach_carried bsic s.code.u info s.code.count s.code.information in
     let count = (coded_access_bits info bsic c s.code).many in
-    let soft : access_places (softened sent) ≡ softened (coded s.code.u) =
-    ap (λ x. access_places (softened x)) s.burst ∙ clean_body c count ∙ ap softened s.code.code in
-    let training : A.training (softened sent) ≡ softened A.access_sequence =
-    ap (λ x. A.training (softened x)) s.burst ∙ clean_access_training c count in
-    let best = heard (access_places (softened sent)) s.code.u r.u carried.information soft h.best in
+    let soft : access_places (soft_bits sent) ≡ soft_bits (encoding s.code.u) =
+    ap (λ x. access_places (soft_bits x)) s.burst ∙ clean_body c count ∙ ap soft_bits s.code.code in
+    let training : A.training (soft_bits sent) ≡ soft_bits A.access_sequence =
+    ap (λ x. A.training (soft_bits x)) s.burst ∙ clean_access_training c count in
+    let best = heard (access_places (soft_bits sent)) s.code.u r.u carried.information soft h.best in
     record {
       information = subst (λ u. Carries IsWord u info) (sym best.same) s.code.information;
       accepted = accepted_of IsWord (λ d. d) 14 8 s.code.u r.u info info r.accepted carried best.same refl h.accepted;
@@ -119,20 +119,20 @@ clean_access info bsic sent r s h =
       metric = h.metric ∙ best.value ∙ ap (λ n. pos (127 * (2 * n))) carried.count;
     }
 
-pub clean_sync : (info sent : List ℕ) (r : ReceivedSync) → IsSentSync info sent → IsReceivedSync (softened sent) r → IsCleanSync info r
+pub clean_sync : (info sent : List ℕ) (r : ReceivedSync) → IsSentSync info sent → IsReceivedSync (soft_bits sent) r → IsCleanSync info r
 clean_sync info sent r s h =
     let c = s.coded_bits in
     let carried = sch_carried s.code.u info s.code.count s.code.information in
     let count = (coded_sync_bits info c s.code).many in
     let first : length (take 39 c) ≡ 39 = omega (arith, length-take 39 c) in
     let second : length (drop 39 c) ≡ 39 = omega (arith, length-drop 39 c) in
-    let soft : sync_places (softened sent) ≡ softened (coded s.code.u) =
-    ap (λ x. sync_places (softened x)) s.burst
+    let soft : sync_places (soft_bits sent) ≡ soft_bits (encoding s.code.u) =
+    ap (λ x. sync_places (soft_bits x)) s.burst
     ∙ clean_halves (take 39 c) (drop 39 c) first second
-    ∙ ap softened (take-append-drop 39 c ∙ s.code.code) in
-    let training : S.training (softened sent) ≡ softened S.sync_sequence =
-    ap (λ x. S.training (softened x)) s.burst ∙ clean_sync_training (take 39 c) (drop 39 c) first second in
-    let best = heard (sync_places (softened sent)) s.code.u r.u carried.information soft h.best in
+    ∙ ap soft_bits (take-append-drop 39 c ∙ s.code.code) in
+    let training : S.training (soft_bits sent) ≡ soft_bits S.sync_sequence =
+    ap (λ x. S.training (soft_bits x)) s.burst ∙ clean_sync_training (take 39 c) (drop 39 c) first second in
+    let best = heard (sync_places (soft_bits sent)) s.code.u r.u carried.information soft h.best in
     record {
       information = subst (λ u. Carries IsSchWord u info) (sym best.same) s.code.information;
       accepted = accepted_of IsSchWord (λ d. d) 35 25 s.code.u r.u info info r.accepted carried best.same refl h.accepted;

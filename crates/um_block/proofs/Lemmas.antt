@@ -1,5 +1,4 @@
--- What crates above cite of blocks and bursts: they are sent in one way and received in one way, each can be, and what
--- is restored.
+-- Lemmas that other crates cite.
 pub use Rattle.um_block.proofs.AcceptedOctets.{accepted_count, accepted_octets}
 pub use Rattle.um_block.proofs.BlockPlaces.{sent_place, received_place, few_wrong, few_spoilt}
 pub use Rattle.um_block.proofs.CleanRestoring.{clean_gathered, clean_block, clean_access, clean_sync}

@@ -1,3 +1,6 @@
+pub use Rattle.conv_code.proofs as conv_code
+pub use Rattle.weight_bound.proofs as weight_bound
+pub use Rattle.interleave.proofs as interleave
 mod AcceptedOctets
 mod BlockOctets
 mod BlockPlaces

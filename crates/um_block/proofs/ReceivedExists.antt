@@ -1,4 +1,4 @@
--- Every burst and every block is received in some way.
+-- Every burst and every block has a report: a most likely list exists, and whether its CRC holds is decidable.
 use Rattle.std.proofs.Common.{◌≡◌, ◌⊎◌, inl, inr, ℕ, ◌+◌, ◌-◌, ◌≤◌, ℤ, pos, Option, Some, None, List}
 use Rattle.std.proofs.Common.{◌++◌, map, take, drop, length, get_or, subst, ap, ap₂, sym, ◌∙◌, refl, arith, lit≤}
 use Rattle.std.specs.Prelude.{MatchOption, slice_range}
@@ -9,8 +9,8 @@ use Rattle.bit_blocks.specs.Bits.{IsBit, AllBits}
 use Rattle.bit_blocks.specs.Octets.{octets_of}
 use Rattle.bit_blocks.specs.SoftValues.{likelihood, wrong_places}
 use Rattle.fire_code.specs.Words.{IsXcchWord, IsRachWord, IsSchWord}
-use Rattle.fire_code.proofs.Lemmas.{some_xcch_parity, some_rach_parity, some_sch_parity, one_xcch_parity, one_rach_parity, one_sch_parity}
-use Rattle.conv_code.specs.Code.{coded}
+use Rattle.fire_code.proofs.Lemmas.{some_xcch_crc, some_rach_crc, some_sch_crc, one_xcch_crc, one_rach_crc, one_sch_crc}
+use Rattle.conv_code.specs.Code.{encoding}
 use Rattle.conv_code.proofs.Lemmas.{same_list}
 use Rattle.trellis_decode.proofs.Lemmas.{some_most_likely}
 use Rattle.training_seq.specs.Choice.{total_correlation}
@@ -25,9 +25,9 @@ use Rattle.um_block.specs.declared.received.Received.{Received}
 use Rattle.um_block.specs.declared.received.ReceivedAccess.{ReceivedAccess}
 use Rattle.um_block.specs.declared.received.ReceivedSync.{ReceivedSync}
 
--- ---- whether a parity holds
+-- ---- whether a CRC holds
 
--- a word is the one with its information, or none
+-- a list is a word if and only if it ends in the CRC of its information
 decided : (P : List ℕ → Type 0) (n : ℕ) (w p : List ℕ) → P (take n w ++ p) →
     ((q : List ℕ) → P (take n w ++ p) → P (take n w ++ q) → p ≡ q) → P w ⊎ (¬ P w)
 decided P n w p holds only =
@@ -37,7 +37,7 @@ decided P n w p holds only =
       | inr other ↦ inr (λ h. other (only (drop n w) holds (subst P (sym whole) h)))
     ]
 
--- what is accepted
+-- the accepted value, or none
 answered : {X : Type 0} (P : Type 0) (x : X) → P ⊎ (¬ P) → (a : Option X) × MatchOption a (¬ P) (λ v. P × (v ≡ x))
 answered P x (inl holds) = (Some x, (holds, refl))
 answered P x (inr fails) = (None, fails)
@@ -52,22 +52,22 @@ xcch_decided : (w : List ℕ) → length w ≡ 224 → AllBits w → IsXcchWord 
 xcch_decided w count bits =
     let d = take 184 w in
     let long = length-front 184 w (omega arith) in
-    let p = some_xcch_parity d long (AllBits-front 184 w bits) in
-    decided IsXcchWord 184 w p.0 p.1 (λ q h g. one_xcch_parity d p.0 q long h g)
+    let p = some_xcch_crc d long (AllBits-front 184 w bits) in
+    decided IsXcchWord 184 w p.0 p.1 (λ q h g. one_xcch_crc d p.0 q long h g)
 
 rach_decided : (w b : List ℕ) → length w ≡ 14 → AllBits w → length b ≡ 6 → AllBits b → IsRachWord w b ⊎ (¬ IsRachWord w b)
 rach_decided w b count bits code code_bits =
     let d = take 8 w in
     let long = length-front 8 w (omega arith) in
-    let p = some_rach_parity d b long (AllBits-front 8 w bits) code code_bits in
-    decided (λ v. IsRachWord v b) 8 w p.0 p.1 (λ q h g. one_rach_parity d p.0 q b long h g)
+    let p = some_rach_crc d b long (AllBits-front 8 w bits) code code_bits in
+    decided (λ v. IsRachWord v b) 8 w p.0 p.1 (λ q h g. one_rach_crc d p.0 q b long h g)
 
 sch_decided : (w : List ℕ) → length w ≡ 35 → AllBits w → IsSchWord w ⊎ (¬ IsSchWord w)
 sch_decided w count bits =
     let d = take 25 w in
     let long = length-front 25 w (omega arith) in
-    let p = some_sch_parity d long (AllBits-front 25 w bits) in
-    decided IsSchWord 25 w p.0 p.1 (λ q h g. one_sch_parity d p.0 q long h g)
+    let p = some_sch_crc d long (AllBits-front 25 w bits) in
+    decided IsSchWord 25 w p.0 p.1 (λ q h g. one_sch_crc d p.0 q long h g)
 
 -- ---- a block
 
@@ -100,7 +100,7 @@ some_received_block bursts four each =
     (xcch_decided (take 224 u) (length-front 224 u (omega (arith, best.2))) (AllBits-front 224 u best.1.information.bits)) in (
       record {
         u = u;
-        metric = likelihood soft (coded u);
+        metric = likelihood soft (encoding u);
         tsc = tsc.0;
         wrong_training = wrong_training_places bursts tsc.0;
         accepted = answer.0;
@@ -129,7 +129,7 @@ some_received_access burst bsic count code code_bits =
     (AllBits-front 14 u best.1.information.bits) code code_bits) in (
       record {
         u = u;
-        metric = likelihood soft (coded u);
+        metric = likelihood soft (encoding u);
         wrong_training = wrong_places (A.training burst) A.access_sequence;
         accepted = answer.0;
       },
@@ -149,7 +149,7 @@ some_received_sync burst count =
     (sch_decided (take 35 u) (length-front 35 u (omega (arith, best.2))) (AllBits-front 35 u best.1.information.bits)) in (
       record {
         u = u;
-        metric = likelihood soft (coded u);
+        metric = likelihood soft (encoding u);
         wrong_training = wrong_places (S.training burst) S.sync_sequence;
         accepted = answer.0;
       },

@@ -1,10 +1,10 @@
--- A burst or a block is received in one way.
+-- The report of a burst or block is unique.
 use Rattle.std.proofs.Common.{◌≡◌, ℕ, ℤ, Option, Some, None, List, map, take, subst, ap, ap₂, sym, ◌∙◌, refl}
 use Rattle.std.specs.Prelude.{MatchOption}
 use Rattle.bit_blocks.specs.Octets.{octets_of}
 use Rattle.bit_blocks.specs.SoftValues.{likelihood}
 use Rattle.fire_code.specs.Words.{IsXcchWord, IsRachWord, IsSchWord}
-use Rattle.conv_code.specs.Code.{coded}
+use Rattle.conv_code.specs.Code.{encoding}
 use Rattle.conv_code.specs.Likelihood.{IsMostLikely}
 use Rattle.conv_code.proofs.Lemmas.{IsMostLikely-only}
 use Rattle.training_seq.specs.Choice.{total_correlation}
@@ -16,7 +16,7 @@ use Rattle.um_block.specs.declared.received.Received.{Received}
 use Rattle.um_block.specs.declared.received.ReceivedAccess.{ReceivedAccess}
 use Rattle.um_block.specs.declared.received.ReceivedSync.{ReceivedSync}
 
--- what is accepted where a fact holds, and none where it does not
+-- an accepted value that a condition determines
 one_accepted : {X : Type 0} (P : Type 0) (x : X) (a b : Option X) →
     MatchOption a (¬ P) (λ v. P × (v ≡ x)) → MatchOption b (¬ P) (λ v. P × (v ≡ x)) → a ≡ b
 one_accepted P x None None h g = refl
@@ -47,7 +47,7 @@ same_sync r r' u metric wrong accepted =
     λ a b d e. record { u = a; metric = b; wrong_training = d; accepted = e } in
     ap₂ (λ a b. make a b r.wrong_training r.accepted) u metric ∙ ap₂ (λ d e. make r'.u r'.metric d e) wrong accepted
 
--- one list is the most likely one, and what is answered for it
+-- equal most likely lists have equal accepted values
 accepted_once : {X : Type 0} (IsWord : List ℕ → Type 0) (answer : List ℕ → X) (n : ℕ) (u u' : List ℕ) (a b : Option X) → u ≡ u' →
     MatchOption a (¬ IsWord (take n u)) (λ v. IsWord (take n u) × (v ≡ answer u)) →
     MatchOption b (¬ IsWord (take n u')) (λ v. IsWord (take n u') × (v ≡ answer u')) → a ≡ b
@@ -62,7 +62,7 @@ one_received_block bursts r r' h g =
     let u : r.u ≡ r'.u = IsMostLikely-only g.soft r'.u r.u g.best (subst (λ s. IsMostLikely s r.u) soft h.best) in
     let tsc : r.tsc ≡ r'.tsc = one_first_greatest score 7 r.tsc r'.tsc h.tsc g.tsc in
     same_block r r' u
-    (h.metric ∙ ap₂ (λ s v. likelihood s (coded v)) soft u ∙ sym g.metric)
+    (h.metric ∙ ap₂ (λ s v. likelihood s (encoding v)) soft u ∙ sym g.metric)
     tsc
     (h.wrong_training ∙ ap (wrong_training_places bursts) tsc ∙ sym g.wrong_training)
     (accepted_once IsXcchWord (λ v. octets_of (take 184 v)) 224 r.u r'.u r.accepted r'.accepted u h.accepted g.accepted)
@@ -73,7 +73,7 @@ one_received_access burst bsic r r' h g =
     let soft = access_places burst in
     let u : r.u ≡ r'.u = IsMostLikely-only soft r'.u r.u g.best h.best in
     same_access r r' u
-    (h.metric ∙ ap (λ v. likelihood soft (coded v)) u ∙ sym g.metric)
+    (h.metric ∙ ap (λ v. likelihood soft (encoding v)) u ∙ sym g.metric)
     (h.wrong_training ∙ sym g.wrong_training)
     (accepted_once (λ w. IsRachWord w bsic) (take 8) 14 r.u r'.u r.accepted r'.accepted u h.accepted g.accepted)
 
@@ -82,6 +82,6 @@ one_received_sync burst r r' h g =
     let soft = sync_places burst in
     let u : r.u ≡ r'.u = IsMostLikely-only soft r'.u r.u g.best h.best in
     same_sync r r' u
-    (h.metric ∙ ap (λ v. likelihood soft (coded v)) u ∙ sym g.metric)
+    (h.metric ∙ ap (λ v. likelihood soft (encoding v)) u ∙ sym g.metric)
     (h.wrong_training ∙ sym g.wrong_training)
     (accepted_once IsSchWord (take 25) 35 r.u r'.u r.accepted r'.accepted u h.accepted g.accepted)

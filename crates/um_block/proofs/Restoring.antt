@@ -1,9 +1,9 @@
--- What few wrong places do not change: the word that was sent is received.
+-- Lightly damaged blocks and bursts are accepted as they were sent, by `restored` of `weight_bound`.
 use Rattle.std.proofs.Common.{◌≡◌, ℕ, ℤ, ◌*◌, Some, List, map, length, subst, ap, sym, ◌∙◌, refl, arith, length-append}
 use Rattle.bit_blocks.specs.Octets.{bits_of, octets_of}
 use Rattle.bit_blocks.proofs.Lemmas.{octets_of-bits_of}
 use Rattle.fire_code.specs.Words.{IsXcchWord, IsRachWord, IsSchWord}
-use Rattle.conv_code.specs.Code.{coded, IsInformation}
+use Rattle.conv_code.specs.Code.{encoding, IsInformation}
 use Rattle.conv_code.specs.Likelihood.{IsMostLikely}
 use Rattle.interleave.specs.Bursts.{IsInterleaved}
 use Rattle.interleave.proofs.Lemmas.{same_coded}
@@ -18,8 +18,8 @@ use Rattle.um_block.specs.declared.received.ReceivedSync.{ReceivedSync}
 use Rattle.um_block.proofs.Words.{block_carried, rach_carried, sch_carried}
 use Rattle.um_block.proofs.CleanRestoring.{accepted_of}
 
--- the list that was sent is the most likely one of values that are lightly damaged against its coded list
-restored_list : (soft : List ℤ) (u v c : List ℕ) (n : ℕ) → IsInformation u → length u ≡ n → length soft ≡ 2 * n → c ≡ coded u →
+-- lightly damaged soft bits decode to the information list that was sent
+restored_list : (soft : List ℤ) (u v c : List ℕ) (n : ℕ) → IsInformation u → length u ≡ n → length soft ≡ 2 * n → c ≡ encoding u →
     IsLightlyDamaged soft c → IsMostLikely soft v → v ≡ u
 restored_list soft u v c n information count pairs code damage best =
     restored soft u v information (pairs ∙ sym (ap (λ m. 2 * m) count)) (subst (IsLightlyDamaged soft) code damage) best

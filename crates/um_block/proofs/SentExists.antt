@@ -1,11 +1,11 @@
--- Every information can be sent: it has a parity part, and its coded bits can be spread.
+-- All information can be sent: its CRC exists, and its coded bits can be interleaved.
 use Rattle.std.proofs.Common.{◌≡◌, ℕ, ◌≤◌, List, ◌++◌, length, refl}
 use Rattle.bit_blocks.specs.Bits.{AllBits}
 use Rattle.bit_blocks.specs.Octets.{AllOctets, bits_of}
 use Rattle.bit_blocks.proofs.Lemmas.{AllBits-bits_of}
 use Rattle.fire_code.specs.Words.{IsXcchWord, IsRachWord, IsSchWord}
-use Rattle.fire_code.proofs.Lemmas.{some_xcch_parity, some_rach_parity, some_sch_parity}
-use Rattle.conv_code.specs.Code.{coded}
+use Rattle.fire_code.proofs.Lemmas.{some_xcch_crc, some_rach_crc, some_sch_crc}
+use Rattle.conv_code.specs.Code.{encoding}
 use Rattle.interleave.proofs.Lemmas.{some_spread}
 use Rattle.um_block.specs.Sent.{with_tail, IsCodedBlock, IsCodedAccess, IsCodedSync, IsSentBlock, IsSentAccess, IsSentSync}
 use Rattle.um_block.proofs.Words.{carries, length-block, coded_block_bits}
@@ -13,8 +13,8 @@ use Rattle.um_block.proofs.Words.{carries, length-block, coded_block_bits}
 some_coded_block : (octets : List ℕ) → length octets ≡ 23 → AllOctets octets → (c : List ℕ) × IsCodedBlock octets c
 some_coded_block octets count small =
     let d = bits_of octets in
-    let p = some_xcch_parity d (length-block octets count) (AllBits-bits_of octets) in (
-      coded (with_tail (d ++ p.0)),
+    let p = some_xcch_crc d (length-block octets count) (AllBits-bits_of octets) in (
+      encoding (with_tail (d ++ p.0)),
       record {
         u = with_tail (d ++ p.0);
         count = count;
@@ -33,14 +33,14 @@ some_sent_block octets tsc count small known =
 
 pub some_access_burst : (d b : List ℕ) → length d ≡ 8 → AllBits d → length b ≡ 6 → AllBits b → (x : List ℕ) × IsSentAccess d b x
 some_access_burst d b ed bd eb bb =
-    let p = some_rach_parity d b ed bd eb bb in
-    let code : IsCodedAccess d b (coded (with_tail (d ++ p.0))) =
+    let p = some_rach_crc d b ed bd eb bb in
+    let code : IsCodedAccess d b (encoding (with_tail (d ++ p.0))) =
     record { u = with_tail (d ++ p.0); count = ed; information = carries (λ w. IsRachWord w b) d p.0 p.1; code = refl } in
-    (_, record { coded_bits = coded (with_tail (d ++ p.0)); code = code; burst = refl })
+    (_, record { coded_bits = encoding (with_tail (d ++ p.0)); code = code; burst = refl })
 
 pub some_sync_burst : (d : List ℕ) → length d ≡ 25 → AllBits d → (x : List ℕ) × IsSentSync d x
 some_sync_burst d ed bd =
-    let p = some_sch_parity d ed bd in
-    let code : IsCodedSync d (coded (with_tail (d ++ p.0))) =
+    let p = some_sch_crc d ed bd in
+    let code : IsCodedSync d (encoding (with_tail (d ++ p.0))) =
     record { u = with_tail (d ++ p.0); count = ed; information = carries IsSchWord d p.0 p.1; code = refl } in
-    (_, record { coded_bits = coded (with_tail (d ++ p.0)); code = code; burst = refl })
+    (_, record { coded_bits = encoding (with_tail (d ++ p.0)); code = code; burst = refl })

@@ -1,11 +1,11 @@
--- Each information is sent in one way: it has one parity part, and so one burst.
+-- The bursts of given information are unique, since its CRC is.
 use Rattle.std.proofs.Common.{◌≡◌, ℕ, List, map, drop, take, subst, ap, sym, ◌∙◌}
 use Rattle.bit_blocks.specs.Octets.{bits_of}
-use Rattle.conv_code.specs.Code.{coded}
+use Rattle.conv_code.specs.Code.{encoding}
 use Rattle.interleave.specs.Bursts.{IsInterleaved}
 use Rattle.interleave.proofs.Lemmas.{same_bursts}
 use Rattle.fire_code.specs.Words.{IsXcchWord, IsRachWord, IsSchWord}
-use Rattle.fire_code.proofs.Lemmas.{one_xcch_parity, one_rach_parity, one_sch_parity}
+use Rattle.fire_code.proofs.Lemmas.{one_xcch_crc, one_rach_crc, one_sch_crc}
 use Rattle.burst_map.specs.NormalBurst.{normal_burst}
 use Rattle.burst_map.specs.AccessBurst.{access_burst}
 use Rattle.burst_map.specs.SyncBurst.{sync_burst}
@@ -15,18 +15,18 @@ use Rattle.um_block.proofs.Words.{one_list, length-block}
 pub one_coded_block : (octets c c' : List ℕ) → IsCodedBlock octets c → IsCodedBlock octets c' → c ≡ c'
 one_coded_block octets c c' h g =
     let d = bits_of octets in
-    let same = one_list IsXcchWord h.u g.u d (λ p p'. one_xcch_parity d p p' (length-block octets h.count)) h.information g.information in
-    h.code ∙ ap coded same ∙ sym g.code
+    let same = one_list IsXcchWord h.u g.u d (λ p p'. one_xcch_crc d p p' (length-block octets h.count)) h.information g.information in
+    h.code ∙ ap encoding same ∙ sym g.code
 
 one_coded_access : (d b c c' : List ℕ) → IsCodedAccess d b c → IsCodedAccess d b c' → c ≡ c'
 one_coded_access d b c c' h g =
-    let same = one_list (λ w. IsRachWord w b) h.u g.u d (λ p p'. one_rach_parity d p p' b h.count) h.information g.information in
-    h.code ∙ ap coded same ∙ sym g.code
+    let same = one_list (λ w. IsRachWord w b) h.u g.u d (λ p p'. one_rach_crc d p p' b h.count) h.information g.information in
+    h.code ∙ ap encoding same ∙ sym g.code
 
 one_coded_sync : (d c c' : List ℕ) → IsCodedSync d c → IsCodedSync d c' → c ≡ c'
 one_coded_sync d c c' h g =
-    let same = one_list IsSchWord h.u g.u d (λ p p'. one_sch_parity d p p' h.count) h.information g.information in
-    h.code ∙ ap coded same ∙ sym g.code
+    let same = one_list IsSchWord h.u g.u d (λ p p'. one_sch_crc d p p' h.count) h.information g.information in
+    h.code ∙ ap encoding same ∙ sym g.code
 
 pub one_access_burst : (d b x x' : List ℕ) → IsSentAccess d b x → IsSentAccess d b x' → x ≡ x'
 one_access_burst d b x x' h g =

@@ -1,4 +1,4 @@
--- How many places the bursts that are sent have, and that all of them are bits.
+-- The lengths of sent bursts, and that they consist of bits.
 use Rattle.std.proofs.Common.{◌≡◌, ℕ, ◌+◌, ◌≤◌, List, [], ◌∷◌, ◌++◌, length, length-append, map, take, drop}
 use Rattle.std.proofs.Common.{refl, sym, ap, ◌∙◌, subst, arith}
 use Rattle.std.specs.List.{All}
@@ -28,7 +28,7 @@ tail = record { many = refl; each = AllBits-table tail_bits refl }
 flag : AreBits 1 (1 ∷ [])
 flag = record { many = refl; each = AllBits-table (1 ∷ []) refl }
 
--- ---- the three bursts
+-- ---- layouts
 
 normal_bits : (first second : List ℕ) (tsc : ℕ) → tsc ≤ 7 → AreBits 57 first → AreBits 57 second →
     AreBits 148 (normal_burst first second tsc)
@@ -59,7 +59,7 @@ sync_bits first second f s =
     let four = joined 106 39 (tail_bits ++ first ++ sync_sequence) second three s in
     joined 145 3 (tail_bits ++ first ++ sync_sequence ++ second) tail_bits four tail
 
--- ---- what is sent
+-- ---- sent bursts
 
 taken : (m n : ℕ) (bits : List ℕ) → AreBits (m + n) bits → AreBits m (take m bits)
 taken m n bits b = record {

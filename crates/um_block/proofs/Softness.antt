@@ -1,4 +1,4 @@
--- Soft values: which of them a burst has, and where they stand in its block.
+-- Soft bits of bursts: how loops write them, and that they stay in range.
 use Rattle.std.proofs.Common.{◌≡◌, ℕ, ◌+◌, ◌-◌, ◌≤◌, ◌==◌, if◌then◌else◌, true, false, ℤ, pos, negsuc}
 use Rattle.std.proofs.Common.{List, [], ◌∷◌, ◌++◌, map, take, drop, length, get_or, refl, ap, sym, ◌∙◌, append_assoc}
 use Rattle.std.proofs.Common.{arith}
@@ -13,7 +13,7 @@ use Rattle.std.proofs.lemmas.List.Elements.{All-append, All-cons, All-nil, All-t
 use Rattle.bit_blocks.specs.SoftValues.{IsSoft, AllSoft}
 use Rattle.interleave.specs.Bursts.{IsInterleaved}
 use Rattle.interleave.proofs.Lemmas.{All-interleaved}
-use Rattle.um_block.specs.Received.{soft_value, softened, coded_places}
+use Rattle.um_block.specs.Received.{soft_value, soft_bits, coded_places}
 
 IsSoft-soft_value : (bit : ℕ) → IsSoft (soft_value bit)
 IsSoft-soft_value bit =
@@ -22,18 +22,17 @@ IsSoft-soft_value bit =
       | false ↦ (omega (arith, ints), omega (arith, ints))
     ]
 
-pub AllSoft-softened : (bits : List ℕ) → AllSoft (softened bits)
+pub AllSoft-softened : (bits : List ℕ) → AllSoft (soft_bits bits)
 AllSoft-softened [] = All-nil IsSoft
-AllSoft-softened (bit ∷ bits) = All-cons IsSoft (soft_value bit) (softened bits) (IsSoft-soft_value bit) (AllSoft-softened bits)
+AllSoft-softened (bit ∷ bits) = All-cons IsSoft (soft_value bit) (soft_bits bits) (IsSoft-soft_value bit) (AllSoft-softened bits)
 
-pub AllSoft-all : (block : List (List ℕ)) → All AllSoft (map softened block)
+pub AllSoft-all : (block : List (List ℕ)) → All AllSoft (map soft_bits block)
 AllSoft-all [] = All-nil AllSoft
-AllSoft-all (burst ∷ block) = All-cons AllSoft (softened burst) (map softened block) (AllSoft-softened burst) (AllSoft-all block)
+AllSoft-all (burst ∷ block) = All-cons AllSoft (soft_bits burst) (map soft_bits block) (AllSoft-softened burst) (AllSoft-all block)
 
--- sixteen places more are softened
 pub softened-more : (bits : List ℕ) (at : ℕ) (old new : List ℤ) → at + 16 ≤ length bits → at + 16 ≤ length old →
-    take at old ≡ softened (take at bits) → new ≡ softened (take 16 (drop at bits)) →
-    take (at + 16) (put_mid at 16 old new) ≡ softened (take (at + 16) bits)
+    take at old ≡ soft_bits (take at bits) → new ≡ soft_bits (take 16 (drop at bits)) →
+    take (at + 16) (put_mid at 16 old new) ≡ soft_bits (take (at + 16) bits)
 softened-more bits at old new within room before more =
     let few : length new ≡ 16 = ap length more ∙ length-map (take 16 (drop at bits)) soft_value
     ∙ length-take-le 16 (drop at bits) (omega (arith, length-drop at bits)) in
@@ -42,11 +41,10 @@ softened-more bits at old new within room before more =
     ap (take (at + 16)) (sym (append_assoc (take at old) new (drop 16 (drop at old))))
     ∙ take_at (take at old ++ new) (drop 16 (drop at old)) (at + 16) whole
     ∙ ap (λ xs. xs ++ new) before
-    ∙ ap (λ xs. softened (take at bits) ++ xs) more
+    ∙ ap (λ xs. soft_bits (take at bits) ++ xs) more
     ∙ sym (map-append soft_value (take at bits) (take 16 (drop at bits)))
-    ∙ ap softened (sym (take-add at 16 bits))
+    ∙ ap soft_bits (sym (take-add at 16 bits))
 
--- and all places are still there
 pub length-put : (at : ℕ) (old new : List ℤ) → at + 16 ≤ length old → length new ≡ 16 → length (put_mid at 16 old new) ≡ length old
 length-put at old new room few =
     let rest : length (drop 16 (drop at old)) ≡ length old - at - 16 = length-drop 16 (drop at old)
@@ -54,11 +52,11 @@ length-put at old new room few =
     length-append (take at old) (new ++ drop 16 (drop at old))
     ∙ omega (arith, length-take-le at old (omega arith), length-append new (drop 16 (drop at old)), few, rest)
 
--- places softened further than up to here are so up to here
-pub softened-before : (bits : List ℕ) (soft : List ℤ) (m n : ℕ) → m ≤ n → take n soft ≡ softened (take n bits) →
-    take m soft ≡ softened (take m bits)
+-- a prefix of converted bits is converted
+pub softened-before : (bits : List ℕ) (soft : List ℤ) (m n : ℕ) → m ≤ n → take n soft ≡ soft_bits (take n bits) →
+    take m soft ≡ soft_bits (take m bits)
 softened-before bits soft m n less is =
-    sym (take-take m n soft less) ∙ ap (take m) is ∙ take-map soft_value m (take n bits) ∙ ap softened (take-take m n bits less)
+    sym (take-take m n soft less) ∙ ap (take m) is ∙ take-map soft_value m (take n bits) ∙ ap soft_bits (take-take m n bits less)
 
 pub AllSoft-range : (values : List ℤ) (i j : ℕ) → AllSoft values → AllSoft (slice_range values i j)
 AllSoft-range values i j soft = All-take IsSoft (j - i) (drop i values) (All-drop IsSoft i values soft)
@@ -66,7 +64,7 @@ AllSoft-range values i j soft = All-take IsSoft (j - i) (drop i values) (All-dro
 pub AllSoft-coded_places : (burst : List ℤ) → AllSoft burst → AllSoft (coded_places burst)
 AllSoft-coded_places burst soft = All-append IsSoft _ _ (AllSoft-range burst 3 60 soft) (AllSoft-range burst 88 145 soft)
 
--- what is made of each of four bursts
+-- a map over four bursts
 pub map-four : (f : List ℤ → List ℤ) (bursts : List (List ℤ)) → length bursts ≡ 4 →
     map f bursts ≡ f (get_or bursts 0 []) ∷ f (get_or bursts 1 []) ∷ f (get_or bursts 2 []) ∷ f (get_or bursts 3 []) ∷ []
 map-four f (a ∷ b ∷ c ∷ d ∷ []) four = refl
@@ -78,7 +76,6 @@ AllSoft-gathered bursts soft gathered all =
     All-interleaved IsSoft soft (map coded_places bursts) gathered
     (All-map AllSoft coded_places bursts (λ i d h. AllSoft-coded_places (get_or bursts i d) (all i d h)))
 
--- the second part is written behind the first
 pub put_mid-behind : {X : Type 0} (n m : ℕ) (first old second : List X) → length first ≡ n → length old ≡ m →
     put_mid n m (first ++ old) second ≡ first ++ second
 put_mid-behind n m first old second f o =

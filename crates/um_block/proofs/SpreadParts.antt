@@ -1,7 +1,6 @@
--- The four parts of a block's coded bits.
+-- A list of four elements.
 use Rattle.std.proofs.Common.{◌≡◌, List, [], ◌∷◌, length, get_or, refl, arith}
 
--- a list of four
 pub four : {A : Type 0} (xs : List A) (d : A) → length xs ≡ 4 →
     xs ≡ get_or xs 0 d ∷ get_or xs 1 d ∷ get_or xs 2 d ∷ get_or xs 3 d ∷ []
 four [] d e = absurd (omega arith)

@@ -1,4 +1,4 @@
--- Information lists that carry information, and their coded bits.
+-- Information lists of words (information, CRC, tail), and their coded bits.
 use Rattle.std.proofs.Common.{◌≡◌, ℕ, ◌+◌, ◌*◌, ◌<◌, List, ◌++◌, take, length, replicate, refl, subst, ap, sym}
 use Rattle.std.proofs.Common.{◌∙◌, arith, lit<, append_assoc, length-append}
 use Rattle.std.proofs.lemmas.List.{take_at}
@@ -6,11 +6,11 @@ use Rattle.bit_blocks.specs.Bits.{AllBits}
 use Rattle.bit_blocks.specs.Octets.{bits_of}
 use Rattle.bit_blocks.proofs.Lemmas.{AllBits-append, length-bits_of}
 use Rattle.fire_code.specs.Words.{IsXcchWord, IsRachWord, IsSchWord}
-use Rattle.conv_code.specs.Code.{coded, IsInformation}
+use Rattle.conv_code.specs.Code.{encoding, IsInformation}
 use Rattle.conv_code.proofs.Lemmas.{IsInformation-tail, AllBits-coded, length-coded}
 use Rattle.um_block.specs.Sent.{with_tail, Carries, IsCodedBlock, IsCodedAccess, IsCodedSync}
 
--- a list of n places and the tail has information in its first k places
+-- u is a word of n bits with its tail, and d is its first k bits
 pub record Carried (IsWord : List ℕ → Type 0) (n k : ℕ) (u d : List ℕ) : Type 0 where
   pub information : IsInformation u
   pub count : length u ≡ n + 4
@@ -21,16 +21,16 @@ module _ (IsWord : List ℕ → Type 0) (n k : ℕ) (some : 0 < k) (long : (w : 
     (bits : (w : List ℕ) → IsWord w → AllBits w) where
   carried : (u d : List ℕ) → length d ≡ k → Carries IsWord u d → Carried IsWord n k u d
   carried u d e h =
-      let word = d ++ h.parity in
+      let word = d ++ h.crc in
       let tail : List ℕ = replicate 4 0 in
       let count : length word ≡ n = long word h.word in
       let front : take n u ≡ word = ap (take n) h.list ∙ take_at word tail n count in
       record {
         information = subst IsInformation (sym h.list)
-            (IsInformation-tail word (omega (arith, length-append d h.parity)) (bits word h.word));
+            (IsInformation-tail word (omega (arith, length-append d h.crc)) (bits word h.word));
         count = ap length h.list ∙ length-append word tail ∙ ap (λ m. m + 4) count;
         word = subst IsWord (sym front) h.word;
-        front = ap (take k) (h.list ∙ append_assoc d h.parity tail) ∙ take_at d (h.parity ++ tail) k e;
+        front = ap (take k) (h.list ∙ append_assoc d h.crc tail) ∙ take_at d (h.crc ++ tail) k e;
       }
 
 pub xcch_carried : (u d : List ℕ) → length d ≡ 184 → Carries IsXcchWord u d → Carried IsXcchWord 224 184 u d
@@ -42,35 +42,34 @@ rach_carried b = carried (λ w. IsRachWord w b) 14 8 (lit< tt) (λ w h. h.count)
 pub sch_carried : (u d : List ℕ) → length d ≡ 25 → Carries IsSchWord u d → Carried IsSchWord 35 25 u d
 sch_carried = carried IsSchWord 35 25 (lit< tt) (λ w h. h.count) (λ w h. h.bits)
 
--- one information is carried by one list
+-- the information list of given information is unique
 pub one_list : (IsWord : List ℕ → Type 0) (u u' d : List ℕ) → ((p p' : List ℕ) → IsWord (d ++ p) → IsWord (d ++ p') → p ≡ p') →
     Carries IsWord u d → Carries IsWord u' d → u ≡ u'
-one_list IsWord u u' d one h g = h.list ∙ ap (λ p. with_tail (d ++ p)) (one h.parity g.parity h.word g.word) ∙ sym g.list
+one_list IsWord u u' d one h g = h.list ∙ ap (λ p. with_tail (d ++ p)) (one h.crc g.crc h.word g.word) ∙ sym g.list
 
--- information and its parity make one
+-- information with its CRC and tail is an information list
 pub carries : (IsWord : List ℕ → Type 0) (d p : List ℕ) → IsWord (d ++ p) → Carries IsWord (with_tail (d ++ p)) d
-carries IsWord d p word = record { parity = p; word = word; list = refl }
+carries IsWord d p word = record { crc = p; word = word; list = refl }
 
 pub length-block : (octets : List ℕ) → length octets ≡ 23 → length (bits_of octets) ≡ 184
 length-block octets count = length-bits_of octets ∙ ap (λ n. 8 * n) count
 
--- what information the coded bits of a block come from
+-- the information list of a block's coded bits
 pub block_carried : (octets c : List ℕ) (code : IsCodedBlock octets c) → Carried IsXcchWord 224 184 code.u (bits_of octets)
 block_carried octets c code = xcch_carried code.u (bits_of octets) (length-block octets code.count) code.information
 
--- information, parity and the tail make an information list
+-- information, CRC and tail form an information list
 pub IsInformation-joined : (word d p : List ℕ) → word ≡ with_tail (d ++ p) → 0 < length d → AllBits d → AllBits p → IsInformation word
 IsInformation-joined word d p joined some d_bits p_bits =
     subst IsInformation (sym joined) (IsInformation-tail (d ++ p) (omega (arith, length-append d p)) (AllBits-append d p d_bits p_bits))
 
 -- ---- coded bits
 
--- so many bits
 pub record AreBits (count : ℕ) (bits : List ℕ) : Type 0 where
   pub many : length bits ≡ count
   pub each : AllBits bits
 
-coded_bits : (u c : List ℕ) (n : ℕ) → length u ≡ n → c ≡ coded u → AreBits (2 * n) c
+coded_bits : (u c : List ℕ) (n : ℕ) → length u ≡ n → c ≡ encoding u → AreBits (2 * n) c
 coded_bits u c n e code = record {
   many = ap length code ∙ length-coded u ∙ ap (λ m. 2 * m) e;
   each = subst AllBits (sym code) (AllBits-coded u);

@@ -1,11 +1,11 @@
--- The tallies of a radio (this project's own rule).
+-- The counters of a radio (this project's own rule).
 use Rattle.std.specs.Prelude.{ℕ, zero, suc, ◌+◌, ◌-◌, ◌^◌, min}
 
--- one more; a tally at the greatest number of a u64 stays there
-abbrev pub raised : ℕ → ℕ
-raised n = min (n + 1) (2 ^ 64 - 1)
+-- a counter plus one, saturating at the greatest u64
+abbrev pub next_tally : ℕ → ℕ
+next_tally n = min (n + 1) (2 ^ 64 - 1)
 
--- so many times one more
-abbrev pub raised_by : ℕ → ℕ → ℕ
-raised_by zero n = n
-raised_by (suc k) n = raised (raised_by k n)
+-- a counter raised k times
+abbrev pub tally_after : ℕ → ℕ → ℕ
+tally_after zero n = n
+tally_after (suc k) n = next_tally (tally_after k n)

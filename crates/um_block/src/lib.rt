@@ -1,5 +1,5 @@
-//! Blocks, access bursts and synchronisation bursts (GSM 05.03, today 3GPP TS 45.003): from their information to the bits of
-//! bursts, and from the soft values of bursts to what is received.
+//! Blocks, access bursts and synchronisation bursts (GSM 05.03, today 3GPP TS 45.003): encodes information to the bits of bursts, and
+//! decodes the soft bits of received ones.
 #![tactic(auto)]
 
 mod counting;

@@ -1,4 +1,4 @@
-//! A radio: what codes and receives blocks, and counts both.
+//! The radio: encodes and decodes blocks, and counts both.
 ghost use Rattle.std.specs.Prelude.{◌≡◌, ℕ, ◌≤◌, ℤ, List, Some, map, All};
 ghost use Rattle.bit_blocks.specs.Bits.{AllBits};
 ghost use Rattle.bit_blocks.specs.SoftValues.{AllSoft};
@@ -6,43 +6,44 @@ ghost use Rattle.interleave.specs.Bursts.{IsInterleaved};
 ghost use Rattle.weight_bound.specs.Restoring.{IsLightlyDamaged};
 ghost use Rattle.um_block.specs.Sent.{IsCodedBlock, IsSentBlock};
 ghost use Rattle.um_block.specs.Restored.{IsCleanBlock};
-ghost use Rattle.um_block.specs.Received.{coded_places, softened, IsReceivedBlock};
-ghost use Rattle.um_block.specs.Tallies.{raised};
+ghost use Rattle.um_block.specs.Received.{coded_places, soft_bits, IsReceivedBlock};
+ghost use Rattle.um_block.specs.Tallies.{next_tally};
 
 use crate::{Received, receive_block, send_block};
+use bit_blocks::BLOCK_OCTETS;
+use burst_map::BURST_BITS;
 
-/// Sends and receives blocks as `send_block` and `receive_block` do, and keeps a tally of each. A
-/// tally that is the greatest u64 stays there.
+/// Sends and receives blocks like `send_block` and `receive_block`, and counts each. The counters saturate at the greatest u64.
 pub trait Radio {
-    /// How many blocks were sent.
+    /// The number of blocks sent.
     ghost sent: { Self → ℕ };
 
-    /// How many blocks were received.
+    /// The number of blocks received.
     ghost heard: { Self → ℕ };
 
-    /// The four normal bursts of a block of 23 octets, with a training sequence 0 to 7.
-    fn send(&mut self, octets: &[u8; 23], tsc: u8) -> [[u8; 148]; 4]
+    /// The four normal bursts of a block of 23 octets, with a training sequence code of 0 to 7.
+    fn send(&mut self, octets: &[u8; BLOCK_OCTETS], tsc: u8) -> [[u8; BURST_BITS]; 4]
         requires { tsc ≤ 7 }
         ensures sent { IsSentBlock octets.now tsc result }
         ensures only { (other : List (List ℕ)) → IsSentBlock octets.now tsc other → other ≡ result }
         ensures bits { All AllBits result }
-        ensures raised { sent self.new ≡ raised (sent self.old) }
-        ensures kept { heard self.new ≡ heard self.old };
+        ensures raised { sent self.new ≡ next_tally (sent self.old) }
+        ensures unchanged { heard self.new ≡ heard self.old };
 
-    /// What the four bursts of a block are received as.
-    fn receive(&mut self, bursts: &[[i8; 148]; 4]) -> Received
+    /// Decodes the four bursts of a block.
+    fn receive(&mut self, bursts: &[[i8; BURST_BITS]; 4]) -> Received
         requires { All AllSoft bursts.now }
         ensures received { IsReceivedBlock bursts.now result }
         ensures only { (other : Received) → IsReceivedBlock bursts.now other → other ≡ result }
         ensures clean { (octets : List ℕ) (tsc : ℕ) (sent : List (List ℕ)) →
-            IsSentBlock octets tsc sent → bursts.now ≡ map softened sent → IsCleanBlock octets tsc result }
+            IsSentBlock octets tsc sent → bursts.now ≡ map soft_bits sent → IsCleanBlock octets tsc result }
         ensures restores { (octets c : List ℕ) (soft : List ℤ) → IsCodedBlock octets c →
             IsInterleaved soft (map coded_places bursts.now) → IsLightlyDamaged soft c → result.accepted ≡ Some octets }
-        ensures raised { heard self.new ≡ raised (heard self.old) }
-        ensures kept { sent self.new ≡ sent self.old };
+        ensures raised { heard self.new ≡ next_tally (heard self.old) }
+        ensures unchanged { sent self.new ≡ sent self.old };
 }
 
-/// A radio that codes and receives at once, and keeps nothing but its tallies.
+/// A radio whose only state is its counters.
 #[derive(Debug, Drop)]
 pub struct PlainRadio {
     sent: u64,
@@ -50,7 +51,7 @@ pub struct PlainRadio {
 }
 
 impl PlainRadio {
-    /// A radio that has neither sent nor received.
+    /// A radio with both counters 0.
     pub fn new() -> PlainRadio
         ensures sent { ⟦<PlainRadio as Radio>⟧.sent result ≡ 0 }
         ensures heard { ⟦<PlainRadio as Radio>⟧.heard result ≡ 0 }
@@ -58,14 +59,14 @@ impl PlainRadio {
         PlainRadio { sent: 0, heard: 0 }
     }
 
-    /// How many blocks were sent.
+    /// The number of blocks sent.
     pub fn sent(&self) -> u64
         ensures { result ≡ ⟦<PlainRadio as Radio>⟧.sent self.now }
     {
         self.sent
     }
 
-    /// How many blocks were received.
+    /// The number of blocks received.
     pub fn heard(&self) -> u64
         ensures { result ≡ ⟦<PlainRadio as Radio>⟧.heard self.now }
     {
@@ -78,12 +79,12 @@ impl Radio for PlainRadio {
 
     ghost heard = { λ radio. radio.heard };
 
-    fn send(&mut self, octets: &[u8; 23], tsc: u8) -> [[u8; 148]; 4] {
+    fn send(&mut self, octets: &[u8; BLOCK_OCTETS], tsc: u8) -> [[u8; BURST_BITS]; 4] {
         self.sent = self.sent.saturating_add(1);
         send_block(octets, tsc)
     }
 
-    fn receive(&mut self, bursts: &[[i8; 148]; 4]) -> Received {
+    fn receive(&mut self, bursts: &[[i8; BURST_BITS]; 4]) -> Received {
         self.heard = self.heard.saturating_add(1);
         receive_block(bursts)
     }

@@ -1,44 +1,44 @@
-//! What a receiver reports.
+//! Reports of received bursts.
 
-use bit_blocks::Bits;
+use bit_blocks::{BLOCK_OCTETS, Bits, INFORMATION_BITS};
 
-/// What four bursts of a block are received as.
+/// The report of the four bursts of a block.
 #[derive(Clone, Copy, PartialEq, Eq, Debug)]
 pub struct Received {
-    /// The most likely information list: 184 bits of data, 40 of parity, and four zeros.
-    pub u: Bits<228>,
-    /// Its likelihood.
+    /// The most likely information list: 184 information bits, 40 Fire code bits, four zeros.
+    pub u: Bits<INFORMATION_BITS>,
+    /// Its path metric.
     pub metric: i32,
-    /// The training sequence that the bursts agree with best, 0 to 7.
+    /// The training sequence code with the greatest total correlation, 0 to 7.
     pub tsc: u8,
-    /// How many of the 104 training places are wrong for that sequence.
+    /// The number of wrong training bits for that sequence, 0 to 104.
     pub wrong_training: u32,
-    /// The 23 octets of the data, where the parity holds.
-    pub accepted: Option<[u8; 23]>,
+    /// The 23 octets of the information bits, if the Fire code bits match.
+    pub accepted: Option<[u8; BLOCK_OCTETS]>,
 }
 
-/// What an access burst is received as.
+/// The report of an access burst.
 #[derive(Clone, Copy, PartialEq, Eq, Debug)]
 pub struct ReceivedAccess {
-    /// The most likely information list: eight bits of data, six of parity, and four zeros.
+    /// The most likely information list: eight information bits, six check bits, four zeros.
     pub u: Bits<18>,
-    /// Its likelihood.
+    /// Its path metric.
     pub metric: i32,
-    /// How many of the 41 training places are wrong.
+    /// The number of wrong training bits, 0 to 41.
     pub wrong_training: u32,
-    /// The eight bits of data, where the parity holds for the base station's code.
+    /// The eight information bits, if the CRC holds under the BSIC.
     pub accepted: Option<Bits<8>>,
 }
 
-/// What a synchronisation burst is received as.
+/// The report of a synchronisation burst.
 #[derive(Clone, Copy, PartialEq, Eq, Debug)]
 pub struct ReceivedSync {
-    /// The most likely information list: 25 bits of data, ten of parity, and four zeros.
+    /// The most likely information list: 25 information bits, ten check bits, four zeros.
     pub u: Bits<39>,
-    /// Its likelihood.
+    /// Its path metric.
     pub metric: i32,
-    /// How many of the 64 training places are wrong.
+    /// The number of wrong training bits, 0 to 64.
     pub wrong_training: u32,
-    /// The 25 bits of data, where the parity holds.
+    /// The 25 information bits, if the CRC holds.
     pub accepted: Option<Bits<25>>,
 }

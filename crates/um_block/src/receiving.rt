@@ -1,5 +1,5 @@
-//! Receiving: what bursts are received as, the most likely word of their soft values (GSM 05.03, today 3GPP TS 45.003,
-//! backward; the choice of a word is this project's own, found by the Viterbi decoder).
+//! Receiving: decodes bursts to the most likely information list and checks its CRC (GSM 05.03, today 3GPP TS 45.003, leaves the
+//! decoding open; maximum likelihood is this project's own choice).
 ghost use Rattle.std.specs.Prelude.{◌≡◌, ℕ, ◌≤◌, ◌++◌, ℤ, List, Some, length, map, take, All, MatchOption};
 ghost use Rattle.bit_blocks.specs.Bits.{AllBits};
 ghost use Rattle.bit_blocks.specs.Octets.{octets_of};
@@ -9,37 +9,39 @@ ghost use Rattle.interleave.specs.Bursts.{IsInterleaved};
 ghost use Rattle.weight_bound.specs.Restoring.{IsLightlyDamaged};
 ghost use Rattle.um_block.specs.Sent.{IsCodedBlock, IsCodedAccess, IsCodedSync, IsSentBlock, IsSentAccess, IsSentSync};
 ghost use Rattle.um_block.specs.Restored.{IsCleanBlock, IsCleanAccess, IsCleanSync};
-ghost use Rattle.um_block.specs.Received.{coded_places, access_places, sync_places, softened};
-ghost use Rattle.um_block.specs.Received.{IsHeardSequence, wrong_training_places, IsReceivedBlock, IsReceivedAccess, IsReceivedSync};
+ghost use Rattle.um_block.specs.Received.{coded_places, access_places, sync_places, soft_bits};
+ghost use Rattle.um_block.specs.Received.{IsReceivedSequence, wrong_training_places, IsReceivedBlock, IsReceivedAccess, IsReceivedSync};
 
 use crate::received::{Received, ReceivedAccess, ReceivedSync};
-use bit_blocks::{Bits, to_octets, wrong_places};
-use burst_map::{AccessView, NormalView, SyncView, access_sequence, sync_sequence};
+use bit_blocks::{
+    BLOCK_BITS, BLOCK_OCTETS, Bits, CODED_BITS, INFORMATION_BITS, to_octets, wrong_places,
+};
+use burst_map::{AccessView, BURST_BITS, NormalView, SyncView, access_sequence, sync_sequence};
 use fire_code::{rach_holds, sch_holds, xcch_holds};
 use interleave::gather;
 use training_seq::best;
 use trellis_decode::decode;
 
-/// What the four bursts of a block are received as.
-pub fn receive_block(bursts: &[[i8; 148]; 4]) -> Received
+/// Decodes the four normal bursts of a block, 148 soft bits each, -127 to 127.
+pub fn receive_block(bursts: &[[i8; BURST_BITS]; 4]) -> Received
     requires { All AllSoft bursts.now }
     ensures received { IsReceivedBlock bursts.now result }
     ensures only { (other : Received) → IsReceivedBlock bursts.now other → other ≡ result }
     ensures clean { (octets : List ℕ) (tsc : ℕ) (sent : List (List ℕ)) →
-        IsSentBlock octets tsc sent → bursts.now ≡ map softened sent → IsCleanBlock octets tsc result }
+        IsSentBlock octets tsc sent → bursts.now ≡ map soft_bits sent → IsCleanBlock octets tsc result }
     ensures restores { (octets c : List ℕ) (soft : List ℤ) → IsCodedBlock octets c →
         IsInterleaved soft (map coded_places bursts.now) → IsLightlyDamaged soft c → result.accepted ≡ Some octets }
 {
     receive_gathered(bursts, &gather_block(bursts))
 }
 
-/// The same where the soft values of the coded bits are at hand.
-pub fn receive_gathered(bursts: &[[i8; 148]; 4], soft: &[i8; 456]) -> Received
+/// The same for bursts that are already deinterleaved into `soft`.
+pub fn receive_gathered(bursts: &[[i8; BURST_BITS]; 4], soft: &[i8; CODED_BITS]) -> Received
     requires soft { AllSoft soft.now }
     requires gathered { IsInterleaved soft.now (map coded_places bursts.now) }
     ensures { IsReceivedBlock bursts.now result }
 {
-    let mut u = [0; 228];
+    let mut u = [0; INFORMATION_BITS];
     let metric = decode(soft, &mut u);
     let (tsc, wrong_training) = best_sequence(bursts);
     Received {
@@ -51,8 +53,8 @@ pub fn receive_gathered(bursts: &[[i8; 148]; 4], soft: &[i8; 456]) -> Received
     }
 }
 
-/// The soft values of a block's coded bits.
-pub fn gather_block(bursts: &[[i8; 148]; 4]) -> [i8; 456]
+/// Deinterleaves the coded soft bits of a block.
+pub fn gather_block(bursts: &[[i8; BURST_BITS]; 4]) -> [i8; CODED_BITS]
     requires { All AllSoft bursts.now }
     ensures gathered { IsInterleaved result (map coded_places bursts.now) }
     ensures soft { AllSoft result }
@@ -65,8 +67,8 @@ pub fn gather_block(bursts: &[[i8; 148]; 4]) -> [i8; 456]
     ])
 }
 
-/// The 114 soft values of a burst's coded bits.
-fn coded_part(burst: &[i8; 148]) -> [i8; 114]
+/// The 114 coded soft bits of a normal burst.
+fn coded_part(burst: &[i8; BURST_BITS]) -> [i8; 114]
     ensures { result ≡ coded_places burst.now }
 {
     let parts = NormalView::new(burst);
@@ -76,9 +78,9 @@ fn coded_part(burst: &[i8; 148]) -> [i8; 114]
     part
 }
 
-/// The training sequence of four bursts, and how many of its places are wrong.
-fn best_sequence(bursts: &[[i8; 148]; 4]) -> (u8, u32)
-    ensures tsc { IsHeardSequence bursts.now result.0 }
+/// The training sequence code of four bursts, and the number of wrong training bits.
+fn best_sequence(bursts: &[[i8; BURST_BITS]; 4]) -> (u8, u32)
+    ensures tsc { IsReceivedSequence bursts.now result.0 }
     ensures wrong { result.1 ≡ wrong_training_places bursts.now result.0 }
 {
     best(
@@ -89,30 +91,29 @@ fn best_sequence(bursts: &[[i8; 148]; 4]) -> (u8, u32)
     )
 }
 
-/// The octets of an information list whose parity holds.
-pub fn block_data(u: &[u8; 228]) -> Option<[u8; 23]>
+/// The octets of an information list, or `None` if its Fire code bits do not match.
+pub fn block_data(u: &[u8; INFORMATION_BITS]) -> Option<[u8; BLOCK_OCTETS]>
     requires { AllBits u.now }
     ensures { MatchOption result
         (¬ IsXcchWord (take 224 u.now))
-        (λ octets. IsXcchWord (take 224 u.now) × (octets ≡ octets_of (take 184 u.now))) }
+        (λ octets. IsXcchWord (take 224 u.now) × (octets ≡ octets_of (take BLOCK_BITS u.now))) }
 {
     let mut word = [0; 224];
     word.copy_from_slice(&u[..224]);
     if !xcch_holds(&Bits::from_array(word)) {
         return None;
     }
-    let mut octets = [0; 23];
-    to_octets(&u[..184], &mut octets);
+    let mut octets = [0; BLOCK_OCTETS];
+    to_octets(&u[..BLOCK_BITS], &mut octets);
     Some(octets)
 }
 
-/// What an access burst is received as, under the six bits of a base station's colour code
-/// (BSIC).
+/// Decodes an access burst of 88 soft bits, -127 to 127, under a base station identity code (BSIC).
 pub fn receive_access(burst: &[i8; 88], bsic: &Bits<6>) -> ReceivedAccess
     requires { AllSoft burst.now }
     ensures received { IsReceivedAccess burst.now bsic.now result }
     ensures only { (other : ReceivedAccess) → IsReceivedAccess burst.now bsic.now other → other ≡ result }
-    ensures clean { (info sent : List ℕ) → IsSentAccess info bsic.now sent → burst.now ≡ softened sent
+    ensures clean { (info sent : List ℕ) → IsSentAccess info bsic.now sent → burst.now ≡ soft_bits sent
         → IsCleanAccess info bsic.now result }
     ensures restores { (info c : List ℕ) → IsCodedAccess info bsic.now c → IsLightlyDamaged (access_places burst.now) c →
         result.accepted ≡ Some info }
@@ -128,7 +129,7 @@ pub fn receive_access(burst: &[i8; 88], bsic: &Bits<6>) -> ReceivedAccess
     }
 }
 
-/// The eight bits of an information list whose parity holds for the code.
+/// The eight information bits of an information list, or `None` if its CRC does not match under the BSIC.
 pub fn access_data(u: &[u8; 18], bsic: &Bits<6>) -> Option<Bits<8>>
     requires { AllBits u.now }
     ensures { MatchOption result
@@ -145,12 +146,12 @@ pub fn access_data(u: &[u8; 18], bsic: &Bits<6>) -> Option<Bits<8>>
     Some(Bits::from_array(info))
 }
 
-/// What a synchronisation burst is received as.
-pub fn receive_sync(burst: &[i8; 148]) -> ReceivedSync
+/// Decodes a synchronisation burst of 148 soft bits, -127 to 127.
+pub fn receive_sync(burst: &[i8; BURST_BITS]) -> ReceivedSync
     requires { AllSoft burst.now }
     ensures received { IsReceivedSync burst.now result }
     ensures only { (other : ReceivedSync) → IsReceivedSync burst.now other → other ≡ result }
-    ensures clean { (info sent : List ℕ) → IsSentSync info sent → burst.now ≡ softened sent → IsCleanSync info result }
+    ensures clean { (info sent : List ℕ) → IsSentSync info sent → burst.now ≡ soft_bits sent → IsCleanSync info result }
     ensures restores { (info c : List ℕ) → IsCodedSync info c → IsLightlyDamaged (sync_places burst.now) c →
         result.accepted ≡ Some info }
 {
@@ -166,7 +167,7 @@ pub fn receive_sync(burst: &[i8; 148]) -> ReceivedSync
     }
 }
 
-/// The 78 soft values of two halves.
+/// The 78 coded soft bits of two halves.
 pub fn join_halves(first: &[i8], second: &[i8]) -> [i8; 78]
     requires first { length first.now ≡ 39 }
     requires second { length second.now ≡ 39 }
@@ -178,7 +179,7 @@ pub fn join_halves(first: &[i8], second: &[i8]) -> [i8; 78]
     soft
 }
 
-/// The 25 bits of an information list whose parity holds.
+/// The 25 information bits of an information list, or `None` if its CRC does not match.
 pub fn sync_data(u: &[u8; 39]) -> Option<Bits<25>>
     requires { AllBits u.now }
     ensures { MatchOption result

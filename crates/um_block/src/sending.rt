@@ -1,4 +1,4 @@
-//! Sending: parity, the tail, the convolutional code, interleaving and the burst (GSM 05.03, today 3GPP TS 45.003).
+//! Sending: CRC, tail bits, convolutional code, interleaving and burst layout (GSM 05.03, today 3GPP TS 45.003).
 ghost use Rattle.std.specs.Prelude.{◌≡◌, ℕ, ◌+◌, ◌<◌, ◌≤◌, ◌++◌, List, [], length, replicate, take, drop};
 ghost use Rattle.std.specs.Prelude.{slice_index_or, All};
 ghost use Rattle.bit_blocks.specs.Bits.{AllBits};
@@ -9,14 +9,14 @@ ghost use Rattle.interleave.specs.Bursts.{IsInterleaved};
 ghost use Rattle.interleave.specs.Columns.{AreColumns};
 ghost use Rattle.um_block.specs.Sent.{with_tail, IsCodedBlock, IsSentBlock, IsSentAccess, IsSentSync};
 
-use bit_blocks::Bits;
-use burst_map::{NormalParts, access, sync};
+use bit_blocks::{BLOCK_OCTETS, Bits};
+use burst_map::{BURST_BITS, NormalParts, access, sync};
 use conv_code::{encode, encode_octets};
 use fire_code::{rach_parity, sch_parity, xcch_parity_of_octets};
 use interleave::Columns;
 
-/// The four normal bursts of a block of 23 octets, with a training sequence 0 to 7.
-pub fn send_block(octets: &[u8; 23], tsc: u8) -> [[u8; 148]; 4]
+/// The four normal bursts of a block of 23 octets, with a training sequence code of 0 to 7.
+pub fn send_block(octets: &[u8; BLOCK_OCTETS], tsc: u8) -> [[u8; BURST_BITS]; 4]
     requires { tsc ≤ 7 }
     ensures sent { IsSentBlock octets.now tsc result }
     ensures only { (other : List (List ℕ)) → IsSentBlock octets.now tsc other → other ≡ result }
@@ -31,54 +31,54 @@ pub fn send_block(octets: &[u8; 23], tsc: u8) -> [[u8; 148]; 4]
     ]
 }
 
-/// The 456 coded bits of 23 octets, in columns.
-fn code_block(octets: &[u8; 23]) -> Columns
+/// The 456 coded bits of 23 octets, packed by columns.
+fn code_block(octets: &[u8; BLOCK_OCTETS]) -> Columns
     ensures { (coded : List ℕ) × IsCodedBlock octets.now coded × AreColumns coded result.octets }
 {
-    Columns::new(&encode_octets(&with_parity(octets)))
+    Columns::new(&encode_octets(&with_crc(octets)))
 }
 
-/// The octets of a block, their parity, and zeros.
-fn with_parity(octets: &[u8; 23]) -> [u8; 32]
-    ensures { (parity : List ℕ) × IsXcchWord (bits_of octets.now ++ bits_of parity) × (result ≡ octets.now ++ parity ++ replicate 4 0) }
+/// The octets of a block, their five Fire code octets, and zeros.
+fn with_crc(octets: &[u8; BLOCK_OCTETS]) -> [u8; 32]
+    ensures { (crc : List ℕ) × IsXcchWord (bits_of octets.now ++ bits_of crc) × (result ≡ octets.now ++ crc ++ replicate 4 0) }
 {
     let mut word = [0; 32];
-    word[..23].copy_from_slice(octets);
-    word[23..28].copy_from_slice(&xcch_parity_of_octets(octets));
+    word[..BLOCK_OCTETS].copy_from_slice(octets);
+    word[BLOCK_OCTETS..28].copy_from_slice(&xcch_parity_of_octets(octets));
     word
 }
 
-/// Burst `b` of a block's coded bits, both halves of which are written in place.
-fn send_burst(columns: &Columns, b: usize, tsc: u8) -> [u8; 148]
+/// Burst `b` of a block. Both halves are written in place.
+fn send_burst(columns: &Columns, b: usize, tsc: u8) -> [u8; BURST_BITS]
     requires which { b < 4 }
     requires known { tsc ≤ 7 }
     ensures { (coded : List ℕ) (parts : List (List ℕ)) → AreColumns coded columns.now.octets → IsInterleaved coded parts →
         result ≡ normal_burst (take 57 (slice_index_or parts b [])) (drop 57 (slice_index_or parts b [])) tsc }
 {
-    let mut burst = [0; 148];
+    let mut burst = [0; BURST_BITS];
     let mut parts = NormalParts::new(&mut burst, tsc);
     columns.write_half(b, 0, parts.first_mut());
     columns.write_half(b, 1, parts.second_mut());
     burst
 }
 
-/// The access burst of eight bits of information under the six bits of a base station's colour
-/// code (BSIC), the highest bit of the network's part first.
+/// The access burst of eight information bits under a base station identity code (BSIC), network colour code first, most significant
+/// bit first.
 pub fn send_access(info: &Bits<8>, bsic: &Bits<6>) -> [u8; 88]
     ensures sent { IsSentAccess info.now bsic.now result }
     ensures only { (other : List ℕ) → IsSentAccess info.now bsic.now other → other ≡ result }
     ensures bits { AllBits result }
 {
-    let parity = rach_parity(info).xor(bsic);
+    let crc = rach_parity(info).xor(bsic);
     let mut word = [0; 18];
-    add_tail(info.as_slice(), parity.as_slice(), &mut word);
+    add_tail(info.as_slice(), crc.as_slice(), &mut word);
     let mut coded = [0; 36];
     encode(&word, &mut coded);
     access(&coded)
 }
 
-/// The synchronisation burst of 25 bits of information.
-pub fn send_sync(info: &Bits<25>) -> [u8; 148]
+/// The synchronisation burst of 25 information bits.
+pub fn send_sync(info: &Bits<25>) -> [u8; BURST_BITS]
     ensures sent { IsSentSync info.now result }
     ensures only { (other : List ℕ) → IsSentSync info.now other → other ≡ result }
     ensures bits { AllBits result }
@@ -91,16 +91,16 @@ pub fn send_sync(info: &Bits<25>) -> [u8; 148]
     sync(first, second)
 }
 
-/// Writes information, parity and the four tail bits, one after the other.
-fn add_tail(info: &[u8], parity: &[u8], word: &mut [u8])
-    requires count { length info.now + length parity.now + 4 ≡ length word.old }
+/// Writes the information bits, the check bits and the four tail bits.
+fn add_tail(info: &[u8], crc: &[u8], word: &mut [u8])
+    requires count { length info.now + length crc.now + 4 ≡ length word.old }
     requires some { 0 < length info.now }
     requires info_bits { AllBits info.now }
-    requires parity_bits { AllBits parity.now }
-    ensures { word.new ≡ with_tail (info.now ++ parity.now) }
+    requires crc_bits { AllBits crc.now }
+    ensures { word.new ≡ with_tail (info.now ++ crc.now) }
 {
-    let end = info.len() + parity.len();
+    let end = info.len() + crc.len();
     word[..info.len()].copy_from_slice(info);
-    word[info.len()..end].copy_from_slice(parity);
+    word[info.len()..end].copy_from_slice(crc);
     word[end..].fill(0);
 }

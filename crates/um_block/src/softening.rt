@@ -1,24 +1,26 @@
-//! Bits as sure soft values.
+//! Bits as soft bits of full confidence.
 ghost use Rattle.std.specs.Prelude.{◌≡◌, ◌≤◌, map, take, drop, All};
 ghost use Rattle.bit_blocks.specs.Bits.{AllBits};
 ghost use Rattle.bit_blocks.specs.SoftValues.{AllSoft};
-ghost use Rattle.um_block.specs.Received.{softened};
+ghost use Rattle.um_block.specs.Received.{soft_bits};
 
-/// The bits of a burst as sure soft values: 127 for a 0, and -127 for a 1.
-pub fn soften(burst: &[u8; 148]) -> [i8; 148]
+use burst_map::BURST_BITS;
+
+/// The bits of a burst as soft bits of full confidence: 127 for 0, -127 for 1.
+pub fn soften(burst: &[u8; BURST_BITS]) -> [i8; BURST_BITS]
     requires { AllBits burst.now }
-    ensures value { result ≡ softened burst.now }
+    ensures value { result ≡ soft_bits burst.now }
     ensures soft { AllSoft result }
 {
-    let mut soft = [0; 148];
+    let mut soft = [0; BURST_BITS];
     soften_into(burst, &mut soft);
     soft
 }
 
-/// The bits of the four bursts of a block as sure soft values, written where these are to stand.
-pub fn soften_block(block: &[[u8; 148]; 4], soft: &mut [[i8; 148]; 4])
+/// The same for the four bursts of a block, written to `soft`.
+pub fn soften_block(block: &[[u8; BURST_BITS]; 4], soft: &mut [[i8; BURST_BITS]; 4])
     requires { All AllBits block.now }
-    ensures value { soft.new ≡ map softened block.now }
+    ensures value { soft.new ≡ map soft_bits block.now }
     ensures soft { All AllSoft soft.new }
 {
     for b in 0..4 {
@@ -26,10 +28,10 @@ pub fn soften_block(block: &[[u8; 148]; 4], soft: &mut [[i8; 148]; 4])
     }
 }
 
-// Sixteen at a time, and the last sixteen once more, of which twelve stand there already.
-fn soften_into(burst: &[u8; 148], soft: &mut [i8; 148])
+// Sixteen bits at a time; the last sixteen overlap the ones before by twelve.
+fn soften_into(burst: &[u8; BURST_BITS], soft: &mut [i8; BURST_BITS])
     requires { AllBits burst.now }
-    ensures value { soft.new ≡ softened burst.now }
+    ensures value { soft.new ≡ soft_bits burst.now }
     ensures soft { AllSoft soft.new }
 {
     let mut at = 0;
@@ -40,9 +42,9 @@ fn soften_into(burst: &[u8; 148], soft: &mut [i8; 148])
     soft[132..].copy_from_slice(&soften_sixteen(burst, 132));
 }
 
-fn soften_sixteen(burst: &[u8; 148], at: usize) -> [i8; 16]
+fn soften_sixteen(burst: &[u8; BURST_BITS], at: usize) -> [i8; 16]
     requires { at ≤ 132 }
-    ensures { result ≡ softened (take 16 (drop at burst.now)) }
+    ensures { result ≡ soft_bits (take 16 (drop at burst.now)) }
 {
     let mut soft = [0; 16];
     for i in 0..16 {

@@ -2,7 +2,8 @@ ghost use Rattle.std.specs.Prelude.{◌↔◌, IsTrue, All};
 ghost use Rattle.bit_blocks.specs.SoftValues.{AllSoft};
 
 use super::*;
-use bit_blocks::{Bits, from_octets};
+use bit_blocks::{BLOCK_BITS, BLOCK_OCTETS, Bits, from_octets};
+use burst_map::BURST_BITS;
 use std::process::Abort;
 
 fn are_soft(values: &[i8]) -> bool
@@ -11,7 +12,7 @@ fn are_soft(values: &[i8]) -> bool
     values.iter().all(|value| *value != -128)
 }
 
-fn block(rt: &impl Abort, bursts: &[[i8; 148]; 4]) -> Received {
+fn block(rt: &impl Abort, bursts: &[[i8; BURST_BITS]; 4]) -> Received {
     let all_soft = bursts.iter().all(|burst| are_soft(burst));
     assert!(rt; all_soft);
     receive_block(bursts)
@@ -24,7 +25,7 @@ fn access(rt: &impl Abort, burst: &[i8; 88], bsic: [u8; 6]) -> ReceivedAccess {
     receive_access(burst, &Bits::from_array(bsic))
 }
 
-fn softened(rt: &impl Abort, burst: &[u8; 148]) -> [i8; 148] {
+fn softened(rt: &impl Abort, burst: &[u8; BURST_BITS]) -> [i8; BURST_BITS] {
     let are_bits = burst.iter().all(|bit| *bit <= 1);
     assert!(rt; are_bits);
     soften(burst)
@@ -32,7 +33,7 @@ fn softened(rt: &impl Abort, burst: &[u8; 148]) -> [i8; 148] {
 
 #[test]
 fn a_lost_block_is_the_first_word(rt: HostRuntime) {
-    let lost = block(&rt, &[[0; 148]; 4]);
+    let lost = block(&rt, &[[0; BURST_BITS]; 4]);
     let expected = Received {
         u: Bits::zero(),
         metric: 0,
@@ -77,11 +78,11 @@ fn the_last_bits_of_an_access_word_are_zero(rt: HostRuntime) {
 
 #[test]
 fn a_block_is_restored_without_one_of_its_bursts(rt: HostRuntime) {
-    let octets = [0; 23];
+    let octets = [0; BLOCK_OCTETS];
     let sent = send_block(&octets, 0);
     let bursts = [
         softened(&rt, &sent[0]),
-        [0; 148],
+        [0; BURST_BITS],
         softened(&rt, &sent[2]),
         softened(&rt, &sent[3]),
     ];
@@ -92,10 +93,10 @@ fn a_block_is_restored_without_one_of_its_bursts(rt: HostRuntime) {
     assert_eq!(rt; received.accepted, Some(octets));
 }
 
-// Seven wrong bits are the distance of two words, and here the other word is reached.
+// Seven wrong coded bits, the free distance, give the coded bits of another list, whose CRC fails.
 #[test]
 fn a_neighbour_is_reported_and_not_accepted(rt: HostRuntime) {
-    let mut octets = [0x2b; 23];
+    let mut octets = [0x2b; BLOCK_OCTETS];
     octets[0] = 3;
     octets[1] = 3;
     octets[2] = 1;
@@ -118,7 +119,7 @@ fn a_neighbour_is_reported_and_not_accepted(rt: HostRuntime) {
     assert_eq!(rt; received.wrong_training, 0);
     assert_eq!(rt; received.accepted, None);
     octets[0] = 2;
-    let mut bits = [0; 184];
+    let mut bits = [0; BLOCK_BITS];
     from_octets(&octets, &mut bits);
     for (k, bit) in bits.iter().enumerate() {
         assert_eq!(rt; received.u.get(k), *bit);

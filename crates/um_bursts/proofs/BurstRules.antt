@@ -1,4 +1,5 @@
--- A command over bursts answers each good line in one way, where it answers bursts in one way.
+-- A command over bursts has one output for every input if its answers to bursts are unique and
+-- always exist.
 use Rattle.std.proofs.Common.{◌≡◌, ℕ, ℤ, ◌+◌, ◌≤◌, inl, inr, List, [], ◌∷◌, ◌++◌, length, length-append}
 use Rattle.std.proofs.Common.{refl, sym, ◌∙◌, subst, arith}
 use Rattle.std.specs.List.{All}
@@ -6,10 +7,10 @@ use Rattle.std.proofs.lemmas.Bool.{cases_lt}
 use Rattle.std.proofs.lemmas.List.Elements.{All-nil, All-cons, All-append}
 use Rattle.bit_blocks.specs.Bits.{AllBits}
 use Rattle.um_lines.proofs.OneMeaning.{same_meaning, good_meaning}
-use Rattle.um_text.specs.declared.burst_lines.BurstLine.{BurstLine}
-use Rattle.um_text.specs.declared.burst_lines.BurstLine.TheVariants.{Skip, Normal, Access, Sync}
-use Rattle.um_text.specs.BurstLines.{burst_fault, BurstMeans}
-use Rattle.um_text.proofs.BurstLaws.{one_meaning, normal_burst, access_burst, sync_burst}
+use Rattle.um_formats.specs.declared.burst_lines.BurstLine.{BurstLine}
+use Rattle.um_formats.specs.declared.burst_lines.BurstLine.TheVariants.{Skip, Normal, Access, Sync}
+use Rattle.um_formats.specs.BurstLines.{burst_fault, BurstMeans}
+use Rattle.um_formats.proofs.BurstLaws.{one_meaning, normal_burst, access_burst, sync_burst}
 use Rattle.um_driver.specs.Rules.{IsDetermined, IsTotal}
 use Rattle.um_driver.specs.Laws.{HasOneOutput}
 use Rattle.um_driver.proofs.OutputExists.{has_one_output}
@@ -20,7 +21,7 @@ use Rattle.um_bursts.specs.BurstRules.{Answers, IsBlockAnswer, IsBurstAnswer, bu
 abbrev pub AreWhole : List (List ℤ) → Type 0
 AreWhole bursts = All (λ burst. length burst ≡ 148) bursts
 
--- bursts have one answer at most
+-- bursts have at most one answer
 pub record HaveOneAnswer (a : Answers) : Type 0 where
   pub block : (bursts : List (List ℤ)) (y y' : List ℕ) → a.block bursts y → a.block bursts y' → y ≡ y'
   pub access : (bsic : List ℕ) (burst : List ℤ) (y y' : List ℕ) → a.access bsic burst y → a.access bsic burst y' → y ≡ y'
@@ -32,7 +33,7 @@ pub record HaveSomeAnswer (a : Answers) : Type 0 where
   pub access : (bsic : List ℕ) (burst : List ℤ) → length burst ≡ 88 → length bsic ≡ 6 → AllBits bsic → (y : List ℕ) × a.access bsic burst y
   pub sync : (burst : List ℤ) → length burst ≡ 148 → (y : List ℕ) × a.sync burst y
 
--- each answer of the one is an answer of the other
+-- each answer in `a` is an answer in `b`
 pub record AreAlso (a b : Answers) : Type 0 where
   pub block : (bursts : List (List ℤ)) (y : List ℕ) → a.block bursts y → b.block bursts y
   pub access : (bsic : List ℕ) (burst : List ℤ) (y : List ℕ) → a.access bsic burst y → b.access bsic burst y
@@ -53,7 +54,7 @@ weaker_bursts a b also = record {
   step = λ held after line y (m, means, answer). (m, means, also_answer a b also held m y after answer);
 }
 
--- what is held of a block: fewer than four bursts, of 148 values each
+-- the bursts held: fewer than four, of 148 values each
 record IsHeld (held : List (List ℤ)) : Type 0 where
   few : length held ≤ 3
   each : AreWhole held
@@ -99,7 +100,7 @@ module _ (a : Answers) where
   step_keeps held after line y h (Access bsic soft, means, (s, _)) = subst IsHeld (sym s) h
   step_keeps held after line y h (Sync soft, means, (s, _)) = subst IsHeld (sym s) h
 
-  -- bursts, the last of which has just come, are answered
+  -- there is an answer to bursts whose last has just arrived
   some_block_answer : HaveSomeAnswer a → (held : List (List ℤ)) (soft : List ℤ) → IsHeld held → length soft ≡ 148 →
       (y : List ℕ) × (after : List (List ℤ)) × IsBlockAnswer a (held ++ soft ∷ []) y after
   some_block_answer some held soft h count =

@@ -1,2 +1,3 @@
 pub mod BurstRules
 pub mod NextAnswers
+pub mod ReplayRules

@@ -1,34 +1,34 @@
--- What a command that reads bursts answers to the lines of its input (this project's own rule).
+-- What a command that reads bursts answers to a line (this project's own rule).
 use Rattle.std.specs.Prelude.{ℕ, ℤ, ◌≡◌, ◌<◌, ◌⊎◌, List, [], ◌∷◌, ◌++◌, length}
-use Rattle.um_text.specs.declared.burst_lines.BurstLine.{BurstLine}
-use Rattle.um_text.specs.declared.burst_lines.BurstLine.TheVariants.{Skip, Normal, Access, Sync}
-use Rattle.um_text.specs.BurstLines.{burst_fault, BurstMeans, unfinished}
-use Rattle.um_text.specs.declared.held.NextBurst.{NextBurst}
-use Rattle.um_text.specs.declared.held.NextBurst.TheVariants as N
-use Rattle.um_text.specs.Held.{Held}
+use Rattle.um_formats.specs.declared.burst_lines.BurstLine.{BurstLine}
+use Rattle.um_formats.specs.declared.burst_lines.BurstLine.TheVariants.{Skip, Normal, Access, Sync}
+use Rattle.um_formats.specs.BurstLines.{burst_fault, BurstMeans, unfinished_fault}
+use Rattle.um_formats.specs.declared.held.NextBurst.{NextBurst}
+use Rattle.um_formats.specs.declared.held.NextBurst.TheVariants as N
+use Rattle.um_formats.specs.Held.{Held}
 use Rattle.um_driver.specs.Rules.{Rules}
 
--- what may be answered to the bursts of a block, to an access burst by the identity code of its cell, and to a
+-- the possible answers to the four bursts of a block, to an access burst with its BSIC, and to a
 -- synchronisation burst
 pub record Answers : Type 1 where
   pub block : (bursts : List (List ℤ)) (answer : List ℕ) → Type 0
   pub access : (bsic : List ℕ) (burst : List ℤ) (answer : List ℕ) → Type 0
   pub sync : (burst : List ℤ) (answer : List ℕ) → Type 0
 
--- what these normal bursts, of which the last has just come, are answered with, and which of them are held after it:
--- fewer than four wait for more, and four are a block
+-- the answer to these normal bursts when the last has just arrived, and the bursts held afterwards:
+-- fewer than four are kept, four are answered as a block
 abbrev pub IsBlockAnswer : Answers → List (List ℤ) → List ℕ → List (List ℤ) → Type 0
 IsBlockAnswer a bursts answer after =
     ((length bursts < 4) × (answer ≡ []) × (after ≡ bursts)) ⊎ ((length bursts ≡ 4) × (after ≡ []) × a.block bursts answer)
 
--- what a line that means this is answered with, where these bursts of a block are held, and which are held after it
+-- the answer to a line with this meaning, and the bursts held before and after it
 abbrev pub IsBurstAnswer : Answers → List (List ℤ) → BurstLine → List ℕ → List (List ℤ) → Type 0
 IsBurstAnswer a held Skip answer after = (answer ≡ []) × (after ≡ held)
 IsBurstAnswer a held (Normal soft) answer after = IsBlockAnswer a (held ++ soft ∷ []) answer after
 IsBurstAnswer a held (Access bsic soft) answer after = (after ≡ held) × a.access bsic soft answer
 IsBurstAnswer a held (Sync soft) answer after = (after ≡ held) × a.sync soft answer
 
--- what is answered to what a line brought, where the places of the bursts are these now
+-- the answer to what a line adds, with the bursts held now
 abbrev pub IsNextAnswer : Answers → NextBurst → Held → List ℕ → Type 0
 IsNextAnswer a N.Skip now answer = answer ≡ []
 IsNextAnswer a N.Held now answer = answer ≡ []
@@ -36,11 +36,11 @@ IsNextAnswer a N.Block now answer = a.block now.places answer
 IsNextAnswer a (N.Access bsic soft) now answer = a.access bsic soft answer
 IsNextAnswer a (N.Sync soft) now answer = a.sync soft answer
 
--- the state of the command is the bursts of an unfinished block, in their order
+-- the rules of a command over bursts; its state is the bursts of an unfinished block, in order
 abbrev pub burst_rules : Answers → Rules (List (List ℤ))
 burst_rules a = record {
   fault = λ held line. burst_fault (length held) line;
-  end_fault = unfinished;
+  end_fault = unfinished_fault;
   Step = λ held line answer after. (meaning : BurstLine) × BurstMeans (length held) line meaning
       × IsBurstAnswer a held meaning answer after;
 }

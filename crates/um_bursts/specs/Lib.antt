@@ -1,4 +1,6 @@
+pub use Rattle.um_driver.specs as um_driver
 -- The definitions that the contracts of this crate cite.
 pub mod BurstRules
--- what the definitions of this crate stand on
+pub mod Replay
+-- the crates that the definitions of this crate use
 pub use Rattle.um_driver.specs.Rules

@@ -1,23 +1,23 @@
 //! A command over lines of bursts.
 ghost use Rattle.std.specs.Prelude.{◌≡◌, ◌<◌, ℤ, List, [], ◌∷◌, ◌++◌, length};
-ghost use Rattle.um_text.specs.Held.{BringsSoft};
+ghost use Rattle.um_formats.specs.Held.{BringsSoft};
 ghost use Rattle.um_bursts.specs.BurstRules.{burst_rules, IsNextAnswer};
 ghost use Rattle.um_driver.specs.Rules.{Answers};
 
 use crate::reports::Reports;
 use std::marker::Model;
 use um_driver::Command;
+use um_formats::{HeldBursts, NextBurst, read_burst_into};
 use um_lines::{LineFault, Text};
-use um_text::{HeldBursts, NextBurst, read_burst_into};
 
-/// The command that answers bursts by these reports, with the normal bursts of a block that has not all its four.
+/// Answers bursts by these reports, and holds the bursts of an incomplete block.
 #[derive(Drop)]
 pub struct BurstCommand<R> {
     held: HeldBursts,
     reports: R,
 }
 
-// Clauses see the list of bursts held.
+// Its model is the list of bursts held.
 impl<R> Model for BurstCommand<R> {
     ghost use Rattle.std.specs.Prelude.{ℤ, List};
 
@@ -27,7 +27,7 @@ impl<R> Model for BurstCommand<R> {
 }
 
 impl<R: Reports> BurstCommand<R> {
-    /// No burst is held.
+    /// A command that holds no bursts.
     pub fn new(reports: R) -> BurstCommand<R>
         ensures { result ≡ [] }
     {
@@ -45,7 +45,7 @@ impl<R: Reports> Command for BurstCommand<R> {
 
     ghost start = { λ command. command };
 
-    ghost stands = { λ command held. command ≡ held };
+    ghost represents = { λ command held. command ≡ held };
 
     ghost Kept = { Unit {0} };
 
@@ -56,7 +56,7 @@ impl<R: Reports> Command for BurstCommand<R> {
         ensures answered { (held : List (List ℤ)) → self.old ≡ held →
             Answers (burst_rules R.answers) held line.now result out.new (λ after. self.new ≡ after) }
         ensures keeps { tt {0} ≡ tt }
-        ensures few { length out.new < 2000 }
+        ensures size { length out.new < 2000 }
     {
         let next = read_burst_into(line, &mut self.held)?;
         write_answer(out, &self.reports, &next, &self.held);
@@ -72,12 +72,12 @@ impl<R: Reports> Command for BurstCommand<R> {
     }
 }
 
-/// Writes what is answered to what a line brought.
+/// Writes the answer to what a line adds.
 fn write_answer<R: Reports>(out: &mut Text, reports: &R, next: &NextBurst, held: &HeldBursts)
     requires empty { out.old ≡ [] }
     requires soft { BringsSoft next.now }
     ensures answer { IsNextAnswer R.answers next.now held.now out.new }
-    ensures few { length out.new < 2000 }
+    ensures size { length out.new < 2000 }
 {
     match next {
         NextBurst::Skip => {}

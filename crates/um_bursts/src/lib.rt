@@ -1,9 +1,11 @@
-//! Commands that read lines of recorded bursts: four normal bursts are a block, and a burst of another kind stands
-//! alone. What each is answered with is the command's own.
+//! Commands that read lines of recorded bursts. Four normal bursts are answered together as a
+//! block, any other burst alone; each command defines its own answers.
 #![tactic(auto)]
 
 mod command;
+mod replay;
 mod reports;
 
 pub use command::BurstCommand;
+pub use replay::Replay;
 pub use reports::Reports;

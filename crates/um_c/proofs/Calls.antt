@@ -1,4 +1,5 @@
--- What a call of an end answers, from what the end below it does.
+-- What a call from C answers, derived from what the endpoint of `lapdm_end` does: the state that
+-- was read represents the same endpoint.
 use Rattle.std.proofs.Common.{◌≡◌, true, refl, sym, ◌∙◌, ap, subst, ℕ, List, Option, Some, None, Result, Ok, Err, OnOk}
 use Rattle.std.proofs.Common.{IfErr, map}
 use Rattle.lapdm_frame.specs.declared.Channel.{Channel}
@@ -13,57 +14,60 @@ use Rattle.lapdm_window.specs.declared.effects.Effects.{Effects}
 use Rattle.lapdm_window.specs.Ends.{EndState, Outcome, start}
 use Rattle.lapdm_window.specs.Calls.{Call, after_call}
 use Rattle.lapdm_window.specs.Tables.{after_frame}
-use Rattle.lapdm_window.specs.Steps.{Does}
+use Rattle.lapdm_window.specs.Steps.{HasEffects}
 use Rattle.lapdm_end.specs.declared.Role.{Role}
-use Rattle.lapdm_end.specs.Links as L
-use Rattle.lapdm_end.specs.declared.ends.End.{End}
-use Rattle.lapdm_end.specs.Standing.{Stands}
-use Rattle.lapdm_end.specs.Following.{Follows, IsRefusedAs}
+use Rattle.lapdm_end.specs.Addresses as L
+use Rattle.lapdm_end.specs.declared.ends.Endpoint.{Endpoint}
+use Rattle.lapdm_end.specs.Abstraction.{Represents}
+use Rattle.lapdm_end.specs.Refinement.{Refines, IsRefusedAs}
 use Rattle.lapdm_end.specs.Parts.{values_of}
 use Rattle.um_c.specs.declared.states.PlainEnd.{PlainEnd}
 use Rattle.um_c.specs.declared.effects.PlainEffects.{PlainEffects}
 use Rattle.um_c.specs.Plain.{channel_of}
-use Rattle.um_c.specs.States.{role_of, sapi_of, said_end, StandsFor, IsOfAnEnd, plain_end}
+use Rattle.um_c.specs.States.{role_of, sapi_of, said_end, StateRepresents, IsOfAnEnd, plain_end}
 use Rattle.um_c.specs.Effects.{plain_effects}
 use Rattle.um_c.proofs.Plain.{end-plain}
 use Rattle.um_c.specs.EndCalls.{refused_number, MayAsk, IsCarriedOut, IsCalledAs, IsGivenAs, IsBegun, IsBegunAs}
 
--- the end that was read stands for whatever the state does, and there is something
-pub record IsRead (s : PlainEnd) (m : End) : Type 0 where
-  pub stands : (e : EndState) → StandsFor s e → Stands m e
+-- the endpoint that was read represents whatever the state does, and the state represents some
+-- endpoint
+pub record IsRead (s : PlainEnd) (m : Endpoint) : Type 0 where
+  pub represents : (e : EndState) → StateRepresents s e → Represents m e
   pub one : IsOfAnEnd s
 
--- what was answered, where the call was not refused and where it was
-abbrev pub IsDone : Effects → End → ℕ → PlainEnd → PlainEffects → Type 0
-IsDone effects n answer after told =
-    (answer ≡ 0) × (said_end after ≡ Some (values_of n)) × (told ≡ plain_effects effects.frames effects.notices)
+-- the answer, the state and the effects after a call that succeeds
+abbrev pub IsDone : Effects → Endpoint → ℕ → PlainEnd → PlainEffects → Type 0
+IsDone effects n answer after output =
+    (answer ≡ 0) × (said_end after ≡ Some (values_of n)) × (output ≡ plain_effects effects.frames effects.notices)
 
-abbrev pub IsWritten : Effects → End → ℕ → PlainEnd → PlainEffects → Type 0
-IsWritten effects n answer after told =
-    (answer ≡ 0) × (after ≡ plain_end (values_of n)) × (told ≡ plain_effects effects.frames effects.notices)
+abbrev pub IsWritten : Effects → Endpoint → ℕ → PlainEnd → PlainEffects → Type 0
+IsWritten effects n answer after output =
+    (answer ≡ 0) × (after ≡ plain_end (values_of n)) × (output ≡ plain_effects effects.frames effects.notices)
 
-pub is_done : (effects : Effects) (n : End) (answer : ℕ) (after : PlainEnd) (told : PlainEffects) → IsWritten effects n answer after told →
-    IsDone effects n answer after told
-is_done effects n answer after told is = (is.0, ap said_end is.1 ∙ end-plain (values_of n) n.window.few, is.2)
+pub is_done : (effects : Effects) (n : Endpoint) (answer : ℕ) (after : PlainEnd) (output : PlainEffects) →
+    IsWritten effects n answer after output →
+    IsDone effects n answer after output
+is_done effects n answer after output is = (is.0, ap said_end is.1 ∙ end-plain (values_of n) n.window.few, is.2)
 
-written : {A : Type 0} (r : Result A Refused) (effects : Effects) (n : End) (answer : ℕ) (after : PlainEnd) (told : PlainEffects) →
-    OnOk r (IsWritten effects n answer after told) → OnOk r (IsDone effects n answer after told)
-written (Ok x) effects n answer after told is = is_done effects n answer after told is
-written (Err reason) effects n answer after told is = is
+written : {A : Type 0} (r : Result A Refused) (effects : Effects) (n : Endpoint) (answer : ℕ) (after : PlainEnd) (output : PlainEffects) →
+    OnOk r (IsWritten effects n answer after output) → OnOk r (IsDone effects n answer after output)
+written (Ok x) effects n answer after output is = is_done effects n answer after output is
+written (Err reason) effects n answer after output is = is
 
-abbrev pub IsRefusal : Refused → ℕ → (before after : PlainEnd) → (untold told : PlainEffects) → Type 0
-IsRefusal reason answer before after untold told = (answer ≡ refused_number reason) × (after ≡ before) × (told ≡ untold)
+abbrev pub IsRefusal : Refused → ℕ → (before after : PlainEnd) → (output_old output : PlainEffects) → Type 0
+IsRefusal reason answer before after output_old output = (answer ≡ refused_number reason) × (after ≡ before) × (output ≡ output_old)
 
-same_told : (f g : List (List ℕ)) (a b : List Notice) → f ≡ g → a ≡ b → plain_effects f a ≡ plain_effects g b
-same_told f g a b h k = ap (λ x. plain_effects x a) h ∙ ap (plain_effects g) k
+same_output : (f g : List (List ℕ)) (a b : List Notice) → f ≡ g → a ≡ b → plain_effects f a ≡ plain_effects g b
+same_output f g a b h k = ap (λ x. plain_effects x a) h ∙ ap (plain_effects g) k
 
-pub carried_out : (o : Outcome) (e : EndState) (n : End) (effects : Effects) (answer : ℕ) (after : PlainEnd) (told : PlainEffects) →
-    Stands n o.after → Does effects e.channel o → IsDone effects n answer after told → IsCarriedOut e.channel o answer after told
-carried_out o e n effects answer after told stands does is =
+pub carried_out : (o : Outcome) (e : EndState) (n : Endpoint) (effects : Effects) (answer : ℕ) (after : PlainEnd) (output : PlainEffects) →
+    Represents n o.after → HasEffects effects e.channel o → IsDone effects n answer after output →
+    IsCarriedOut e.channel o answer after output
+carried_out o e n effects answer after output represents does is =
     record {
       zero = is.0;
-      stands = record { values = values_of n; said = is.1; stand = record { end = n; values = refl; stands = stands } };
-      effects = is.2 ∙ same_told effects.frames (map (octets_of e.channel) o.frames) effects.notices o.notices does.frames does.notices;
+      represents = record { values = values_of n; said = is.1; stand = record { end = n; values = refl; represents = represents } };
+      effects = is.2 ∙ same_output effects.frames (map (octets_of e.channel) o.frames) effects.notices o.notices does.frames does.notices;
     }
 
 some_is : {x y : Refused} → Some x ≡ Some y → x ≡ y
@@ -72,40 +76,43 @@ some_is h = cc
 none_is : {A : Type 0} {x : Refused} → None ≡ Some x → A
 none_is h = absurd (let h2 : None ≡ Some _ = h in cc)
 
-answered_by : {A : Type 0} (call : Call) (before after : PlainEnd) (untold told : PlainEffects) (m n : End) (effects : Effects) (answer : ℕ)
-    (r : Result A Refused) → IsRead before m → ((e : EndState) → StandsFor before e → MayAsk e call) → IsRefusedAs call m r →
-    OnOk r (Follows (after_call call) m effects n) → OnOk r (IsDone effects n answer after told) →
-    IfErr r (λ reason. IsRefusal reason answer before after untold told) → IsCalledAs call answer before after untold told
-answered_by call before after untold told m n effects answer (Ok x) read may refusal follows is refused =
+answered_by : {A : Type 0} (call : Call) (before after : PlainEnd) (output_old output : PlainEffects) (m n : Endpoint) (effects : Effects)
+    (answer : ℕ)
+    (r : Result A Refused) → IsRead before m → ((e : EndState) → StateRepresents before e → MayAsk e call) → IsRefusedAs call m r →
+    OnOk r (Refines (after_call call) m effects n) → OnOk r (IsDone effects n answer after output) →
+    IfErr r (λ reason. IsRefusal reason answer before after output_old output) → IsCalledAs call answer before after output_old output
+answered_by call before after output_old output m n effects answer (Ok x) read may refusal follows is refused =
     record {
       done = λ e h asked none.
-          let s = follows e (read.stands e h) in carried_out (after_call call e) e n effects answer after told s.0 s.1 is;
-      refused = λ e h asked reason refuses. none_is (refusal e (read.stands e h) ∙ refuses);
+          let s = follows e (read.represents e h) in carried_out (after_call call e) e n effects answer after output s.0 s.1 is;
+      refused = λ e h asked reason refuses. none_is (refusal e (read.represents e h) ∙ refuses);
       other = λ e h not_one. absurd (not_one (may e h));
       no_end = λ none. absurd (none read.one.0 read.one.1);
       unchanged = λ other. absurd (other is.0);
     }
-answered_by call before after untold told m n effects answer (Err reason) read may refusal follows done is =
+answered_by call before after output_old output m n effects answer (Err reason) read may refusal follows done is =
     record {
-      done = λ e h asked none. none_is (sym none ∙ sym (refusal e (read.stands e h)));
-      refused = λ e h asked other refuses. is.0 ∙ ap refused_number (some_is (refusal e (read.stands e h) ∙ refuses));
+      done = λ e h asked none. none_is (sym none ∙ sym (refusal e (read.represents e h)));
+      refused = λ e h asked other refuses. is.0 ∙ ap refused_number (some_is (refusal e (read.represents e h) ∙ refuses));
       other = λ e h not_one. absurd (not_one (may e h));
       no_end = λ none. absurd (none read.one.0 read.one.1);
       unchanged = λ other. (is.1, is.2);
     }
 
-pub called_by : {A : Type 0} (call : Call) (before after : PlainEnd) (untold told : PlainEffects) (m n : End) (effects : Effects)
-    (answer : ℕ) (r : Result A Refused) → IsRead before m → ((e : EndState) → StandsFor before e → MayAsk e call) → IsRefusedAs call m r →
-    OnOk r (Follows (after_call call) m effects n) → OnOk r (IsWritten effects n answer after told) →
-    IfErr r (λ reason. IsRefusal reason answer before after untold told) → IsCalledAs call answer before after untold told
-called_by call before after untold told m n effects answer r read may refusal follows is refused =
-    answered_by call before after untold told m n effects answer r read may refusal follows (written r effects n answer after told is)
+pub called_by : {A : Type 0} (call : Call) (before after : PlainEnd) (output_old output : PlainEffects) (m n : Endpoint) (effects : Effects)
+    (answer : ℕ) (r : Result A Refused) → IsRead before m → ((e : EndState) → StateRepresents before e → MayAsk e call) →
+    IsRefusedAs call m r →
+    OnOk r (Refines (after_call call) m effects n) → OnOk r (IsWritten effects n answer after output) →
+    IfErr r (λ reason. IsRefusal reason answer before after output_old output) → IsCalledAs call answer before after output_old output
+called_by call before after output_old output m n effects answer r read may refusal follows is refused =
+    answered_by call before after output_old output m n effects answer r read may refusal follows
+    (written r effects n answer after output is)
     refused
 
--- a call that may not be asked
-pub not_asked : (call : Call) (s : PlainEnd) (told : PlainEffects) (m : End) → IsRead s m →
-    ((e : EndState) → StandsFor s e → MayAsk e call → ⊥) → IsCalledAs call 8 s s told told
-not_asked call s told m read never = record {
+-- a call that this endpoint does not have
+pub not_asked : (call : Call) (s : PlainEnd) (output : PlainEffects) (m : Endpoint) → IsRead s m →
+    ((e : EndState) → StateRepresents s e → MayAsk e call → ⊥) → IsCalledAs call 8 s s output output
+not_asked call s output m read never = record {
   done = λ e h asked none. absurd (never e h asked);
   refused = λ e h asked reason refuses. absurd (never e h asked);
   other = λ e h not_one. refl;
@@ -113,51 +120,55 @@ not_asked call s told m read never = record {
   unchanged = λ other. (refl, refl);
 }
 
--- a call that leaves the state as it is
-told_done : {A : Type 0} (r : Result A Refused) (n : End) (effects : Effects) (answer : ℕ) (s : PlainEnd) (told : PlainEffects) →
-    said_end s ≡ Some (values_of n) → OnOk r ((answer ≡ 0) × (told ≡ plain_effects effects.frames effects.notices)) →
-    OnOk r (IsDone effects n answer s told)
-told_done (Ok x) n effects answer s told said done = (done.0, said, done.1)
-told_done (Err reason) n effects answer s told said done = done
+-- a call that does not change the state
+output_done : {A : Type 0} (r : Result A Refused) (n : Endpoint) (effects : Effects) (answer : ℕ) (s : PlainEnd) (output : PlainEffects) →
+    said_end s ≡ Some (values_of n) → OnOk r ((answer ≡ 0) × (output ≡ plain_effects effects.frames effects.notices)) →
+    OnOk r (IsDone effects n answer s output)
+output_done (Ok x) n effects answer s output said done = (done.0, said, done.1)
+output_done (Err reason) n effects answer s output said done = done
 
-told_refusal : {A : Type 0} (r : Result A Refused) (answer : ℕ) (s : PlainEnd) (untold told : PlainEffects) →
-    IfErr r (λ reason. (answer ≡ refused_number reason) × (told ≡ untold)) → IfErr r (λ reason. IsRefusal reason answer s s untold told)
-told_refusal (Ok x) answer s untold told refused = refused
-told_refusal (Err reason) answer s untold told refused = (refused.0, refl, refused.1)
+output_refusal : {A : Type 0} (r : Result A Refused) (answer : ℕ) (s : PlainEnd) (output_old output : PlainEffects) →
+    IfErr r (λ reason. (answer ≡ refused_number reason) × (output ≡ output_old)) →
+    IfErr r (λ reason. IsRefusal reason answer s s output_old output)
+output_refusal (Ok x) answer s output_old output refused = refused
+output_refusal (Err reason) answer s output_old output refused = (refused.0, refl, refused.1)
 
-pub told_by : {A : Type 0} (call : Call) (s : PlainEnd) (untold told : PlainEffects) (m n : End) (effects : Effects) (answer : ℕ)
-    (r : Result A Refused) → IsRead s m → said_end s ≡ Some (values_of n) → ((e : EndState) → StandsFor s e → MayAsk e call) →
-    IsRefusedAs call m r → OnOk r (Follows (after_call call) m effects n) →
-    OnOk r ((answer ≡ 0) × (told ≡ plain_effects effects.frames effects.notices)) →
-    IfErr r (λ reason. (answer ≡ refused_number reason) × (told ≡ untold)) → IsCalledAs call answer s s untold told
-told_by call s untold told m n effects answer r read said may refusal follows done refused =
-    answered_by call s s untold told m n effects answer r read may refusal follows (told_done r n effects answer s told said done)
-    (told_refusal r answer s untold told refused)
+pub output_by : {A : Type 0} (call : Call) (s : PlainEnd) (output_old output : PlainEffects) (m n : Endpoint) (effects : Effects)
+    (answer : ℕ)
+    (r : Result A Refused) → IsRead s m → said_end s ≡ Some (values_of n) → ((e : EndState) → StateRepresents s e → MayAsk e call) →
+    IsRefusedAs call m r → OnOk r (Refines (after_call call) m effects n) →
+    OnOk r ((answer ≡ 0) × (output ≡ plain_effects effects.frames effects.notices)) →
+    IfErr r (λ reason. (answer ≡ refused_number reason) × (output ≡ output_old)) → IsCalledAs call answer s s output_old output
+output_by call s output_old output m n effects answer r read said may refusal follows done refused =
+    answered_by call s s output_old output m n effects answer r read may refusal follows (output_done r n effects answer s output said done)
+    (output_refusal r answer s output_old output refused)
 
 -- a block that is a frame
-pub given_by : (octets : List ℕ) (channel : Channel) (f : Frame) (before after : PlainEnd) (untold told : PlainEffects) (m n : End)
-    (answer : ℕ) (effects : Effects) → IsRead before m → ((e : EndState) → Stands m e → channel ≡ e.channel) →
-    IsOnlyFrame channel f octets → Follows (after_frame f) m effects n → IsDone effects n answer after told →
-    IsGivenAs octets answer before after untold told
-given_by octets channel f before after untold told m n answer effects read same frame follows is =
-    let known : (e : EndState) → StandsFor before e → IsOnlyFrame e.channel f octets =
-    λ e h. subst (λ (c : Channel). IsOnlyFrame c f octets) (same e (read.stands e h)) frame in
-    let done : (e : EndState) → StandsFor before e → IsCarriedOut e.channel (after_frame f e) answer after told =
-    λ e h. let s = follows e (read.stands e h) in carried_out (after_frame f e) e n effects answer after told s.0 s.1 is in
+pub given_by : (octets : List ℕ) (channel : Channel) (f : Frame) (before after : PlainEnd) (output_old output : PlainEffects)
+    (m n : Endpoint)
+    (answer : ℕ) (effects : Effects) → IsRead before m → ((e : EndState) → Represents m e → channel ≡ e.channel) →
+    IsOnlyFrame channel f octets → Refines (after_frame f) m effects n → IsDone effects n answer after output →
+    IsGivenAs octets answer before after output_old output
+given_by octets channel f before after output_old output m n answer effects read same frame follows is =
+    let known : (e : EndState) → StateRepresents before e → IsOnlyFrame e.channel f octets =
+    λ e h. subst (λ (c : Channel). IsOnlyFrame c f octets) (same e (read.represents e h)) frame in
+    let done : (e : EndState) → StateRepresents before e → IsCarriedOut e.channel (after_frame f e) answer after output =
+    λ e h. let s = follows e (read.represents e h) in carried_out (after_frame f e) e n effects answer after output s.0 s.1 is in
     record {
-      done = λ e h g only. subst (λ (x : Frame). IsCarriedOut e.channel (after_frame x e) answer after told)
+      done = λ e h g only. subst (λ (x : Frame). IsCarriedOut e.channel (after_frame x e) answer after output)
           (sym ((known e h).only g only.frame)) (done e h);
       no_frame = λ e h reason refusal. absurd (refusal.no_frame f (known e h).frame);
       no_end = λ none. absurd (none read.one.0 read.one.1);
       unchanged = λ other. absurd (other is.0);
     }
 
--- a block that is none
-pub not_given : (octets : List ℕ) (channel : Channel) (reason : Refusal) (s : PlainEnd) (told : PlainEffects) (m : End) → IsRead s m →
-    ((e : EndState) → Stands m e → channel ≡ e.channel) → IsOnlyRefusal channel octets reason → IsGivenAs octets 9 s s told told
-not_given octets channel reason s told m read same refusal =
-    let known : (e : EndState) → StandsFor s e → IsOnlyRefusal e.channel octets reason =
-    λ e h. subst (λ (c : Channel). IsOnlyRefusal c octets reason) (same e (read.stands e h)) refusal in
+-- a block that is no frame
+pub not_given : (octets : List ℕ) (channel : Channel) (reason : Refusal) (s : PlainEnd) (output : PlainEffects) (m : Endpoint) →
+    IsRead s m →
+    ((e : EndState) → Represents m e → channel ≡ e.channel) → IsOnlyRefusal channel octets reason → IsGivenAs octets 9 s s output output
+not_given octets channel reason s output m read same refusal =
+    let known : (e : EndState) → StateRepresents s e → IsOnlyRefusal e.channel octets reason =
+    λ e h. subst (λ (c : Channel). IsOnlyRefusal c octets reason) (same e (read.represents e h)) refusal in
     record {
       done = λ e h f only. absurd ((known e h).no_frame f only.frame);
       no_frame = λ e h other refused. refl;
@@ -165,11 +176,11 @@ not_given octets channel reason s told m read same refusal =
       unchanged = λ other. (refl, refl);
     }
 
--- an end before its first call
-pub begun : (role sapi channel : ℕ) (r : Role) (s : Sapi) (c : Channel) (before after : PlainEnd) (m : End) → Some r ≡ role_of role →
-    Some s ≡ sapi_of sapi → Some c ≡ channel_of channel → after ≡ plain_end (values_of m) → Stands m (start (L.role_of r) s c) →
+-- an endpoint before its first call
+pub begun : (role sapi channel : ℕ) (r : Role) (s : Sapi) (c : Channel) (before after : PlainEnd) (m : Endpoint) → Some r ≡ role_of role →
+    Some s ≡ sapi_of sapi → Some c ≡ channel_of channel → after ≡ plain_end (values_of m) → Represents m (start (L.role_of r) s c) →
     IsBegunAs role sapi channel true before after
-begun role sapi channel r s c before after m of_role of_sapi of_channel is stands =
+begun role sapi channel r s c before after m of_role of_sapi of_channel is represents =
     let by_channel : Option Channel → Type 0 = λ z. IsBegun (Some r) (Some s) z true before after in
     let by_sapi : Option Sapi → Type 0 = λ y. IsBegun (Some r) y (channel_of channel) true before after in
     let by_role : Option Role → Type 0 = λ x. IsBegun x (sapi_of sapi) (channel_of channel) true before after in
@@ -178,6 +189,6 @@ begun role sapi channel r s c before after m of_role of_sapi of_channel is stand
       record {
         values = values_of m;
         said = ap said_end is ∙ end-plain (values_of m) m.window.few;
-        stand = record { end = m; values = refl; stands = stands };
+        stand = record { end = m; values = refl; represents = represents };
       },
     )))

@@ -4,5 +4,6 @@ mod Places
 mod Plain
 mod Playing
 mod RepairedOnce
-mod ToldOnce
+mod OutOnce
 mod Opened
+mod Exchanged

@@ -1,12 +1,12 @@
--- Places that are written one after another.
+-- Arrays written element by element.
 use Rattle.std.proofs.Common.{◌≡◌, refl, ◌∙◌, ap, arith, ℕ, zero, suc, ◌+◌, ◌-◌, ◌<◌, ◌≤◌, List, []}
 use Rattle.std.proofs.Common.{◌∷◌, ◌++◌, length, take, replicate, slice_set, slice_index_or, get_or, map}
-use Rattle.segmenting.specs.declared.rooms.PlainMessage.{PlainMessage}
-use Rattle.segmenting.specs.Rooms.{octets_in, plain_message}
+use Rattle.segmenting.specs.declared.buffers.PlainMessage.{PlainMessage}
+use Rattle.segmenting.specs.Buffers.{octets_in, plain_message}
 use Rattle.lapdm_window.specs.declared.Notice.{Notice}
 use Rattle.um_c.specs.declared.effects.PlainNotice.{PlainNotice}
 use Rattle.um_c.specs.Effects.{plain_notice, nothing}
-use Rattle.um_c.specs.States.{rooms_for}
+use Rattle.um_c.specs.States.{buffers_for}
 
 pub three_written : {A : Type 0} (xs : List A) (a b c : A) → length xs ≡ 3 →
     slice_set (slice_set (slice_set xs 0 a) 1 b) 2 c ≡ a ∷ b ∷ c ∷ []
@@ -37,22 +37,22 @@ three_notices old notices a b c three few at at1 at2 =
     ∙ ap (λ x. place notices 0 ∷ place notices 1 ∷ x ∷ []) at2
     ∙ three_places notices few
 
--- one message more
-rooms_more : (k i : ℕ) (held : List PlainMessage) (other : PlainMessage) → i < length held → i < k →
-    slice_set (rooms_for k (map octets_in (take i held))) i (plain_message (octets_in (get_or held i other)))
-    ≡ rooms_for k (map octets_in (take (suc i) held))
-rooms_more zero i held other at room = absurd (omega (arith, room))
-rooms_more (suc k) i [] other at room = absurd (omega (arith, at))
-rooms_more (suc k) zero (m ∷ ms) other at room = refl
-rooms_more (suc k) (suc i) (m ∷ ms) other at room =
-    ap (λ (rooms : List PlainMessage). plain_message (octets_in m) ∷ rooms)
-    (rooms_more k i ms other (omega (arith, at)) (omega (arith, room)))
+-- one more message
+buffers_more : (k i : ℕ) (held : List PlainMessage) (other : PlainMessage) → i < length held → i < k →
+    slice_set (buffers_for k (map octets_in (take i held))) i (plain_message (octets_in (get_or held i other)))
+    ≡ buffers_for k (map octets_in (take (suc i) held))
+buffers_more zero i held other at room = absurd (omega (arith, room))
+buffers_more (suc k) i [] other at room = absurd (omega (arith, at))
+buffers_more (suc k) zero (m ∷ ms) other at room = refl
+buffers_more (suc k) (suc i) (m ∷ ms) other at room =
+    ap (λ (buffers : List PlainMessage). plain_message (octets_in m) ∷ buffers)
+    (buffers_more k i ms other (omega (arith, at)) (omega (arith, room)))
 
-pub room_written : (held : List PlainMessage) (i : ℕ) (rooms : List PlainMessage) (room other : PlainMessage) (octets : List ℕ) →
-    i < length held → length held ≤ 8 → rooms ≡ rooms_for 8 (map octets_in (take i held)) → octets ≡ octets_in (get_or held i other) →
-    room ≡ plain_message octets → slice_set rooms i room ≡ rooms_for 8 (map octets_in (take (i + 1) held))
-room_written held i rooms room other octets at few so_far is written =
+pub room_written : (held : List PlainMessage) (i : ℕ) (buffers : List PlainMessage) (room other : PlainMessage) (octets : List ℕ) →
+    i < length held → length held ≤ 8 → buffers ≡ buffers_for 8 (map octets_in (take i held)) → octets ≡ octets_in (get_or held i other) →
+    room ≡ plain_message octets → slice_set buffers i room ≡ buffers_for 8 (map octets_in (take (i + 1) held))
+room_written held i buffers room other octets at few so_far is written =
     ap (λ (x : List PlainMessage). slice_set x i room) so_far
-    ∙ ap (slice_set (rooms_for 8 (map octets_in (take i held))) i) (written ∙ ap plain_message is)
-    ∙ rooms_more 8 i held other at (omega (arith, at, few))
-    ∙ ap (λ (k : ℕ). rooms_for 8 (map octets_in (take k held))) (let next : suc i ≡ i + 1 = omega arith in next)
+    ∙ ap (slice_set (buffers_for 8 (map octets_in (take i held))) i) (written ∙ ap plain_message is)
+    ∙ buffers_more 8 i held other at (omega (arith, at, few))
+    ∙ ap (λ (k : ℕ). buffers_for 8 (map octets_in (take k held))) (let next : suc i ≡ i + 1 = omega arith in next)

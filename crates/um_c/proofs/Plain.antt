@@ -1,4 +1,4 @@
--- What is read of a state that was written.
+-- A state that was written reads back as what was written.
 use Rattle.std.proofs.Common.{◌≡◌, refl, ◌∙◌, ap, arith, ℕ, zero, suc, ◌-◌, ◌≤◌, Bool, true, false, nat_le, List}
 use Rattle.std.proofs.Common.{[], ◌∷◌, length, take, replicate, map, Some}
 use Rattle.std.proofs.lemmas.Bool.Decides.{nat_tests}
@@ -8,8 +8,8 @@ use Rattle.lapdm_frame.specs.declared.Channel.TheVariants.{Sdcch, Sacch}
 use Rattle.lapdm_frame.specs.Frames.{bit}
 use Rattle.segmenting.specs.declared.joiner.Part.{Part}
 use Rattle.segmenting.specs.declared.joiner.Part.TheVariants as P
-use Rattle.segmenting.specs.Pieces.{Message}
-use Rattle.segmenting.specs.Rooms.{octets_in, plain_message}
+use Rattle.segmenting.specs.Segments.{Message}
+use Rattle.segmenting.specs.Buffers.{octets_in, plain_message}
 use Rattle.lapdm_window.specs.declared.Sapi.{Sapi}
 use Rattle.lapdm_window.specs.declared.Sapi.TheVariants.{Zero, Three}
 use Rattle.lapdm_window.specs.declared.State.{State}
@@ -20,7 +20,7 @@ use Rattle.lapdm_end.specs.declared.Role.TheVariants.{Mobile, Network}
 use Rattle.lapdm_end.specs.Parts.{EndValues}
 use Rattle.um_c.specs.Plain.{says, channel_of}
 use Rattle.um_c.specs.States.{role_of, sapi_of, state_of, part_of, window_with, said_window, end_with, said_end, role_number, sapi_number}
-use Rattle.um_c.specs.States.{channel_number, state_number, part_number, rooms_for, plain_end}
+use Rattle.um_c.specs.States.{channel_number, state_number, part_number, buffers_for, plain_end}
 
 role-number : (r : Role) → role_of (role_number r) ≡ Some r
 role-number Mobile = refl
@@ -53,11 +53,11 @@ says-bit false = refl
 pub octets-plain : (octets : List ℕ) → octets_in (plain_message octets) ≡ octets
 octets-plain octets = take_at octets (replicate (255 - length octets) 0) (length octets) refl
 
-messages-plain : (k : ℕ) (held : List Message) → length held ≤ k → map octets_in (take (length held) (rooms_for k held)) ≡ held
+messages-plain : (k : ℕ) (held : List Message) → length held ≤ k → map octets_in (take (length held) (buffers_for k held)) ≡ held
 messages-plain k [] few = refl
 messages-plain zero (m ∷ ms) few = absurd (omega (arith, few))
 messages-plain (suc k) (m ∷ ms) few =
-    ap (λ x. x ∷ map octets_in (take (length ms) (rooms_for k ms))) (octets-plain m)
+    ap (λ x. x ∷ map octets_in (take (length ms) (buffers_for k ms))) (octets-plain m)
     ∙ ap (λ xs. m ∷ xs) (messages-plain k ms (omega (arith, few)))
 
 window-plain : (x : EndValues) → length x.window.held ≤ 8 → said_window (plain_end x) ≡ Some x.window

@@ -1,4 +1,6 @@
--- A run of joined ends is a session of frames: whatever end a state stands for, it stands for that end after each call.
+-- A run of joined endpoints is a session of frames, so the laws of sessions hold for it: by
+-- induction over its turns, each state represents the endpoint of the session, and the blocks in
+-- transit are the session's frames.
 use Rattle.std.proofs.Common.{◌≡◌, ◌≢◌, refl, sym, ◌∙◌, ap, subst, arith, ℕ, ◌++◌, ◌&&◌, if◌then◌else◌}
 use Rattle.std.proofs.Common.{Bool, true, false, nat_eq, List, [], ◌∷◌, length, drop, replicate, map, Option, Some, None, is_some}
 use Rattle.std.proofs.Common.{inl, inr, All, ◌-◌, ◌≤◌}
@@ -16,7 +18,7 @@ use Rattle.lapdm_frame.specs.Readings.{IsOnlyFrame, IsOnlyRefusal, HasOneReading
 use Rattle.lapdm_frame.proofs.Uniqueness.{same_frame}
 use Rattle.lapdm_frame.proofs.Existence.{one_reading}
 use Rattle.lapdm_frame.proofs.Canonical.{octets_canonical}
-use Rattle.segmenting.specs.Pieces.{Message}
+use Rattle.segmenting.specs.Segments.{Message}
 use Rattle.lapdm_window.specs.declared.Sapi.{Sapi}
 use Rattle.lapdm_window.specs.declared.Sapi.TheVariants.{Zero, Three}
 use Rattle.lapdm_window.specs.declared.Refused.{Refused}
@@ -25,27 +27,32 @@ use Rattle.lapdm_window.specs.declared.Reason.TheVariants as Re
 use Rattle.lapdm_window.specs.declared.Notice.{Notice}
 use Rattle.lapdm_window.specs.declared.Notice.TheVariants as N
 use Rattle.lapdm_window.specs.Ends.{Role, Mobile, Network, EndState, Outcome, start, stays, sapi_number}
-use Rattle.lapdm_window.specs.Calls.{Call, Opens, OpensBare, Sends, SendsUnit, Closes, Ticks, Idles, refusal_of, after_call}
+use Rattle.lapdm_window.specs.Calls.{Call, Opens, OpensBare, Sends, SendsUnit, Closes, T200Expires, Idles, refusal_of, after_call}
 use Rattle.lapdm_window.specs.Tables.{after_frame}
-use Rattle.lapdm_link.specs.Ways.{Ways, no_ways, with_more}
-use Rattle.lapdm_link.specs.Ways as W
-use Rattle.lapdm_link.specs.Events.{Event, Open, OpenBare, Ask, Deliver, Lose, Rival, Request, call_of, Send, SendUnit, Close, Tick, Idle}
-use Rattle.lapdm_link.specs.Events.{other, boundless}
-use Rattle.lapdm_link.specs.Events.{Why, because, deed, rival_frame, rival_refusal}
-use Rattle.lapdm_link.specs.Worlds.{World, start_in, refusal, answer_by, answer, after_by, after, answers, rr_for_rej, IsSentOrRr}
-use Rattle.lapdm_link.specs.Worlds.{MayBeRrBy, MayBeRr}
-use Rattle.lapdm_link.specs.Claims.{Line, Asked, Told, is_role, is_sapi, answer_lines, Claims, OrderClaims, CountsAgree}
-use Rattle.lapdm_link.specs.Claims as C
-use Rattle.lapdm_link.proofs.Lemmas.{KnowsBy, IsPlaced, end_of, without_first, acted, is_end, ends_do, each_way, each_start, IsFitting}
-use Rattle.lapdm_link.proofs.Lemmas.{fits-step, start-fits, deed-fits, AllReported, in_order-step, start-reported, order_claims}
-use Rattle.lapdm_link.proofs.Lemmas.{claims_with_rr, counts_with_rr}
+use Rattle.um_air.specs.lapdm_link.Queues.{Queues, empty_queues, with_more}
+use Rattle.um_air.specs.lapdm_link.Queues as W
+use Rattle.um_air.specs.lapdm_link.Events.{Event, Open, OpenBare, Ask, Deliver, Lose, Rival, Request, call_of, Send, SendUnit, Close}
+use Rattle.um_air.specs.lapdm_link.Events.{T200Expiry}
+use Rattle.um_air.specs.lapdm_link.Events.{Idle}
+use Rattle.um_air.specs.lapdm_link.Events.{other, boundless_air}
+use Rattle.um_air.specs.lapdm_link.Events.{Why, because, side_step, rival_frame, rival_refusal}
+use Rattle.um_air.specs.lapdm_link.Worlds.{World, start_in, refusal, answer_by, answer, after_by, world_after, answers, rr_for_rej}
+use Rattle.um_air.specs.lapdm_link.Worlds.{IsSentOrRr}
+use Rattle.um_air.specs.lapdm_link.Worlds.{MayBeRrBy, MayBeRr}
+use Rattle.um_air.specs.lapdm_link.Claims.{Line, Asked, Notified, is_role, is_sapi, answer_lines, Claims, OrderClaims, CountsAgree}
+use Rattle.um_air.specs.lapdm_link.Claims as C
+use Rattle.um_air.proofs.lapdm_link.Lemmas.{KnowsBy, IsPlaced, end_of, without_first, acted, is_end, ends_do, each_way, each_start}
+use Rattle.um_air.proofs.lapdm_link.Lemmas.{IsFitting}
+use Rattle.um_air.proofs.lapdm_link.Lemmas.{fits-step, start-fits, side_step-fits, AllReported, in_order-step, start-reported, order_claims}
+use Rattle.um_air.proofs.lapdm_link.Lemmas.{claims_with_rr, counts_with_rr}
 use Rattle.um_c.specs.declared.states.PlainEnd.{PlainEnd}
 use Rattle.um_c.specs.declared.effects.PlainEffects.{PlainEffects}
-use Rattle.um_c.specs.States.{StandsFor, channel_number}
+use Rattle.um_c.specs.States.{StateRepresents, channel_number}
 use Rattle.um_c.specs.Effects.{plain_notice, plain_effects, reason_number, nothing}
 use Rattle.um_c.specs.EndCalls.{refused_number, MayAsk, IsCarriedOut, IsCalledAs, IsGivenAs, IsBegunAs}
 use Rattle.um_c.specs.Joined.{reason_in, notice_in, notices_in, blocks_out, Turn, Calls, Gives, Shows, Loses, Rivals, Joined, IsLeft}
-use Rattle.um_c.specs.Joined.{IsOfNone, IsTurn, role_number, IsBegunIn, IsJoined, IsRun, IsFirst, IsSameFrame, Carries, IsHeard, Hears}
+use Rattle.um_c.specs.Joined.{IsOfNone, IsTurn, role_number, IsBegunIn, IsJoined, IsRun, IsFirst, IsSameFrame, Carries, IsReceivedAs}
+use Rattle.um_c.specs.Joined.{ReceivesFirst}
 use Rattle.um_c.specs.Joined.{Anything, turn_lines, lines}
 use Rattle.um_block.specs.declared.received.Received.{Received}
 use Rattle.um_block.specs.Received.{IsReceivedBlock}
@@ -53,12 +60,11 @@ use Rattle.um_block.proofs.Lemmas.{some_received_block}
 use Rattle.um_among.specs.declared.reports.BlockAmong.{BlockAmong}
 use Rattle.um_among.proofs.Once.{block_first}
 use Rattle.um_air.proofs.Laws.{damaged_received}
-use Rattle.um_c.specs.declared.blocks.BlockReport.{BlockReport}
 use Rattle.um_c.specs.Reports.{IsBlockReport, IsBlockReportAmong}
 use Rattle.um_c.proofs.Plain.{octets-plain}
 use Rattle.um_c.proofs.Accepting.{IsFlagged}
 
--- ---- what is read of an answer is what was told
+-- ---- what is read from the effects of a call
 
 reason-read : (r : Reason) → reason_in (reason_number r) ≡ r
 reason-read Re.Contention = refl
@@ -86,58 +92,58 @@ notices-read fs ns =
 blocks-read : (fs : List (List ℕ)) (ns : List Notice) → blocks_out 0 (plain_effects fs ns) ≡ fs
 blocks-read fs ns = take_at fs (replicate (2 - length fs) (replicate 23 0)) (length fs) refl
 
--- the same of an answer to what was carried out
-module _ {channel : Channel} {o : Outcome} {answer : ℕ} {s : PlainEnd} {told : PlainEffects}
-    (h : IsCarriedOut channel o answer s told) where
-  told-notices : notices_in told ≡ o.notices
-  told-notices = ap notices_in h.effects ∙ notices-read (map (octets_of channel) o.frames) o.notices
+-- the same for a successful call
+module _ {channel : Channel} {o : Outcome} {answer : ℕ} {s : PlainEnd} {output : PlainEffects}
+    (h : IsCarriedOut channel o answer s output) where
+  output-notices : notices_in output ≡ o.notices
+  output-notices = ap notices_in h.effects ∙ notices-read (map (octets_of channel) o.frames) o.notices
 
-  told-blocks : blocks_out answer told ≡ map (octets_of channel) o.frames
-  told-blocks =
-      ap (λ n. blocks_out n told) h.zero ∙ ap (blocks_out 0) h.effects ∙ blocks-read (map (octets_of channel) o.frames) o.notices
+  output-blocks : blocks_out answer output ≡ map (octets_of channel) o.frames
+  output-blocks =
+      ap (λ n. blocks_out n output) h.zero ∙ ap (blocks_out 0) h.effects ∙ blocks-read (map (octets_of channel) o.frames) o.notices
 
--- ---- an answer that is not 0
+-- ---- a nonzero answer
 
 refuses : (reason : Refused) → refused_number reason ≢ 0
 refuses reason = grind arith
 
-blocks-none : (answer : ℕ) (told : PlainEffects) → answer ≢ 0 → blocks_out answer told ≡ []
-blocks-none answer told h = grind (arith, nat_tests)
+blocks-none : (answer : ℕ) (output : PlainEffects) → answer ≢ 0 → blocks_out answer output ≡ []
+blocks-none answer output h = grind (arith, nat_tests)
 
--- ---- the session that a run is
+-- ---- the session of a run
 
--- a state stands for the end, if the program has it
-abbrev pub MayStand : Option PlainEnd → EndState → Type 0
-MayStand None e = Unit {0}
-MayStand (Some x) e = StandsFor x e
+-- the state represents this endpoint, unless the program does not have it
+abbrev pub MayRepresent : Option PlainEnd → EndState → Type 0
+MayRepresent None e = Unit {0}
+MayRepresent (Some x) e = StateRepresents x e
 
--- these states stand for the ends of the session, and the blocks on their way are its frames
+-- the states represent the endpoints of the session, and the blocks in transit are its frames
 pub record IsMatched (channel : Channel) (a : Joined) (w : World) : Type 0 where
-  pub room : w.room ≡ boundless
-  pub stands : (r : Role) (s : Sapi) → MayStand (a.state r s) (end_of r s w)
-  pub ways : (r : Role) → AllZip (IsFrame channel) (W.way r w.ways) (W.way r a.ways)
+  pub capacity : w.capacity ≡ boundless_air
+  pub represents : (r : Role) (s : Sapi) → MayRepresent (a.state r s) (end_of r s w)
+  pub queues : (r : Role) → AllZip (IsFrame channel) (W.queue_of r w.queues) (W.queue_of r a.queues)
   pub fit : IsFitting channel w
   pub ls : List Line
   pub reported : AllReported w ls
 
--- a turn is nothing, or this event
+-- a turn has no effect on the session, or it is this event
 pub data IsPlayed (channel : Channel) (a b : Joined) (turn : Turn) (w : World) : Type 0 where
   idle : IsMatched channel b w → turn_lines turn ≡ [] → IsPlayed channel a b turn w
-  does : (event : Event) → (Carries channel a turn → MayBeRrBy (refusal event w) event w) → IsMatched channel b (after event w) →
+  does : (event : Event) → (Carries channel a turn → MayBeRrBy (refusal event w) event w) → IsMatched channel b (world_after event w) →
       turn_lines turn ≡ answer_lines event (answer event w) → IsPlayed channel a b turn w
 
--- ---- ways
+-- ---- the ways
 
 module _ {T : Type 0} where
-  way-more : (r : Role) (xs : List T) (ws : Ways T) → W.way r (with_more r xs ws) ≡ W.way r ws ++ xs
+  way-more : (r : Role) (xs : List T) (ws : Queues T) → W.queue_of r (with_more r xs ws) ≡ W.queue_of r ws ++ xs
   way-more Mobile xs ws = refl
   way-more Network xs ws = refl
 
-  way-more_other : (r : Role) (xs : List T) (ws : Ways T) → W.way (other r) (with_more r xs ws) ≡ W.way (other r) ws
+  way-more_other : (r : Role) (xs : List T) (ws : Queues T) → W.queue_of (other r) (with_more r xs ws) ≡ W.queue_of (other r) ws
   way-more_other Mobile xs ws = refl
   way-more_other Network xs ws = refl
 
-  way-none : (r r' : Role) (ws : Ways T) → W.way r' (with_more r [] ws) ≡ W.way r' ws
+  way-none : (r r' : Role) (ws : Queues T) → W.queue_of r' (with_more r [] ws) ≡ W.queue_of r' ws
   way-none Mobile Mobile ws = append-nil ws.up
   way-none Mobile Network ws = refl
   way-none Network Mobile ws = refl
@@ -153,29 +159,29 @@ module _ {X Y : Type 0} (R : X → Y → Type 0) where
   zip-append xs xs' ys ys' h g = absurd assumption
 
 -- the blocks on the ways are these frames
-abbrev AreOf : Channel → Ways (List ℕ) → Ways Frame → Type 0
-AreOf channel ws fs = (r : Role) → AllZip (IsFrame channel) (W.way r fs) (W.way r ws)
+abbrev AreOf : Channel → Queues (List ℕ) → Queues Frame → Type 0
+AreOf channel ws fs = (r : Role) → AllZip (IsFrame channel) (W.queue_of r fs) (W.queue_of r ws)
 
-of-rest : (channel : Channel) (sender : Role) (ws : Ways (List ℕ)) (fs : Ways Frame) → AreOf channel ws fs →
+of-rest : (channel : Channel) (sender : Role) (ws : Queues (List ℕ)) (fs : Queues Frame) → AreOf channel ws fs →
     AreOf channel (W.without_first sender ws) (W.without_first sender fs)
 of-rest channel Mobile ws fs h Mobile = zip-rest (IsFrame channel) fs.up ws.up (h Mobile)
 of-rest channel Mobile ws fs h Network = h Network
 of-rest channel Network ws fs h Mobile = h Mobile
 of-rest channel Network ws fs h Network = zip-rest (IsFrame channel) fs.down ws.down (h Network)
 
-of-more : (channel : Channel) (r : Role) (sent : List Frame) (blocks : List (List ℕ)) (ws : Ways (List ℕ)) (fs : Ways Frame) →
+of-more : (channel : Channel) (r : Role) (sent : List Frame) (blocks : List (List ℕ)) (ws : Queues (List ℕ)) (fs : Queues Frame) →
     AreOf channel ws fs → AllZip (IsFrame channel) sent blocks → AreOf channel (with_more r blocks ws) (with_more r sent fs)
 of-more channel r sent blocks ws fs h g =
     let R : Frame → List ℕ → Type 0 = IsFrame channel in
-    each_way (λ q. AllZip R (W.way q (with_more r sent fs)) (W.way q (with_more r blocks ws))) r
-    (rw (way-more r sent fs, way-more r blocks ws) (zip-append R (W.way r fs) sent (W.way r ws) blocks (h r) g))
+    each_way (λ q. AllZip R (W.queue_of q (with_more r sent fs)) (W.queue_of q (with_more r blocks ws))) r
+    (rw (way-more r sent fs, way-more r blocks ws) (zip-append R (W.queue_of r fs) sent (W.queue_of r ws) blocks (h r) g))
     (rw (way-more_other r sent fs, way-more_other r blocks ws) (h (other r)))
 
-of-none : (channel : Channel) (r r' : Role) (ws : Ways (List ℕ)) (fs : Ways Frame) → AreOf channel ws fs →
+of-none : (channel : Channel) (r r' : Role) (ws : Queues (List ℕ)) (fs : Queues Frame) → AreOf channel ws fs →
     AreOf channel (with_more r [] ws) (with_more r' [] fs)
 of-none channel r r' ws fs h q = rw (way-none r q ws, way-none r' q fs) (h q)
 
--- frames that fit, as they are written
+-- frames that fit the channel, encoded
 written : (channel : Channel) (fs : List Frame) → All (Fits channel) fs → AllZip (IsFrame channel) fs (map (octets_of channel) fs)
 written channel [] fit = tt
 written channel (f ∷ fs) fit =
@@ -185,54 +191,68 @@ each_state : (P : Role → Sapi → Type 0) (r : Role) (s : Sapi) → P r s →
     ((r' : Role) (s' : Sapi) → is_end r' s' r s ≡ false → P r' s') → (r' : Role) (s' : Sapi) → P r' s'
 each_state P r s h g r' s' = grind arith
 
--- ---- what is asked, as an event
+-- ---- calls as events
 
 abbrev AllFit : Channel → Role → Frame → Type 0
 AllFit channel sender f = Fits channel f
 
--- of an event of this end
-record IsDeed (channel : Channel) (r : Role) (s : Sapi) (o : Outcome) (asked : List Line) (w z : World) (event : Event) : Type 0 where
+-- an event that makes this endpoint act
+record IsSideStep (channel : Channel) (r : Role) (s : Sapi) (o : Outcome) (asked : List Line) (w z : World) (event : Event) : Type 0 where
   after : after_by None event w ≡ acted r s o z
-  frames : (deed event w.ends).frames ≡ o.frames
-  told : answer_lines event (answer_by None (deed event w.ends)) ≡ asked ++ map (Told r s) o.notices
+  frames : (side_step event w.ends).frames ≡ o.frames
+  output : answer_lines event (answer_by None (side_step event w.ends)) ≡ asked ++ map (Notified r s) o.notices
 
 record IsAsked (channel : Channel) (r : Role) (s : Sapi) (call : Call) (w : World) (event : Event) : Type 0 where
   refused : refusal event w ≡ because (refusal_of call (end_of r s w))
-  done : IsDeed channel r s (after_call call (end_of r s w)) (Asked r s call ∷ []) w w event
+  done : IsSideStep channel r s (after_call call (end_of r s w)) (Asked r s call ∷ []) w w event
   known : KnowsBy None (AllFit channel) event
   harmless : MayBeRrBy None event w
 
-module _ (channel : Channel) (w : World) (room : w.room ≡ boundless) where
+module _ (channel : Channel) (w : World) (room : w.capacity ≡ boundless_air) where
   by_request : (r : Role) (s : Sapi) (request : Request) → IsAsked channel r s (call_of request) w (Ask r s request)
   by_request r s request =
-      record { refused = rw room refl; done = record { after = refl; frames = refl; told = refl }; known = tt; harmless = tt }
+      record { refused = rw room refl; done = record { after = refl; frames = refl; output = refl }; known = tt; harmless = tt }
 
   asked : (r : Role) (s : Sapi) (call : Call) → IsPlaced r s call → (event : Event) × IsAsked channel r s call w event
-  asked Mobile Zero (Opens info) placed =
-      (Open info, record { refused = rw room refl; done = record { after = refl; frames = refl; told = refl }; known = tt; harmless = tt })
+  asked Mobile Zero (Opens info) placed = (
+    Open info,
+    record {
+      refused = rw room refl;
+      done = record { after = refl; frames = refl; output = refl };
+      known = tt;
+      harmless = tt;
+    },
+  )
   asked r s (Opens info) placed = absurd (grind arith)
-  asked r Three OpensBare placed =
-      (OpenBare r, record { refused = rw room refl; done = record { after = refl; frames = refl; told = refl }; known = tt; harmless = tt })
+  asked r Three OpensBare placed = (
+    OpenBare r,
+    record {
+      refused = rw room refl;
+      done = record { after = refl; frames = refl; output = refl };
+      known = tt;
+      harmless = tt;
+    },
+  )
   asked r Zero OpensBare placed = absurd (grind arith)
   asked r s (Sends m) placed = (Ask r s (Send m), by_request r s (Send m))
   asked r s (SendsUnit m) placed = (Ask r s (SendUnit m), by_request r s (SendUnit m))
   asked r s Closes placed = (Ask r s Close, by_request r s Close)
-  asked r s Ticks placed = (Ask r s Tick, by_request r s Tick)
+  asked r s T200Expires placed = (Ask r s T200Expiry, by_request r s T200Expiry)
   asked r s Idles placed = (Ask r s Idle, by_request r s Idle)
 
-  -- a frame of its link arrives
+  -- a frame of this endpoint's link arrives
   delivered : (r : Role) (s : Sapi) (f : Frame) → nat_eq f.sapi (sapi_number s) ≡ true →
-      IsDeed channel r s (after_frame f (end_of r s w)) [] w (without_first (other r) w) (Deliver (other r) (Some f))
-  delivered Mobile Zero f on = record { after = rw on refl; frames = rw on refl; told = rw on refl }
-  delivered Network Zero f on = record { after = rw on refl; frames = rw on refl; told = rw on refl }
+      IsSideStep channel r s (after_frame f (end_of r s w)) [] w (without_first (other r) w) (Deliver (other r) (Some f))
+  delivered Mobile Zero f on = record { after = rw on refl; frames = rw on refl; output = rw on refl }
+  delivered Network Zero f on = record { after = rw on refl; frames = rw on refl; output = rw on refl }
   delivered Mobile Three f on =
       let no : nat_eq f.sapi 0 ≡ false = grind (arith, nat_tests) in
-      record { after = rw (no, on) refl; frames = rw (no, on) refl; told = rw (no, on) refl }
+      record { after = rw (no, on) refl; frames = rw (no, on) refl; output = rw (no, on) refl }
   delivered Network Three f on =
       let no : nat_eq f.sapi 0 ≡ false = grind (arith, nat_tests) in
-      record { after = rw (no, on) refl; frames = rw (no, on) refl; told = rw (no, on) refl }
+      record { after = rw (no, on) refl; frames = rw (no, on) refl; output = rw (no, on) refl }
 
--- whether it may be asked
+-- whether this endpoint has this call
 is_placed : (r : Role) (s : Sapi) (call : Call) → IsPlaced r s call ⊎ (IsPlaced r s call → ⊥)
 is_placed Mobile Zero (Opens info) = inl (refl, refl)
 is_placed Network s (Opens info) = inr (λ h. let e : Network ≡ Mobile = h.0 in cc e)
@@ -254,110 +274,111 @@ module _ (r : Role) (s : Sapi) (e : EndState) (role : e.role ≡ r) (sapi : e.sa
 
 -- ---- one turn
 
--- each state stands for the end that it did, and nothing is given out
-record IsQuiet (b : Joined) (w : World) (r : Role) (left : Ways (List ℕ)) : Type 0 where
-  stands : (r : Role) (s : Sapi) → MayStand (b.state r s) (end_of r s w)
-  ways : b.ways ≡ with_more r [] left
+-- each state still represents its endpoint, and nothing is sent
+record IsQuiet (b : Joined) (w : World) (r : Role) (left : Queues (List ℕ)) : Type 0 where
+  represents : (r : Role) (s : Sapi) → MayRepresent (b.state r s) (end_of r s w)
+  queues : b.queues ≡ with_more r [] left
 
 module _ {channel : Channel} {a : Joined} {w : World} (m : IsMatched channel a w) where
   -- an event that is not refused
   module _ (b : Joined) (event : Event) (none : refusal event w ≡ None) where
     next : KnowsBy None (AllFit channel) event →
-        (let z : World = after_by None event w in ((r : Role) (s : Sapi) → MayStand (b.state r s) (end_of r s z)) →
-        AreOf channel b.ways z.ways → IsMatched channel b (after event w))
-    next known stands ways =
-        let later : after event w ≡ after_by None event w = ap (λ o. after_by o event w) none in
+        (let z : World = after_by None event w in ((r : Role) (s : Sapi) → MayRepresent (b.state r s) (end_of r s z)) →
+        AreOf channel b.queues z.queues → IsMatched channel b (world_after event w))
+    next known represents queues =
+        let later : world_after event w ≡ after_by None event w = ap (λ o. after_by o event w) none in
         record {
-          room = subst (λ (z : World). z.room ≡ boundless) (sym later) m.room;
-          stands = subst (λ (z : World). (r : Role) (s : Sapi) → MayStand (b.state r s) (end_of r s z)) (sym later) stands;
-          ways = subst (λ (z : World). AreOf channel b.ways z.ways) (sym later) ways;
+          capacity = subst (λ (z : World). z.capacity ≡ boundless_air) (sym later) m.capacity;
+          represents = subst (λ (z : World). (r : Role) (s : Sapi) → MayRepresent (b.state r s) (end_of r s z)) (sym later) represents;
+          queues = subst (λ (z : World). AreOf channel b.queues z.queues) (sym later) queues;
           fit = fits-step channel w event (subst (λ (o : Option Why). KnowsBy o (AllFit channel) event) (sym none) known) m.fit;
           ls = m.ls ++ answer_lines event (answer event w);
           reported = in_order-step w m.ls event m.reported;
         }
 
-    lines-are : answer_lines event (answer event w) ≡ answer_lines event (answer_by None (deed event w.ends))
-    lines-are = ap (λ o. answer_lines event (answer_by o (deed event w.ends))) none
+    lines-are : answer_lines event (answer event w) ≡ answer_lines event (answer_by None (side_step event w.ends))
+    lines-are = ap (λ o. answer_lines event (answer_by o (side_step event w.ends))) none
 
-  -- a state that stays
-  quiet-same : (b : Joined) (r : Role) (s : Sapi) (old new : PlainEnd) (answer : ℕ) (told : PlainEffects) (left : Ways (List ℕ)) →
-      answer ≢ 0 → new ≡ old → IsLeft r s old new (blocks_out answer told) left a b → IsQuiet b w r left
-  quiet-same b r s old new answer told left other same l = record {
-    stands = each_state (λ r' s'. MayStand (b.state r' s') (end_of r' s' w)) r s
-        (subst (λ (x : Option PlainEnd). MayStand x (end_of r s w)) (l.before ∙ ap (λ (x : PlainEnd). Some x) (sym same) ∙ sym l.after)
-        (m.stands r s))
-        (λ r' s' n. subst (λ (x : Option PlainEnd). MayStand x (end_of r' s' w)) (sym (l.others r' s' n)) (m.stands r' s'));
-    ways = l.ways ∙ ap (λ out. with_more r out left) (blocks-none answer told other);
+  -- a refused call leaves every state as it was
+  quiet-same : (b : Joined) (r : Role) (s : Sapi) (old new : PlainEnd) (answer : ℕ) (output : PlainEffects) (left : Queues (List ℕ)) →
+      answer ≢ 0 → new ≡ old → IsLeft r s old new (blocks_out answer output) left a b → IsQuiet b w r left
+  quiet-same b r s old new answer output left other same l = record {
+    represents = each_state (λ r' s'. MayRepresent (b.state r' s') (end_of r' s' w)) r s
+        (subst (λ (x : Option PlainEnd). MayRepresent x (end_of r s w)) (l.before ∙ ap (λ (x : PlainEnd). Some x) (sym same) ∙ sym l.after)
+        (m.represents r s))
+        (λ r' s' n. subst (λ (x : Option PlainEnd). MayRepresent x (end_of r' s' w)) (sym (l.others r' s' n)) (m.represents r' s'));
+    queues = l.queues ∙ ap (λ out. with_more r out left) (blocks-none answer output other);
   }
 
-  -- an end that stays
-  quiet-stays : (b : Joined) (r : Role) (s : Sapi) (old new : PlainEnd) (answer : ℕ) (told : PlainEffects) (left : Ways (List ℕ)) →
-      IsCarriedOut channel (stays (end_of r s w)) answer new told → IsLeft r s old new (blocks_out answer told) left a b →
+  -- a call that leaves its endpoint as it is
+  quiet-stays : (b : Joined) (r : Role) (s : Sapi) (old new : PlainEnd) (answer : ℕ) (output : PlainEffects) (left : Queues (List ℕ)) →
+      IsCarriedOut channel (stays (end_of r s w)) answer new output → IsLeft r s old new (blocks_out answer output) left a b →
       IsQuiet b w r left
-  quiet-stays b r s old new answer told left c l = record {
-    stands = each_state (λ r' s'. MayStand (b.state r' s') (end_of r' s' w)) r s
-        (subst (λ (x : Option PlainEnd). MayStand x (end_of r s w)) (sym l.after) c.stands)
-        (λ r' s' n. subst (λ (x : Option PlainEnd). MayStand x (end_of r' s' w)) (sym (l.others r' s' n)) (m.stands r' s'));
-    ways = l.ways ∙ ap (λ out. with_more r out left) (told-blocks c);
+  quiet-stays b r s old new answer output left c l = record {
+    represents = each_state (λ r' s'. MayRepresent (b.state r' s') (end_of r' s' w)) r s
+        (subst (λ (x : Option PlainEnd). MayRepresent x (end_of r s w)) (sym l.after) c.represents)
+        (λ r' s' n. subst (λ (x : Option PlainEnd). MayRepresent x (end_of r' s' w)) (sym (l.others r' s' n)) (m.represents r' s'));
+    queues = l.queues ∙ ap (λ out. with_more r out left) (output-blocks c);
   }
 
-  idles : (b : Joined) (r : Role) → IsQuiet b w r a.ways → IsMatched channel b w
+  idles : (b : Joined) (r : Role) → IsQuiet b w r a.queues → IsMatched channel b w
   idles b r q = record {
-    room = m.room;
-    stands = q.stands;
-    ways = subst (λ (ws : Ways (List ℕ)). AreOf channel ws w.ways) (sym q.ways) (λ k. rw (way-none r k a.ways) (m.ways k));
+    capacity = m.capacity;
+    represents = q.represents;
+    queues = subst (λ (ws : Queues (List ℕ)). AreOf channel ws w.queues) (sym q.queues) (λ k. rw (way-none r k a.queues) (m.queues k));
     fit = m.fit;
     ls = m.ls;
     reported = m.reported;
   }
 
   lost : (sender : Role) → refusal (Lose sender) w ≡ None
-  lost sender = rw m.room refl
+  lost sender = rw m.capacity refl
 
-  -- the first block of a side is gone
-  loses : (b : Joined) (turn : Turn) (sender r : Role) → IsQuiet b w r (W.without_first sender a.ways) → turn_lines turn ≡ [] →
+  -- the first block of one side is lost
+  loses : (b : Joined) (turn : Turn) (sender r : Role) → IsQuiet b w r (W.without_first sender a.queues) → turn_lines turn ≡ [] →
       IsPlayed channel a b turn w
   loses b turn sender r q none = does (Lose sender)
       (λ h. subst (λ (o : Option Why). MayBeRrBy o (Lose sender) w) (sym (lost sender)) tt)
-      (next b (Lose sender) (lost sender) tt q.stands
-      (subst (λ (ws : Ways (List ℕ)). AreOf channel ws (with_more Mobile [] (W.without_first sender w.ways))) (sym q.ways)
-      (of-none channel r Mobile _ _ (of-rest channel sender a.ways w.ways m.ways))))
+      (next b (Lose sender) (lost sender) tt q.represents
+      (subst (λ (ws : Queues (List ℕ)). AreOf channel ws (with_more Mobile [] (W.without_first sender w.queues))) (sym q.queues)
+      (of-none channel r Mobile _ _ (of-rest channel sender a.queues w.queues m.queues))))
       (none ∙ sym (lines-are b (Lose sender) (lost sender)))
 
-  -- an end did this
-  did : (b : Joined) (r : Role) (s : Sapi) (old new : PlainEnd) (o : Outcome) (answer : ℕ) (told : PlainEffects) (left : Ways (List ℕ))
+  -- an endpoint acts
+  did : (b : Joined) (r : Role) (s : Sapi) (old new : PlainEnd) (o : Outcome) (answer : ℕ) (output : PlainEffects) (left : Queues (List ℕ))
       (z : World) (event : Event) (says : List Line) → refusal event w ≡ None → KnowsBy None (AllFit channel) event →
-      IsDeed channel r s o says w z event → ((r' : Role) (s' : Sapi) → MayStand (a.state r' s') (end_of r' s' z)) →
-      AreOf channel left z.ways → IsCarriedOut channel o answer new told → IsLeft r s old new (blocks_out answer told) left a b →
-      IsMatched channel b (after event w)
-  did b r s old new o answer told left z event says none known d stands ways c l =
+      IsSideStep channel r s o says w z event → ((r' : Role) (s' : Sapi) → MayRepresent (a.state r' s') (end_of r' s' z)) →
+      AreOf channel left z.queues → IsCarriedOut channel o answer new output → IsLeft r s old new (blocks_out answer output) left a b →
+      IsMatched channel b (world_after event w)
+  did b r s old new o answer output left z event says none known d represents queues c l =
       let reads : KnowsBy (refusal event w) (AllFit channel) event =
       subst (λ (k : Option Why). KnowsBy k (AllFit channel) event) (sym none) known in
-      let fit : All (Fits channel) o.frames = subst (All (Fits channel)) d.frames (deed-fits channel w event reads m.fit none) in
+      let fit : All (Fits channel) o.frames = subst (All (Fits channel)) d.frames (side_step-fits channel w event reads m.fit none) in
       next b event none known
-      (subst (λ (v : World). (r' : Role) (s' : Sapi) → MayStand (b.state r' s') (end_of r' s' v)) (sym d.after)
-      (ends_do (λ r' s' e. MayStand (b.state r' s') e) r s o z (subst (λ (x : Option PlainEnd). MayStand x o.after) (sym l.after) c.stands)
-      (λ r' s' n. subst (λ (x : Option PlainEnd). MayStand x (end_of r' s' z)) (sym (l.others r' s' n)) (stands r' s'))))
-      (subst (λ (v : World). AreOf channel b.ways v.ways) (sym d.after)
-      (subst (λ (ws : Ways (List ℕ)). AreOf channel ws (with_more r o.frames z.ways))
-      (sym (l.ways ∙ ap (λ out. with_more r out left) (told-blocks c)))
-      (of-more channel r o.frames (map (octets_of channel) o.frames) left z.ways ways (written channel o.frames fit))))
+      (subst (λ (v : World). (r' : Role) (s' : Sapi) → MayRepresent (b.state r' s') (end_of r' s' v)) (sym d.after)
+      (ends_do (λ r' s' e. MayRepresent (b.state r' s') e) r s o z
+      (subst (λ (x : Option PlainEnd). MayRepresent x o.after) (sym l.after) c.represents)
+      (λ r' s' n. subst (λ (x : Option PlainEnd). MayRepresent x (end_of r' s' z)) (sym (l.others r' s' n)) (represents r' s'))))
+      (subst (λ (v : World). AreOf channel b.queues v.queues) (sym d.after)
+      (subst (λ (ws : Queues (List ℕ)). AreOf channel ws (with_more r o.frames z.queues))
+      (sym (l.queues ∙ ap (λ out. with_more r out left) (output-blocks c)))
+      (of-more channel r o.frames (map (octets_of channel) o.frames) left z.queues queues (written channel o.frames fit))))
 
   module _ (b : Joined) (r : Role) (s : Sapi) where
     on_channel : (end_of r s w).channel ≡ channel
     on_channel = (m.fit.ends r s).on_channel
 
-    module _ (old new : PlainEnd) (call : Call) (answer : ℕ) (told untold : PlainEffects)
-        (called : IsCalledAs call answer old new untold told) (l : IsLeft r s old new (blocks_out answer told) a.ways a b) where
-      here : StandsFor old (end_of r s w)
-      here = subst (λ (x : Option PlainEnd). MayStand x (end_of r s w)) l.before (m.stands r s)
+    module _ (old new : PlainEnd) (call : Call) (answer : ℕ) (output output_old : PlainEffects)
+        (called : IsCalledAs call answer old new output_old output) (l : IsLeft r s old new (blocks_out answer output) a.queues a b) where
+      here : StateRepresents old (end_of r s w)
+      here = subst (λ (x : Option PlainEnd). MayRepresent x (end_of r s w)) l.before (m.represents r s)
 
-      not_called : answer ≢ 0 → IsPlayed channel a b (Calls r s call answer told) w
+      not_called : answer ≢ 0 → IsPlayed channel a b (Calls r s call answer output) w
       not_called other =
-          idle (idles b r (quiet-same b r s old new answer told a.ways other (called.unchanged other).0 l)) (grind (arith, nat_tests))
+          idle (idles b r (quiet-same b r s old new answer output a.queues other (called.unchanged other).0 l)) (grind (arith, nat_tests))
 
       called-by : IsPlaced r s call → (o : Option Refused) → refusal_of call (end_of r s w) ≡ o →
-          IsPlayed channel a b (Calls r s call answer told) w
+          IsPlayed channel a b (Calls r s call answer output) w
       called-by is (Some reason) e =
           let asks = may r s (end_of r s w) (m.reported r s).role (m.reported r s).sapi call is in
           let says : answer ≡ refused_number reason = called.refused (end_of r s w) here asks reason e in
@@ -366,16 +387,16 @@ module _ {channel : Channel} {a : Joined} {w : World} (m : IsMatched channel a w
           let x : EndState = end_of r s w in
           let o : Outcome = after_call call x in
           let asks = may r s x (m.reported r s).role (m.reported r s).sapi call is in
-          let c : IsCarriedOut channel o answer new told =
-          subst (λ (k : Channel). IsCarriedOut k o answer new told) on_channel (called.done x here asks e) in
-          let event = asked channel w m.room r s call is in
+          let c : IsCarriedOut channel o answer new output =
+          subst (λ (k : Channel). IsCarriedOut k o answer new output) on_channel (called.done x here asks e) in
+          let event = asked channel w m.capacity r s call is in
           let none : refusal event.0 w ≡ None = event.1.refused ∙ ap because e in
           does event.0 (λ q. subst (λ (k : Option Why). MayBeRrBy k event.0 w) (sym none) event.1.harmless)
-          (did b r s old new o answer told a.ways w event.0 _ none event.1.known event.1.done m.stands m.ways c l)
-          (ap (λ n. turn_lines (Calls r s call n told)) c.zero ∙ ap (λ ns. Asked r s call ∷ map (Told r s) ns) (told-notices c)
-          ∙ sym (lines-are b event.0 none ∙ event.1.done.told))
+          (did b r s old new o answer output a.queues w event.0 _ none event.1.known event.1.done m.represents m.queues c l)
+          (ap (λ n. turn_lines (Calls r s call n output)) c.zero ∙ ap (λ ns. Asked r s call ∷ map (Notified r s) ns) (output-notices c)
+          ∙ sym (lines-are b event.0 none ∙ event.1.done.output))
 
-      calls : IsPlaced r s call ⊎ (IsPlaced r s call → ⊥) → IsPlayed channel a b (Calls r s call answer told) w
+      calls : IsPlaced r s call ⊎ (IsPlaced r s call → ⊥) → IsPlayed channel a b (Calls r s call answer output) w
       calls (inl is) = called-by is (refusal_of call (end_of r s w)) refl
       calls (inr never) =
           let x : EndState = end_of r s w in
@@ -384,16 +405,16 @@ module _ {channel : Channel} {a : Joined} {w : World} (m : IsMatched channel a w
           not_called (λ zero. (let no : 8 ≡ 0 = sym says ∙ zero in omega (arith, no)))
 
     -- a block
-    module _ (old new : PlainEnd) (block : List ℕ) (answer : ℕ) (told untold : PlainEffects)
-        (given : IsGivenAs block answer old new untold told) (left : Ways (List ℕ))
-        (l : IsLeft r s old new (blocks_out answer told) left a b) where
-      there : StandsFor old (end_of r s w)
-      there = subst (λ (x : Option PlainEnd). MayStand x (end_of r s w)) l.before (m.stands r s)
+    module _ (old new : PlainEnd) (block : List ℕ) (answer : ℕ) (output output_old : PlainEffects)
+        (given : IsGivenAs block answer old new output_old output) (left : Queues (List ℕ))
+        (l : IsLeft r s old new (blocks_out answer output) left a b) where
+      there : StateRepresents old (end_of r s w)
+      there = subst (λ (x : Option PlainEnd). MayRepresent x (end_of r s w)) l.before (m.represents r s)
 
       abbrev Unheard : Type 0
-      Unheard = IsQuiet b w r left × (turn_lines (Gives r s block answer told) ≡ [])
+      Unheard = IsQuiet b w r left × (turn_lines (Gives r s block answer output) ≡ [])
 
-      unsaid : answer ≢ 0 → turn_lines (Gives r s block answer told) ≡ []
+      unsaid : answer ≢ 0 → turn_lines (Gives r s block answer output) ≡ []
       unsaid other = grind (arith, nat_tests)
 
       -- it is no frame
@@ -403,16 +424,16 @@ module _ {channel : Channel} {a : Joined} {w : World} (m : IsMatched channel a w
           subst (λ (k : Channel). IsOnlyRefusal k block reason) (sym on_channel) only in
           let says : answer ≡ 9 = given.no_frame (end_of r s w) there reason same in
           let other : answer ≢ 0 = λ zero. (let no : 9 ≡ 0 = sym says ∙ zero in omega (arith, no)) in
-          (quiet-same b r s old new answer told left other (given.unchanged other).0 l, unsaid other)
+          (quiet-same b r s old new answer output left other (given.unchanged other).0 l, unsaid other)
 
       module _ (f : Frame) (only : IsOnlyFrame channel f block) where
-        carried : IsCarriedOut channel (after_frame f (end_of r s w)) answer new told
+        carried : IsCarriedOut channel (after_frame f (end_of r s w)) answer new output
         carried =
             let x : EndState = end_of r s w in
             let same : IsOnlyFrame x.channel f block = subst (λ (k : Channel). IsOnlyFrame k f block) (sym on_channel) only in
-            subst (λ (k : Channel). IsCarriedOut k (after_frame f x) answer new told) on_channel (given.done x there f same)
+            subst (λ (k : Channel). IsCarriedOut k (after_frame f x) answer new output) on_channel (given.done x there f same)
 
-        -- it is one of another link
+        -- it is a frame of another link
         ignored : nat_eq f.sapi (sapi_number s) ≡ false → after_frame f (end_of r s w) ≡ stays (end_of r s w)
         ignored off =
             let same : (end_of r s w).sapi ≡ s = (m.reported r s).sapi in
@@ -420,10 +441,10 @@ module _ {channel : Channel} {a : Joined} {w : World} (m : IsMatched channel a w
 
         passes_by : nat_eq f.sapi (sapi_number s) ≡ false → Unheard
         passes_by off =
-            let c : IsCarriedOut channel (stays (end_of r s w)) answer new told =
-            subst (λ (o : Outcome). IsCarriedOut channel o answer new told) (ignored off) carried in (
-              quiet-stays b r s old new answer told left c l,
-              ap (λ n. turn_lines (Gives r s block n told)) c.zero ∙ ap (map (Told r s)) (told-notices c),
+            let c : IsCarriedOut channel (stays (end_of r s w)) answer new output =
+            subst (λ (o : Outcome). IsCarriedOut channel o answer new output) (ignored off) carried in (
+              quiet-stays b r s old new answer output left c l,
+              ap (λ n. turn_lines (Gives r s block n output)) c.zero ∙ ap (map (Notified r s)) (output-notices c),
             )
 
       unheard : HasOneReading channel block → IsOfNone channel s block → Unheard
@@ -431,23 +452,24 @@ module _ {channel : Channel} {a : Joined} {w : World} (m : IsMatched channel a w
           let no : f.sapi ≢ sapi_number s = none f only.frame in passes_by f only (grind (arith, nat_tests, no))
       unheard (inr (reason, only)) none = no_frame reason only
 
-    -- a block of which nothing is gone
-    shows : (old new : PlainEnd) (block : List ℕ) (answer : ℕ) (told untold : PlainEffects) → IsGivenAs block answer old new untold told →
-        IsLeft r s old new (blocks_out answer told) a.ways a b → length block ≡ 23 → IsOfNone channel s block →
-        IsPlayed channel a b (Shows r s block answer told) w
-    shows old new block answer told untold given l size none =
-        let h = unheard old new block answer told untold given a.ways l (one_reading channel block size) none in
+    -- a block shown to the endpoint, while the ways stay as they are
+    shows : (old new : PlainEnd) (block : List ℕ) (answer : ℕ) (output output_old : PlainEffects) →
+        IsGivenAs block answer old new output_old output →
+        IsLeft r s old new (blocks_out answer output) a.queues a b → length block ≡ 23 → IsOfNone channel s block →
+        IsPlayed channel a b (Shows r s block answer output) w
+    shows old new block answer output output_old given l size none =
+        let h = unheard old new block answer output output_old given a.queues l (one_reading channel block size) none in
         idle (idles b r h.0) h.1
 
     -- a block that arrives
-    module _ (old new : PlainEnd) (block : List ℕ) (answer : ℕ) (told untold : PlainEffects)
-        (given : IsGivenAs block answer old new untold told)
-        (l : IsLeft r s old new (blocks_out answer told) (W.without_first (other r) a.ways) a b) where
-      abbrev left : Ways (List ℕ)
-      left = W.without_first (other r) a.ways
+    module _ (old new : PlainEnd) (block : List ℕ) (answer : ℕ) (output output_old : PlainEffects)
+        (given : IsGivenAs block answer old new output_old output)
+        (l : IsLeft r s old new (blocks_out answer output) (W.without_first (other r) a.queues) a b) where
+      abbrev left : Queues (List ℕ)
+      left = W.without_first (other r) a.queues
 
       module _ (f : Frame) (only : IsOnlyFrame channel f block) where
-        -- it is the first frame that was sent, or an RR for that
+        -- it is the first frame sent, or an RR in place of that REJ
         first : (fs : List Frame) (os : List (List ℕ)) → AllZip (IsFrame channel) fs os →
             IsFirst (λ sent. IsSameFrame channel sent block) os → IsSentOrRr (Some f) fs
         first (g ∷ gs) (o ∷ os) same sent = elim (sent g same.0) [
@@ -458,50 +480,50 @@ module _ {channel : Channel} {a : Joined} {w : World} (m : IsMatched channel a w
         first fs os same sent = absurd assumption
 
         arrives : refusal (Deliver (other r) (Some f)) w ≡ None
-        arrives = rw m.room refl
+        arrives = rw m.capacity refl
 
-        by_link : (on : Bool) → nat_eq f.sapi (sapi_number s) ≡ on → IsPlayed channel a b (Gives r s block answer told) w
+        by_link : (on : Bool) → nat_eq f.sapi (sapi_number s) ≡ on → IsPlayed channel a b (Gives r s block answer output) w
         by_link true on =
             let o : Outcome = after_frame f (end_of r s w) in
             let event : Event = Deliver (other r) (Some f) in
-            let d = delivered channel w m.room r s f on in
-            let c : IsCarriedOut channel o answer new told = carried old new block answer told untold given left l f only in
+            let d = delivered channel w m.capacity r s f on in
+            let c : IsCarriedOut channel o answer new output = carried old new block answer output output_old given left l f only in
             does event (λ q. subst (λ (k : Option Why). MayBeRrBy k event w) (sym arrives)
-            (first (W.way (other r) w.ways) (W.way (other r) a.ways) (m.ways (other r)) q))
-            (did b r s old new o answer told left (without_first (other r) w) event [] arrives only.frame.fits d m.stands
-            (of-rest channel (other r) a.ways w.ways m.ways) c l)
-            (ap (λ n. turn_lines (Gives r s block n told)) c.zero ∙ ap (map (Told r s)) (told-notices c)
-            ∙ sym (lines-are b event arrives ∙ d.told))
+            (first (W.queue_of (other r) w.queues) (W.queue_of (other r) a.queues) (m.queues (other r)) q))
+            (did b r s old new o answer output left (without_first (other r) w) event [] arrives only.frame.fits d m.represents
+            (of-rest channel (other r) a.queues w.queues m.queues) c l)
+            (ap (λ n. turn_lines (Gives r s block n output)) c.zero ∙ ap (map (Notified r s)) (output-notices c)
+            ∙ sym (lines-are b event arrives ∙ d.output))
         by_link false off =
-            let h = passes_by old new block answer told untold given left l f only off in loses b _ (other r) r h.0 h.1
+            let h = passes_by old new block answer output output_old given left l f only off in loses b _ (other r) r h.0 h.1
 
-      gives : HasOneReading channel block → IsPlayed channel a b (Gives r s block answer told) w
+      gives : HasOneReading channel block → IsPlayed channel a b (Gives r s block answer output) w
       gives (inl (f, only)) = by_link f only (nat_eq f.sapi (sapi_number s)) refl
       gives (inr (reason, only)) =
-          let h = no_frame old new block answer told untold given left l reason only in loses b _ (other r) r h.0 h.1
+          let h = no_frame old new block answer output output_old given left l reason only in loses b _ (other r) r h.0 h.1
 
   rivals : (info : Message) (block : List ℕ) → IsFrame channel (rival_frame info) block → rival_refusal channel info ≡ None →
-      IsPlayed channel a (record a { ways = with_more Mobile (block ∷ []) a.ways }) (Rivals info block) w
+      IsPlayed channel a (record a { queues = with_more Mobile (block ∷ []) a.queues }) (Rivals info block) w
   rivals info block is ok =
       let event : Event = Rival info in
-      let none : refusal event w ≡ None = rw (m.room, m.fit.on_channel, ok) refl in
-      let b : Joined = record a { ways = with_more Mobile (block ∷ []) a.ways } in
+      let none : refusal event w ≡ None = rw (m.capacity, m.fit.on_channel, ok) refl in
+      let b : Joined = record a { queues = with_more Mobile (block ∷ []) a.queues } in
       does event (λ q. subst (λ (k : Option Why). MayBeRrBy k event w) (sym none) tt)
-      (next b event none tt m.stands (of-more channel Mobile (rival_frame info ∷ []) (block ∷ []) a.ways w.ways m.ways (is, tt)))
+      (next b event none tt m.represents (of-more channel Mobile (rival_frame info ∷ []) (block ∷ []) a.queues w.queues m.queues (is, tt)))
       (sym (lines-are b event none))
 
-  lost-turn : (sender : Role) → IsPlayed channel a (record a { ways = W.without_first sender a.ways }) (Loses sender) w
+  lost-turn : (sender : Role) → IsPlayed channel a (record a { queues = W.without_first sender a.queues }) (Loses sender) w
   lost-turn sender =
-      let b : Joined = record a { ways = W.without_first sender a.ways } in
+      let b : Joined = record a { queues = W.without_first sender a.queues } in
       does (Lose sender) (λ q. subst (λ (o : Option Why). MayBeRrBy o (Lose sender) w) (sym (lost sender)) tt)
-      (next b (Lose sender) (lost sender) tt m.stands
-      (λ q. rw (way-none Mobile q (W.without_first sender w.ways)) (of-rest channel sender a.ways w.ways m.ways q)))
+      (next b (Lose sender) (lost sender) tt m.represents
+      (λ q. rw (way-none Mobile q (W.without_first sender w.queues)) (of-rest channel sender a.queues w.queues m.queues q)))
       (sym (lines-are b (Lose sender) (lost sender)))
 
   pub turn-step : (turn : Turn) (b : Joined) → IsTurn channel a turn b → IsPlayed channel a b turn w
-  turn-step (Calls r s call answer told) b t = calls b r s t.0 t.1 call answer told t.2 t.3 t.4 (is_placed r s call)
-  turn-step (Gives r s block answer told) b t = gives b r s t.0 t.1 block answer told t.2 t.3 t.4 (one_reading channel block t.5)
-  turn-step (Shows r s block answer told) b t = shows b r s t.0 t.1 block answer told t.2 t.3 t.4 t.5 t.6
+  turn-step (Calls r s call answer output) b t = calls b r s t.0 t.1 call answer output t.2 t.3 t.4 (is_placed r s call)
+  turn-step (Gives r s block answer output) b t = gives b r s t.0 t.1 block answer output t.2 t.3 t.4 (one_reading channel block t.5)
+  turn-step (Shows r s block answer output) b t = shows b r s t.0 t.1 block answer output t.2 t.3 t.4 t.5 t.6
   turn-step (Loses sender) b t =
       subst (λ (z : Joined). IsPlayed channel a z (Loses sender) w) (sym t) (lost-turn sender)
   turn-step (Rivals info block) b t =
@@ -509,7 +531,7 @@ module _ {channel : Channel} {a : Joined} {w : World} (m : IsMatched channel a w
 
 -- ---- a run
 
--- a run is a session of frames, which is harmless where each block that is given is the first on its way
+-- a run is a session of frames, and a benign one if each block given is the first in transit
 record IsSession (turns : List Turn) (w : World) (Sound : Type 0) : Type 0 where
   events : List Event
   same : lines turns ≡ C.lines events (answers events w)
@@ -525,7 +547,7 @@ module _ (channel : Channel) (May : Channel → Joined → Turn → Type 0) wher
       let r = rest w m in
       record { events = r.events; same = ap (λ ls. ls ++ lines turns) none ∙ r.same; harmless = r.harmless }
   goes a b turn turns w may (does event harmless m same) rest =
-      let r = rest (after event w) m in
+      let r = rest (world_after event w) m in
       record {
         events = event ∷ r.events;
         same = ap (λ ls. ls ++ lines turns) same ∙ ap (λ ls. answer_lines event (answer event w) ++ ls) r.same;
@@ -537,102 +559,111 @@ module _ (channel : Channel) (May : Channel → Joined → Turn → Type 0) wher
   session (turn ∷ turns) a z w m run =
       goes a run.1 turn turns w run.0 (turn-step m turn run.1 run.2) (λ next n. session turns run.1 z next n run.3)
 
-begun : (channel : Channel) (r : Role) (s : Sapi) (before after : PlainEnd) →
-    IsBegunAs (role_number r) (sapi_number s) (channel_number channel) true before after → StandsFor after (start r s channel)
-begun Sdcch Mobile Zero before after h = h.1
-begun Sdcch Mobile Three before after h = h.1
-begun Sdcch Network Zero before after h = h.1
-begun Sdcch Network Three before after h = h.1
-begun Sacch Mobile Zero before after h = h.1
-begun Sacch Mobile Three before after h = h.1
-begun Sacch Network Zero before after h = h.1
-begun Sacch Network Three before after h = h.1
+begun : (channel : Channel) (r : Role) (s : Sapi) (before world_after : PlainEnd) →
+    IsBegunAs (role_number r) (sapi_number s) (channel_number channel) true before world_after →
+    StateRepresents world_after (start r s channel)
+begun Sdcch Mobile Zero before world_after h = h.1
+begun Sdcch Mobile Three before world_after h = h.1
+begun Sdcch Network Zero before world_after h = h.1
+begun Sdcch Network Three before world_after h = h.1
+begun Sacch Mobile Zero before world_after h = h.1
+begun Sacch Mobile Three before world_after h = h.1
+begun Sacch Network Zero before world_after h = h.1
+begun Sacch Network Three before world_after h = h.1
 
-begun_in : (channel : Channel) (r : Role) (s : Sapi) (x : Option PlainEnd) → IsBegunIn channel r s x → MayStand x (start r s channel)
+begun_in : (channel : Channel) (r : Role) (s : Sapi) (x : Option PlainEnd) → IsBegunIn channel r s x → MayRepresent x (start r s channel)
 begun_in channel r s None h = tt
 begun_in channel r s (Some new) h = begun channel r s h.0 new h.1
 
-matched : (channel : Channel) (a : Joined) → IsJoined channel a → IsMatched channel a (start_in boundless channel)
+matched : (channel : Channel) (a : Joined) → IsJoined channel a → IsMatched channel a (start_in boundless_air channel)
 matched channel a h = record {
-  room = refl;
-  stands = each_start (λ r s e. MayStand (a.state r s) e) boundless channel
+  capacity = refl;
+  represents = each_start (λ r s e. MayRepresent (a.state r s) e) boundless_air channel
       (λ r s. begun_in channel r s (a.state r s) (h.begun r s));
-  ways = subst (λ (ws : Ways (List ℕ)). AreOf channel ws no_ways) (sym h.ways)
-      (each_way (λ q. AllZip (IsFrame channel) (W.way q no_ways) (W.way q no_ways)) Mobile tt tt);
-  fit = start-fits boundless channel;
+  queues = subst (λ (ws : Queues (List ℕ)). AreOf channel ws empty_queues) (sym h.queues)
+      (each_way (λ q. AllZip (IsFrame channel) (W.queue_of q empty_queues) (W.queue_of q empty_queues)) Mobile tt tt);
+  fit = start-fits boundless_air channel;
   ls = [];
-  reported = start-reported boundless channel;
+  reported = start-reported boundless_air channel;
 }
 
 pub joined_claims : (channel : Channel) (a z : Joined) (turns : List Turn) → IsJoined channel a → IsRun channel Carries a turns z →
     Claims (lines turns)
 joined_claims channel a z turns h run =
-    let x = session channel Carries turns a z (start_in boundless channel) (matched channel a h) run in
-    subst Claims (sym x.same) (claims_with_rr boundless channel x.events (x.harmless (λ b turn may. may)))
+    let x = session channel Carries turns a z (start_in boundless_air channel) (matched channel a h) run in
+    subst Claims (sym x.same) (claims_with_rr boundless_air channel x.events (x.harmless (λ b turn may. may)))
 
 pub joined_order : (channel : Channel) (a z : Joined) (turns : List Turn) → IsJoined channel a → IsRun channel Anything a turns z →
     OrderClaims (lines turns)
 joined_order channel a z turns h run =
-    let x = session channel Anything turns a z (start_in boundless channel) (matched channel a h) run in
-    subst OrderClaims (sym x.same) (order_claims boundless channel x.events)
+    let x = session channel Anything turns a z (start_in boundless_air channel) (matched channel a h) run in
+    subst OrderClaims (sym x.same) (order_claims boundless_air channel x.events)
 
 pub joined_counts : (channel : Channel) (a z : Joined) (turns : List Turn) → IsJoined channel a → IsRun channel Carries a turns z →
     CountsAgree (lines turns)
 joined_counts channel a z turns h run =
-    let x = session channel Carries turns a z (start_in boundless channel) (matched channel a h) run in
-    subst CountsAgree (sym x.same) (counts_with_rr boundless channel x.events (x.harmless (λ b turn may. may)))
+    let x = session channel Carries turns a z (start_in boundless_air channel) (matched channel a h) run in
+    subst CountsAgree (sym x.same) (counts_with_rr boundless_air channel x.events (x.harmless (λ b turn may. may)))
 
--- ---- over bursts
+-- ---- blocks received from bursts
 
-accepted-is : (accepted : Option (List ℕ)) (flag : ℕ) (told octets : List ℕ) → IsFlagged 23 accepted flag told → accepted ≡ Some octets →
-    told ≡ octets
-accepted-is (Some x) flag told octets h same = h.1 ∙ cc same
-accepted-is None flag told octets h same = absurd (cc same)
+accepted-is : (accepted : Option (List ℕ)) (flag : ℕ) (output octets : List ℕ) → IsFlagged 23 accepted flag output →
+    accepted ≡ Some octets →
+    output ≡ octets
+accepted-is (Some x) flag output octets h same = h.1 ∙ cc same
+accepted-is None flag output octets h same = absurd (cc same)
 
-module _ (sent block : List ℕ) (h : IsHeard sent block) where
+module _ (sent block : List ℕ) (h : IsReceivedAs sent block) where
   restored : (r : Received) → IsReceivedBlock h.bursts r → r.accepted ≡ Some sent
   restored r is = damaged_received sent h.bursts r h.damage is
 
-  -- whichever call reports the bursts, it reports the block that was sent
-  told-sent : IsBlockReport h.bursts h.report ⊎ ((most rank : ℕ) × (1 ≤ most) × IsBlockReportAmong h.bursts most rank h.report) →
+  -- both ways of reporting the bursts give the block that was sent
+  output-sent : IsBlockReport h.bursts h.report ⊎ ((most rank : ℕ) × (1 ≤ most) × IsBlockReportAmong h.bursts most rank h.report) →
       h.report.octets ≡ sent
-  told-sent (inl one) =
-      accepted-is one.received.accepted h.report.accepted h.report.octets sent one.told.accepted (restored one.received one.is)
-  told-sent (inr (most, rank, some, among)) =
+  output-sent (inl one) =
+      accepted-is one.received.accepted h.report.accepted h.report.octets sent one.output.accepted (restored one.received one.is)
+  output-sent (inr (most, rank, some, among)) =
       let alone = some_received_block h.bursts h.damage.four h.damage.whole in
       let accepted : alone.0.accepted ≡ Some sent = restored alone.0 alone.1 in
       let same : among.received ≡ record { report = alone.0; rank = 1 } =
       block_first h.bursts most among.received some among.is alone.0 alone.1 (ap is_some accepted) in
-      accepted-is among.received.report.accepted h.report.accepted h.report.octets sent among.told.accepted
+      accepted-is among.received.report.accepted h.report.accepted h.report.octets sent among.output.accepted
       (ap (λ (r : BlockAmong). r.report.accepted) same ∙ accepted)
 
   heard-sent : block ≡ sent
-  heard-sent = h.octets ∙ told-sent h.received
+  heard-sent = h.octets ∙ output-sent h.received
 
-heard-first : (channel : Channel) (sent : List (List ℕ)) (block : List ℕ) → IsFirst (λ first. IsHeard first block) sent →
+heard-first : (channel : Channel) (sent : List (List ℕ)) (block : List ℕ) → IsFirst (λ first. IsReceivedAs first block) sent →
     IsFirst (λ first. IsSameFrame channel first block) sent
 heard-first channel (first ∷ others) block h = λ f is. inl (subst (IsFrame channel f) (sym (heard-sent first block h)) is)
 heard-first channel [] block h = absurd h
 
-heard : (channel : Channel) (a : Joined) (turn : Turn) → Hears channel a turn → Carries channel a turn
-heard channel a (Gives r s block answer told) h = heard-first channel (W.way (other r) a.ways) block h
+heard : (channel : Channel) (a : Joined) (turn : Turn) → ReceivesFirst channel a turn → Carries channel a turn
+heard channel a (Gives r s block answer output) h = heard-first channel (W.queue_of (other r) a.queues) block h
 heard channel a turn h = tt
 
-pub joined_bursts : (channel : Channel) (a z : Joined) (turns : List Turn) → IsJoined channel a → IsRun channel Hears a turns z →
+pub joined_bursts : (channel : Channel) (a z : Joined) (turns : List Turn) → IsJoined channel a → IsRun channel ReceivesFirst a turns z →
     Claims (lines turns)
 joined_bursts channel a z turns h run =
-    let x = session channel Hears turns a z (start_in boundless channel) (matched channel a h) run in
-    subst Claims (sym x.same) (claims_with_rr boundless channel x.events (x.harmless (heard channel)))
+    let x = session channel ReceivesFirst turns a z (start_in boundless_air channel) (matched channel a h) run in
+    subst Claims (sym x.same) (claims_with_rr boundless_air channel x.events (x.harmless (heard channel)))
 
--- ---- each answer is a turn
+pub joined_bursts_counts : (channel : Channel) (a z : Joined) (turns : List Turn) → IsJoined channel a →
+    IsRun channel ReceivesFirst a turns z →
+    CountsAgree (lines turns)
+joined_bursts_counts channel a z turns h run =
+    let x = session channel ReceivesFirst turns a z (start_in boundless_air channel) (matched channel a h) run in
+    subst CountsAgree (sym x.same) (counts_with_rr boundless_air channel x.events (x.harmless (heard channel)))
+
+-- ---- each answer gives a turn
 
 abbrev pub with_state : Role → Sapi → PlainEnd → Joined → Role → Sapi → Option PlainEnd
 with_state r s new a r' s' = if is_role r' r && is_sapi s' s then Some new else a.state r' s'
 
 module _ (a : Joined) (r : Role) (s : Sapi) (old new : PlainEnd) (before : a.state r s ≡ Some old) (out : List (List ℕ))
-    (left : Ways (List ℕ)) where
+    (left : Queues (List ℕ)) where
   abbrev pub left_in : Joined
-  left_in = record { state = with_state r s new a; ways = with_more r out left }
+  left_in = record { state = with_state r s new a; queues = with_more r out left }
 
   state-here : with_state r s new a r s ≡ Some new
   state-here = grind arith
@@ -641,36 +672,36 @@ module _ (a : Joined) (r : Role) (s : Sapi) (old new : PlainEnd) (before : a.sta
   state-else r' s' n = rw n refl
 
   pub is_left : IsLeft r s old new out left a left_in
-  is_left = record { before = before; after = state-here; others = state-else; ways = refl }
+  is_left = record { before = before; after = state-here; others = state-else; queues = refl }
 
 pub some_turn : (channel : Channel) (a : Joined) (r : Role) (s : Sapi) (call : Call) (answer : ℕ) (old new : PlainEnd)
-    (untold told : PlainEffects) → a.state r s ≡ Some old → IsCalledAs call answer old new untold told →
-    (b : Joined) × IsTurn channel a (Calls r s call answer told) b × (b.state r s ≡ Some new)
-some_turn channel a r s call answer old new untold told before called =
-    let out : List (List ℕ) = blocks_out answer told in (
-      left_in a r s old new before out a.ways,
-      (old, new, untold, called, is_left a r s old new before out a.ways),
-      state-here a r s old new before out a.ways,
+    (output_old output : PlainEffects) → a.state r s ≡ Some old → IsCalledAs call answer old new output_old output →
+    (b : Joined) × IsTurn channel a (Calls r s call answer output) b × (b.state r s ≡ Some new)
+some_turn channel a r s call answer old new output_old output before called =
+    let out : List (List ℕ) = blocks_out answer output in (
+      left_in a r s old new before out a.queues,
+      (old, new, output_old, called, is_left a r s old new before out a.queues),
+      state-here a r s old new before out a.queues,
     )
 
 pub some_arrival : (channel : Channel) (a : Joined) (r : Role) (s : Sapi) (block : List ℕ) (answer : ℕ) (old new : PlainEnd)
-    (untold told : PlainEffects) → a.state r s ≡ Some old → length block ≡ 23 → IsGivenAs block answer old new untold told →
-    (b : Joined) × IsTurn channel a (Gives r s block answer told) b × (b.state r s ≡ Some new)
-some_arrival channel a r s block answer old new untold told before size given =
-    let out : List (List ℕ) = blocks_out answer told in
-    let left : Ways (List ℕ) = W.without_first (other r) a.ways in (
+    (output_old output : PlainEffects) → a.state r s ≡ Some old → length block ≡ 23 → IsGivenAs block answer old new output_old output →
+    (b : Joined) × IsTurn channel a (Gives r s block answer output) b × (b.state r s ≡ Some new)
+some_arrival channel a r s block answer old new output_old output before size given =
+    let out : List (List ℕ) = blocks_out answer output in
+    let left : Queues (List ℕ) = W.without_first (other r) a.queues in (
       left_in a r s old new before out left,
-      (old, new, untold, given, is_left a r s old new before out left, size),
+      (old, new, output_old, given, is_left a r s old new before out left, size),
       state-here a r s old new before out left,
     )
 
 pub some_showing : (channel : Channel) (a : Joined) (r : Role) (s : Sapi) (block : List ℕ) (answer : ℕ) (old new : PlainEnd)
-    (untold told : PlainEffects) → a.state r s ≡ Some old → length block ≡ 23 → IsOfNone channel s block →
-    IsGivenAs block answer old new untold told →
-    (b : Joined) × IsTurn channel a (Shows r s block answer told) b × (b.state r s ≡ Some new)
-some_showing channel a r s block answer old new untold told before size none given =
-    let out : List (List ℕ) = blocks_out answer told in (
-      left_in a r s old new before out a.ways,
-      (old, new, untold, given, is_left a r s old new before out a.ways, size, none),
-      state-here a r s old new before out a.ways,
+    (output_old output : PlainEffects) → a.state r s ≡ Some old → length block ≡ 23 → IsOfNone channel s block →
+    IsGivenAs block answer old new output_old output →
+    (b : Joined) × IsTurn channel a (Shows r s block answer output) b × (b.state r s ≡ Some new)
+some_showing channel a r s block answer old new output_old output before size none given =
+    let out : List (List ℕ) = blocks_out answer output in (
+      left_in a r s old new before out a.queues,
+      (old, new, output_old, given, is_left a r s old new before out a.queues, size, none),
+      state-here a r s old new before out a.queues,
     )

@@ -1,4 +1,4 @@
--- A word is answered in one way.
+-- The definitions determine the answer to a word and its report.
 use Rattle.std.proofs.Common.{◌≡◌, ℕ, List, inl, inr, refl, ap, sym, ◌∙◌}
 use Rattle.fire_repair.specs.declared.repairs.RepairAnswer.{RepairAnswer}
 use Rattle.fire_repair.specs.declared.repairs.RepairAnswer.TheVariants.{Holds, Repaired, NoRepair}
@@ -17,24 +17,24 @@ reported Holds before = before
 reported (Repaired word first span) before = record { first = first; span = span; word = word }
 reported NoRepair before = before
 
--- the repair that an answer and a report tell of
-record Tells (w : List ℕ) (answer : ℕ) (before after : RepairReport) : Type 0 where
+-- the repair that an answer and a report describe
+record WritesOut (w : List ℕ) (answer : ℕ) (before after : RepairReport) : Type 0 where
   repair : RepairAnswer
   due : IsAnswer w repair
   numbered : answer ≡ number repair
-  told : after ≡ reported repair before
+  output : after ≡ reported repair before
 
-telling : (w : List ℕ) (answer : ℕ) (before after : RepairReport) → IsAnswered w answer before after → Tells w answer before after
+telling : (w : List ℕ) (answer : ℕ) (before after : RepairReport) → IsAnswered w answer before after → WritesOut w answer before after
 telling w answer before after h = elim h [
-  | inl holds ↦ record { repair = Holds; due = holds.0; numbered = holds.1; told = holds.2 }
+  | inl holds ↦ record { repair = Holds; due = holds.0; numbered = holds.1; output = holds.2 }
   | inr other ↦ elim other [
     | inl right ↦ record {
       repair = Repaired after.word after.first after.span;
       due = (right.0, right.1);
       numbered = right.2;
-      told = refl;
+      output = refl;
     }
-    | inr none ↦ record { repair = NoRepair; due = (none.0, none.1); numbered = none.2; told = none.3 }
+    | inr none ↦ record { repair = NoRepair; due = (none.0, none.1); numbered = none.2; output = none.3 }
   ]
 ]
 
@@ -45,7 +45,7 @@ answered_once w a b before r r' h g =
     let y = telling w b before r' g in
     let same = one_answer w x.repair y.repair x.due y.due in (
       x.numbered ∙ ap number same ∙ sym y.numbered,
-      x.told ∙ ap (λ repair. reported repair before) same ∙ sym y.told,
+      x.output ∙ ap (λ repair. reported repair before) same ∙ sym y.output,
     )
 
 pub repaired_once : (w : List ℕ) (a b : ℕ) (before r r' : RepairReport) → IsRepairedAs w a before r → IsRepairedAs w b before r' →

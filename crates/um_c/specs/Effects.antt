@@ -1,13 +1,14 @@
--- What an end sends and reports, as a C program is told of it.
+-- What an endpoint sends and reports, as the arrays of `um_effects` (this project's own layout).
 use Rattle.std.specs.Prelude.{ℕ, ◌-◌, List, [], ◌++◌, length, replicate, map}
 use Rattle.lapdm_window.specs.declared.Notice.{Notice}
 use Rattle.lapdm_window.specs.declared.Notice.TheVariants as N
 use Rattle.lapdm_window.specs.declared.Reason.{Reason}
 use Rattle.lapdm_window.specs.declared.Reason.TheVariants as R
-use Rattle.segmenting.specs.Rooms.{plain_message}
+use Rattle.segmenting.specs.Buffers.{plain_message}
 use Rattle.um_c.specs.declared.effects.PlainNotice.{PlainNotice}
 use Rattle.um_c.specs.declared.effects.PlainEffects.{PlainEffects}
 
+-- the number of a reason for closing a link, 0 to 3
 abbrev pub reason_number : Reason → ℕ
 reason_number R.Contention = 0
 reason_number R.Failed = 1
@@ -17,10 +18,11 @@ reason_number R.Released = 3
 abbrev pub notice_of : (kind number reason : ℕ) → List ℕ → PlainNotice
 notice_of kind number reason octets = record { number = number; kind = kind; reason = reason; message = plain_message octets }
 
--- a place without a notice
+-- an unused element of the notices
 abbrev pub nothing : PlainNotice
 nothing = notice_of 0 0 0 []
 
+-- a notice, with its number as `kind`, 1 to 6
 abbrev pub plain_notice : Notice → PlainNotice
 plain_notice (N.Opened info) = notice_of 1 0 0 info
 plain_notice (N.Got m) = notice_of 2 0 0 m
@@ -29,7 +31,7 @@ plain_notice (N.Acked number) = notice_of 4 number 0 []
 plain_notice N.Oversize = notice_of 5 0 0 []
 plain_notice (N.Closed reason) = notice_of 6 0 (reason_number reason) []
 
--- frames and notices in their order, and zeros behind them
+-- the frames and notices in order, and zeros in the unused elements
 abbrev pub plain_effects : List (List ℕ) → List Notice → PlainEffects
 plain_effects frames notices = record {
   notices = map plain_notice notices ++ replicate (3 - length notices) nothing;

@@ -1,49 +1,38 @@
--- A frame as a C program sees it: its kind by a number, and each field in its place.
-use Rattle.std.specs.Prelude.{ℕ, ◌≡◌, ◌==◌, ◌⊎◌, ◌-◌, nat_le, not, if◌then◌else◌, Bool, true, false, List, []}
+-- A frame as a C struct: its kind as a number, and all fields.
+use Rattle.std.specs.Prelude.{ℕ, ◌≡◌, ◌==◌, ◌⊎◌, ◌-◌, nat_le, not, if◌then◌else◌, Bool, true, false, List, slice_get}
 use Rattle.std.specs.Prelude.{◌++◌, length, take, replicate, Option, Some, None}
 use Rattle.lapdm_frame.specs.declared.Channel.{Channel}
 use Rattle.lapdm_frame.specs.declared.Channel.TheVariants.{Sdcch, Sacch}
 use Rattle.lapdm_frame.specs.declared.Refusal.{Refusal}
 use Rattle.lapdm_frame.specs.declared.Refusal.TheVariants.{Lpd, Ea, Control, El, Length, Empty, More}
-use Rattle.lapdm_frame.specs.Content.{Content, I, Rr, Rnr, Rej, Sabm, Dm, Ui, Disc, Ua, Frame}
+use Rattle.lapdm_frame.specs.declared.Kind.{Kind}
+use Rattle.lapdm_frame.specs.Content.{Content, Fields, Frame, kinds, kind_number, fields_of, content_with}
 use Rattle.lapdm_frame.specs.Frames.{bit, Fits, octets_of}
 use Rattle.lapdm_frame.specs.Readings.{IsOnlyFrame, IsOnlyRefusal}
 use Rattle.um_c.specs.declared.frames.PlainFrame.{PlainFrame}
 
--- the channel that a number names
+-- the channel with this number
 abbrev pub channel_of : ℕ → Option Channel
 channel_of number = if number == 0 then Some Sdcch else if number == 1 then Some Sacch else None
 
--- the fields of a frame, each 0 where its kind has none, and zeros behind the information
-abbrev pub fields : (kind : ℕ) → (sapi : ℕ) → (cr pf : Bool) → (ns nr : ℕ) → (more : ℕ) → (info : List ℕ) → PlainFrame
-fields kind sapi cr pf ns nr more info = record {
-  kind = kind;
+-- the fields of a frame: a field that its kind lacks is 0, and zeros follow the information
+abbrev pub plain_fields : ℕ → Bool → Fields → PlainFrame
+plain_fields sapi cr f = record {
+  kind = kind_number f.kind;
   sapi = sapi;
   cr = bit cr;
-  pf = bit pf;
-  ns = ns;
-  nr = nr;
-  more = more;
-  count = length info;
-  info = info ++ replicate (20 - length info) 0;
+  pf = bit f.pf;
+  ns = f.ns;
+  nr = f.nr;
+  more = bit f.more;
+  count = length f.info;
+  info = f.info ++ replicate (20 - length f.info) 0;
 }
 
--- a frame with a content, by its kind
-abbrev pub plain_content : ℕ → Bool → Content → PlainFrame
-plain_content sapi cr (I ns nr p more info) = fields 0 sapi cr p ns nr (bit more) info
-plain_content sapi cr (Rr nr pf) = fields 1 sapi cr pf 0 nr 0 []
-plain_content sapi cr (Rnr nr pf) = fields 2 sapi cr pf 0 nr 0 []
-plain_content sapi cr (Rej nr pf) = fields 3 sapi cr pf 0 nr 0 []
-plain_content sapi cr (Sabm p info) = fields 4 sapi cr p 0 0 0 info
-plain_content sapi cr (Dm f) = fields 5 sapi cr f 0 0 0 []
-plain_content sapi cr (Ui p info) = fields 6 sapi cr p 0 0 0 info
-plain_content sapi cr (Disc p) = fields 7 sapi cr p 0 0 0 []
-plain_content sapi cr (Ua f info) = fields 8 sapi cr f 0 0 0 info
-
 abbrev pub plain : Frame → PlainFrame
-plain f = plain_content f.sapi f.cr f.content
+plain f = plain_fields f.sapi f.cr (fields_of f.content)
 
--- the number of a refusal; 0 is none
+-- the number of a refusal, 1 to 7; 0 means success
 abbrev pub number_of : Refusal → ℕ
 number_of Lpd = 1
 number_of Ea = 2
@@ -53,49 +42,40 @@ number_of Length = 5
 number_of Empty = 6
 number_of More = 7
 
--- the octets are read as this answer says: their one frame by its fields, or the number of their one refusal and nothing
--- written
+-- the answer is 0 and the fields are those of the only frame of the octets; or the answer is the
+-- number of their only refusal, and nothing is written
 abbrev pub IsReadAs : Channel → List ℕ → ℕ → (before after : PlainFrame) → Type 0
 IsReadAs channel octets answer before after =
     ((f : Frame) × IsOnlyFrame channel f octets × (answer ≡ 0) × (after ≡ plain f))
     ⊎ ((reason : Refusal) × IsOnlyRefusal channel octets reason × (answer ≡ number_of reason) × (after ≡ before))
 
--- the bit that a field says: any number but 0 is a 1
+-- the bit of a field: any number but 0 is a 1
 abbrev pub says : ℕ → Bool
 says field = not (field == 0)
 
--- what the fields of a kind without information say
-abbrev pub said_bare : PlainFrame → Option Content
-said_bare f =
-    if f.kind == 1 then Some (Rr f.nr (says f.pf))
-    else if f.kind == 2 then Some (Rnr f.nr (says f.pf))
-    else if f.kind == 3 then Some (Rej f.nr (says f.pf))
-    else if f.kind == 5 then Some (Dm (says f.pf))
-    else if f.kind == 7 then Some (Disc (says f.pf))
-    else None
+-- a content whose information has this many octets
+abbrev pub with_count : ℕ → Content → Option Content
+with_count count content = if length (fields_of content).info == count then Some content else None
 
--- the content that the fields say, by the kind's number: of a kind that has no information none where some is counted; numbers
--- and bits that a kind has not are not looked at
+-- the content that the fields describe: none for a number that no kind has, and none if a kind without information has a nonzero
+-- count; other fields that the kind lacks are ignored
+abbrev pub said_of : PlainFrame → Option Kind → Option Content
+said_of f None = None
+said_of f (Some kind) = with_count f.count (content_with kind f.ns f.nr (says f.pf) (says f.more) (take f.count f.info))
+
 abbrev pub said_content : PlainFrame → Option Content
-said_content f =
-    let info = take f.count f.info in
-    if f.kind == 0 then Some (I f.ns f.nr (says f.pf) (says f.more) info)
-    else if f.kind == 4 then Some (Sabm (says f.pf) info)
-    else if f.kind == 6 then Some (Ui (says f.pf) info)
-    else if f.kind == 8 then Some (Ua (says f.pf) info)
-    else if f.count == 0 then said_bare f
-    else None
+said_content f = said_of f (slice_get kinds f.kind)
 
 abbrev pub with_address : ℕ → Bool → Option Content → Option Frame
 with_address sapi cr None = None
 with_address sapi cr (Some content) = Some (record { sapi = sapi; cr = cr; content = content })
 
--- the frame that the fields say; of more than 20 octets none
-abbrev pub said : PlainFrame → Option Frame
-said f = if nat_le f.count 20 then with_address f.sapi (says f.cr) (said_content f) else None
+-- the frame that the fields describe; none if they count more than 20 octets
+abbrev pub frame_by : PlainFrame → Option Frame
+frame_by f = if nat_le f.count 20 then with_address f.sapi (says f.cr) (said_content f) else None
 
--- the answer to a request to write what the fields say: true where that is a frame that fits, and then its canonical octets
--- are written; else false, and nothing is written
+-- the answer is true, and the canonical octets are written, if the fields describe a frame that
+-- fits the channel; otherwise it is false, and nothing is written
 abbrev pub IsWrittenAs : Channel → Option Frame → Bool → (before after : List ℕ) → Type 0
 IsWrittenAs channel None answer before after = (answer ≡ false) × (after ≡ before)
 IsWrittenAs channel (Some f) answer before after =

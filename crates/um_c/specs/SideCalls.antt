@@ -1,4 +1,5 @@
--- What a C program is answered on a call of a side: one of its ends is called as it is by itself, and the other stays.
+-- What a call of a side answers to a C program: the endpoint of one SAPI is called, and the other
+-- is unchanged.
 use Rattle.std.specs.Prelude.{ℕ, ◌≡◌, ◌≢◌, Bool, List, Some, None}
 use Rattle.lapdm_frame.specs.declared.Channel.{Channel}
 use Rattle.lapdm_frame.specs.Content.{Frame}
@@ -14,46 +15,50 @@ use Rattle.um_c.specs.Plain.{channel_of}
 use Rattle.um_c.specs.States.{sapi_of, sapi_number}
 use Rattle.um_c.specs.EndCalls.{IsCalledAs, IsGivenAs, IsBegunAs}
 
--- an end of SAPI 0 and one of SAPI 3, of one role and on one channel
+-- an endpoint of SAPI 0 and one of SAPI 3, with the same role and channel
 pub record IsSide (s : PlainSide) : Type 0 where
   pub sapi0 : s.link0.sapi ≡ 0
   pub sapi3 : s.link3.sapi ≡ 3
   pub role : s.link0.role ≡ s.link3.role
   pub channel : s.link0.channel ≡ s.link3.channel
 
+-- the endpoint with this SAPI
 abbrev pub link_of : Sapi → PlainSide → PlainEnd
 link_of Zero s = s.link0
 link_of Three s = s.link3
 
--- both ends before their first call and frame
+-- both endpoints are begun as `IsBegunAs` says
 pub record IsSideBegunAs (role channel : ℕ) (answer : Bool) (before after : PlainSide) : Type 0 where
   pub link0 : IsBegunAs role 0 channel answer before.link0 after.link0
   pub link3 : IsBegunAs role 3 channel answer before.link3 after.link3
 
--- the end of this SAPI is called, and the other stays; 8 where there is no such SAPI, 7 where the two ends are not of one side; and
--- nothing is written where the answer is not 0
-pub record IsSideCalledAs (sapi : ℕ) (call : Call) (answer : ℕ) (before after : PlainSide) (untold told : PlainEffects) : Type 0 where
-  pub called : IsSide before → (s : Sapi) → Some s ≡ sapi_of sapi → IsCalledAs call answer (link_of s before) (link_of s after) untold told
+-- the endpoint of this SAPI is called, and the other is unchanged; the answer is 8 if there is no
+-- such SAPI, and 7 if the endpoints are not those of one side; a nonzero answer writes nothing
+pub record IsSideCalledAs (sapi : ℕ) (call : Call) (answer : ℕ) (before after : PlainSide) (output_old output : PlainEffects) : Type 0 where
+  pub called : IsSide before → (s : Sapi) → Some s ≡ sapi_of sapi →
+      IsCalledAs call answer (link_of s before) (link_of s after) output_old output
   pub kept : (s : Sapi) → Some s ≡ sapi_of sapi → link_of (other s) after ≡ link_of (other s) before
   pub no_link : IsSide before → None ≡ sapi_of sapi → answer ≡ 8
   pub no_side : (IsSide before → ⊥) → answer ≡ 7
-  pub unchanged : answer ≢ 0 → (after ≡ before) × (told ≡ untold)
+  pub unchanged : answer ≢ 0 → (after ≡ before) × (output ≡ output_old)
 
--- a block is a frame of SAPI 3
+-- the block is a frame of SAPI 3
 abbrev pub IsOfSapi3 : (channel : ℕ) → List ℕ → Type 0
 IsOfSapi3 channel octets = (c : Channel) × (f : Frame) × (Some c ≡ channel_of channel) × IsOnlyFrame c f octets × (f.sapi ≡ 3)
 
--- the end of this SAPI is given the block, and its SAPI is told
-pub record IsGivenTo (s : Sapi) (octets : List ℕ) (answer : ℕ) (before after : PlainSide) (named : ℕ) (untold told : PlainEffects) : Type 0
+-- the endpoint of this SAPI is given the block, and its SAPI is reported
+pub record IsGivenTo (s : Sapi) (octets : List ℕ) (answer : ℕ) (before after : PlainSide) (named : ℕ)
+    (output_old output : PlainEffects) : Type 0
   where
-    pub given : IsGivenAs octets answer (link_of s before) (link_of s after) untold told
+    pub given : IsGivenAs octets answer (link_of s before) (link_of s after) output_old output
     pub kept : link_of (other s) after ≡ link_of (other s) before
     pub named_is : answer ≡ 0 → named ≡ sapi_number s
 
--- a block goes to the end of SAPI 3 where it is a frame of that SAPI, and else to that of SAPI 0
-pub record IsSideGivenAs (octets : List ℕ) (answer : ℕ) (before after : PlainSide) (unnamed named : ℕ) (untold told : PlainEffects) : Type 0
+-- a frame of SAPI 3 goes to the endpoint of SAPI 3, any other block to that of SAPI 0
+pub record IsSideGivenAs (octets : List ℕ) (answer : ℕ) (before after : PlainSide) (unnamed named : ℕ)
+    (output_old output : PlainEffects) : Type 0
   where
-    pub three : IsSide before → IsOfSapi3 before.link0.channel octets → IsGivenTo Three octets answer before after named untold told
-    pub zero : IsSide before → ¬ IsOfSapi3 before.link0.channel octets → IsGivenTo Zero octets answer before after named untold told
+    pub three : IsSide before → IsOfSapi3 before.link0.channel octets → IsGivenTo Three octets answer before after named output_old output
+    pub zero : IsSide before → ¬ IsOfSapi3 before.link0.channel octets → IsGivenTo Zero octets answer before after named output_old output
     pub no_side : (IsSide before → ⊥) → answer ≡ 7
-    pub unchanged : answer ≢ 0 → (after ≡ before) × (named ≡ unnamed) × (told ≡ untold)
+    pub unchanged : answer ≢ 0 → (after ≡ before) × (named ≡ unnamed) × (output ≡ output_old)

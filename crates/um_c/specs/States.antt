@@ -1,4 +1,4 @@
--- An end of a link as a C program holds it: what its numbers and arrays say, and how they are written.
+-- An endpoint as a C struct: what its numbers and arrays mean, and how they are written.
 use Rattle.std.specs.Prelude.{ℕ, zero, suc, ◌≡◌, ◌==◌, nat_le, if◌then◌else◌, Bool, true, List, [], ◌∷◌, length}
 use Rattle.std.specs.Prelude.{take, map, Option, Some, None}
 use Rattle.lapdm_frame.specs.declared.Channel.{Channel}
@@ -6,9 +6,9 @@ use Rattle.lapdm_frame.specs.declared.Channel.TheVariants.{Sdcch, Sacch}
 use Rattle.lapdm_frame.specs.Frames.{bit}
 use Rattle.segmenting.specs.declared.joiner.Part.{Part}
 use Rattle.segmenting.specs.declared.joiner.Part.TheVariants as P
-use Rattle.segmenting.specs.declared.rooms.PlainMessage.{PlainMessage}
-use Rattle.segmenting.specs.Pieces.{Message}
-use Rattle.segmenting.specs.Rooms.{octets_in, plain_message}
+use Rattle.segmenting.specs.declared.buffers.PlainMessage.{PlainMessage}
+use Rattle.segmenting.specs.Segments.{Message}
+use Rattle.segmenting.specs.Buffers.{octets_in, plain_message}
 use Rattle.lapdm_window.specs.declared.Sapi.{Sapi}
 use Rattle.lapdm_window.specs.declared.Sapi.TheVariants.{Zero, Three}
 use Rattle.lapdm_window.specs.declared.State.{State}
@@ -17,11 +17,12 @@ use Rattle.lapdm_window.specs.Ends.{EndState}
 use Rattle.lapdm_window.specs.Parts.{WindowValues}
 use Rattle.lapdm_end.specs.declared.Role.{Role}
 use Rattle.lapdm_end.specs.declared.Role.TheVariants.{Mobile, Network}
-use Rattle.lapdm_end.specs.Parts.{EndValues, StandFor}
+use Rattle.lapdm_end.specs.Parts.{EndValues, ValuesRepresent}
 use Rattle.um_c.specs.declared.states.PlainEnd.{PlainEnd}
 use Rattle.um_c.specs.Plain.{says, channel_of}
 
--- what a number names
+-- the role, SAPI, state or message part with this number; and the window and the endpoint of a
+-- state
 abbrev pub role_of : ℕ → Option Role
 role_of number = if number == 0 then Some Mobile else if number == 1 then Some Network else None
 
@@ -64,21 +65,21 @@ end_with s (Some role) (Some sapi) (Some state) (Some window) =
     Some (record { role = role; sapi = sapi; state = state; kept = octets_in s.kept; retries = s.retries; window = window })
 end_with s role sapi state window = None
 
--- what the state says, if each number names something and at most eight messages are counted
+-- the values of a state, if each number is in range and at most eight messages are held
 abbrev pub said_end : PlainEnd → Option EndValues
 said_end s = end_with s (role_of s.role) (sapi_of s.sapi) (state_of s.state) (said_window s)
 
--- an end that holds this stands for the end of the definition
-pub record StandsFor (s : PlainEnd) (e : EndState) : Type 0 where
+-- the state represents this endpoint
+pub record StateRepresents (s : PlainEnd) (e : EndState) : Type 0 where
   pub values : EndValues
   pub said : said_end s ≡ Some values
-  pub stand : StandFor values e
+  pub stand : ValuesRepresent values e
 
--- the state is that of some end
+-- the state represents some endpoint
 abbrev pub IsOfAnEnd : PlainEnd → Type 0
-IsOfAnEnd s = (e : EndState) × StandsFor s e
+IsOfAnEnd s = (e : EndState) × StateRepresents s e
 
--- the number of each name
+-- the numbers of roles, SAPIs, channels, states and parts
 abbrev pub role_number : Role → ℕ
 role_number Mobile = 0
 role_number Network = 1
@@ -103,13 +104,13 @@ part_number P.Open = 0
 part_number P.Whole = 1
 part_number P.Over = 2
 
--- so many messages, of which those behind the last have no octets
-abbrev pub rooms_for : ℕ → List Message → List PlainMessage
-rooms_for zero held = []
-rooms_for (suc k) [] = plain_message [] ∷ rooms_for k []
-rooms_for (suc k) (m ∷ ms) = plain_message m ∷ rooms_for k ms
+-- k elements: these messages, then messages without octets
+abbrev pub buffers_for : ℕ → List Message → List PlainMessage
+buffers_for zero held = []
+buffers_for (suc k) [] = plain_message [] ∷ buffers_for k []
+buffers_for (suc k) (m ∷ ms) = plain_message m ∷ buffers_for k ms
 
--- how an end that holds this is written: zeros behind each count
+-- the state written for these values, with zeros in the unused octets
 abbrev pub plain_end : EndValues → PlainEnd
 plain_end x = record {
   done = x.window.done;
@@ -128,9 +129,9 @@ plain_end x = record {
   part = part_number x.window.joiner.part;
   kept = plain_message x.kept;
   joined = plain_message x.window.joiner.octets;
-  held = rooms_for 8 x.window.held;
+  held = buffers_for 8 x.window.held;
 }
 
--- the state is written so: there is one such state of what an end holds
+-- the state is one that is written; each endpoint has only one such state
 abbrev pub IsPlain : PlainEnd → Type 0
 IsPlain s = (x : EndValues) × (s ≡ plain_end x)

@@ -4,44 +4,44 @@ ghost use Rattle.std.specs.Prelude.{replicate, MatchOption};
 ghost use Rattle.bit_blocks.specs.Bits.{AllBits};
 ghost use Rattle.bit_blocks.specs.SoftValues.{AllSoft};
 ghost use Rattle.um_block.specs.Sent.{IsSentBlock};
-ghost use Rattle.conv_code.specs.Code.{IsInformation};
-ghost use Rattle.conv_code.specs.Likelihood.{FallsBehind};
-ghost use Rattle.interleave.specs.Bursts.{IsInterleaved};
+ghost use Rattle.um_block.specs.conv_code.Code.{IsInformation};
+ghost use Rattle.um_block.specs.conv_code.Likelihood.{FallsBehind};
+ghost use Rattle.um_block.specs.interleave.Bursts.{IsInterleaved};
 ghost use Rattle.list_decode.specs.Ranking.{IsCandidate};
 ghost use Rattle.um_block.specs.declared.received.Received.{Received as ReceivedOf};
 ghost use Rattle.um_block.specs.Received.{IsReceivedBlock, coded_places};
 ghost use Rattle.um_among.specs.Among.{NoneHolds};
 ghost use Rattle.um_among.specs.Parities.{HoldsInBlock};
-ghost use Rattle.um_c.specs.Reports.{IsBlockReport, IsBlockReportAmong, TellsBlock};
+ghost use Rattle.um_c.specs.Reports.{IsBlockReport, IsBlockReportAmong, ReportsBlock};
 
 use crate::soft::are_soft_bursts;
 use um_among::receive_gathered_among;
 use um_block::{Received, gather_block, receive_gathered, send_block, wrong_coded_places};
 
-/// How many of the most likely words can be tried.
+/// The most words that can be tried.
 const MOST: u32 = 64;
 
-/// What four bursts are received as.
+/// The report on four bursts.
 #[repr(C)]
 #[derive(Drop)]
 pub struct BlockReport {
-    /// The likelihood of the word: at most 456 times 127.
+    /// The likelihood of the word: at most 456 * 127.
     pub metric: i32,
-    /// How many of the 104 training places are wrong. A value of 0 counts as wrong.
+    /// How many of the 104 training bits are wrong. A value of 0 counts as wrong.
     pub wrong_training: u32,
-    /// How many of the 456 coded places are wrong against the word. A value of 0 counts as wrong.
+    /// How many of the 456 coded bits differ from those of the word. A value of 0 counts as wrong.
     pub wrong_coded: u32,
-    /// The training sequence heard, 0 to 7.
+    /// The training sequence code found, 0 to 7.
     pub tsc: u8,
-    /// 1 where the parity holds, else 0.
+    /// 1 if the CRC holds, else 0.
     pub accepted: u8,
-    /// The octets where the parity holds, else zeros.
+    /// The octets if the CRC holds, else zeros.
     pub octets: [u8; 23],
-    /// The word reported, a bit an octet: 184 of data, 40 of parity, four zeros.
+    /// The word reported, one bit an octet: 184 data bits, 40 CRC bits, four zeros.
     pub word: [u8; 228],
 }
 
-/// Writes the four bursts of 23 octets. False, and nothing written, where there is no such training sequence.
+/// Writes the four bursts of 23 octets. Returns false, and writes nothing, if `tsc` is above 7.
 #[unsafe(no_mangle)]
 pub extern "C" fn um_send_block(octets: &[u8; 23], tsc: u8, bursts: &mut [[u8; 148]; 4]) -> bool
     ensures known { IsTrue result ↔ (tsc ≤ 7) }
@@ -57,7 +57,7 @@ pub extern "C" fn um_send_block(octets: &[u8; 23], tsc: u8, bursts: &mut [[u8; 1
     true
 }
 
-/// Reports what four bursts of soft values are received as. False, and nothing written, where a value is -128.
+/// Decodes four bursts of soft values. Returns false, and writes nothing, if a value is -128.
 #[unsafe(no_mangle)]
 pub extern "C" fn um_receive_block(bursts: &[[i8; 148]; 4], report: &mut BlockReport) -> bool
     ensures soft { IsTrue result ↔ All AllSoft bursts.now }
@@ -70,13 +70,13 @@ pub extern "C" fn um_receive_block(bursts: &[[i8; 148]; 4], report: &mut BlockRe
         return false;
     }
     let soft = gather_block(bursts);
-    *report = told_block(bursts, &soft, &receive_gathered(bursts, &soft));
+    *report = reported_block(bursts, &soft, &receive_gathered(bursts, &soft));
     true
 }
 
-/// Reports what four bursts of soft values are received as where of the `most` most likely words, 1 to 64, the first whose parity holds
-/// is taken, and the most likely one where none of them does; and its place among all words, 1 for the most likely one. False, and
-/// nothing written, where a value is -128 or `most` is 0 or above 64.
+/// Decodes four bursts of soft values: of the `most` most likely words (1 to 64) reports the first
+/// whose CRC holds, or the most likely one if none does, and its rank among all words, from 1.
+/// Returns false, and writes nothing, if a value is -128 or `most` is out of range.
 #[unsafe(no_mangle)]
 pub extern "C" fn um_receive_block_among(
     bursts: &[[i8; 148]; 4],
@@ -95,7 +95,7 @@ pub extern "C" fn um_receive_block_among(
         → IsInterleaved soft (map coded_places bursts.now)
         → ((report.new.accepted ≡ 0) ↔ NoneHolds HoldsInBlock soft most) }
     ensures first { IsTrue result → (r : ReceivedOf) → IsReceivedBlock bursts.now r
-        → IsSome r.accepted → TellsBlock bursts.now r report.new × (rank.new ≡ 1) }
+        → IsSome r.accepted → ReportsBlock bursts.now r report.new × (rank.new ≡ 1) }
     ensures refused { result ≡ false → (report.new ≡ report.old) × (rank.new ≡ rank.old) }
 {
     if most == 0 || most > MOST || !are_soft_bursts(bursts) {
@@ -103,20 +103,20 @@ pub extern "C" fn um_receive_block_among(
     }
     let soft = gather_block(bursts);
     let among = receive_gathered_among(bursts, &soft, most);
-    *report = told_block(bursts, &soft, &among.report);
+    *report = reported_block(bursts, &soft, &among.report);
     *rank = among.rank;
     true
 }
 
-/// The report that tells what four bursts are received as.
-fn told_block(bursts: &[[i8; 148]; 4], soft: &[i8; 456], received: &Received) -> BlockReport
+/// The report on four bursts.
+fn reported_block(bursts: &[[i8; 148]; 4], soft: &[i8; 456], received: &Received) -> BlockReport
     requires gathered { IsInterleaved soft.now (map coded_places bursts.now) }
     requires information { IsInformation received.now.u }
-    ensures { TellsBlock bursts.now received.now result }
+    ensures { ReportsBlock bursts.now received.now result }
 {
     let mut word = [0; 228];
     word.copy_from_slice(received.u.as_slice());
-    let (accepted, octets) = told_octets(&received.accepted);
+    let (accepted, octets) = accepted_octets(&received.accepted);
     BlockReport {
         metric: received.metric,
         wrong_training: received.wrong_training,
@@ -128,8 +128,8 @@ fn told_block(bursts: &[[i8; 148]; 4], soft: &[i8; 456], received: &Received) ->
     }
 }
 
-/// 1 and the octets that were accepted, or 0 and zeros where none were.
-fn told_octets(accepted: &Option<[u8; 23]>) -> (u8, [u8; 23])
+/// 1 and the accepted octets, or 0 and zeros.
+fn accepted_octets(accepted: &Option<[u8; 23]>) -> (u8, [u8; 23])
     ensures { MatchOption accepted.now
         ((result.0 ≡ 0) × (result.1 ≡ replicate 23 0))
         (λ octets. (result.0 ≡ 1) × (result.1 ≡ octets)) }

@@ -11,44 +11,45 @@ use um_block::{
     receive_access, receive_sync, send_access, send_sync, wrong_access_places, wrong_sync_places,
 };
 
-/// What an access burst is received as.
+/// The report on an access burst.
 #[repr(C)]
 #[derive(Drop)]
 pub struct AccessReport {
-    /// The likelihood of the word: at most 36 times 127.
+    /// The likelihood of the word: at most 36 * 127.
     pub metric: i32,
-    /// How many of the 41 training places are wrong. A value of 0 counts as wrong.
+    /// How many of the 41 training bits are wrong. A value of 0 counts as wrong.
     pub wrong_training: u32,
-    /// How many of the 36 coded places are wrong against the word. A value of 0 counts as wrong.
+    /// How many of the 36 coded bits differ from those of the word. A value of 0 counts as wrong.
     pub wrong_coded: u32,
-    /// 1 where the parity holds for the base station's code, else 0.
+    /// 1 if the CRC holds for this BSIC, else 0.
     pub accepted: u8,
-    /// The bits of data where the parity holds, else zeros.
+    /// The data bits if the CRC holds, else zeros.
     pub info: [u8; 8],
-    /// The most likely word, a bit an octet: eight of data, six of parity with the code added, four zeros.
+    /// The most likely word, one bit an octet: 8 data bits, 6 CRC bits with the BSIC added, four
+    /// zeros.
     pub word: [u8; 18],
 }
 
-/// What a synchronisation burst is received as.
+/// The report on a synchronisation burst.
 #[repr(C)]
 #[derive(Drop)]
 pub struct SyncReport {
-    /// The likelihood of the word: at most 78 times 127.
+    /// The likelihood of the word: at most 78 * 127.
     pub metric: i32,
-    /// How many of the 64 training places are wrong. A value of 0 counts as wrong.
+    /// How many of the 64 training bits are wrong. A value of 0 counts as wrong.
     pub wrong_training: u32,
-    /// How many of the 78 coded places are wrong against the word. A value of 0 counts as wrong.
+    /// How many of the 78 coded bits differ from those of the word. A value of 0 counts as wrong.
     pub wrong_coded: u32,
-    /// 1 where the parity holds, else 0.
+    /// 1 if the CRC holds, else 0.
     pub accepted: u8,
-    /// The bits of data where the parity holds, else zeros.
+    /// The data bits if the CRC holds, else zeros.
     pub info: [u8; 25],
-    /// The most likely word, a bit an octet: 25 of data, ten of parity, four zeros.
+    /// The most likely word, one bit an octet: 25 data bits, 10 CRC bits, four zeros.
     pub word: [u8; 39],
 }
 
-/// Writes the access burst of eight bits under the six bits of a base station's code, a bit an octet. False, and nothing
-/// written, where an octet is no bit.
+/// Writes the access burst of 8 bits for a BSIC of 6 bits, one bit an octet. Returns false, and
+/// writes nothing, if an octet is not 0 or 1.
 #[unsafe(no_mangle)]
 pub extern "C" fn um_send_access(info: &[u8; 8], bsic: &[u8; 6], burst: &mut [u8; 88]) -> bool
     ensures known { IsTrue result ↔ (AllBits info.now × AllBits bsic.now) }
@@ -66,8 +67,8 @@ pub extern "C" fn um_send_access(info: &[u8; 8], bsic: &[u8; 6], burst: &mut [u8
     true
 }
 
-/// Reports what an access burst of soft values is received as under a base station's code. False, and nothing written,
-/// where a value is -128 or an octet of the code is no bit.
+/// Decodes an access burst of soft values for a BSIC. Returns false, and writes nothing, if a value
+/// is -128 or an octet of the BSIC is not 0 or 1.
 #[unsafe(no_mangle)]
 pub extern "C" fn um_receive_access(
     burst: &[i8; 88],
@@ -89,7 +90,7 @@ pub extern "C" fn um_receive_access(
     let received = receive_access(burst, &bsic);
     let mut word = [0; 18];
     word.copy_from_slice(received.u.as_slice());
-    let (accepted, info) = told_bits(&received.accepted);
+    let (accepted, info) = accepted_bits(&received.accepted);
     *report = AccessReport {
         metric: received.metric,
         wrong_training: received.wrong_training,
@@ -101,7 +102,8 @@ pub extern "C" fn um_receive_access(
     true
 }
 
-/// Writes the synchronisation burst of 25 bits, a bit an octet. False, and nothing written, where an octet is no bit.
+/// Writes the synchronisation burst of 25 bits, one bit an octet. Returns false, and writes
+/// nothing, if an octet is not 0 or 1.
 #[unsafe(no_mangle)]
 pub extern "C" fn um_send_sync(info: &[u8; 25], burst: &mut [u8; 148]) -> bool
     ensures known { IsTrue result ↔ AllBits info.now }
@@ -116,7 +118,8 @@ pub extern "C" fn um_send_sync(info: &[u8; 25], burst: &mut [u8; 148]) -> bool
     true
 }
 
-/// Reports what a synchronisation burst of soft values is received as. False, and nothing written, where a value is -128.
+/// Decodes a synchronisation burst of soft values. Returns false, and writes nothing, if a value is
+/// -128.
 #[unsafe(no_mangle)]
 pub extern "C" fn um_receive_sync(burst: &[i8; 148], report: &mut SyncReport) -> bool
     ensures soft { IsTrue result ↔ AllSoft burst.now }
@@ -131,7 +134,7 @@ pub extern "C" fn um_receive_sync(burst: &[i8; 148], report: &mut SyncReport) ->
     let received = receive_sync(burst);
     let mut word = [0; 39];
     word.copy_from_slice(received.u.as_slice());
-    let (accepted, info) = told_bits(&received.accepted);
+    let (accepted, info) = accepted_bits(&received.accepted);
     *report = SyncReport {
         metric: received.metric,
         wrong_training: received.wrong_training,
@@ -143,8 +146,8 @@ pub extern "C" fn um_receive_sync(burst: &[i8; 148], report: &mut SyncReport) ->
     true
 }
 
-/// 1 and the bits that were accepted, or 0 and zeros where none were.
-fn told_bits<const N: usize>(accepted: &Option<Bits<N>>) -> (u8, [u8; N])
+/// 1 and the accepted bits, or 0 and zeros.
+fn accepted_bits<const N: usize>(accepted: &Option<Bits<N>>) -> (u8, [u8; N])
     ensures { MatchOption accepted.now
         ((result.0 ≡ 0) × (result.1 ≡ replicate N 0))
         (λ info. (result.0 ≡ 1) × (result.1 ≡ info)) }

@@ -1,26 +1,26 @@
-//! What an end sends and reports, as arrays of fixed room.
+//! What an endpoint sends and reports, as fixed-size arrays.
 ghost use Rattle.std.specs.Prelude.{◌≡◌, ◌≤◌, ◌-◌, ◌++◌, map, length, replicate, slice_index_or};
-ghost use Rattle.segmenting.specs.Pieces.{longest};
+ghost use Rattle.segmenting.specs.Segments.{longest};
 ghost use Rattle.um_c.specs.Effects.{notice_of, plain_notice, plain_effects, nothing, reason_number};
 
 use lapdm_window::{Effects, Notice, Reason};
 use segmenting::PlainMessage;
 
-/// What an end reports.
+/// A notice of an endpoint.
 #[repr(C)]
 #[derive(Clone, Copy, Drop)]
 pub struct PlainNotice {
-    /// The number of the message that is acknowledged, else 0.
+    /// The number of the acknowledged message; else 0.
     pub number: u64,
     /// 0 no notice, 1 opened, 2 got, 3 unit, 4 acked, 5 oversize, 6 closed.
     pub kind: u8,
     /// Why the link was closed: 0 contention, 1 failed, 2 refused, 3 released. Else 0.
     pub reason: u8,
-    /// The octets of what was opened by, got, or came in a unit. Else none.
+    /// The octets of an opened, got or unit notice; else none.
     pub message: PlainMessage,
 }
 
-/// What a call of an end sends and reports, in that order, and zeros behind.
+/// The frames and notices of a call, in order. Unused elements are zero.
 #[repr(C)]
 #[derive(Drop)]
 pub struct PlainEffects {
@@ -30,14 +30,14 @@ pub struct PlainEffects {
     pub frames: [[u8; 23]; 2],
 }
 
-/// Writes what a call sends and reports where it is to stand.
-pub(crate) fn write_effects(told: &Effects, effects: &mut PlainEffects)
-    ensures { effects.new ≡ plain_effects told.now.frames told.now.notices }
+/// Writes the frames and notices of a call.
+pub(crate) fn write_effects(output: &Effects, effects: &mut PlainEffects)
+    ensures { effects.new ≡ plain_effects output.now.frames output.now.notices }
 {
-    write_frames(told.frames.as_slice(), &mut effects.frames);
-    write_notices(told.notices.as_slice(), &mut effects.notices);
-    effects.frame_count = told.frames.as_slice().len() as u8;
-    effects.notice_count = told.notices.as_slice().len() as u8;
+    write_frames(output.frames.as_slice(), &mut effects.frames);
+    write_notices(output.notices.as_slice(), &mut effects.notices);
+    effects.frame_count = output.frames.as_slice().len() as u8;
+    effects.notice_count = output.notices.as_slice().len() as u8;
 }
 
 fn write_frames(sent: &[[u8; 23]], frames: &mut [[u8; 23]; 2])
@@ -52,8 +52,8 @@ fn write_notices(reported: &[Notice], notices: &mut [PlainNotice; 3])
     requires { length reported.now ≤ 3 }
     ensures { notices.new ≡ map plain_notice reported.now ++ replicate (3 - length reported.now) nothing }
 {
-    // Most calls report nothing: the places are then filled at once. The others are written one by one, as a loop would
-    // hide from the compiler that the fill frame reports nothing.
+    // Most calls report nothing, and fill the array at once. The other notices are written one by
+    // one: with a loop the compiler would not see that the fill frame reports nothing.
     if reported.is_empty() {
         *notices = [nothing(); 3];
         return;
@@ -74,7 +74,7 @@ fn nothing() -> PlainNotice
     }
 }
 
-/// Writes a notice, or that there is none.
+/// Writes notice `i`, or zeros if there is none.
 fn write_notice(reported: &[Notice], i: usize, place: &mut PlainNotice)
     ensures { place.new ≡ slice_index_or (map plain_notice reported.now) i nothing }
 {

@@ -1,11 +1,12 @@
-//! One end of a link, whose state is the caller's.
+//! The calls of one endpoint, whose state the caller holds.
 //!
-//! The room for what a call does is made before the end is: the compiler then fills it with zeros once.
+//! Each call makes the buffer for its effects before the endpoint: the compiler then fills it with
+//! zeros only once.
 ghost use Rattle.std.specs.Prelude.{◌≡◌, false, OnOk, IfErr, IsTrue};
-ghost use Rattle.segmenting.specs.Rooms.{octets_in};
+ghost use Rattle.segmenting.specs.Buffers.{octets_in};
 ghost use Rattle.lapdm_window.specs.Ends.{EndState};
-ghost use Rattle.lapdm_end.specs.Standing.{Stands, sapi_of as link_sapi};
-ghost use Rattle.lapdm_window.specs.Calls.{call_of, IsOfSapi, IsUnnumbered, Opens, OpensBare, Sends, SendsUnit, Closes, Ticks, Idles};
+ghost use Rattle.lapdm_end.specs.Abstraction.{Represents, sapi_of as link_sapi};
+ghost use Rattle.lapdm_window.specs.Calls.{call_of, IsOfSapi, IsUnnumbered, Opens, OpensBare, Sends, SendsUnit, Closes, T200Expires, Idles};
 ghost use Rattle.lapdm_end.specs.Parts.{values_of};
 ghost use Rattle.um_c.specs.States.{plain_end, IsPlain};
 ghost use Rattle.um_c.specs.Effects.{plain_effects};
@@ -14,7 +15,7 @@ ghost use Rattle.um_c.specs.EndCalls.{refused_number, MayAsk, IsCalledAs, IsGive
 use crate::effects::{PlainEffects, write_effects};
 use crate::frames::channel_of;
 use crate::states::{PlainEnd, read_end, role_of, sapi_of, write_end};
-use lapdm_end::{End, Role};
+use lapdm_end::{Endpoint, Role};
 use lapdm_frame::{Channel, read_on};
 use lapdm_window::{Call, Effects, Refused, Sapi};
 use segmenting::PlainMessage;
@@ -25,7 +26,8 @@ pub(crate) const NO_CALL: u8 = 8;
 
 const NO_FRAME: u8 = 9;
 
-/// Writes the state of an end before its first call. False, and nothing written, where there is no such role, SAPI or channel.
+/// Writes the state of a new endpoint. Returns false, and writes nothing, if there is no such role,
+/// SAPI or channel.
 #[unsafe(no_mangle)]
 pub extern "C" fn um_end_new(end: &mut PlainEnd, role: u8, sapi: u8, channel: u8) -> bool
     ensures begun { IsBegunAs role sapi channel result end.old end.new }
@@ -41,11 +43,11 @@ pub extern "C" fn um_end_new(end: &mut PlainEnd, role: u8, sapi: u8, channel: u8
     let Some(channel) = channel_of(channel) else {
         return false;
     };
-    write_end(&End::new_on(role, sapi, channel), end);
+    write_end(&Endpoint::new_on(role, sapi, channel), end);
     true
 }
 
-/// Asks the other end to open the link of SAPI 0, with this information.
+/// Opens the link of SAPI 0 with a SABM frame that carries this information.
 #[unsafe(no_mangle)]
 pub extern "C" fn um_end_open(
     end: &mut PlainEnd,
@@ -58,7 +60,7 @@ pub extern "C" fn um_end_open(
     ask(end, &Call::Open(info.octets()), effects)
 }
 
-/// Asks the other end to open the link of SAPI 3, with no information.
+/// Opens the link of SAPI 3 with a SABM frame without information.
 #[unsafe(no_mangle)]
 pub extern "C" fn um_end_open_bare(end: &mut PlainEnd, effects: &mut PlainEffects) -> u8
     ensures called { IsCalledAs OpensBare result end.old end.new effects.old effects.new }
@@ -80,7 +82,7 @@ pub extern "C" fn um_end_send(
     ask(end, &Call::Send(message.octets()), effects)
 }
 
-/// Sends a message in one unnumbered frame, outside the link.
+/// Sends a message in one UI frame, outside the link.
 #[unsafe(no_mangle)]
 pub extern "C" fn um_end_unit(
     end: &PlainEnd,
@@ -92,7 +94,7 @@ pub extern "C" fn um_end_unit(
     ask_only(end, &Call::Unit(message.octets()), effects)
 }
 
-/// Closes the link. What is not acknowledged is given up.
+/// Closes the link. Unacknowledged messages are discarded.
 #[unsafe(no_mangle)]
 pub extern "C" fn um_end_close(end: &mut PlainEnd, effects: &mut PlainEffects) -> u8
     ensures called { IsCalledAs Closes result end.old end.new effects.old effects.new }
@@ -101,30 +103,30 @@ pub extern "C" fn um_end_close(end: &mut PlainEnd, effects: &mut PlainEffects) -
     ask(end, &Call::Close, effects)
 }
 
-/// The timer T200 has run out.
+/// T200 has expired.
 #[unsafe(no_mangle)]
 pub extern "C" fn um_end_timer(end: &mut PlainEnd, effects: &mut PlainEffects) -> u8
-    ensures called { IsCalledAs Ticks result end.old end.new effects.old effects.new }
+    ensures called { IsCalledAs T200Expires result end.old end.new effects.old effects.new }
     ensures plain { result ≡ 0 → IsPlain end.new }
 {
     ask(end, &Call::Timer, effects)
 }
 
-/// The fill frame, which is sent when there is nothing else to send.
+/// Sends the fill frame, for when there is nothing else to send.
 #[unsafe(no_mangle)]
 pub extern "C" fn um_end_idle(end: &PlainEnd, effects: &mut PlainEffects) -> u8
     ensures { IsCalledAs Idles result end.now end.now effects.old effects.new }
 {
-    let mut told = Effects::new();
+    let mut output = Effects::new();
     let mut held = any_end();
     if !read_end(end, &mut held) {
         return NO_END;
     }
-    held.idle_into(&mut told);
-    tell(Ok(()), &told, effects)
+    held.idle_into(&mut output);
+    write_out(Ok(()), &output, effects)
 }
 
-/// Takes a block that came in.
+/// Takes a received block.
 #[unsafe(no_mangle)]
 pub extern "C" fn um_end_take(
     end: &mut PlainEnd,
@@ -134,25 +136,25 @@ pub extern "C" fn um_end_take(
     ensures given { IsGivenAs octets.now result end.old end.new effects.old effects.new }
     ensures plain { result ≡ 0 → IsPlain end.new }
 {
-    let mut told = Effects::new();
+    let mut output = Effects::new();
     let mut held = any_end();
     if !read_end(end, &mut held) {
         return NO_END;
     }
     match read_on(octets, held.channel()) {
         Err(_) => return NO_FRAME,
-        Ok(frame) => held.take_into(&frame, &mut told),
+        Ok(frame) => held.take_into(&frame, &mut output),
     }
-    carry_out(Ok(()), &told, &held, end, effects)
+    carry_out(Ok(()), &output, &held, end, effects)
 }
 
-/// Asks an end.
+/// Makes a call on an endpoint.
 #[inline(always)]
 pub(crate) fn ask(end: &mut PlainEnd, call: &Call<'_>, effects: &mut PlainEffects) -> u8
     ensures called { IsCalledAs (call_of call.now) result end.old end.new effects.old effects.new }
     ensures plain { result ≡ 0 → IsPlain end.new }
 {
-    let mut told = Effects::new();
+    let mut output = Effects::new();
     let mut held = any_end();
     if !read_end(end, &mut held) {
         return NO_END;
@@ -160,30 +162,31 @@ pub(crate) fn ask(end: &mut PlainEnd, call: &Call<'_>, effects: &mut PlainEffect
     if !may_ask(&held, call) {
         return NO_CALL;
     }
-    let answer = held.call(call, &mut told);
-    carry_out(answer, &told, &held, end, effects)
+    let answer = held.call(call, &mut output);
+    carry_out(answer, &output, &held, end, effects)
 }
 
-/// Asks an end what leaves it as it is.
+/// Makes a call that leaves the endpoint as it is.
 #[inline(always)]
 pub(crate) fn ask_only(end: &PlainEnd, call: &Call<'_>, effects: &mut PlainEffects) -> u8
     requires { IsUnnumbered (call_of call.now) }
     ensures { IsCalledAs (call_of call.now) result end.now end.now effects.old effects.new }
 {
-    let mut told = Effects::new();
+    let mut output = Effects::new();
     let mut held = any_end();
     if !read_end(end, &mut held) {
         return NO_END;
     }
-    let answer = held.call(call, &mut told);
-    tell(answer, &told, effects)
+    let answer = held.call(call, &mut output);
+    write_out(answer, &output, effects)
 }
 
-/// Whether the end may be asked so.
-fn may_ask(end: &End, call: &Call<'_>) -> bool
+/// Whether an endpoint of this SAPI and role has this call. SAPI 0 is opened by the mobile with
+/// information, SAPI 3 by either side without.
+fn may_ask(end: &Endpoint, call: &Call<'_>) -> bool
     ensures sapi { IsTrue result → IsOfSapi (link_sapi end.now) (call_of call.now) }
-    ensures may { IsTrue result → (e : EndState) → Stands end.now e → MayAsk e (call_of call.now) }
-    ensures never { result ≡ false → (e : EndState) → Stands end.now e
+    ensures may { IsTrue result → (e : EndState) → Represents end.now e → MayAsk e (call_of call.now) }
+    ensures never { result ≡ false → (e : EndState) → Represents end.now e
         → MayAsk e (call_of call.now) → ⊥ }
 {
     match *call {
@@ -204,40 +207,40 @@ fn may_ask(end: &End, call: &Call<'_>) -> bool
     }
 }
 
-/// An end to be restored.
-fn any_end() -> End {
-    End::new_on(Role::Mobile, Sapi::Zero, Channel::Sdcch)
+/// Any endpoint, to be overwritten by `read_end`.
+fn any_end() -> Endpoint {
+    Endpoint::new_on(Role::Mobile, Sapi::Zero, Channel::Sdcch)
 }
 
-/// Writes what a call sends and reports, and the state that it leaves; or answers why it is refused.
+/// Writes the effects of a call and the new state, or returns the number of the refusal.
 fn carry_out(
     answer: Result<(), Refused>,
-    told: &Effects,
-    after: &End,
+    output: &Effects,
+    after: &Endpoint,
     end: &mut PlainEnd,
     effects: &mut PlainEffects,
 ) -> u8
     ensures done { OnOk answer ((result ≡ 0) × (end.new ≡ plain_end (values_of after.now))
-        × (effects.new ≡ plain_effects told.now.frames told.now.notices)) }
+        × (effects.new ≡ plain_effects output.now.frames output.now.notices)) }
     ensures plain { result ≡ 0 → end.new ≡ plain_end (values_of after.now) }
     ensures refused { IfErr answer (λ reason. (result ≡ refused_number reason) × (end.new ≡ end.old)
         × (effects.new ≡ effects.old)) }
 {
-    let number = tell(answer, told, effects);
+    let number = write_out(answer, output, effects);
     if answer.is_ok() {
         write_end(after, end);
     }
     number
 }
 
-/// Writes what a call sends and reports, or answers why it is refused.
-fn tell(answer: Result<(), Refused>, told: &Effects, effects: &mut PlainEffects) -> u8
-    ensures done { OnOk answer ((result ≡ 0) × (effects.new ≡ plain_effects told.now.frames told.now.notices)) }
+/// Writes the effects of a call, or returns the number of the refusal.
+fn write_out(answer: Result<(), Refused>, output: &Effects, effects: &mut PlainEffects) -> u8
+    ensures done { OnOk answer ((result ≡ 0) × (effects.new ≡ plain_effects output.now.frames output.now.notices)) }
     ensures refused { IfErr answer (λ reason. (result ≡ refused_number reason) × (effects.new ≡ effects.old)) }
 {
     match answer {
         Ok(()) => {
-            write_effects(told, effects);
+            write_effects(output, effects);
             0
         }
         Err(reason) => refused_number(reason),

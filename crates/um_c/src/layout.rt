@@ -1,5 +1,5 @@
-//! The octets of each struct that crosses. A number that is not the struct's does not compile, and `checks/library` compares
-//! them with those of `um.h`.
+//! The sizes of the exported structs. A wrong number here does not compile, and `checks/library`
+//! compares the numbers with `um.h`.
 
 use crate::blocks::BlockReport;
 use crate::bursts::{AccessReport, SyncReport};

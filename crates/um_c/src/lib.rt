@@ -1,7 +1,8 @@
-//! The blocks, bursts and frames of the link for C and for languages that call C.
+//! Blocks, bursts, frames and endpoints for C and for languages that call C.
 //!
-//! Each export tests what the call below it asks for, so that a caller owes no more than the types say. No call takes
-//! memory, keeps a state or waits; each may be called from any thread. `bindings/c/um.h` declares them.
+//! Each export checks the preconditions of the call below it, so its caller only has to respect the
+//! types. No call allocates memory, keeps state or waits; each may be called from any thread.
+//! `bindings/c/um.h` declares them.
 #![tactic(auto)]
 
 mod blocks;

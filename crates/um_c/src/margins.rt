@@ -1,4 +1,4 @@
-//! How sure a block's word is: the next best one beside it.
+//! How certain a block's word is: its lead over the next most likely word.
 ghost use Rattle.std.specs.Prelude.{◌≡◌, ◌↔◌, All, IsTrue, false};
 ghost use Rattle.bit_blocks.specs.SoftValues.{AllSoft};
 ghost use Rattle.um_c.specs.MarginReports.{IsMarginReport};
@@ -7,20 +7,21 @@ use crate::soft::are_soft_bursts;
 use list_decode::margin;
 use um_block::gather_block;
 
-/// The two words that fit a block's soft values best.
+/// The two most likely words of a block.
 #[repr(C)]
 #[derive(Drop)]
 pub struct MarginReport {
-    /// How much likelier the first is than the second: 0 exactly where some other word fits as well.
+    /// How much more likely the first word is than the second: 0 if and only if another word is as
+    /// likely.
     pub margin: i32,
-    /// The most likely word, the one that is reported: 184 bits of data, 40 of parity, four zeros.
+    /// The most likely word, as reported: 184 data bits, 40 CRC bits, four zeros.
     pub word: [u8; 228],
     /// The most likely of all other words, the first of several.
     pub next: [u8; 228],
 }
 
-/// Reports by how much the word that four bursts are received as is likelier than every other. False, and nothing written,
-/// where a value is -128.
+/// Finds the two most likely words of four bursts. Returns false, and writes nothing, if a value is
+/// -128.
 #[unsafe(no_mangle)]
 pub extern "C" fn um_margin_block(bursts: &[[i8; 148]; 4], report: &mut MarginReport) -> bool
     ensures soft { IsTrue result ↔ All AllSoft bursts.now }

@@ -1,19 +1,22 @@
-//! A caller of two ends, whose contract is a run.
+//! A caller of two endpoints, whose contract is a run.
 ghost use Rattle.std.specs.Prelude.{◌≡◌, length, IsTrue, Some};
 ghost use Rattle.lapdm_frame.specs.declared.Channel.{Channel};
-ghost use Rattle.segmenting.specs.Rooms.{octets_in};
+ghost use Rattle.segmenting.specs.Buffers.{octets_in};
 ghost use Rattle.lapdm_window.specs.declared.Sapi.TheVariants.{Zero};
-ghost use Rattle.lapdm_window.specs.Ends.{Mobile, Network};
+ghost use Rattle.lapdm_window.specs.Ends.{Mobile, Network, EndState};
 ghost use Rattle.um_c.specs.Joined.{Joined, IsRun, Carries};
-ghost use Rattle.um_c.specs.Opening.{two, first_block, opening};
+ghost use Rattle.um_c.specs.States.{StateRepresents};
+ghost use Rattle.um_c.specs.Opening.{two, first_block, opening, MayExchange, AreIdle, mobile_open, network_open};
 
 use crate::effects::PlainEffects;
 use crate::ends::{um_end_open, um_end_take};
 use crate::states::PlainEnd;
 use segmenting::PlainMessage;
 
-/// Opens the link of SAPI 0 between two ends: the mobile asks, the network takes its SABM, and the mobile takes the UA. True where each
-/// call was carried out and the first two gave out one block; then this is a run, and all laws of runs hold of it.
+/// Opens the link of SAPI 0: the mobile sends its SABM, the network takes it, and the mobile takes
+/// the UA. Returns true if each call succeeded and the first two sent one block each; then the
+/// calls are a run, and all laws of runs hold. Returns true for two endpoints in Idle on one channel
+/// if `info` has 1 to N201 octets; both are then in Open.
 pub fn open_link(
     mobile: &mut PlainEnd,
     network: &mut PlainEnd,
@@ -25,6 +28,11 @@ pub fn open_link(
     ensures run { IsTrue result → (channel : Channel) → (z : Joined)
         × IsRun channel Carries (two mobile.old network.old) (opening (octets_in info.now) asked.new answered.new opened.new) z
         × (z.state Mobile Zero ≡ Some mobile.new) × (z.state Network Zero ≡ Some network.new) }
+    ensures exchanges { (e f : EndState) → StateRepresents mobile.old e → StateRepresents network.old f →
+        MayExchange (octets_in info.now) e f → IsTrue result }
+    ensures opens { (e f : EndState) → StateRepresents mobile.old e → StateRepresents network.old f → AreIdle (octets_in info.now) e f →
+        StateRepresents mobile.new (mobile_open (octets_in info.now) e)
+        × StateRepresents network.new (network_open (octets_in info.now) f) }
 {
     if um_end_open(mobile, info, asked) != 0 {
         return false;
@@ -41,10 +49,10 @@ pub fn open_link(
     um_end_take(mobile, &first_block(answered), opened) == 0
 }
 
-fn first_block(told: &PlainEffects) -> [u8; 23]
-    ensures value { result ≡ first_block told.now }
+fn first_block(output: &PlainEffects) -> [u8; 23]
+    ensures value { result ≡ first_block output.now }
     ensures size { length result ≡ 23 }
-    ensures room { length told.now.frames ≡ 2 }
+    ensures space { length output.now.frames ≡ 2 }
 {
-    told.frames[0]
+    output.frames[0]
 }

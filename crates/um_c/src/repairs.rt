@@ -5,21 +5,21 @@ ghost use Rattle.um_c.specs.RepairReports.{IsRepairedAs};
 use bit_blocks::Bits;
 use fire_repair::{RepairAnswer, repair};
 
-/// How a word was put right.
+/// How a word was repaired.
 #[repr(C)]
 #[derive(Drop)]
 pub struct RepairReport {
-    /// The first place that was wrong.
+    /// The index of the first wrong bit.
     pub first: u8,
-    /// How many places there are from it to the last that was wrong, at most twelve.
+    /// The number of bits from the first to the last wrong one, at most twelve.
     pub span: u8,
-    /// The word of the code, a bit an octet: 184 of data, 40 of parity.
+    /// The repaired word, one bit an octet: 184 data bits, 40 CRC bits.
     pub word: [u8; 224],
 }
 
-/// Puts a word of 184 bits and their 40 bits of parity right where its wrong bits lie within twelve consecutive places. Answers
-/// 0 where the word meets its parity; 1 where it was put right, and the report is written; 2 where there is no such repair; 3
-/// where an octet is no bit.
+/// Repairs a word of 184 data bits and 40 CRC bits whose wrong bits lie within twelve consecutive
+/// ones. Returns 0 if its CRC holds; 1 if it was repaired, and the report is written; 2 if there is
+/// no such repair; 3 if an octet is not 0 or 1.
 #[unsafe(no_mangle)]
 pub extern "C" fn um_repair(word: &[u8; 224], report: &mut RepairReport) -> u8
     ensures answer { IsRepairedAs word.now result report.old report.new }

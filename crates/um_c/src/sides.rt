@@ -1,8 +1,8 @@
-//! Both links of a side, whose state is the caller's: two ends of a link, of which each call is of one.
+//! The calls of a side, whose state the caller holds: an endpoint of SAPI 0 and one of SAPI 3.
 ghost use Rattle.std.specs.Prelude.{◌≡◌, ◌≢◌, ◌↔◌, Some, IsTrue};
-ghost use Rattle.segmenting.specs.Rooms.{octets_in};
+ghost use Rattle.segmenting.specs.Buffers.{octets_in};
 ghost use Rattle.lapdm_window.specs.declared.Sapi.{Sapi as LinkSapi};
-ghost use Rattle.lapdm_window.specs.Calls.{call_of, Opens, OpensBare, Sends, SendsUnit, Closes, Ticks, Idles};
+ghost use Rattle.lapdm_window.specs.Calls.{call_of, Opens, OpensBare, Sends, SendsUnit, Closes, T200Expires, Idles};
 ghost use Rattle.um_c.specs.States.{sapi_of, IsPlain};
 ghost use Rattle.um_c.specs.SideCalls.{IsSide, link_of, IsOfSapi3, IsSideBegunAs, IsSideCalledAs, IsSideGivenAs};
 
@@ -14,17 +14,18 @@ use lapdm_frame::read_on;
 use lapdm_window::{Call, Sapi};
 use segmenting::PlainMessage;
 
-/// The state of both ends of one side.
+/// The state of both endpoints of a side.
 #[repr(C)]
 #[derive(Drop)]
 pub struct PlainSide {
-    /// The end of the link of SAPI 0.
+    /// The endpoint of SAPI 0.
     pub link0: PlainEnd,
-    /// The end of the link of SAPI 3.
+    /// The endpoint of SAPI 3.
     pub link3: PlainEnd,
 }
 
-/// Writes the state of a side before its first call. False, and nothing written, where there is no such role or channel.
+/// Writes the state of a new side. Returns false, and writes nothing, if there is no such role or
+/// channel.
 #[unsafe(no_mangle)]
 pub extern "C" fn um_side_new(side: &mut PlainSide, role: u8, channel: u8) -> bool
     ensures begun { IsSideBegunAs role channel result side.old side.new }
@@ -38,7 +39,8 @@ pub extern "C" fn um_side_new(side: &mut PlainSide, role: u8, channel: u8) -> bo
     um_end_new(&mut side.link3, role, 3, channel)
 }
 
-/// Asks the network to open the link of SAPI 0, with this information.
+/// Opens the link of SAPI 0 with a SABM frame that carries this information; only a mobile has this
+/// call.
 #[unsafe(no_mangle)]
 pub extern "C" fn um_side_open(
     side: &mut PlainSide,
@@ -51,7 +53,7 @@ pub extern "C" fn um_side_open(
     ask_side(side, 0, &Call::Open(info.octets()), effects)
 }
 
-/// Asks the other side to open the link of SAPI 3.
+/// Opens the link of SAPI 3 with a SABM frame without information.
 #[unsafe(no_mangle)]
 pub extern "C" fn um_side_open_bare(side: &mut PlainSide, effects: &mut PlainEffects) -> u8
     ensures called { IsSideCalledAs 3 OpensBare result side.old side.new effects.old effects.new }
@@ -74,7 +76,7 @@ pub extern "C" fn um_side_send(
     ask_side(side, sapi, &Call::Send(message.octets()), effects)
 }
 
-/// Sends a message in one unnumbered frame of this SAPI, outside the link.
+/// Sends a message in one UI frame of this SAPI, outside the link.
 #[unsafe(no_mangle)]
 pub extern "C" fn um_side_unit(
     side: &PlainSide,
@@ -95,7 +97,7 @@ pub extern "C" fn um_side_unit(
     }
 }
 
-/// Closes the link of this SAPI. What is not acknowledged is given up.
+/// Closes the link of this SAPI. Unacknowledged messages are discarded.
 #[unsafe(no_mangle)]
 pub extern "C" fn um_side_close(side: &mut PlainSide, sapi: u8, effects: &mut PlainEffects) -> u8
     ensures called { IsSideCalledAs sapi Closes result side.old side.new effects.old effects.new }
@@ -104,16 +106,16 @@ pub extern "C" fn um_side_close(side: &mut PlainSide, sapi: u8, effects: &mut Pl
     ask_side(side, sapi, &Call::Close, effects)
 }
 
-/// The timer T200 of the link of this SAPI has run out.
+/// T200 of the link of this SAPI has expired.
 #[unsafe(no_mangle)]
 pub extern "C" fn um_side_timer(side: &mut PlainSide, sapi: u8, effects: &mut PlainEffects) -> u8
-    ensures called { IsSideCalledAs sapi Ticks result side.old side.new effects.old effects.new }
+    ensures called { IsSideCalledAs sapi T200Expires result side.old side.new effects.old effects.new }
     ensures plain { result ≡ 0 → (s : LinkSapi) → Some s ≡ sapi_of sapi → IsPlain (link_of s side.new) }
 {
     ask_side(side, sapi, &Call::Timer, effects)
 }
 
-/// The fill frame, which is sent when there is nothing else to send.
+/// Sends the fill frame, for when there is nothing else to send.
 #[unsafe(no_mangle)]
 pub extern "C" fn um_side_idle(side: &PlainSide, effects: &mut PlainEffects) -> u8
     ensures { IsSideCalledAs 0 Idles result side.now side.now effects.old effects.new }
@@ -124,8 +126,8 @@ pub extern "C" fn um_side_idle(side: &PlainSide, effects: &mut PlainEffects) -> 
     um_end_idle(&side.link0, effects)
 }
 
-/// The end of the frame's SAPI takes a block that came in, and `sapi` is set to that SAPI. That of SAPI 0 takes it too where it
-/// is no frame, or one of another SAPI.
+/// Gives a received block to the endpoint of its SAPI, and writes that SAPI to `sapi`. A block that
+/// is no frame of SAPI 3 goes to the endpoint of SAPI 0.
 #[unsafe(no_mangle)]
 pub extern "C" fn um_side_take(
     side: &mut PlainSide,
@@ -149,17 +151,17 @@ pub extern "C" fn um_side_take(
     answer
 }
 
-/// Writes the SAPI of the end that took a block, unless it was refused.
+/// Writes the SAPI of the endpoint that took a block, unless it was refused.
 fn write_sapi(answer: u8, number: u8, sapi: &mut u8)
     ensures written { answer ≡ 0 → sapi.new ≡ number }
-    ensures kept { answer ≢ 0 → sapi.new ≡ sapi.old }
+    ensures unchanged { answer ≢ 0 → sapi.new ≡ sapi.old }
 {
     if answer == 0 {
         *sapi = number;
     }
 }
 
-/// Asks the end of this SAPI.
+/// Makes a call on the endpoint of this SAPI.
 fn ask_side(side: &mut PlainSide, sapi: u8, call: &Call<'_>, effects: &mut PlainEffects) -> u8
     ensures called { IsSideCalledAs sapi (call_of call.now) result side.old side.new effects.old effects.new }
     ensures plain { result ≡ 0 → (s : LinkSapi) → Some s ≡ sapi_of sapi → IsPlain (link_of s side.new) }
@@ -174,7 +176,7 @@ fn ask_side(side: &mut PlainSide, sapi: u8, call: &Call<'_>, effects: &mut Plain
     }
 }
 
-/// Whether these are the two ends of one side.
+/// Whether these are the two endpoints of one side.
 fn is_side(side: &PlainSide) -> bool
     ensures { IsTrue result ↔ IsSide side.now }
 {

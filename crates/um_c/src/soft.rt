@@ -1,9 +1,9 @@
-//! What a C program may hand over wrongly: soft values of -128, octets that are no bits.
+//! Checks of soft values from C.
 ghost use Rattle.std.specs.Prelude.{◌↔◌, All, IsTrue};
 ghost use Rattle.bit_blocks.specs.Bits.{AllBits};
 ghost use Rattle.bit_blocks.specs.SoftValues.{AllSoft, IsSoft};
 
-/// Whether no value is -128. No place ends the search, so that the compiler looks at sixteen at a time.
+/// Whether no value is -128. Never exits early: the compiler then checks sixteen values at a time.
 pub(crate) fn are_soft(values: &[i8]) -> bool
     ensures { IsTrue result ↔ AllSoft values.now }
 {

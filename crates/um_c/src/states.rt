@@ -1,26 +1,26 @@
-//! An end of a link as numbers and arrays in the caller's memory. What an end holds is read from them and written back where it lies,
-//! and of messages only the octets that count.
+//! An endpoint as numbers and arrays in the caller's memory. It is read from there and written back
+//! in place, with only the octets of each message that count.
 ghost use Rattle.std.specs.Prelude.{◌≡◌, ◌≤◌, ◌↔◌, Some, None, length, map, IsTrue, MatchOption};
-ghost use Rattle.segmenting.specs.Rooms.{octets_in};
+ghost use Rattle.segmenting.specs.Buffers.{octets_in};
 ghost use Rattle.lapdm_window.specs.Ends.{EndState};
 ghost use Rattle.lapdm_window.specs.Parts.{said_by as window_by};
 ghost use Rattle.lapdm_end.specs.Parts.{values_of, said_by};
-ghost use Rattle.lapdm_end.specs.Standing.{Stands};
+ghost use Rattle.lapdm_end.specs.Abstraction.{Represents};
 ghost use Rattle.um_c.specs.Plain.{channel_of};
-ghost use Rattle.um_c.specs.States.{role_of, sapi_of, state_of, part_of, said_window, said_end, StandsFor, IsOfAnEnd, role_number};
-ghost use Rattle.um_c.specs.States.{sapi_number, channel_number, state_number, part_number, rooms_for, plain_end};
+ghost use Rattle.um_c.specs.States.{role_of, sapi_of, state_of, part_of, said_window, said_end, StateRepresents, IsOfAnEnd, role_number};
+ghost use Rattle.um_c.specs.States.{sapi_number, channel_number, state_number, part_number, buffers_for, plain_end};
 
 use crate::frames::channel_of;
-use lapdm_end::{End, EndParts, Role};
+use lapdm_end::{EndParts, Endpoint, Role};
 use lapdm_frame::Channel;
 use lapdm_window::{Sapi, State, WindowParts};
 use segmenting::{Part, PlainMessage};
 
-/// The state of one end of a link.
+/// The state of one endpoint.
 #[repr(C)]
 #[derive(Drop)]
 pub struct PlainEnd {
-    /// How many messages are wholly acknowledged.
+    /// How many messages are completely acknowledged.
     pub done: u64,
     /// 0 mobile, 1 network.
     pub role: u8,
@@ -30,21 +30,22 @@ pub struct PlainEnd {
     pub channel: u8,
     /// 0 idle, 1 opening, 2 open, 3 closing, 4 closed.
     pub state: u8,
-    /// How often the SABM or the DISC that awaits an answer went out again.
+    /// How often the unanswered SABM or DISC was repeated.
     pub retries: u8,
-    /// The numbers V(S), V(A) and V(R).
+    /// V(S), V(A) and V(R).
     pub vs: u8,
     pub va: u8,
     pub vr: u8,
-    /// How often the I frame that waits went out again.
+    /// How often the unacknowledged I frame was repeated.
     pub repeats: u8,
-    /// Whether a REJ was sent, and no piece was accepted since.
+    /// Whether a REJ was sent, and no segment accepted since.
     pub rejecting: u8,
-    /// The next piece, or the one that waits, among those of the first message held.
+    /// The index of the next or the unacknowledged segment in the first message held.
     pub place: u8,
-    /// How many messages are held: those that are not wholly acknowledged.
+    /// How many messages are held: those not completely acknowledged.
     pub held_count: u8,
-    /// What `joined` is: 0 the beginning of a message, 1 a message that was handed up, 2 nothing, as the message was too long.
+    /// What `joined` is: 0 the beginning of a message, 1 a message that was delivered, 2 nothing,
+    /// since the message was too long.
     pub part: u8,
     /// The information of the SABM.
     pub kept: PlainMessage,
@@ -52,10 +53,10 @@ pub struct PlainEnd {
     pub held: [PlainMessage; 8],
 }
 
-/// Lets an end hold what the state says, exactly where it is that of one. Else the end stays as it is.
-pub(crate) fn read_end(plain: &PlainEnd, end: &mut End) -> bool
+/// Reads the state into `end` if it represents an endpoint; otherwise leaves `end` as it is.
+pub(crate) fn read_end(plain: &PlainEnd, end: &mut Endpoint) -> bool
     ensures said { IsTrue result → said_end plain.now ≡ Some (values_of end.new) }
-    ensures stands { IsTrue result → (e : EndState) → StandsFor plain.now e → Stands end.new e }
+    ensures represents { IsTrue result → (e : EndState) → StateRepresents plain.now e → Represents end.new e }
     ensures known { IsTrue result ↔ IsOfAnEnd plain.now }
 {
     match parts_in(plain) {
@@ -150,8 +151,8 @@ fn part_of(number: u8) -> Option<Part>
     }
 }
 
-/// Writes what an end holds.
-pub(crate) fn write_end(end: &End, plain: &mut PlainEnd)
+/// Writes the values of an endpoint.
+pub(crate) fn write_end(end: &Endpoint, plain: &mut PlainEnd)
     ensures { plain.new ≡ plain_end (values_of end.now) }
 {
     let parts = end.parts();
@@ -172,17 +173,17 @@ pub(crate) fn write_end(end: &End, plain: &mut PlainEnd)
     plain.part = part_number(window.part);
     plain.kept.write(parts.kept);
     plain.joined.write(window.joined);
-    write_rooms(window.held, &mut plain.held);
+    write_buffers(window.held, &mut plain.held);
 }
 
-/// Writes these messages, and behind them messages without octets.
-fn write_rooms(messages: &[PlainMessage], rooms: &mut [PlainMessage; 8])
+/// Writes these messages, followed by messages without octets.
+fn write_buffers(messages: &[PlainMessage], buffers: &mut [PlainMessage; 8])
     requires { length messages.now ≤ 8 }
-    ensures { rooms.new ≡ rooms_for 8 (map octets_in messages.now) }
+    ensures { buffers.new ≡ buffers_for 8 (map octets_in messages.now) }
 {
-    *rooms = [PlainMessage::empty(); 8];
+    *buffers = [PlainMessage::empty(); 8];
     for (i, message) in messages.iter().enumerate() {
-        rooms[i].write(message.octets());
+        buffers[i].write(message.octets());
     }
 }
 

@@ -1,11 +1,12 @@
--- What arrives in a session is received as a codeword that no other beats.
+-- Each block received in a session is a codeword of greatest likelihood: a step of the channel
+-- receives it as `IsReceivedBlock` says, by its most likely word.
 use Rattle.std.proofs.Common.{◌≡◌, ℕ, ℤ, List, [], ◌∷◌, ◌++◌, map, Option, Some, None, inl, inr, refl, subst}
 use Rattle.lapdm_frame.specs.Content.{Frame}
 use Rattle.lapdm_frame.specs.declared.Channel.{Channel}
-use Rattle.lapdm_link.specs.Events.{Open, OpenBare, Ask, Deliver, Lose, Rival}
-use Rattle.um_block.specs.Received.{softened}
+use Rattle.um_link.specs.lapdm_link.Events.{Open, OpenBare, Ask, Deliver, Lose, Rival}
+use Rattle.um_block.specs.Received.{soft_bits}
 use Rattle.um_block.specs.declared.received.Received.{Received}
-use Rattle.um_air.specs.Air.{AirState, Event, Answer, Refuses, Does, AirStep, Arrives, turned}
+use Rattle.um_link.specs.um_air.Air.{AirState, Event, Answer, Refuses, Does, AirStep, Arrives, with_flips}
 use Rattle.um_driver.specs.Table.{IsRun}
 use Rattle.um_driver.specs.declared.status.Status.{Status}
 use Rattle.um_driver.proofs.Weaker.{IsWeaker, weaker_run}
@@ -22,7 +23,12 @@ use Rattle.um_cli.specs.Brought as B
 receives_best : (a : AirState) (event : Event) (received : Option Received) (read : Option Frame) → Arrives a event received read →
     ReceivesBest a event received
 receives_best a (Deliver sender places) (Some r) read h =
-    record { block = h.block; others = h.others; first = h.first; word = best_word (map softened (turned places h.block)) r h.received }
+    record {
+      block = h.block;
+      others = h.others;
+      first = h.first;
+      word = best_word (map soft_bits (with_flips places h.block)) r h.received;
+    }
 receives_best a (Deliver sender places) None read h = tt
 receives_best a (Open info) received read h = tt
 receives_best a (OpenBare role) received read h = tt
@@ -52,9 +58,9 @@ pub best_arrivals : (tsc : ℕ) (channel : Channel) (status : Status) (left left
     IsRun arrival_rules (idle tsc channel) (λ last. Unit {0}) status left left' taken taken'
 best_arrivals tsc channel status left left' taken taken' before after h =
     weaker_run link_rules arrival_rules arrivals_are_weaker (idle tsc channel) (λ last. Unit {0}) (λ last. Unit {0})
-    (λ last stands. stands) status left left' taken taken' h.run
+    (λ last represents. represents) status left left' taken taken' h.run
 
--- ---- at one end by itself
+-- ---- the command `end`
 
 best_bursts : (s : EndRun) (bursts : List (List ℤ)) (text : List ℕ) (after : EndRun) → AnswersBursts s bursts text after →
     B.AnswersBestBursts s bursts text after
@@ -75,10 +81,10 @@ brought_are_weaker = record {
   step = λ s after line text (meaning, means, h). (meaning, means, best_meaning s meaning text after h);
 }
 
-pub best_brought : (begun : EndRun) {start : EndRun} → start ≡ begun → (Stands : EndRun → Type 0) (status : Status)
-    (left left' taken taken' : Option (List ℕ)) → IsRun end_rules start Stands status left left' taken taken' →
+pub best_brought : (begun : EndRun) {start : EndRun} → start ≡ begun → (Represents : EndRun → Type 0) (status : Status)
+    (left left' taken taken' : Option (List ℕ)) → IsRun end_rules start Represents status left left' taken taken' →
     IsRun B.brought_rules begun (λ last. Unit {0}) status left left' taken taken'
-best_brought begun same Stands status left left' taken taken' run =
+best_brought begun same Represents status left left' taken taken' run =
     subst (λ a. IsRun B.brought_rules a (λ last. Unit {0}) status left left' taken taken') same
-    (weaker_run end_rules B.brought_rules brought_are_weaker _ Stands (λ last. Unit {0}) (λ last stands. tt) status left left'
+    (weaker_run end_rules B.brought_rules brought_are_weaker _ Represents (λ last. Unit {0}) (λ last represents. tt) status left left'
     taken taken' run)

@@ -1,4 +1,5 @@
--- The number of messages that a word names.
+-- The message count of `make`: `parse` and `count_of` agree on words that begin with a digit from 1
+-- to 9.
 use Rattle.std.proofs.Common.{rules, ◌≡◌, ℕ, ◌≤◌, ◌<◌, ◌^◌, Bool, true, false, ◌&&◌, nat_le, List, []}
 use Rattle.std.proofs.Common.{◌∷◌, length, slice_index, Some, None, Result, Ok, Err, if◌then◌else◌, ◌⊎◌, refl, ap}
 use Rattle.std.proofs.Common.{subst, inl, inr, arith}
@@ -25,7 +26,7 @@ uncounted true true true false n h = refl
 uncounted true true true true n (inl e) = absurd cc
 uncounted true true true true n (inr e) = absurd cc
 
--- what is read of a word that begins with no sign
+-- what `parse` returns for a word without a sign
 abbrev IsRead : {E : Type 0} → List ℕ → Result ℕ E → Type 0
 IsRead word r = OkIff r ((all_ascii_digits word ≡ true) × (0 < length word) × (digits_value 10 word < 2 ^ 32)) (digits_value 10 word)
 
@@ -62,7 +63,7 @@ none_read {E} word r e parsed first is =
           (nat_le (digits_value 10 word) 1000) (digits_value 10 word) (inl other)
     ]
 
--- four words or more are of no shape
+-- four words or more have no shape
 pub many_words : (ws : List (List ℕ)) → 4 ≤ length ws → None ≡ shape_of ws
 many_words [] many = absurd (omega arith)
 many_words (a ∷ []) many = absurd (omega arith)

@@ -1,23 +1,24 @@
--- What is received is a codeword that no other beats.
+-- The decoded word is a codeword of greatest likelihood, since a most likely list of bits is not
+-- beaten by any other.
 use Rattle.std.proofs.Common.{◌≡◌, ◌≢◌, ℕ, ℤ, true, inl, inr, ◌≤ℤ◌, List, ◌++◌, refl, sym, ap, ◌∙◌, arith}
 use Rattle.std.specs.Str.{bytes_eq}
 use Rattle.std.proofs.lemmas.Bool.{cases_Bool}
 use Rattle.std.proofs.lemmas.Int.{ints}
 use Rattle.std.proofs.lemmas.Slice.Eq.{bytes_eq-Decides}
-use Rattle.conv_code.specs.Code.{coded}
-use Rattle.conv_code.specs.Likelihood.{likelihood, IsMostLikely, FallsBehind}
-use Rattle.burst_map.specs.AccessBurst as A
-use Rattle.burst_map.specs.SyncBurst as S
-use Rattle.conv_code.proofs.Lemmas.{length-coded}
+use Rattle.um_block.specs.conv_code.Code.{encoding}
+use Rattle.um_block.specs.conv_code.Likelihood.{likelihood, IsMostLikely, FallsBehind}
+use Rattle.um_block.specs.burst_map.AccessBurst as A
+use Rattle.um_block.specs.burst_map.SyncBurst as S
+use Rattle.um_block.proofs.conv_code.Lemmas.{length-coded}
 use Rattle.um_block.specs.Received.{IsReceivedBlock}
 use Rattle.um_block.specs.declared.received.Received.{Received}
 use Rattle.um_bursts.proofs.BurstRules.{weaker_bursts}
-use Rattle.um_cli.specs.Replay.{replay_answers, replay_rules}
+use Rattle.um_bursts.specs.Replay.{replay_answers, replay_rules}
 use Rattle.um_cli.specs.Headline.{IsUnbeaten, IsBestWord, best_answers, headline_rules}
 use Rattle.um_driver.proofs.Weaker.{IsWeaker}
 
--- a list that is most likely is not beaten
-not_behind : (soft : List ℤ) (u v : List ℕ) → FallsBehind soft v u → likelihood soft (coded v) ≤ℤ likelihood soft (coded u)
+-- no list is more likely than a most likely one
+not_behind : (soft : List ℤ) (u v : List ℕ) → FallsBehind soft v u → likelihood soft (encoding v) ≤ℤ likelihood soft (encoding u)
 not_behind soft u v (inl less) = omega (arith, ints, less)
 not_behind soft u v (inr (same, _)) = omega (arith, ints, same)
 
@@ -28,11 +29,11 @@ unbeaten soft u best = record {
   unbeaten = λ c word. elim (cases_Bool (bytes_eq word.u u)) [
     | inl same ↦
         let e : word.u ≡ u = (bytes_eq-Decides word.u u).0 same in
-        let value : likelihood soft c ≡ likelihood soft (coded u) = ap (likelihood soft) (word.code ∙ ap coded e) in
+        let value : likelihood soft c ≡ likelihood soft (encoding u) = ap (likelihood soft) (word.code ∙ ap encoding e) in
         omega (arith, ints, value)
     | inr other ↦
         let differs : word.u ≢ u = λ e. let yes : bytes_eq word.u u ≡ true = (bytes_eq-Decides word.u u).1 e in absurd cc in
-        let value : likelihood soft c ≡ likelihood soft (coded word.u) = ap (likelihood soft) word.code in
+        let value : likelihood soft c ≡ likelihood soft (encoding word.u) = ap (likelihood soft) word.code in
         let behind = not_behind soft u word.u (best.others word.u word.information word.count differs) in
         omega (arith, ints, value, behind)
   ];

@@ -1,9 +1,6 @@
-pub mod CodeRules
 pub mod Counts
 pub mod Headlines
-pub mod ReplayRules
 pub mod Restoring
-pub mod ShowRules
 pub mod Tops
 pub mod WordListsLemmas
 pub mod Arriving

@@ -1,49 +1,50 @@
--- What `code` writes, `replay` restores.
+-- `replay` restores what `code` wrote: line by line, each burst of `code` is a line of `replay`,
+-- and a block is decoded without errors.
 use Rattle.std.proofs.Common.{◌≡◌, ℕ, ℤ, ◌≤◌, inl, inr, List, [], ◌∷◌, ◌++◌, length, map, refl, sym, ap}
 use Rattle.std.proofs.Common.{◌∙◌, subst, append_assoc, append-nil, arith, lit<}
 use Rattle.std.specs.List.{All}
 use Rattle.std.proofs.lemmas.List.{length-map}
 use Rattle.std.proofs.lemmas.List.Elements.{All-nil, All-cons, All-head, All-tail, All-append}
-use Rattle.bit_blocks.specs.Bits.{AllBits}
+use Rattle.um_block.specs.bit_blocks.Bits.{AllBits}
 use Rattle.um_io.specs.Lines.{IsLine, IsDivided, text_of}
 use Rattle.um_block.specs.Sent.{IsSentBlock, IsSentAccess, IsSentSync}
-use Rattle.um_block.specs.Received.{softened, soft_value, IsReceivedBlock}
+use Rattle.um_block.specs.Received.{soft_bits, soft_value, IsReceivedBlock}
 use Rattle.um_block.specs.declared.received.Received.{Received}
 use Rattle.um_block.proofs.Lemmas.{AreBits, accepted_count, clean_block, clean_access, clean_sync, sent_block_bits, sent_access_bits}
 use Rattle.um_block.proofs.Lemmas.{sent_sync_bits, some_received_block, some_received_access, some_received_sync}
-use Rattle.um_text.specs.declared.code.CodeLine.{CodeLine}
-use Rattle.um_text.specs.declared.code.CodeLine.TheVariants as C
-use Rattle.um_text.specs.declared.burst_lines.BurstLine.{BurstLine}
-use Rattle.um_text.specs.declared.burst_lines.BurstLine.TheVariants.{Normal, Access, Sync}
-use Rattle.um_text.specs.BurstLines.{burst_fault, BurstMeans}
-use Rattle.um_text.specs.BurstTexts.{normal_text, block_text, access_text, sync_text}
-use Rattle.um_text.specs.CodeLines.{CodeMeans}
+use Rattle.um_code.specs.um_formats.declared.code.CodeLine.{CodeLine}
+use Rattle.um_code.specs.um_formats.declared.code.CodeLine.TheVariants as C
+use Rattle.um_code.specs.um_formats.declared.burst_lines.BurstLine.{BurstLine}
+use Rattle.um_code.specs.um_formats.declared.burst_lines.BurstLine.TheVariants.{Normal, Access, Sync}
+use Rattle.um_code.specs.um_formats.BurstLines.{burst_fault, BurstMeans}
+use Rattle.um_code.specs.um_formats.BurstTexts.{normal_text, block_text, access_text, sync_text}
+use Rattle.um_code.specs.um_formats.CodeLines.{CodeMeans}
 use Rattle.um_lines.proofs.OneMeaning.{no_fault}
-use Rattle.um_text.specs.Reports.{IsBlockReport, access_report_text, sync_report_text}
-use Rattle.um_text.proofs.BurstLaws.{one_meaning, short}
-use Rattle.um_text.proofs.WrittenBursts.{normal_line, access_line, sync_line, normal_restored, access_restored, sync_restored}
-use Rattle.um_text.proofs.WrittenBursts.{normal_whole, access_whole, sync_whole}
-use Rattle.um_text.proofs.ReportLaws.{some_block_report}
-use Rattle.um_text.proofs.CodeLaws.{can_be_sent}
+use Rattle.um_code.specs.um_formats.Reports.{IsBlockReport, access_report_text, sync_report_text}
+use Rattle.um_code.proofs.um_formats.BurstLaws.{one_meaning, short}
+use Rattle.um_code.proofs.um_formats.WrittenBursts.{normal_line, access_line, sync_line, normal_restored, access_restored, sync_restored}
+use Rattle.um_code.proofs.um_formats.WrittenBursts.{normal_whole, access_whole, sync_whole}
+use Rattle.um_code.proofs.um_formats.ReportLaws.{some_block_report}
+use Rattle.um_code.proofs.um_formats.CodeLaws.{can_be_sent}
 use Rattle.um_io.specs.Reading.{input_limit}
-use Rattle.um_driver.specs.Rules.{Runs, IsGood, joined}
+use Rattle.um_driver.specs.Rules.{Runs, IsGood, joined_text}
 use Rattle.um_driver.specs.Outputs.{IsOutput}
 use Rattle.um_driver.specs.declared.status.Status.TheVariants.{Done}
 use Rattle.um_driver.proofs.GoodInputs.{good_from_output, output_from_good}
 use Rattle.um_driver.proofs.RunLemmas.{Runs-append, joined-append}
-use Rattle.um_cli.specs.Code.{IsCodeAnswer, code_rules}
+use Rattle.um_code.specs.Code.{IsCodeAnswer, code_rules}
 use Rattle.um_bursts.specs.BurstRules.{IsBurstAnswer}
-use Rattle.um_cli.specs.Replay.{replay_answers, replay_rules}
+use Rattle.um_bursts.specs.Replay.{replay_answers, replay_rules}
 use Rattle.um_cli.specs.Restored.{IsRestored, AreRestored}
 
--- octets are lines of `replay` that are reported so, with no burst held before or after them
+-- the octets are lines of `replay` with these reports, with no burst held before or after them
 pub record IsRead (octets reports : List ℕ) : Type 0 where
   pub lines : List (List ℕ)
   pub answers : List (List ℕ)
   pub plain : All IsLine lines
   pub whole : octets ≡ text_of lines
   pub runs : Runs replay_rules [] lines answers []
-  pub reports_are : reports ≡ joined answers
+  pub reports_are : reports ≡ joined_text answers
 
 nothing_read : IsRead [] []
 nothing_read = record { lines = []; answers = []; plain = All-nil IsLine; whole = refl; runs = refl; reports_are = refl }
@@ -83,12 +84,12 @@ last_line : (held : List (List ℤ)) (line answer : List ℕ) (m : BurstLine) �
 last_line held line answer m means answers =
     ([], good_line held line m means, (m, means, answers), refl)
 
-length-softened : (bits : List ℕ) (n : ℕ) → length bits ≡ n → length (softened bits) ≡ n
+length-softened : (bits : List ℕ) (n : ℕ) → length bits ≡ n → length (soft_bits bits) ≡ n
 length-softened bits n e = length-map bits soft_value ∙ e
 
--- ---- access bursts and synchronisation bursts
+-- ---- access and synchronisation bursts
 
--- what a line of `code` is answered with is read and reported
+-- `replay` reads the answer of `code` to a line, and its report restores the meaning of the line
 pub record IsBroughtBack (meaning : CodeLine) (answer : List ℕ) : Type 0 where
   pub report : List ℕ
   pub restored : IsRestored meaning report
@@ -98,7 +99,7 @@ access_back : (info bsic burst : List ℕ) → length bsic ≡ 6 → AllBits bsi
     IsBroughtBack (C.Rach info bsic) (access_text bsic burst)
 access_back info bsic burst count bits sent =
     let b = sent_access_bits info bsic burst sent in
-    let received = some_received_access (softened burst) bsic (length-softened burst 88 b.many) count bits in
+    let received = some_received_access (soft_bits burst) bsic (length-softened burst 88 b.many) count bits in
     let means = access_restored bsic burst count bits b.many b.each in
     record {
       report = access_report_text bsic received.0;
@@ -108,7 +109,7 @@ access_back info bsic burst count bits sent =
         answers = access_report_text bsic received.0 ∷ [];
         plain = All-cons IsLine (access_line bsic burst) [] (access_whole bsic burst count bits b.many b.each).uncut (All-nil IsLine);
         whole = refl;
-        runs = last_line [] (access_line bsic burst) (access_report_text bsic received.0) (Access bsic (softened burst)) means
+        runs = last_line [] (access_line bsic burst) (access_report_text bsic received.0) (Access bsic (soft_bits burst)) means
             (refl, (received.0, received.1, refl));
         reports_are = sym (append-nil (access_report_text bsic received.0));
       };
@@ -117,7 +118,7 @@ access_back info bsic burst count bits sent =
 sync_back : (info burst : List ℕ) → IsSentSync info burst → IsBroughtBack (C.Sch info) (sync_text burst)
 sync_back info burst sent =
     let b = sent_sync_bits info burst sent in
-    let received = some_received_sync (softened burst) (length-softened burst 148 b.many) in
+    let received = some_received_sync (soft_bits burst) (length-softened burst 148 b.many) in
     let means = sync_restored burst b.many b.each in
     record {
       report = sync_report_text received.0;
@@ -127,7 +128,7 @@ sync_back info burst sent =
         answers = sync_report_text received.0 ∷ [];
         plain = All-cons IsLine (sync_line burst) [] (sync_whole burst b.many b.each).uncut (All-nil IsLine);
         whole = refl;
-        runs = last_line [] (sync_line burst) (sync_report_text received.0) (Sync (softened burst)) means
+        runs = last_line [] (sync_line burst) (sync_report_text received.0) (Sync (soft_bits burst)) means
             (refl, (received.0, received.1, refl));
         reports_are = sym (append-nil (sync_report_text received.0));
       };
@@ -148,16 +149,16 @@ plain_lines (burst ∷ bursts) each =
     All-cons IsLine (normal_line burst) (map normal_line bursts) (normal_whole burst b.many b.each).uncut
     (plain_lines bursts (All-tail (AreBits 148) burst bursts each))
 
-softened_counts : (bursts : List (List ℕ)) → All (AreBits 148) bursts → All (λ soft. length soft ≡ 148) (map softened bursts)
+softened_counts : (bursts : List (List ℕ)) → All (AreBits 148) bursts → All (λ soft. length soft ≡ 148) (map soft_bits bursts)
 softened_counts [] each = All-nil (λ soft. length soft ≡ 148)
 softened_counts (burst ∷ bursts) each =
     let b = All-head (AreBits 148) burst bursts each in
-    All-cons (λ soft. length soft ≡ 148) (softened burst) (map softened bursts) (length-softened burst 148 b.many)
+    All-cons (λ soft. length soft ≡ 148) (soft_bits burst) (map soft_bits bursts) (length-softened burst 148 b.many)
     (softened_counts bursts (All-tail (AreBits 148) burst bursts each))
 
--- four bursts are read one after the other
+-- four bursts are read, one after another
 four_runs : (a b c d report : List ℕ) (r : Received) → All (AreBits 148) (a ∷ b ∷ c ∷ d ∷ []) →
-    IsReceivedBlock (map softened (a ∷ b ∷ c ∷ d ∷ [])) r → IsBlockReport r report →
+    IsReceivedBlock (map soft_bits (a ∷ b ∷ c ∷ d ∷ [])) r → IsBlockReport r report →
     Runs replay_rules [] (map normal_line (a ∷ b ∷ c ∷ d ∷ [])) ([] ∷ [] ∷ [] ∷ report ∷ []) []
 four_runs a b c d report r each received text =
     let P : List ℕ → Type 0 = AreBits 148 in
@@ -168,10 +169,10 @@ four_runs a b c d report r each received text =
     let second = All-head P b (c ∷ d ∷ []) rest in
     let third = All-head P c (d ∷ []) rest' in
     let fourth = All-head P d [] rest'' in
-    let sa = softened a in
-    let sb = softened b in
-    let sc = softened c in
-    let sd = softened d in
+    let sa = soft_bits a in
+    let sb = soft_bits b in
+    let sc = soft_bits c in
+    let sd = soft_bits d in
     let ma = normal_restored 0 a first.many first.each in
     let mb = normal_restored 1 b second.many second.each in
     let mc = normal_restored 2 c third.many third.each in
@@ -186,7 +187,7 @@ four_runs a b c d report r each received text =
     (inl (lit< tt, refl, refl)) from_second
 
 block_runs : (bursts : List (List ℕ)) (report : List ℕ) (r : Received) → length bursts ≡ 4 → All (AreBits 148) bursts →
-    IsReceivedBlock (map softened bursts) r → IsBlockReport r report →
+    IsReceivedBlock (map soft_bits bursts) r → IsBlockReport r report →
     Runs replay_rules [] (map normal_line bursts) ([] ∷ [] ∷ [] ∷ report ∷ []) []
 block_runs [] report r count each received text = absurd (omega arith)
 block_runs (a ∷ []) report r count each received text = absurd (omega arith)
@@ -200,8 +201,8 @@ block_back : (octets : List ℕ) (tsc : ℕ) (bursts : List (List ℕ)) → IsSe
 block_back octets tsc bursts sent =
     let shape = sent_block_bits octets tsc bursts sent in
     let counts = softened_counts bursts shape.1 in
-    let received = some_received_block (map softened bursts) (length-map bursts softened ∙ shape.0) counts in
-    let text = some_block_report received.0 (accepted_count (map softened bursts) received.0 received.1) in
+    let received = some_received_block (map soft_bits bursts) (length-map bursts soft_bits ∙ shape.0) counts in
+    let text = some_block_report received.0 (accepted_count (map soft_bits bursts) received.0 received.1) in
     record {
       report = text.0;
       restored = (received.0, clean_block octets tsc bursts received.0 sent received.1, text.1);
@@ -227,11 +228,11 @@ brought_back line (C.Rach info bsic) answer means (burst, sent, text) =
 brought_back line (C.Sch info) answer means (burst, sent, text) =
     subst (IsBroughtBack (C.Sch info)) (sym text) (sync_back info burst sent)
 
--- the answers to lines are read, and their reports restore the lines
+-- `replay` reads the answers of `code` to these lines, and its reports restore the lines
 pub record AreBroughtBack (lines answers : List (List ℕ)) : Type 0 where
   pub reports : List ℕ
   pub restored : AreRestored lines reports
-  pub read : IsRead (joined answers) reports
+  pub read : IsRead (joined_text answers) reports
 
 all_brought_back : (lines answers : List (List ℕ)) (state : Unit {0}) → Runs code_rules tt lines answers state →
     AreBroughtBack lines answers
@@ -244,10 +245,11 @@ all_brought_back (line ∷ lines) (y ∷ ys) state (mid, good, (m, means, a), ru
     record {
       reports = one.report ++ others.reports;
       restored = (m, one.report, others.reports, means, one.restored, others.restored, refl);
-      read = both_read y (joined ys) one.report others.reports one.read others.read;
+      read = both_read y (joined_text ys) one.report others.reports one.read others.read;
     }
 
--- the output of a good input of `code` is a good input of `replay`, and its reports restore the input
+-- the output of `code` for a good input is a good input of `replay`, whose reports restore the
+-- lines
 pub record IsRestoredWhole (z x : List ℕ) : Type 0 where
   pub lines : List (List ℕ)
   pub reports : List ℕ

@@ -1,4 +1,4 @@
--- What a run of the command that was named says of the shape of the words.
+-- The clauses of `run` for the shape of the words, from the clauses of the command that was run.
 use Rattle.std.proofs.Common.{◌≡◌, ℕ, ℤ, List, [], Option, Some, None, subst}
 use Rattle.um_driver.specs.Table.{IsRun, EndsAsDue}
 use Rattle.um_driver.specs.Rules.{Rules, Machine, IsDetermined}
@@ -7,8 +7,8 @@ use Rattle.um_driver.specs.declared.status.Status.TheVariants.{Done}
 use Rattle.um_driver.proofs.Weaker.{as_weak, weaker_run}
 use Rattle.um_cli.specs.Headline.{headline_rules}
 use Rattle.um_cli.specs.Machines.{machine, OfMachine, IsTable, IsDueEnd, OneOutput}
-use Rattle.um_cli.specs.Replay.{replay_rules}
-use Rattle.um_cli.specs.Restored.{Restores}
+use Rattle.um_bursts.specs.Replay.{replay_rules}
+use Rattle.um_cli.specs.Restored.{RestoresCode}
 use Rattle.um_cli.specs.declared.words.Shape.{Shape}
 use Rattle.um_cli.specs.declared.words.Shape.TheVariants.{Code, Replay, Show, Margin, Repair, Link, Make, End}
 use Rattle.um_cli.specs.Shapes.{Fits}
@@ -18,11 +18,11 @@ use Rattle.um_make.proofs.Laws.{one_generated_summary}
 use Rattle.um_link.specs.Naming.{role_of}
 use Rattle.um_session.proofs.Laws.{link_has_one_output}
 use Rattle.um_end.proofs.EndRules.{end_has_one_output}
-use Rattle.um_cli.proofs.CodeRules.{code_has_one_output}
+use Rattle.um_code.proofs.CodeRules.{code_has_one_output}
 use Rattle.um_cli.proofs.Headlines.{headline_is_weaker}
-use Rattle.um_cli.proofs.ReplayRules.{replay_is_determined, replay_has_one_output}
+use Rattle.um_bursts.proofs.ReplayRules.{replay_is_determined, replay_has_one_output}
 use Rattle.um_cli.proofs.Restoring.{restored_whole}
-use Rattle.um_cli.proofs.ShowRules.{show_has_one_output}
+use Rattle.um_show.proofs.ShowRules.{show_has_one_output}
 
 pub one_output : (shape : Shape) → Fits shape → OneOutput shape
 one_output Code fits = code_has_one_output
@@ -43,11 +43,11 @@ module _ {State : Type 0} (r : Rules State) (begun : State) (s : Shape) (is : (P
   pub at_shape : (P : Shape → Type 0) → P s → (t : Shape) → found ≡ Some t → P t
   at_shape P p t k = subst P (same t k) p
 
-  pub table_of : (Stands : State → Type 0) (left left' taken taken' : Option (List ℕ)) →
-      IsRun r start Stands status left left' taken taken' →
+  pub table_of : (Represents : State → Type 0) (left left' taken taken' : Option (List ℕ)) →
+      IsRun r start Represents status left left' taken taken' →
       (t : Shape) → found ≡ Some t → IsTable t status left left' taken taken'
-  table_of Stands left left' taken taken' run t k =
-      let weak = weaker_run r r (as_weak r) start Stands (λ _. Unit {0}) (λ b stands. tt) status left left' taken taken' run in
+  table_of Represents left left' taken taken' run t k =
+      let weak = weaker_run r r (as_weak r) start Represents (λ _. Unit {0}) (λ b represents. tt) status left left' taken taken' run in
       subst (λ t. IsTable t status left left' taken taken') (same t k) (is _
       (subst (λ a. IsRun r a (λ _. Unit {0}) status left left' taken taken') starts weak))
 
@@ -59,22 +59,22 @@ module _ {State : Type 0} (r : Rules State) (begun : State) (s : Shape) (is : (P
 
 -- a run of `replay` that ends as due restores what `code` wrote
 due_restores : (status : Status) (left taken taken' : Option (List ℕ)) → EndsAsDue replay_rules [] status left taken taken' →
-    Restores status left taken taken'
+    RestoresCode status left taken taken'
 due_restores status None taken taken' due = tt
 due_restores status (Some x) taken taken' due = λ z good limit.
     let back = restored_whole z x good limit in
     (back.lines, back.reports, back.divided, back.restored, due Done back.reports back.output)
 
 pub restores : (start : List (List ℤ)) → start ≡ [] → (status : Status) (left taken taken' : Option (List ℕ)) →
-    (IsDetermined replay_rules → EndsAsDue replay_rules start status left taken taken') → Restores status left taken taken'
+    (IsDetermined replay_rules → EndsAsDue replay_rules start status left taken taken') → RestoresCode status left taken taken'
 restores start none status left taken taken' due =
     due_restores status left taken taken'
     (subst (λ a. EndsAsDue replay_rules a status left taken taken') none (due replay_is_determined))
 
-pub replay_headline : (start : List (List ℤ)) → start ≡ [] → (Stands : List (List ℤ) → Type 0) (status : Status)
-    (left left' taken taken' : Option (List ℕ)) → IsRun replay_rules start Stands status left left' taken taken' →
+pub replay_headline : (start : List (List ℤ)) → start ≡ [] → (Represents : List (List ℤ) → Type 0) (status : Status)
+    (left left' taken taken' : Option (List ℕ)) → IsRun replay_rules start Represents status left left' taken taken' →
     IsRun headline_rules [] (λ _. Unit {0}) status left left' taken taken'
-replay_headline start none Stands status left left' taken taken' run =
+replay_headline start none Represents status left left' taken taken' run =
     subst (λ a. IsRun headline_rules a (λ _. Unit {0}) status left left' taken taken') none
-    (weaker_run replay_rules headline_rules headline_is_weaker start Stands (λ _. Unit {0}) (λ b stands. tt) status left left' taken
+    (weaker_run replay_rules headline_rules headline_is_weaker start Represents (λ _. Unit {0}) (λ b represents. tt) status left left' taken
     taken' run)

@@ -1,12 +1,12 @@
--- Each block whose bursts `end` reads is reported as a codeword that no other beats under their soft values, and is taken exactly where
--- its CRC holds (this project's own rule).
+-- Each block whose bursts `end` reads is decoded to a codeword of greatest likelihood under their
+-- soft values, and is accepted if and only if its CRC holds (this project's own rule).
 use Rattle.std.specs.Prelude.{ℕ, ℤ, ◌≡◌, ◌<◌, ◌⊎◌, List, [], ◌∷◌, ◌++◌, length}
 use Rattle.um_driver.specs.Rules.{Rules}
 use Rattle.um_end.specs.EndLines.{Meaning, Brings, EndMeans}
 use Rattle.um_end.specs.EndRuns.{EndRun, Arrived, AnswersMeaning, end_rules}
 use Rattle.um_cli.specs.Headline.{IsBestWord}
 
--- four bursts arrive as a block that is so received
+-- four bursts are received as a block that `IsBestWord` describes
 pub record ArrivedBest (s : EndRun) (bursts : List (List ℤ)) (text : List ℕ) (after : EndRun) : Type 0 where
   pub arrived : Arrived s bursts text after
   pub word : IsBestWord bursts arrived.heard.report
@@ -19,7 +19,7 @@ abbrev pub AnswersBest : EndRun → Meaning → List ℕ → EndRun → Type 0
 AnswersBest s (Brings soft) text after = AnswersBestBursts s (s.held ++ soft ∷ []) text after
 AnswersBest s meaning text after = AnswersMeaning s meaning text after
 
--- the lines of `end`, where each block that arrives is so reported
+-- the rules of `end`, with what `IsBestWord` says of each block received
 abbrev pub brought_rules : Rules EndRun
 brought_rules = record {
   fault = end_rules.fault;

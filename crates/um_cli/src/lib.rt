@@ -1,11 +1,8 @@
-//! The top call.
+//! The command line, and the call `run` of the program.
 #![tactic(auto)]
 
-mod code;
 mod link;
 mod make;
-mod replay;
-mod show;
 mod top;
 mod words;
 

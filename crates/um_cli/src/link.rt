@@ -1,9 +1,9 @@
-//! A run of the command `link`: its world is made, and the driver runs the command over it.
+//! The command `link`: makes a world, and drives the command over it.
 ghost use Rattle.std.specs.Prelude.{◌≡◌, ◌≢◌, ◌≤◌};
 ghost use Rattle.um_cli.specs.Arrivals.{arrival_rules};
-ghost use Rattle.um_driver.specs.Table.{IsRun, HasCause, EndsAsDue};
-ghost use Rattle.um_air.specs.Air.{start_on};
-ghost use Rattle.um_link.specs.Standing.{Stands};
+ghost use Rattle.um_driver.specs.Table.{IsRun, HasFaultCause, EndsAsDue};
+ghost use Rattle.um_link.specs.um_air.Air.{start_on};
+ghost use Rattle.um_link.specs.Abstraction.{Represents};
 ghost use Rattle.um_session.specs.Sessions.{idle, link_rules};
 ghost use Rattle.um_session.specs.Promises.{IsLinkRun};
 
@@ -13,10 +13,10 @@ use um_block::Radio;
 use um_driver::{Status, drive};
 use um_io::{Sink, Source};
 use um_link::World;
-use um_session::Link;
+use um_session::LinkCommand;
 
-/// Runs a script over idle ends with a training sequence 0 to 7, on a channel. All memory is taken before the first
-/// octet is read.
+/// Runs a script from idle endpoints, with training sequence `tsc` (0 to 7), on a channel.
+/// Allocates all memory before the first octet is read.
 pub(crate) fn run_link<S: Source, K: Sink, R: Radio>(
     alloc: Global,
     tsc: u8,
@@ -41,28 +41,28 @@ pub(crate) fn run_link<S: Source, K: Sink, R: Radio>(
     ensures opening { result ≡ Status.NoMemory → (input.new ≡ input.old) × (output.new ≡ output.old) }
     ensures silent { result ≡ Status.NoMemory → radio.new ≡ radio.old }
 
-    ensures cause { HasCause result (S.faults input.old) (S.faults input.new)
+    ensures cause { HasFaultCause result (S.faults input.old) (S.faults input.new)
         (K.faults output.old) (K.faults output.new) }
 
     ensures words { result ≢ Status.BadWords }
 {
     match World::new_on(alloc, tsc, channel) {
         Ok(mut world) => {
-            let mut link = Link::new(&mut world, radio);
+            let mut link = LinkCommand::new(&mut world, radio);
             drive_link(alloc, &mut link, input, output)
         }
         Err(_) => Status::NoMemory,
     }
 }
 
-/// Runs a script over a world in which nothing has happened.
+/// Runs a script over a new world.
 fn drive_link<S: Source, K: Sink, R: Radio>(
     alloc: Global,
-    link: &mut Link<'_, R>,
+    link: &mut LinkCommand<'_, R>,
     input: &mut S,
     output: &mut K,
 ) -> Status
-    requires { Stands link.old.world.now (start_on link.old.world.now.tsc link.old.world.now.channel) }
+    requires { Represents link.old.world.now (start_on link.old.world.now.tsc link.old.world.now.channel) }
     ensures same_radio { link.new.radio.ghost_name ≡ link.old.radio.ghost_name }
 
     ensures session { IsLinkRun link.old.world.now.tsc link.old.world.now.channel result
@@ -76,7 +76,7 @@ fn drive_link<S: Source, K: Sink, R: Radio>(
     ensures opening { result ≡ Status.NoMemory → (input.new ≡ input.old) × (output.new ≡ output.old) }
     ensures silent { result ≡ Status.NoMemory → link.new.radio.now ≡ link.old.radio.now }
 
-    ensures cause { HasCause result (S.faults input.old) (S.faults input.new)
+    ensures cause { HasFaultCause result (S.faults input.old) (S.faults input.new)
         (K.faults output.old) (K.faults output.new) }
 
     ensures words { result ≢ Status.BadWords }

@@ -1,6 +1,6 @@
-//! A run of the command `make`: the generated session is summed up, and its summary is written.
+//! The command `make`: runs the generated session, and writes its summary.
 ghost use Rattle.std.specs.Prelude.{◌≡◌, ◌≤◌, ℕ};
-ghost use Rattle.um_driver.specs.Table.{HasCause};
+ghost use Rattle.um_driver.specs.Table.{HasFaultCause};
 ghost use Rattle.um_cli.specs.Make.{IsMakeRun, IsWritten};
 ghost use Rattle.um_make.specs.Texts.{summary_text};
 
@@ -11,9 +11,10 @@ use um_io::Sink;
 use um_lines::Text;
 use um_make::{Summary, make, summary_lines};
 
-/// Runs the generated session of 1 to 1000 messages with a training sequence 0 to 7, and writes what it comes to.
+/// Runs the generated session of `n` messages (1 to 1000) with training sequence `tsc` (0 to 7),
+/// and writes its summary.
 ///
-/// All memory is taken before the first block is sent.
+/// Allocates all memory before the first block is sent.
 pub(crate) fn run_make<K: Sink, R: Radio>(
     alloc: Global,
     n: u32,
@@ -30,7 +31,7 @@ pub(crate) fn run_make<K: Sink, R: Radio>(
         (record { sent = R.sent radio.new; heard = R.heard radio.new }) }
 
     ensures opening { result ≡ Status.NoMemory → (output.new ≡ output.old) × (radio.new ≡ radio.old) }
-    ensures cause { (read : ℕ) → HasCause result read read (K.faults output.old) (K.faults output.new) }
+    ensures cause { (read : ℕ) → HasFaultCause result read read (K.faults output.old) (K.faults output.new) }
 {
     match make(alloc, n, tsc, radio) {
         Ok(summary) => put_summary(n, tsc, &summary, output),
@@ -41,7 +42,7 @@ pub(crate) fn run_make<K: Sink, R: Radio>(
 /// Writes the four lines of a summary.
 fn put_summary<K: Sink>(n: u32, tsc: u8, summary: &Summary, output: &mut K) -> Status
     ensures written { IsWritten (summary_text n tsc summary.now) result (K.taken output.old) (K.taken output.new) }
-    ensures cause { (read : ℕ) → HasCause result read read (K.faults output.old) (K.faults output.new) }
+    ensures cause { (read : ℕ) → HasFaultCause result read read (K.faults output.old) (K.faults output.new) }
 {
     let mut out = Text::new();
     summary_lines(&mut out, n, tsc, summary);

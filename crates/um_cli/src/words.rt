@@ -4,7 +4,7 @@ ghost use Rattle.um_cli.specs.WordLists.{held_word, added_word};
 ghost use Rattle.um_cli.specs.Shapes.{word_shape, shape_of, session_shape, three_words_shape, make_of, end_of, side_of, count_of, tsc_of};
 ghost use Rattle.um_cli.specs.Shapes.{Fits};
 
-/// What a list of words asks for.
+/// The command that the words name.
 #[derive(Clone, Copy, Debug, PartialEq, Eq)]
 pub enum Shape {
     /// Blocks to bursts.
@@ -15,13 +15,13 @@ pub enum Shape {
     Show,
     /// Bursts to their two most likely words.
     Margin,
-    /// Words with short bursts of wrong bits to words without.
+    /// Corrects words with a short burst of wrong bits.
     Repair,
-    /// Both ends over the air, with a training sequence and on a channel.
+    /// Both sides over the channel, with a training sequence code and a channel type.
     Link(u8, Channel),
-    /// The generated session of so many messages, with a training sequence.
+    /// The generated session of a number of messages, with a training sequence code.
     Make(u32, u8),
-    /// One end over recorded bursts, by its side and the training sequence of its blocks.
+    /// One side over recorded bursts, with the training sequence code of its blocks.
     End(End, u8),
 }
 
@@ -32,14 +32,14 @@ use um_link::End;
 
 /// The words after the program's name.
 ///
-/// Every shape of `run` has at most three words of at most six octets, so nothing that `run` tells
-/// apart is lost by what is held here.
+/// Stores at most four words of eight octets: no command has more than three words, or a word of
+/// more than six octets.
 #[derive(Drop)]
 pub struct Words {
     held: ArrayVec<ArrayString<8>, 4>,
 }
 
-// Clauses see the list of words held, each a list of octets.
+// Its model is the list of stored words, each a list of octets.
 impl Model for Words {
     ghost Value = { List (List ℕ) };
 
@@ -47,7 +47,7 @@ impl Model for Words {
 }
 
 impl Words {
-    /// No word yet.
+    /// No words.
     pub fn new() -> Words
         ensures { result ≡ [] }
     {
@@ -56,7 +56,7 @@ impl Words {
         }
     }
 
-    /// Appends a word. One of more than eight octets is held as `?`, and a fifth word is dropped.
+    /// Appends a word. Stores a word of more than eight octets as `?`, and drops a fifth word.
     pub fn add(&mut self, word: &str)
         ensures { self.new ≡ added_word self.old word.now }
     {
@@ -65,7 +65,7 @@ impl Words {
         }
     }
 
-    /// What the words ask for, if they are of any shape.
+    /// The command that the words name, if any.
     pub fn shape(&self) -> Option<Shape>
         ensures shape { result ≡ shape_of self.now }
         ensures fits { IfSome result (λ shape. Fits shape) }
@@ -96,7 +96,7 @@ fn hold(word: &str) -> ArrayString<8>
     }
 }
 
-/// What three words ask for.
+/// The command of three words.
 fn three_words_shape(word: &str, second: &str, last: &str) -> Option<Shape>
     ensures shape { result ≡ three_words_shape word.now second.now last.now }
     ensures fits { IfSome result (λ shape. Fits shape) }
@@ -112,7 +112,7 @@ fn three_words_shape(word: &str, second: &str, last: &str) -> Option<Shape>
     }
 }
 
-/// What a number of messages and a training sequence ask for.
+/// `make` with the message count and the training sequence code in these words.
 fn make_shape(count: &str, tsc: &str) -> Option<Shape>
     ensures shape { result ≡ make_of (count_of count.now) (tsc_of tsc.now) }
     ensures fits { IfSome result (λ shape. Fits shape) }
@@ -121,7 +121,7 @@ fn make_shape(count: &str, tsc: &str) -> Option<Shape>
     Some(Shape::Make(count, tsc_of(tsc)?))
 }
 
-/// What a side and a training sequence ask for.
+/// `end` with the side and the training sequence code in these words.
 fn end_shape(side: &str, tsc: &str) -> Option<Shape>
     ensures shape { result ≡ end_of (side_of side.now) (tsc_of tsc.now) }
     ensures fits { IfSome result (λ shape. Fits shape) }
@@ -141,7 +141,7 @@ fn side_of(word: &str) -> Option<End>
     }
 }
 
-/// How many messages a word names: 1 to 1000 in decimal, without a zero at its front.
+/// The message count of a word: 1 to 1000 in decimal, without leading zeros.
 fn count_of(word: &str) -> Option<u32>
     ensures value { result ≡ count_of word.now }
     ensures fits { IfSome result (λ n. (1 ≤ n) × (n ≤ 1000)) }
@@ -152,7 +152,7 @@ fn count_of(word: &str) -> Option<u32>
     }
 }
 
-/// The number of a word that begins with no sign, if it is 1 to 1000.
+/// The number of a word without a sign, if it is 1 to 1000.
 fn number_of(word: &str) -> Option<u32>
     requires { 49 ≤ slice_index word.now 0 }
     ensures value { result ≡ count_of word.now }
@@ -164,7 +164,7 @@ fn number_of(word: &str) -> Option<u32>
     }
 }
 
-/// What a command and a training sequence ask for, on a channel.
+/// A session with a training sequence code, on a channel.
 fn session_shape(word: &str, tsc: &str, channel: Channel) -> Option<Shape>
     ensures shape { result ≡ session_shape word.now tsc.now channel }
     ensures fits { IfSome result (λ shape. Fits shape) }
@@ -176,7 +176,7 @@ fn session_shape(word: &str, tsc: &str, channel: Channel) -> Option<Shape>
     }
 }
 
-/// The training sequence that a word names: one digit 0 to 7.
+/// The training sequence code of a word: one digit, 0 to 7.
 fn tsc_of(word: &str) -> Option<u8>
     ensures value { result ≡ tsc_of word.now }
     ensures fits { IfSome result (λ tsc. tsc ≤ 7) }
@@ -187,7 +187,7 @@ fn tsc_of(word: &str) -> Option<u8>
     }
 }
 
-/// What one word asks for.
+/// The command of a single word.
 fn word_shape(word: &str) -> Option<Shape>
     ensures shape { result ≡ word_shape word.now }
     ensures fits { IfSome result (λ shape. Fits shape) }

@@ -1,10 +1,10 @@
--- What comes of judged lines, one after another.
+-- The output for processed lines, built line by line.
 use Rattle.std.proofs.Common.{◌≡◌, ℕ, ◌+◌, Bool, true, false, List, [], ◌∷◌, ◌++◌, length, inl, inr, sym, refl, ap}
 use Rattle.std.proofs.Common.{◌∙◌, append_assoc, arith}
 use Rattle.um_lines.specs.declared.fault.LineFault.{LineFault}
 use Rattle.um_lines.specs.Refusals.{refused_text}
-use Rattle.um_driver.specs.Rules.{Rules, IsGood, IsBad, Runs, IsDetermined, joined}
-use Rattle.um_driver.specs.Outputs.{Gives}
+use Rattle.um_driver.specs.Rules.{Rules, IsGood, IsBad, Runs, IsDetermined, joined_text}
+use Rattle.um_driver.specs.Outputs.{Yields}
 use Rattle.um_driver.specs.Table.{IsFront}
 use Rattle.um_driver.specs.declared.status.Status.{Status}
 
@@ -20,53 +20,53 @@ IsBad-unique r a line f f' (inl (l, _)) (inr (l', _)) = absurd (omega arith)
 IsBad-unique r a line f f' (inr (l, _)) (inl (l', _)) = absurd (omega arith)
 IsBad-unique r a line f f' (inr (_, e)) (inr (_, e')) = cc (e, e')
 
-pub Gives-unique : {State : Type 0} (r : Rules State) → IsDetermined r
+pub Yields-unique : {State : Type 0} (r : Rules State) → IsDetermined r
     → (a : State) (n : ℕ) (judged : List (List ℕ)) (ended : Bool) (s s' : Status) (z z' : List ℕ) →
-    Gives r a n judged ended s z → Gives r a n judged ended s' z' → (s ≡ s') × (z ≡ z')
-Gives-unique r det a n [] true s s' z z' (inl (e, si, zi)) (inl (e', si', zi')) = (si ∙ sym si', zi ∙ sym zi')
-Gives-unique r det a n [] true s s' z z' (inl (e, si, zi)) (inr stop) = absurd (let b = stop.bad in cc (e, b))
-Gives-unique r det a n [] true s s' z z' (inr stop) (inl (e, si, zi)) = absurd (let b = stop.bad in cc (e, b))
-Gives-unique r det a n [] true s s' z z' (inr stop) (inr stop') =
+    Yields r a n judged ended s z → Yields r a n judged ended s' z' → (s ≡ s') × (z ≡ z')
+Yields-unique r det a n [] true s s' z z' (inl (e, si, zi)) (inl (e', si', zi')) = (si ∙ sym si', zi ∙ sym zi')
+Yields-unique r det a n [] true s s' z z' (inl (e, si, zi)) (inr stop) = absurd (let b = stop.bad in cc (e, b))
+Yields-unique r det a n [] true s s' z z' (inr stop) (inl (e, si, zi)) = absurd (let b = stop.bad in cc (e, b))
+Yields-unique r det a n [] true s s' z z' (inr stop) (inr stop') =
     let b = stop.bad in let b' = stop'.bad in
     let f : stop.fault ≡ stop'.fault = cc (b, b') in
     (stop.status_is ∙ sym stop'.status_is, stop.output ∙ ap (λ g. refused_text n g) f ∙ sym stop'.output)
-Gives-unique r det a n [] false s s' z z' (si, zi) (si', zi') = (si ∙ sym si', zi ∙ sym zi')
-Gives-unique r det a n (line ∷ judged) ended s s' z z' (inl g) (inl g') =
+Yields-unique r det a n [] false s s' z z' (si, zi) (si', zi') = (si ∙ sym si', zi ∙ sym zi')
+Yields-unique r det a n (line ∷ judged) ended s s' z z' (inl g) (inl g') =
     let same = det a line g.answer g'.answer g.mid g'.mid g.step g'.step in
-    let then = Gives-unique r det g'.mid (n + 1) judged ended s s' g.rest g'.rest (rw same.1 at g.then_) g'.then_ in
+    let then = Yields-unique r det g'.mid (n + 1) judged ended s s' g.rest g'.rest (rw same.1 at g.then_) g'.then_ in
     (then.0, g.output ∙ (let p = same.0 in let q = then.1 in cc) ∙ sym g'.output)
-Gives-unique r det a n (line ∷ judged) ended s s' z z' (inl g) (inr stop) = absurd (good_or_bad r a line stop.fault g.good stop.bad)
-Gives-unique r det a n (line ∷ judged) ended s s' z z' (inr stop) (inl g) = absurd (good_or_bad r a line stop.fault g.good stop.bad)
-Gives-unique r det a n (line ∷ judged) ended s s' z z' (inr stop) (inr stop') =
+Yields-unique r det a n (line ∷ judged) ended s s' z z' (inl g) (inr stop) = absurd (good_or_bad r a line stop.fault g.good stop.bad)
+Yields-unique r det a n (line ∷ judged) ended s s' z z' (inr stop) (inl g) = absurd (good_or_bad r a line stop.fault g.good stop.bad)
+Yields-unique r det a n (line ∷ judged) ended s s' z z' (inr stop) (inr stop') =
     let f = IsBad-unique r a line stop.fault stop'.fault stop.bad stop'.bad in
     (stop.status_is ∙ sym stop'.status_is, stop.output ∙ ap (λ g. refused_text n g) f ∙ sym stop'.output)
 
--- good lines first
-pub Gives-after : {State : Type 0} (r : Rules State) (a b : State) (n m : ℕ) (ls ys judged : List (List ℕ)) (ended : Bool) (s : Status)
+-- good lines come first
+pub Yields-after : {State : Type 0} (r : Rules State) (a b : State) (n m : ℕ) (ls ys judged : List (List ℕ)) (ended : Bool) (s : Status)
     (z : List ℕ) →
-    m ≡ length ls + n → Runs r a ls ys b → Gives r b m judged ended s z → Gives r a n (ls ++ judged) ended s (joined ys ++ z)
-Gives-after r a b n m [] [] judged ended s z e same h = let here : m ≡ n = omega arith in rw (same, here) at h
-Gives-after r a b n m (line ∷ ls) (y ∷ ys) judged ended s z e (mid, good, step, runs) h =
+    m ≡ length ls + n → Runs r a ls ys b → Yields r b m judged ended s z → Yields r a n (ls ++ judged) ended s (joined_text ys ++ z)
+Yields-after r a b n m [] [] judged ended s z e same h = let here : m ≡ n = omega arith in rw (same, here) at h
+Yields-after r a b n m (line ∷ ls) (y ∷ ys) judged ended s z e (mid, good, step, runs) h =
     inl (record {
       answer = y;
-      rest = joined ys ++ z;
+      rest = joined_text ys ++ z;
       mid = mid;
       good = good;
       step = step;
-      then_ = Gives-after r mid b (n + 1) m ls ys judged ended s z (omega arith) runs h;
-      output = append_assoc y (joined ys) z;
+      then_ = Yields-after r mid b (n + 1) m ls ys judged ended s z (omega arith) runs h;
+      output = append_assoc y (joined_text ys) z;
     })
-Gives-after r a b n m _ _ judged ended s z e none h = absurd none
+Yields-after r a b n m _ _ judged ended s z e none h = absurd none
 
--- the answers to first lines begin what comes of all
-pub Gives-front : {State : Type 0} (r : Rules State) → IsDetermined r
+-- the answers to the first lines are the beginning of the output
+pub Yields-front : {State : Type 0} (r : Rules State) → IsDetermined r
     → (a b : State) (n : ℕ) (ls ys judged : List (List ℕ)) (ended : Bool) (s : Status) (z : List ℕ) →
-    Runs r a ls ys b → Gives r a n (ls ++ judged) ended s z → IsFront (joined ys) z
-Gives-front r det a b n [] [] judged ended s z same g = (z, refl)
-Gives-front r det a b n (line ∷ ls) (y ∷ ys) judged ended s z (mid, good, step, runs) (inl g) =
+    Runs r a ls ys b → Yields r a n (ls ++ judged) ended s z → IsFront (joined_text ys) z
+Yields-front r det a b n [] [] judged ended s z same g = (z, refl)
+Yields-front r det a b n (line ∷ ls) (y ∷ ys) judged ended s z (mid, good, step, runs) (inl g) =
     let same = det a line g.answer y g.mid mid g.step step in
-    let then = Gives-front r det mid b (n + 1) ls ys judged ended s g.rest runs (rw same.1 at g.then_) in
-    (then.0, g.output ∙ (let p = same.0 in let q = then.1 in cc (p, q)) ∙ sym (append_assoc y (joined ys) then.0))
-Gives-front r det a b n (line ∷ ls) (y ∷ ys) judged ended s z (mid, good, step, runs) (inr stop) =
+    let then = Yields-front r det mid b (n + 1) ls ys judged ended s g.rest runs (rw same.1 at g.then_) in
+    (then.0, g.output ∙ (let p = same.0 in let q = then.1 in cc (p, q)) ∙ sym (append_assoc y (joined_text ys) then.0))
+Yields-front r det a b n (line ∷ ls) (y ∷ ys) judged ended s z (mid, good, step, runs) (inr stop) =
     absurd (good_or_bad r a line stop.fault good stop.bad)
-Gives-front r det a b n _ _ judged ended s z none g = absurd none
+Yields-front r det a b n _ _ judged ended s z none g = absurd none

@@ -1,16 +1,16 @@
--- An input whose output is that of a good one, line by line.
+-- The output of an input whose lines and end are all good is all of their answers.
 use Rattle.std.proofs.Common.{◌≡◌, ℕ, ◌≤◌, ◌+◌, Bool, true, false, List, [], ◌∷◌, ◌++◌, length, None, inl}
 use Rattle.std.proofs.Common.{inr, refl, ap, ◌∙◌, append-nil}
 use Rattle.um_io.specs.Lines.{IsDivided}
 use Rattle.um_io.specs.Reading.{input_limit}
-use Rattle.um_driver.specs.Rules.{Rules, Runs, joined}
-use Rattle.um_driver.specs.Outputs.{Judges, Gives, IsOutput}
+use Rattle.um_driver.specs.Rules.{Rules, Runs, joined_text}
+use Rattle.um_driver.specs.Outputs.{Judges, Yields, IsOutput}
 use Rattle.um_driver.specs.declared.status.Status.TheVariants.{Done}
 use Rattle.um_driver.proofs.Judging.{judges_whole}
 use Rattle.um_driver.proofs.OutputExists.{plain_judged}
 use Rattle.um_driver.proofs.OutputLemmas.{output_of}
 
--- an input within the limit whose lines are all good, and its end too, is answered so
+-- an input within the limit whose lines and end are good, and the answers to them
 pub record IsGoodInput {State : Type 0} (r : Rules State) (a : State) (x y : List ℕ) : Type 0 where
   pub lines : List (List ℕ)
   pub answers : List (List ℕ)
@@ -19,12 +19,12 @@ pub record IsGoodInput {State : Type 0} (r : Rules State) (a : State) (x y : Lis
   pub limit : length x ≤ input_limit
   pub runs : Runs r a lines answers state
   pub end_good : r.end_fault state ≡ None
-  pub output : y ≡ joined answers
+  pub output : y ≡ joined_text answers
 
--- all judged lines are good
+-- all processed lines are good
 all_run : {State : Type 0} (r : Rules State) (a : State) (n : ℕ) (judged : List (List ℕ)) (ended : Bool) (z : List ℕ) →
-    Gives r a n judged ended Done z → (answers : List (List ℕ)) × (b : State) × Runs r a judged answers b × (r.end_fault b ≡ None)
-    × (ended ≡ true) × (z ≡ joined answers)
+    Yields r a n judged ended Done z → (answers : List (List ℕ)) × (b : State) × Runs r a judged answers b × (r.end_fault b ≡ None)
+    × (ended ≡ true) × (z ≡ joined_text answers)
 all_run r a n [] true z (inl (good, _, none)) = ([], a, refl, good, refl, none)
 all_run r a n [] true z (inr stop) = let e = stop.status_is in absurd (cc e)
 all_run r a n [] false z (e, _) = absurd (cc e)

@@ -1,5 +1,6 @@
--- Which lines of an input are judged: those that ended within the limit, and what follows them where it is long or
--- the input ends with it.
+-- Which lines of an input are processed: those that end within the limit, and the octets after them
+-- if these are too long for a line or end the input. There is exactly one such list, since octets
+-- divide into lines in one way.
 use Rattle.std.proofs.Common.{◌≡◌, ℕ, ◌<◌, ◌≤◌, Bool, true, false, List, [], ◌∷◌, ◌++◌, length, ◌⊎◌}
 use Rattle.std.proofs.Common.{inl, inr, sym, refl, ap, ◌∙◌, append_assoc, append-nil, length-append, take, drop, take-append-drop}
 use Rattle.std.proofs.Common.{length-drop, arith}
@@ -8,15 +9,15 @@ use Rattle.std.proofs.Math.Seq.{take-append_seam}
 use Rattle.std.proofs.lemmas.Bool.{cases_lt}
 use Rattle.std.proofs.lemmas.List.{length-take-le}
 use Rattle.std.proofs.lemmas.List.Elements.{All-nil, All-cons, All-head, All-tail, All-append}
-use Rattle.um_io.specs.Lines.{IsPlain, IsLine, IsDivided, text_of}
+use Rattle.um_io.specs.Lines.{IsNoFeed, IsLine, IsDivided, text_of}
 use Rattle.um_io.specs.Reading.{input_limit, line_limit}
 use Rattle.um_driver.specs.Divided.{Begins}
-use Rattle.um_driver.specs.Outputs.{IsOver, Counts, NotJudged, AlsoJudged, Judges}
+use Rattle.um_driver.specs.Outputs.{IsOver, IsWithinLimit, NotJudged, AlsoJudged, Judges}
 use Rattle.um_driver.specs.Table.{IsWhole, AreFirst, IsJudged}
 use Rattle.um_io.proofs.DivisionLemmas.{IsDivided-lines_of}
 use Rattle.um_io.proofs.LineLists.{one_division, text-cons, text-push, length-text-push, All-before, All-behind}
 
--- a front that is no longer is a front of a front
+-- of two prefixes of a list, the shorter is a prefix of the longer
 pub front_of : (u v c p : List ℕ) → u ++ v ≡ c ++ p → length u ≤ length c → (part : List ℕ) × (c ≡ u ++ part) × (v ≡ part ++ p)
 front_of [] v c p e h = (c, refl, e)
 front_of (o ∷ u) v [] p e h = absurd (omega arith)
@@ -27,14 +28,14 @@ text-append [] ms u = refl
 text-append (l ∷ ls) ms u =
     text-cons l (ls ++ ms) u ∙ ap (λ w. l ++ 10 ∷ w) (text-append ls ms u) ∙ sym (text-cons l ls (text_of ms ++ u))
 
--- octets are whole lines, and a rest without a line feed
+-- octets divided into whole lines and a rest without a line feed
 record Division (octets : List ℕ) : Type 0 where
   lines : List (List ℕ)
   last : List ℕ
   begins : Begins octets lines last
   plain : IsLine last
 
--- of the lines of octets only the last may lack its line feed, where it is not empty
+-- only the last line of octets may lack a line feed, and only if it is not empty
 division_of : {x : List ℕ} {lines : List (List ℕ)} → IsDivided x lines → (d : Division x)
     × (((lines ≡ d.lines) × NotJudged d.last true) ⊎ ((lines ≡ d.lines ++ d.last ∷ []) × AlsoJudged d.last true))
 division_of {lines = lines} h = elim h.whole [
@@ -43,7 +44,7 @@ division_of {lines = lines} h = elim h.whole [
       lines = lines;
       last = [];
       begins = record { plain = h.plain; whole = x_is ∙ sym (append-nil (text_of lines)) };
-      plain = All-nil IsPlain;
+      plain = All-nil IsNoFeed;
     },
     inl (refl, refl),
   )
@@ -62,15 +63,15 @@ division_of {lines = lines} h = elim h.whole [
 divide : (octets : List ℕ) → Division octets
 divide octets = (division_of (IsDivided-lines_of octets)).0
 
--- ---- some lines are judged
+-- ---- a list of processed lines
 
 judged_or_not : (last : List ℕ) (ended : Bool) → NotJudged last ended ⊎ AlsoJudged last ended
 judged_or_not [] true = inl refl
 judged_or_not (o ∷ last) true = inr (omega arith)
 judged_or_not last false = elim (cases_lt line_limit (length last)) [ inl long ↦ inr long | inr short ↦ inl short ]
 
--- of the octets that count these lines are judged, and what follows them or not
-judges_counted : {x counted : List ℕ} {ended : Bool} {lines : List (List ℕ)} {last : List ℕ} → Counts x counted ended →
+-- the octets within the limit give the processed lines: with or without the rest
+judges_counted : {x counted : List ℕ} {ended : Bool} {lines : List (List ℕ)} {last : List ℕ} → IsWithinLimit x counted ended →
     Begins counted lines last → IsLine last → (judged : List (List ℕ)) × Judges x (lines ++ judged) ended
 judges_counted {x} {counted} {ended} {lines} {last} counts b p = elim (judged_or_not last ended) [
   | inl not ↦ ([], judges [] (inl (append-nil lines, not)))
@@ -82,9 +83,9 @@ judges_counted {x} {counted} {ended} {lines} {last} counts b p = elim (judged_or
         Judges x (lines ++ judged) ended
     judges judged tail = record { octets = counted; lines = lines; last = last; counts = counts; begins = b; plain = p; tail = tail }
 
--- the octets of an input that count begin with a front of it that lies within the limit
+-- a prefix of an input that lies within the limit is a prefix of the octets that count
 counted_front : (x u v : List ℕ) → x ≡ u ++ v → length u ≤ input_limit →
-    (part : List ℕ) × (ended : Bool) × Counts x (u ++ part) ended
+    (part : List ℕ) × (ended : Bool) × IsWithinLimit x (u ++ part) ended
 counted_front x u v e h = elim (cases_lt input_limit (length x)) [
   | inl over ↦
       let n = input_limit in
@@ -104,7 +105,7 @@ counted_front x u v e h = elim (cases_lt input_limit (length x)) [
   | inr short ↦ (v, true, (e, short))
 ]
 
--- after these whole lines, which ended within the limit
+-- after whole lines that end within the limit
 pub judges_after : {x : List ℕ} {lines : List (List ℕ)} (more : List ℕ) → Begins x lines more → length (text_of lines) ≤ input_limit →
     (judged : List (List ℕ)) × (ended : Bool) × Judges x (lines ++ judged) ended
 judges_after {x} {lines} more b h =
@@ -116,7 +117,7 @@ judges_after {x} {lines} more b h =
     }) d.plain in
     (d.lines ++ judged, ended, rw append_assoc at j)
 
--- after these whole lines stands a long line within the limit: it, or more of it, is judged
+-- a long line within the limit, after whole lines, is processed, or a longer one in its place
 judges_long : {x : List ℕ} {lines : List (List ℕ)} (line more : List ℕ) → Begins x lines (line ++ more) → IsLine line →
     length (text_of lines ++ line) ≤ input_limit → line_limit < length line →
     (next : List ℕ) × (judged : List (List ℕ)) × (ended : Bool) × Judges x (lines ++ next ∷ judged) ended × (line_limit < length next)
@@ -129,7 +130,7 @@ judges_long {x} {lines} line more b p h long =
     also last true = omega (arith, long, length-append line last)
     also last false = omega (arith, long, length-append line last)
 
-    next : (part : List ℕ) (ended : Bool) → Counts x ((text_of lines ++ line) ++ part) ended → (ls : List (List ℕ)) (last : List ℕ) →
+    next : (part : List ℕ) (ended : Bool) → IsWithinLimit x ((text_of lines ++ line) ++ part) ended → (ls : List (List ℕ)) (last : List ℕ) →
         Begins part ls last → IsLine last →
         (next : List ℕ) × (judged : List (List ℕ)) × (ended : Bool) × Judges x (lines ++ next ∷ judged) ended × (line_limit < length next)
     next part ended counts [] last d q = (
@@ -142,7 +143,7 @@ judges_long {x} {lines} line more b p h long =
         last = line ++ last;
         counts = counts;
         begins = record { plain = b.plain; whole = rw (d.whole, append_assoc) };
-        plain = All-append IsPlain line last p q;
+        plain = All-append IsNoFeed line last p q;
         tail = inr (refl, also last ended);
       },
       omega (arith, long, length-append line last),
@@ -150,28 +151,28 @@ judges_long {x} {lines} line more b p h long =
     next part ended counts (l ∷ ls) last d q =
         let (judged, j) = judges_counted counts (record {
           plain = All-append IsLine lines ((line ++ l) ∷ ls) b.plain
-              (All-cons IsLine (line ++ l) ls (All-append IsPlain line l p (All-head IsLine l ls d.plain)) (All-tail IsLine l ls d.plain));
+              (All-cons IsLine (line ++ l) ls (All-append IsNoFeed line l p (All-head IsLine l ls d.plain)) (All-tail IsLine l ls d.plain));
           whole = rw (d.whole, text-append, text-cons, text-cons, append_assoc, append_assoc);
         }) q in
         (line ++ l, ls ++ judged, ended, rw append_assoc at j, omega (arith, long, length-append line l))
 
--- of an input within the limit all lines are judged
+-- all lines of an input within the limit are processed
 pub judges_whole : {x : List ℕ} {lines : List (List ℕ)} → IsDivided x lines → length x ≤ input_limit → Judges x lines true
 judges_whole {x} d h = let (v, tail) = division_of d in
     record { octets = x; lines = v.lines; last = v.last; counts = (refl, h); begins = v.begins; plain = v.plain; tail = tail }
 
--- the same, where it was read whole
+-- the same for an input that was read whole
 pub judges_read : {q rest : List ℕ} {lines : List (List ℕ)} → IsWhole q rest lines → Judges (q ++ rest) (lines ++ []) true
 judges_read w = rw (w.none_left, append-nil, append-nil) (judges_whole w.all w.limit)
 
--- the first lines of an input are judged
+-- the first lines of an input are processed
 pub judges_first : {q rest : List ℕ} {lines : List (List ℕ)} → AreFirst q rest lines →
     (judged : List (List ℕ)) × (ended : Bool) × Judges (q ++ rest) (lines ++ judged) ended
 judges_first {q} {rest} (inl (more, b, h)) =
     judges_after {x = q ++ rest} (more ++ rest) (record { plain = b.plain; whole = rw (b.whole, append_assoc) }) h
 judges_first (inr whole) = ([], true, judges_read whole)
 
--- of a line that is judged after these, the whole is judged, or more of it, where it is long
+-- a processed line after these lines is the line that was read, or a longer one if that is long
 pub judges_next : {q rest : List ℕ} {lines : List (List ℕ)} {line : List ℕ} → IsJudged q rest lines line →
     (next : List ℕ) × (judged : List (List ℕ)) × (ended : Bool) × Judges (q ++ rest) (lines ++ next ∷ judged) ended
     × ((next ≡ line) ⊎ ((line_limit < length line) × (line_limit < length next)))
@@ -197,7 +198,7 @@ judges_next {q} {rest} {lines} {line} n = elim n.judged [
   ]
 ]
 
--- ---- and no others
+-- ---- uniqueness
 
 not_both : (last : List ℕ) (ended : Bool) → NotJudged last ended → AlsoJudged last ended → ⊥
 not_both last true none some = omega (arith, some, ap length none)
@@ -218,14 +219,14 @@ same_judged {judged = judged} {judged' = judged'} {ended = ended} j k e =
     (sym j.begins.whole ∙ e ∙ k.begins.whole) in
     same_tail judged judged' k.lines k.last ended (rw (lines, last) at j.tail) k.tail
 
--- an input within the limit does not go on past it
+-- an input within the limit does not exceed it
 not_over : (x counted past : List ℕ) → IsOver x counted past → length x ≤ input_limit → ⊥
 not_over x counted past over h = omega (arith, ap length over.whole, length-append counted past, over.count, over.some)
 
 same_front : (c p c' p' : List ℕ) → c ++ p ≡ c' ++ p' → length c ≡ length c' → c ≡ c'
 same_front c p c' p' e h = sym (take-append_seam c p) ∙ ap (take (length c)) e ∙ rw h (take-append_seam c' p')
 
--- the lines of an input are judged in one way
+-- an input determines its processed lines
 pub Judges-unique : (x : List ℕ) (judged judged' : List (List ℕ)) (ended ended' : Bool) → Judges x judged ended → Judges x judged' ended' →
     (ended ≡ ended') × (judged ≡ judged')
 Judges-unique x judged judged' true true j k = (refl, same_judged j k (sym j.counts.0 ∙ k.counts.0))

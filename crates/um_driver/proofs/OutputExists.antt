@@ -1,4 +1,4 @@
--- Every input has an output, where good lines have answers.
+-- Every input has an output if each good line has an answer: by induction over the processed lines.
 use Rattle.std.proofs.Common.{◌≡◌, ℕ, ◌+◌, Bool, true, false, List, [], ◌∷◌, ◌++◌, length, Option, Some, None}
 use Rattle.std.proofs.Common.{◌⊎◌, inl, inr, refl, arith}
 use Rattle.std.specs.List.{All}
@@ -10,7 +10,7 @@ use Rattle.um_lines.specs.declared.fault.LineFault.{LineFault}
 use Rattle.um_lines.specs.declared.fault.LineFault.TheVariants.{Long}
 use Rattle.um_lines.specs.Refusals.{refused_text}
 use Rattle.um_driver.specs.Rules.{Rules, IsGood, IsBad, IsDetermined, IsTotal}
-use Rattle.um_driver.specs.Outputs.{Judges, Gives}
+use Rattle.um_driver.specs.Outputs.{Judges, Yields}
 use Rattle.um_driver.specs.Laws.{OutputExists, HasOneOutput}
 use Rattle.um_driver.specs.declared.status.Status.{Status}
 use Rattle.um_driver.specs.declared.status.Status.TheVariants.{Done, BadInput, TooLong}
@@ -21,9 +21,9 @@ option_cases : {A : Type 0} (o : Option A) → (o ≡ None) ⊎ ((v : A) × (o �
 option_cases None = inl refl
 option_cases (Some v) = inr (v, refl)
 
--- judged lines have what comes of them
+-- processed lines have an output
 gives_some : {State : Type 0} (r : Rules State) (a : State) → IsTotal r a → (n : ℕ) (judged : List (List ℕ)) (ended : Bool)
-    → All IsLine judged → (s : Status) × (z : List ℕ) × Gives r a n judged ended s z
+    → All IsLine judged → (s : Status) × (z : List ℕ) × Yields r a n judged ended s z
 gives_some r a total n [] true plain = elim (option_cases (r.end_fault a)) [
   | inl none ↦ (Done, [], inl (none, refl, refl))
   | inr (fault, e) ↦ (BadInput, refused_text n fault, inr (record { fault = fault; bad = e; status_is = refl; output = refl }))
@@ -42,10 +42,10 @@ gives_some {State} r a total n (line ∷ judged) ended plain = elim (cases_lt li
   ]
 ]
   where
-    stops : (fault : LineFault) → IsBad r a line fault → (s : Status) × (z : List ℕ) × Gives r a n (line ∷ judged) ended s z
+    stops : (fault : LineFault) → IsBad r a line fault → (s : Status) × (z : List ℕ) × Yields r a n (line ∷ judged) ended s z
     stops fault bad = (BadInput, refused_text n fault, inr (record { fault = fault; bad = bad; status_is = refl; output = refl }))
 
--- judged lines are lines
+-- processed lines have no line feed
 pub plain_judged : (x : List ℕ) (judged : List (List ℕ)) (ended : Bool) → Judges x judged ended → All IsLine judged
 plain_judged x judged ended j = elim j.tail [
   | inl (e, _) ↦ rw e j.begins.plain
@@ -58,7 +58,7 @@ output_exists r a x total =
     let (status, z, g) = gives_some r a total 1 judged ended (plain_judged x judged ended j) in
     (status, z, (judged, ended, j, g))
 
--- so a command that answers each good line in one way has one output for every input
+-- a command that gives each good line exactly one answer has exactly one output for every input
 pub has_one_output : {State : Type 0} (r : Rules State) (a : State) → IsTotal r a → IsDetermined r → HasOneOutput r a
 has_one_output r a total det = record {
   some = λ x. output_exists r a x total;

@@ -1,24 +1,24 @@
--- The output of an input, from how the input ends after good lines.
+-- The output of an input, from how it ends after good lines.
 use Rattle.std.proofs.Common.{◌≡◌, ℕ, ◌<◌, ◌+◌, Bool, true, false, List, [], ◌∷◌, ◌++◌, length, length-append}
 use Rattle.std.proofs.Common.{◌⊎◌, inl, inr, refl, append_assoc, append-nil, arith}
 use Rattle.um_io.specs.Reading.{line_limit}
 use Rattle.um_lines.specs.declared.fault.LineFault.{LineFault}
-use Rattle.um_driver.specs.Rules.{Rules, IsBad, Runs, joined}
-use Rattle.um_driver.specs.Outputs.{Judges, Gives, IsOutput}
-use Rattle.um_driver.specs.Table.{Ends}
+use Rattle.um_driver.specs.Rules.{Rules, IsBad, Runs, joined_text}
+use Rattle.um_driver.specs.Outputs.{Judges, Yields, IsOutput}
+use Rattle.um_driver.specs.Table.{InputEnds}
 use Rattle.um_driver.specs.Laws.{OutputIsUnique}
 use Rattle.um_driver.specs.declared.status.Status.{Status}
 use Rattle.um_driver.specs.declared.status.Status.TheVariants.{Done, BadWords, BadInput, ReadFault, WriteFault, NoMemory, TooLong}
-use Rattle.um_driver.proofs.Giving.{Gives-after, Gives-unique}
+use Rattle.um_driver.proofs.Giving.{Yields-after, Yields-unique}
 use Rattle.um_driver.proofs.Judging.{judges_read, judges_next, Judges-unique}
 
--- an input has one output
+-- an input has at most one output
 pub output_unique : {State : Type 0} (r : Rules State) → OutputIsUnique r
 output_unique r det a x s s' z z' (judged, ended, j, g) (judged', ended', j', g') =
     let (end_is, same) = Judges-unique x judged judged' ended ended' j j' in
-    Gives-unique r det a 1 judged' ended' s s' z z' (rw (end_is, same) at g) g'
+    Yields-unique r det a 1 judged' ended' s s' z z' (rw (end_is, same) at g) g'
 
--- a long line is bad, however much of it is judged
+-- a line that is too long stays bad, however much of it is processed
 IsBad-next : {State : Type 0} (r : Rules State) (b : State) (line next : List ℕ) (fault : LineFault) →
     (next ≡ line) ⊎ ((line_limit < length line) × (line_limit < length next)) → IsBad r b line fault → IsBad r b next fault
 IsBad-next r b line next fault (inl e) bad = rw e bad
@@ -26,15 +26,15 @@ IsBad-next r b line next fault (inr (long, long')) (inl (_, f)) = inl (long', f)
 IsBad-next r b line next fault (inr (long, long')) (inr (short, _)) = absurd (omega arith)
 
 module _ {State : Type 0} (r : Rules State) (a b : State) (lines answers : List (List ℕ)) (runs : Runs r a lines answers b) where
-  -- these lines are answered, and then so it goes on
+  -- the answers to good lines, and then the output for the rest
   pub output_of : {x : List ℕ} (judged : List (List ℕ)) (ended : Bool) (s : Status) (text : List ℕ) → Judges x (lines ++ judged) ended →
-      Gives r b (length lines + 1) judged ended s text → IsOutput r a x s (joined answers ++ text)
+      Yields r b (length lines + 1) judged ended s text → IsOutput r a x s (joined_text answers ++ text)
   output_of judged ended s text j g =
-      (lines ++ judged, ended, j, Gives-after r a b 1 (length lines + 1) lines answers judged ended s text refl runs g)
+      (lines ++ judged, ended, j, Yields-after r a b 1 (length lines + 1) lines answers judged ended s text refl runs g)
 
-  -- what the table says of the end of the input is what comes of it
-  pub ends_output : (q rest : List ℕ) (s : Status) (text : List ℕ) → (s ≡ ReadFault → ⊥) → Ends r s q rest lines b text →
-      IsOutput r a (q ++ rest) s (joined answers ++ text)
+  -- if the table says how the input ends, this is its output
+  pub ends_output : (q rest : List ℕ) (s : Status) (text : List ℕ) → (s ≡ ReadFault → ⊥) → InputEnds r s q rest lines b text →
+      IsOutput r a (q ++ rest) s (joined_text answers ++ text)
   ends_output q rest Done text _ (whole, good, none) = output_of [] true Done text (judges_read whole) (inl (good, refl, none))
   ends_output q rest BadInput text _ (fault, inl (line, n, bad), text_is) =
       let (next, judged, ended, j, same) = judges_next n in

@@ -1,4 +1,4 @@
--- What was read, and which lines of it are answered, judged or held.
+-- What was read, and which of its lines are answered, processed or held.
 use Rattle.std.proofs.Common.{◌≡◌, ℕ, ◌<◌, ◌≤◌, ◌+◌, Bool, true, false, List, [], ◌∷◌, ◌++◌, length}
 use Rattle.std.proofs.Common.{length-append, Option, Some, None, ◌⊎◌, inl, inr, sym, refl, ap, ◌∙◌, append_assoc, append-nil}
 use Rattle.std.proofs.Common.{arith}
@@ -12,15 +12,16 @@ use Rattle.um_io.specs.Next.{IsAnswered, IsHeld, IsStep}
 use Rattle.um_io.specs.declared.lines.Next.{Next}
 use Rattle.um_io.specs.declared.lines.Next.TheVariants as next
 use Rattle.um_driver.specs.Outputs.{IsOver}
-use Rattle.um_driver.specs.Table.{Reads, AreFirst, IsWhole, IsJudged, IsUnfinished}
-use Rattle.um_driver.specs.Course.{EndsAt, IsRead}
+use Rattle.um_driver.specs.Table.{ReadsFrom, AreFirst, IsWhole, IsJudged, IsUnfinished}
+use Rattle.um_driver.specs.Progress.{EndsAt, IsRead}
 use Rattle.um_io.proofs.KnownOctets.{Consumes-append}
 use Rattle.um_io.proofs.LineLists.{text-push, length-text-push}
 
--- what a source that lost q has left, or nothing where it does not tell
+-- what is left in a source after q was read; nothing is known if the source does not know its
+-- octets
 pub record Rest (left left' : Option (List ℕ)) (q : List ℕ) : Type 0 where
   pub rest : List ℕ
-  pub reads : Reads left left' q rest
+  pub reads : ReadsFrom left left' q rest
   pub at_end : EndsAt left left' → rest ≡ []
 
 pub rest_of : (left left' : Option (List ℕ)) (q : List ℕ) → Consumes left left' q → Rest left left' q
@@ -39,7 +40,7 @@ EndsAt-still (Some x) None left' q h k e = absurd h
 EndsAt-still (Some x) (Some y) None q h k e = absurd k
 EndsAt-still (Some x) (Some y) (Some z) q h k e = sym k ∙ e
 
--- octets came
+-- octets were read
 pub arrive : {q : List ℕ} {lines : List (List ℕ)} {r r' : Reading} {left mid left' : Option (List ℕ)} {next : Next} {came : List ℕ} →
     IsRead q lines (r.held ++ r.past) r.answered r.ended left mid → IsStep r r' mid left' next came →
     IsRead (q ++ came) lines (r.held ++ r.past ++ came) r.answered r'.ended left left'
@@ -62,7 +63,7 @@ arrive {q} {lines} {r} {r'} {left} {mid} {left'} {next} {came} u step = record {
 
 module _ {q : List ℕ} {lines : List (List ℕ)} {held : List ℕ} {answered : ℕ} {ended : Bool} {left left' : Option (List ℕ)}
     (u : IsRead q lines held answered ended left left') where
-  -- where something is held, or the source was not at its end, all that was read is whole lines and what is held
+  -- unless nothing is held at the end of the source, what was read is whole lines and what is held
   pub uncut : (held ≡ [] → ended ≡ true → ⊥) → (q ≡ text_of lines ++ held) × (answered ≡ length (text_of lines))
   uncut some = elim u.holds [ inl whole ↦ whole | inr (_, none, e, _) ↦ absurd (some none e) ]
 
@@ -75,7 +76,7 @@ module _ {q : List ℕ} {lines : List (List ℕ)} {held : List ℕ} {answered : 
   pub bound_of : length q ≤ input_limit + held_limit
   bound_of = omega (arith, size_of, u.within, u.room)
 
-  -- where nothing is held at the end of the source, these are all its lines
+  -- if nothing is held at the end of the source, these are all its lines
   pub whole_of : held ≡ [] → ended ≡ true → (rest : List ℕ) → (EndsAt left left' → rest ≡ []) → IsWhole q rest lines
   whole_of none e rest at_end = record {
     none_left = at_end (u.at_end e);
@@ -92,7 +93,7 @@ module _ {q : List ℕ} {lines : List (List ℕ)} {held : List ℕ} {answered : 
     | inr (_, none, e, _) ↦ inr (whole_of none e rest at_end)
   ]
 
--- a line was answered, which its line feed followed, or which was left over at the end of the source
+-- a line was answered: one with a line feed, or the last one of the source without it
 abbrev pub HasLine : Reading → Reading → (all line : List ℕ) → Type 0
 HasLine r r' all line =
     IsAnswered r r' all line (10 ∷ []) ⊎ (IsAnswered r r' all line [] × (r'.held ++ r'.past ≡ []) × (r'.ended ≡ true))
@@ -101,7 +102,7 @@ pub answered_of : (r r' : Reading) (all line : List ℕ) → HasLine r r' all li
 answered_of r r' all line (inl l) = (10 ∷ [], l)
 answered_of r r' all line (inr (l, _, _)) = ([], l)
 
--- it stands next in what was read
+-- the line is the next one in what was read
 abbrev IsNext : List ℕ → List (List ℕ) → List ℕ → Reading → Type 0
 IsNext q lines line r' =
     ((q ≡ text_of lines ++ (line ++ 10 ∷ (r'.held ++ r'.past))) × (r'.answered ≡ length (text_of lines ++ line) + 1))
@@ -167,7 +168,7 @@ module _ {q : List ℕ} {lines : List (List ℕ)} {r r' : Reading} {all : List �
   ]
 
   module _ {stops : Bool} (h : IsHeld r r' all stops) where
-    -- no line came, and something is held, or the source was not at its end
+    -- no line came, and something is held or the source has not ended
     held_next : (r'.held ++ r'.past ≡ [] → r'.ended ≡ true → ⊥) →
         (q ≡ text_of lines ++ (r'.held ++ r'.past)) × (r'.answered ≡ length (text_of lines))
     held_next some = let w = uncut u (λ none. some (sym h.octets ∙ none)) in (w.0 ∙ ap (λ o. text_of lines ++ o) h.octets, h.answered ∙ w.1)
@@ -206,13 +207,13 @@ module _ {q : List ℕ} {lines : List (List ℕ)} {r r' : Reading} {all : List �
           (r'.held, record { begins = record { plain = u.plain; whole = q_is }; plain = h.plain; short = needs.short }),
         )
 
--- where an answer was ready nothing came
+-- if an answer was ready, nothing was read
 pub no_came : {r r' : Reading} {left left' : Option (List ℕ)} {next : Next} {came : List ℕ} → IsStep r r' left left' next came →
     r.over ≡ false → IsReady r → came ≡ []
 no_came step open_ (inl over) = absurd (cc (over, open_))
 no_came step open_ (inr answer) = elim step.needed [ inl needs ↦ absurd (answer needs) | inr none ↦ none ]
 
--- a reading fails only where no answer was ready: what is held now was held before
+-- a reading fails only if no answer was ready; then the reader holds what it held before
 pub failed_unready : {r r' : Reading} {left left' : Option (List ℕ)} {came : List ℕ} → IsReading r → IsReading r' →
     IsStep r r' left left' next.Failed came → r.over ≡ false → IsReady r → ⊥
 failed_unready {r} {r'} {came = came} valid valid' step open_ ready =

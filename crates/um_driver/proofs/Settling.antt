@@ -1,13 +1,14 @@
--- What a turn has come to, once it has written.
+-- The state of a run after a turn has written: each way of writing, all of the text or a prefix of
+-- it, satisfies the table.
 use Rattle.std.proofs.Common.{◌≡◌, ℕ, Bool, false, List, [], ◌++◌, Option, Some, ◌⊎◌, inl, inr, sym, refl, ◌∙◌}
 use Rattle.std.proofs.Common.{subst, append_assoc, append-nil, arith}
 use Rattle.std.specs.Io.KnownBytes.{Appends}
 use Rattle.std.proofs.lemmas.List.Elements.{All-nil}
 use Rattle.um_io.specs.Lines.{IsLine}
 use Rattle.um_io.specs.Reading.{Reading, at_start}
-use Rattle.um_driver.specs.Rules.{Rules, joined}
-use Rattle.um_driver.specs.Table.{AreFirst, IsReached, Ends, Row, IsRun, TakesFront}
-use Rattle.um_driver.specs.Course.{IsAt, IsUnderway, IsEnding, Comes, Concludes}
+use Rattle.um_driver.specs.Rules.{Rules, joined_text}
+use Rattle.um_driver.specs.Table.{AreFirst, IsReached, InputEnds, Row, IsRun, TakesFront}
+use Rattle.um_driver.specs.Progress.{IsAt, IsUnderway, IsEnding, Comes, Concludes}
 use Rattle.um_driver.specs.Taking.{Gathers}
 use Rattle.um_driver.specs.declared.status.Status.{Status}
 use Rattle.um_driver.specs.declared.status.Status.TheVariants.{BadWords, ReadFault, WriteFault, NoMemory}
@@ -39,11 +40,11 @@ module _ {State : Type 0} {r : Rules State} {a : State} {held : List ℕ} {answe
   abbrev rest : Rest left left' at.q
   rest = rest_of left left' at.q at.reads.read
 
-  module _ {Stands : State → Type 0} (stands : Stands at.state) where
-    -- the answers are these and those, and these are reached
+  module _ {Represents : State → Type 0} (represents : Represents at.state) where
+    -- the answers, split into those that are reached and those that are not
     run_in_two : (status : Status) (answers unwritten : List (List ℕ)) → at.answers ≡ answers ++ unwritten →
         (two : RunsInTwo r a at.state at.lines answers unwritten) → IsReached at.y answers →
-        Row r status at.q rest.rest at.y two.first answers two.second two.mid → IsRun r a Stands status left left' taken taken'
+        Row r status at.q rest.rest at.y two.first answers two.second two.mid → IsRun r a Represents status left left' taken taken'
     run_in_two status answers unwritten answers_are two reached row = record {
       q = at.q;
       rest = rest.rest;
@@ -61,15 +62,15 @@ module _ {State : Type 0} {r : Rules State} {a : State} {held : List ℕ} {answe
           subst P two.whole (first_of at.reads rest.rest rest.at_end);
       runs = two.runs_first;
       ahead = two.runs_second;
-      stands = stands;
+      represents = represents;
       reached = reached;
       near = rw (two.whole, answers_are) at at.near;
       row = row;
     }
 
     -- all answers were written, and some text after them
-    ends_behind : (status : Status) (part : List ℕ) → at.y ≡ joined at.answers ++ part →
-        Row r status at.q rest.rest at.y at.lines at.answers [] at.state → IsRun r a Stands status left left' taken taken'
+    ends_behind : (status : Status) (part : List ℕ) → at.y ≡ joined_text at.answers ++ part →
+        Row r status at.q rest.rest at.y at.lines at.answers [] at.state → IsRun r a Represents status left left' taken taken'
     ends_behind status part y_is row = run_in_two status at.answers [] (sym (append-nil at.answers))
         (record {
           first = at.lines;
@@ -80,79 +81,82 @@ module _ {State : Type 0} {r : Rules State} {a : State} {held : List ℕ} {answe
           whole = sym (append-nil at.lines);
         }) (inl (part, y_is)) row
 
-    -- some answers were written, up to an octet in or behind one of them
-    ends_among : (more : List ℕ) → joined at.answers ≡ at.y ++ more → IsRun r a Stands WriteFault left left' taken taken'
+    -- some answers were written, up to an octet within or after one of them
+    ends_among : (more : List ℕ) → joined_text at.answers ≡ at.y ++ more → IsRun r a Represents WriteFault left left' taken taken'
     ends_among more e =
         let s = reach at.answers at.y more e in
         let two = Runs-split r a at.state at.lines s.first s.second (rw s.answers_are at at.runs) in
         run_in_two WriteFault s.first s.second s.answers_are two s.reached (inl s.front)
 
--- the row of a run that wrote all that it had to
+-- the table row of a run that wrote everything due
 full_row : {State : Type 0} (r : Rules State) (status : Status) (q more y text : List ℕ) (lines answers : List (List ℕ)) (b : State) →
-    Ends r status q more lines b text → y ≡ joined answers ++ text → Row r status q more y lines answers [] b
+    InputEnds r status q more lines b text → y ≡ joined_text answers ++ text → Row r status q more y lines answers [] b
 full_row r WriteFault q more y text lines answers b none e = absurd none
 full_row r NoMemory q more y text lines answers b none e = absurd none
 full_row r BadWords q more y text lines answers b none e = absurd none
 full_row r _ q more y text lines answers b ends e = (text, ends, refl, e)
 
-module _ {State : Type 0} {r : Rules State} {a : State} {Stands : State → Type 0} {left left' taken mid taken' : Option (List ℕ)}
+module _ {State : Type 0} {r : Rules State} {a : State} {Represents : State → Type 0} {left left' taken mid taken' : Option (List ℕ)}
     {gathered : List ℕ} where
-  -- a front of what is gathered was taken, the rest stays, and the reader is as it was
-  pub underway_gathers : {reading reading' : Reading} {gathered' : List ℕ} → IsUnderway r a Stands reading left left' taken mid gathered →
-      Gathers gathered gathered' mid taken' → reading' ≡ reading → IsUnderway r a Stands reading' left left' taken taken' gathered'
+  -- a prefix of the gathered octets was written; the rest and the reader are unchanged
+  pub underway_gathers : {reading reading' : Reading} {gathered' : List ℕ} →
+      IsUnderway r a Represents reading left left' taken mid gathered →
+      Gathers gathered gathered' mid taken' → reading' ≡ reading → IsUnderway r a Represents reading' left left' taken taken' gathered'
   underway_gathers {gathered' = gathered'} u (w, gathered_is, written) e = rw e (record {
     at = wrote u.at w written;
-    stands = u.stands;
+    represents = u.represents;
     output = u.output ∙ rw (gathered_is, append_assoc);
     valid = u.valid;
     goes_on = u.goes_on;
   })
 
-  -- a front of what is gathered was taken, and the sink failed
-  pub underway_cut : {reading : Reading} → IsUnderway r a Stands reading left left' taken mid gathered → TakesFront mid taken' gathered →
-      IsRun r a Stands WriteFault left left' taken taken'
+  -- a prefix of the gathered octets was written, and the sink failed
+  pub underway_cut : {reading : Reading} → IsUnderway r a Represents reading left left' taken mid gathered →
+      TakesFront mid taken' gathered →
+      IsRun r a Represents WriteFault left left' taken taken'
   underway_cut u (w, (more, gathered_is), written) =
-      ends_among (wrote u.at w written) u.stands more (u.output ∙ rw (gathered_is, append_assoc))
+      ends_among (wrote u.at w written) u.represents more (u.output ∙ rw (gathered_is, append_assoc))
 
-  -- all that was still to be written was taken
-  ending_taken : {status : Status} {text : List ℕ} → IsEnding r a Stands status left left' taken mid gathered text →
-      Appends mid taken' (gathered ++ text) → IsRun r a Stands status left left' taken taken'
+  -- everything due was written
+  ending_taken : {status : Status} {text : List ℕ} → IsEnding r a Represents status left left' taken mid gathered text →
+      Appends mid taken' (gathered ++ text) → IsRun r a Represents status left left' taken taken'
   ending_taken {status} {text} h written =
       let at = wrote h.at (gathered ++ text) written in
       let left_over = rest at in
-      let y_is : at.y ≡ joined at.answers ++ text = rw (h.output, append_assoc) in
-      ends_behind at h.stands status text y_is
+      let y_is : at.y ≡ joined_text at.answers ++ text = rw (h.output, append_assoc) in
+      ends_behind at h.represents status text y_is
       (full_row r status at.q left_over.rest at.y text at.lines at.answers at.state (h.ends left_over.rest left_over.at_end) y_is)
 
-  -- a front of it was taken, and the sink failed
-  ending_cut : {status : Status} {text : List ℕ} → IsEnding r a Stands status left left' taken mid gathered text →
-      TakesFront mid taken' (gathered ++ text) → IsRun r a Stands WriteFault left left' taken taken'
+  -- a prefix of it was written, and the sink failed
+  ending_cut : {status : Status} {text : List ℕ} → IsEnding r a Represents status left left' taken mid gathered text →
+      TakesFront mid taken' (gathered ++ text) → IsRun r a Represents WriteFault left left' taken taken'
   ending_cut {status} {text} h (w, (more, text_is), written) =
       let at = wrote h.at w written in
       let left_over = rest at in
-      let whole : at.y ++ more ≡ joined at.answers ++ text = rw (append_assoc, ← text_is, h.output, append_assoc) in
-      elim (front_ends at.y more (joined at.answers) text whole) [
-        | inl (more', e) ↦ ends_among at h.stands more' e
-        | inr (part, front, y_is) ↦ ends_behind at h.stands WriteFault part y_is
+      let whole : at.y ++ more ≡ joined_text at.answers ++ text = rw (append_assoc, ← text_is, h.output, append_assoc) in
+      elim (front_ends at.y more (joined_text at.answers) text whole) [
+        | inl (more', e) ↦ ends_among at h.represents more' e
+        | inr (part, front, y_is) ↦ ends_behind at h.represents WriteFault part y_is
             (inr (status, text, part, h.ends left_over.rest left_over.at_end, refl, front, y_is))
       ]
 
-  ending_concludes : {status : Status} {text : List ℕ} (result : Status) → IsEnding r a Stands status left left' taken mid gathered text →
+  ending_concludes : {status : Status} {text : List ℕ} (result : Status) →
+      IsEnding r a Represents status left left' taken mid gathered text →
       ((result ≡ status) × Appends mid taken' (gathered ++ text)) ⊎ ((result ≡ WriteFault) × TakesFront mid taken' (gathered ++ text)) →
-      IsRun r a Stands result left left' taken taken'
+      IsRun r a Represents result left left' taken taken'
   ending_concludes result h (inl (e, written)) = rw e (ending_taken h written)
   ending_concludes result h (inr (e, written)) = rw e (ending_cut h written)
 
 -- a turn that ends the run
-pub run_ends : {State : Type 0} (r : Rules State) (a : State) (Stands : State → Type 0) (reading : Reading)
+pub run_ends : {State : Type 0} (r : Rules State) (a : State) (Represents : State → Type 0) (reading : Reading)
     (left left' taken mid taken' : Option (List ℕ)) (gathered text : List ℕ) (status result : Status) →
-    Comes r a Stands reading left left' taken mid gathered text (Some status) → Concludes status (gathered ++ text) mid taken' result →
-    IsRun r a Stands result left left' taken taken'
-run_ends r a Stands reading left left' taken mid taken' gathered text ReadFault result (ending, none) (e, kept) =
+    Comes r a Represents reading left left' taken mid gathered text (Some status) → Concludes status (gathered ++ text) mid taken' result →
+    IsRun r a Represents result left left' taken taken'
+run_ends r a Represents reading left left' taken mid taken' gathered text ReadFault result (ending, none) (e, kept) =
     rw e (ending_taken ending (rw (kept, none) (Appends-nil mid)))
-run_ends r a Stands reading left left' taken mid taken' gathered text _ result ending written = ending_concludes result ending written
+run_ends r a Represents reading left left' taken mid taken' gathered text _ result ending written = ending_concludes result ending written
 
--- nothing was read, and nothing written
+-- nothing was read or written
 abbrev at_none : {State : Type 0} (r : Rules State) (a : State) (left taken : Option (List ℕ)) → IsAt r a [] 0 0 false left left taken taken
 at_none r a left taken = record {
   q = [];
@@ -174,22 +178,23 @@ at_none r a left taken = record {
   near = IsNear-all [] (record { plain = All-nil IsLine; whole = refl }) (omega arith) refl refl;
 }
 
-pub at_first : {State : Type 0} {r : Rules State} {a : State} {Stands : State → Type 0} {reading : Reading} {left taken : Option (List ℕ)} →
-    reading ≡ at_start → Stands a → IsUnderway r a Stands reading left left taken taken []
-at_first {r = r} {a = a} {left = left} {taken = taken} e stands = rw e (record {
+pub at_first : {State : Type 0} {r : Rules State} {a : State} {Represents : State → Type 0} {reading : Reading}
+    {left taken : Option (List ℕ)} →
+    reading ≡ at_start → Represents a → IsUnderway r a Represents reading left left taken taken []
+at_first {r = r} {a = a} {left = left} {taken = taken} e represents = rw e (record {
   at = at_none r a left taken;
-  stands = stands;
+  represents = represents;
   output = refl;
   valid = record { limit = omega arith; past = λ h. absurd (omega (arith, h)); room = omega arith; number = omega arith };
   goes_on = refl;
 })
 
-pub without_memory : {State : Type 0} (r : Rules State) (a : State) (Stands : State → Type 0) (left taken : Option (List ℕ)) →
-    Stands a → IsRun r a Stands NoMemory left left taken taken
-without_memory r a Stands left taken stands =
-    ends_behind (at_none r a left taken) stands NoMemory [] refl (refl, refl, refl, refl)
+pub without_memory : {State : Type 0} (r : Rules State) (a : State) (Represents : State → Type 0) (left taken : Option (List ℕ)) →
+    Represents a → IsRun r a Represents NoMemory left left taken taken
+without_memory r a Represents left taken represents =
+    ends_behind (at_none r a left taken) represents NoMemory [] refl (refl, refl, refl, refl)
 
--- what was taken whole, or a front of it
+-- the text was written whole, or a prefix of it
 pub concluded : (status : Status) (text : List ℕ) (taken taken' : Option (List ℕ)) (result : Status) → (status ≡ ReadFault → ⊥) →
     ((result ≡ status) × Appends taken taken' text) ⊎ ((result ≡ WriteFault) × TakesFront taken taken' text) →
     Concludes status text taken taken' result

@@ -1,4 +1,5 @@
--- A command without a state, whose answer to a line is told by what the line means.
+-- A command without a state that answers a line according to its meaning has one output for every
+-- input, since a line has one meaning or a reason.
 use Rattle.std.proofs.Common.{◌≡◌, ℕ, List, Option, None, refl, subst}
 use Rattle.um_lines.specs.declared.fault.LineFault.{LineFault}
 use Rattle.um_lines.specs.Meanings.{HasOneMeaningUnless}

@@ -1,4 +1,4 @@
--- One turn of a run: what the next answer of the reader of lines makes of it, before it writes.
+-- One turn of a run, before it writes: by cases over what the reader of lines answers.
 use Rattle.std.proofs.Common.{◌≡◌, ℕ, ◌≤◌, ◌+◌, List, [], ◌∷◌, ◌++◌, length-append, Option, Some, None}
 use Rattle.std.proofs.Common.{◌⊎◌, inl, inr, sym, refl, ap, ◌∙◌, append_assoc, append-nil, length, arith}
 use Rattle.std.specs.Borrow.{Bor}
@@ -11,9 +11,9 @@ use Rattle.um_lines.specs.declared.fault.LineFault.{LineFault}
 use Rattle.um_lines.specs.declared.fault.LineFault.TheVariants.{Long}
 use Rattle.um_lines.specs.Refusals.{refused_text}
 use Rattle.um_driver.specs.Divided.{Begins}
-use Rattle.um_driver.specs.Rules.{Rules, joined}
-use Rattle.um_driver.specs.Table.{IsNear, Ends}
-use Rattle.um_driver.specs.Course.{EndsAt, IsAt, IsUnderway, IsEnding}
+use Rattle.um_driver.specs.Rules.{Rules, joined_text}
+use Rattle.um_driver.specs.Table.{IsNear, InputEnds}
+use Rattle.um_driver.specs.Progress.{EndsAt, IsAt, IsUnderway, IsEnding}
 use Rattle.um_driver.specs.declared.status.Status.{Status}
 use Rattle.um_driver.specs.declared.status.Status.TheVariants.{Done, BadInput, TooLong, ReadFault}
 use Rattle.um_driver.proofs.ReadLemmas.{arrive, whole_of, answered_of, next_line, line_judged, long_judged, goes_past, unfinished}
@@ -33,13 +33,13 @@ IsNear-more {q} {y} {lines} {answers} n w lines' answers' = record {
   answers_are = ap (λ l. l ++ answers') n.answers_are ∙ append_assoc n.written n.others answers';
   count = n.count;
   begins = n.begins;
-  front = (n.front.0 ++ w, ap (λ o. o ++ w) n.front.1 ∙ append_assoc (joined n.written) n.front.0 w);
+  front = (n.front.0 ++ w, ap (λ o. o ++ w) n.front.1 ∙ append_assoc (joined_text n.written) n.front.0 w);
   near = n.near;
 }
 
 -- the answers to all lines were written
 pub IsNear-all : {q y : List ℕ} {lines answers : List (List ℕ)} (rest : List ℕ) → Begins q lines rest → length rest ≤ held_limit →
-    length lines ≡ length answers → joined answers ≡ y → IsNear q y lines answers
+    length lines ≡ length answers → joined_text answers ≡ y → IsNear q y lines answers
 IsNear-all {lines = lines} {answers = answers} rest begins room count written = record {
   before = lines;
   after = [];
@@ -50,14 +50,14 @@ IsNear-all {lines = lines} {answers = answers} rest begins room count written = 
   answers_are = sym (append-nil answers);
   count = count;
   begins = begins;
-  front = ([], sym (append-nil (joined answers) ∙ written));
+  front = ([], sym (append-nil (joined_text answers) ∙ written));
   near = room;
 }
 
-module _ {State : Type 0} {r : Rules State} {a : State} {Stands : State → Type 0} {reading reading' : Reading}
+module _ {State : Type 0} {r : Rules State} {a : State} {Represents : State → Type 0} {reading reading' : Reading}
     {left mid left' taken taken' : Option (List ℕ)} {gathered : List ℕ}
-    (u : IsUnderway r a Stands reading left mid taken taken' gathered) (ready : IsReady reading ⊎ (gathered ≡ [])) where
-  -- what was read before the answers to all its lines were written
+    (u : IsUnderway r a Represents reading left mid taken taken' gathered) (ready : IsReady reading ⊎ (gathered ≡ [])) where
+  -- when octets are read, the answers to all earlier lines have been written
   near_now : {next : Next} {came : List ℕ} → IsStep reading reading' mid left' next came →
       IsNear (u.at.q ++ came) u.at.y u.at.lines u.at.answers
   near_now {came = came} step = elim ready [
@@ -75,7 +75,7 @@ module _ {State : Type 0} {r : Rules State} {a : State} {Stands : State → Type
       stays : came ≡ [] → IsNear (u.at.q ++ came) u.at.y u.at.lines u.at.answers
       stays none = rw (none, append-nil) u.at.near
 
-  -- octets came
+  -- octets were read
   abbrev now : {next : Next} {came : List ℕ} → IsStep reading reading' mid left' next came →
       IsAt r a (reading.held ++ reading.past ++ came) reading.answered reading.number reading'.ended left left' taken taken'
   now {came = came} step = record {
@@ -94,13 +94,13 @@ module _ {State : Type 0} {r : Rules State} {a : State} {Stands : State → Type
   -- the command answered the line
   pub line_answered : {Stands' : State → Type 0} {line : Bor (List ℕ)} {text : List ℕ}
       → IsNext reading mid left' (next.Line line) reading' →
-      ((b : State) → Stands b → (c : State) × (r.fault b line.now ≡ None) × r.Step b line.now text c × Stands' c) →
+      ((b : State) → Represents b → (c : State) × (r.fault b line.now ≡ None) × r.Step b line.now text c × Stands' c) →
       IsUnderway r a Stands' reading' left left' taken taken' (gathered ++ text)
   line_answered {line = line} {text = text} n answers =
       let (came, step) = n.goes_on u.goes_on in
       let at = now step in
       let l = (answered_of reading reading' (reading.held ++ reading.past ++ came) line.now step.gives).1 in
-      let (state, none, answer, stands) = answers u.at.state u.stands in
+      let (state, none, answer, represents) = answers u.at.state u.represents in
       record {
         at = record {
           q = at.q;
@@ -115,87 +115,87 @@ module _ {State : Type 0} {r : Rules State} {a : State} {Stands : State → Type
               (record { short = l.short; no_fault = none }) answer;
           near = rw append-nil at (IsNear-more at.near [] (line.now ∷ []) (text ∷ []));
         };
-        stands = stands;
+        represents = represents;
         output = joined-append at.answers (text ∷ []) ∙ rw (u.output, append-nil, append_assoc);
         valid = n.valid;
         goes_on = l.over;
       }
 
-  -- the run ends so
+  -- the run ends with this status and text
   ending : {Stands' : State → Type 0} {next : Next} {came : List ℕ} (status : Status) (text : List ℕ)
       → IsStep reading reading' mid left' next came → Stands' u.at.state →
-      ((rest : List ℕ) → (EndsAt left left' → rest ≡ []) → Ends r status (u.at.q ++ came) rest u.at.lines u.at.state text) →
+      ((rest : List ℕ) → (EndsAt left left' → rest ≡ []) → InputEnds r status (u.at.q ++ came) rest u.at.lines u.at.state text) →
       IsEnding r a Stands' status left left' taken taken' gathered text
-  ending {came = came} status text step stands ends = record {
+  ending {came = came} status text step represents ends = record {
     held = reading.held ++ reading.past ++ came;
     answered = reading.answered;
     number = reading.number;
     ended = reading'.ended;
     at = now step;
-    stands = stands;
+    represents = represents;
     output = u.output;
     ends = ends;
   }
 
   pub line_refused : {Stands' : State → Type 0} {line : Bor (List ℕ)} {text text' : List ℕ} {number : ℕ} {fault : LineFault}
       → IsNext reading mid left' (next.Line line) reading' → number ≡ reading'.number → text ≡ refused_text number fault →
-      ((b : State) → Stands b → (r.fault b line.now ≡ Some fault) × (text' ≡ []) × Stands' b) →
+      ((b : State) → Represents b → (r.fault b line.now ≡ Some fault) × (text' ≡ []) × Stands' b) →
       IsEnding r a Stands' BadInput left left' taken taken' gathered text
   line_refused {line = line} {text = text} {fault = fault} n number_is text_is answers =
       let (came, step) = n.goes_on u.goes_on in
       let l = (answered_of reading reading' (reading.held ++ reading.past ++ came) line.now step.gives).1 in
-      let (reason, _, stands) = answers u.at.state u.stands in
-      ending BadInput text step stands (λ rest at_end. (
+      let (reason, _, represents) = answers u.at.state u.represents in
+      ending BadInput text step represents (λ rest at_end. (
         fault,
         inl (line.now, line_judged (arrive u.at.reads step) n.valid line.now step.gives rest at_end, inr (l.short, reason)),
         text_is ∙ rw (number_is, l.number, u.at.number_is),
       ))
 
   pub end_good : {reason : Option LineFault} {text : List ℕ} → IsNext reading mid left' next.End reading' → reason ≡ None → text ≡ [] →
-      ((b : State) → Stands b → reason ≡ r.end_fault b) → IsEnding r a Stands Done left left' taken taken' gathered text
+      ((b : State) → Represents b → reason ≡ r.end_fault b) → IsEnding r a Represents Done left left' taken taken' gathered text
   end_good {text = text} n none text_is says =
       let (came, step) = n.goes_on u.goes_on in
       let (h, none_held, ended) = step.gives in
-      ending Done text step u.stands (λ rest at_end.
-      (whole_of (arrive u.at.reads step) none_held ended rest at_end, sym (says u.at.state u.stands) ∙ none, text_is))
+      ending Done text step u.represents (λ rest at_end.
+      (whole_of (arrive u.at.reads step) none_held ended rest at_end, sym (says u.at.state u.represents) ∙ none, text_is))
 
   pub end_refused : {reason : Option LineFault} {text : List ℕ} {number : ℕ} {fault : LineFault}
       → IsNext reading mid left' next.End reading' → number ≡ reading'.number → text ≡ refused_text (number + 1) fault →
-      reason ≡ Some fault → ((b : State) → Stands b → reason ≡ r.end_fault b) →
-      IsEnding r a Stands BadInput left left' taken taken' gathered text
+      reason ≡ Some fault → ((b : State) → Represents b → reason ≡ r.end_fault b) →
+      IsEnding r a Represents BadInput left left' taken taken' gathered text
   end_refused {text = text} {fault = fault} n number_is text_is some says =
       let (came, step) = n.goes_on u.goes_on in
       let (h, none_held, ended) = step.gives in
-      ending BadInput text step u.stands (λ rest at_end. (
+      ending BadInput text step u.represents (λ rest at_end. (
         fault,
-        inr (whole_of (arrive u.at.reads step) none_held ended rest at_end, sym (says u.at.state u.stands) ∙ some),
+        inr (whole_of (arrive u.at.reads step) none_held ended rest at_end, sym (says u.at.state u.represents) ∙ some),
         text_is ∙ rw (number_is, h.number, u.at.number_is),
       ))
 
   pub long_refused : {text : List ℕ} {number : ℕ} → IsNext reading mid left' next.Long reading' → number ≡ reading'.number →
-      text ≡ refused_text (number + 1) Long → IsEnding r a Stands BadInput left left' taken taken' gathered text
+      text ≡ refused_text (number + 1) Long → IsEnding r a Represents BadInput left left' taken taken' gathered text
   long_refused {text = text} n number_is text_is =
       let (came, step) = n.goes_on u.goes_on in
       let (h, long) = step.gives in
-      ending BadInput text step u.stands (λ rest at_end. (
+      ending BadInput text step u.represents (λ rest at_end. (
         Long,
         inl (reading'.held, long_judged (arrive u.at.reads step) n.valid h rest long, inl (long, refl)),
         text_is ∙ rw (number_is, h.number, u.at.number_is),
       ))
 
   pub ends_too_long : {text : List ℕ} → IsNext reading mid left' next.TooMany reading' → text ≡ [] →
-      IsEnding r a Stands TooLong left left' taken taken' gathered text
+      IsEnding r a Represents TooLong left left' taken taken' gathered text
   ends_too_long {text = text} n text_is =
       let (came, step) = n.goes_on u.goes_on in
       let (h, short, some) = step.gives in
-      ending TooLong text step u.stands (λ rest at_end. (goes_past (arrive u.at.reads step) n.valid h short some, text_is))
+      ending TooLong text step u.represents (λ rest at_end. (goes_past (arrive u.at.reads step) n.valid h short some, text_is))
 
-  pub ends_failed : IsNext reading mid left' next.Failed reading' → IsEnding r a Stands ReadFault left left' taken taken' gathered []
+  pub ends_failed : IsNext reading mid left' next.Failed reading' → IsEnding r a Represents ReadFault left left' taken taken' gathered []
       × (gathered ≡ [])
   ends_failed n =
       let (came, step) = n.goes_on u.goes_on in
       let (h, needs) = step.gives in
       let (bound, part) = unfinished (arrive u.at.reads step) n.valid h needs in (
-        ending ReadFault [] step u.stands (λ rest at_end. (bound, part, refl)),
+        ending ReadFault [] step u.represents (λ rest at_end. (bound, part, refl)),
         elim ready [ inl answer ↦ absurd (failed_unready u.valid n.valid step u.goes_on answer) | inr none ↦ none ],
       )

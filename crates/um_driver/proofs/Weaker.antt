@@ -1,12 +1,12 @@
--- Rules that say less: what a run meets, it meets by them too.
+-- A run that satisfies the rules of a machine satisfies every weaker set of rules.
 use Rattle.std.proofs.Common.{◌≡◌, ℕ, List, [], ◌∷◌, Option, inl, inr, refl, ap, ◌∙◌}
 use Rattle.um_lines.specs.declared.fault.LineFault.{LineFault}
 use Rattle.um_driver.specs.Rules.{Rules, IsGood, IsBad, Runs}
-use Rattle.um_driver.specs.Table.{IsRefused, Ends, Row, IsRun}
+use Rattle.um_driver.specs.Table.{IsRefused, InputEnds, Row, IsRun}
 use Rattle.um_driver.specs.declared.status.Status.{Status}
 use Rattle.um_driver.specs.declared.status.Status.TheVariants.{Done, BadWords, BadInput, WriteFault, NoMemory}
 
--- of each state r' sees what f shows: the same lines and ends have the same reasons, and each answer by r is one by r'
+-- `f` maps the states of r to those of r': reasons are the same, and each step of r is one of r'
 pub record IsWeakerBy {S T : Type 0} (f : S → T) (r : Rules S) (r' : Rules T) : Type 0 where
   pub fault : (a : S) (line : List ℕ) → r'.fault (f a) line ≡ r.fault a line
   pub end_fault : (a : S) → r'.end_fault (f a) ≡ r.end_fault a
@@ -30,8 +30,8 @@ module _ {S T : Type 0} (f : S → T) (r : Rules S) (r' : Rules T) (w : IsWeaker
   refused q rest lines b fault (inl (line, judged, reason)) = inl (line, judged, bad b line fault reason)
   refused q rest lines b fault (inr (whole, reason)) = inr (whole, w.end_fault b ∙ reason)
 
-  ends : (status : Status) (q rest : List ℕ) (lines : List (List ℕ)) (b : S) (text : List ℕ) → Ends r status q rest lines b text
-      → Ends r' status q rest lines (f b) text
+  ends : (status : Status) (q rest : List ℕ) (lines : List (List ℕ)) (b : S) (text : List ℕ) → InputEnds r status q rest lines b text
+      → InputEnds r' status q rest lines (f b) text
   ends Done q rest lines b text (whole, none, e) = (whole, w.end_fault b ∙ none, e)
   ends BadInput q rest lines b text (fault, reason, e) = (fault, refused q rest lines b fault reason, e)
   ends _ q rest lines b text h = h
@@ -46,11 +46,11 @@ module _ {S T : Type 0} (f : S → T) (r : Rules S) (r' : Rules T) (w : IsWeaker
   row BadWords q rest y lines answers further b none = absurd none
   row s q rest y lines answers further b h = (h.0, ends s q rest lines b h.0 h.1, h.2, h.3)
 
-  -- what the command stands for may be said in another way
-  pub weaker_run_by : (a : S) (Stands : S → Type 0) (Stands' : T → Type 0) → ((b : S) → Stands b → Stands' (f b))
+  -- the states that a command may represent, mapped by `f`
+  pub weaker_run_by : (a : S) (Represents : S → Type 0) (Stands' : T → Type 0) → ((b : S) → Represents b → Stands' (f b))
       → (status : Status) (left left' taken taken' : Option (List ℕ)) →
-      IsRun r a Stands status left left' taken taken' → IsRun r' (f a) Stands' status left left' taken taken'
-  weaker_run_by a Stands Stands' then status left left' taken taken' h = record {
+      IsRun r a Represents status left left' taken taken' → IsRun r' (f a) Stands' status left left' taken taken'
+  weaker_run_by a Represents Stands' then status left left' taken taken' h = record {
     q = h.q;
     rest = h.rest;
     y = h.y;
@@ -66,20 +66,21 @@ module _ {S T : Type 0} (f : S → T) (r : Rules S) (r' : Rules T) (w : IsWeaker
     first = h.first;
     runs = runs_by a h.state h.lines h.answers h.runs;
     ahead = runs_by h.state h.last h.further h.unwritten h.ahead;
-    stands = then h.last h.stands;
+    represents = then h.last h.represents;
     reached = h.reached;
     near = h.near;
     row = row status h.q h.rest h.y h.lines h.answers h.further h.state h.row;
   }
 
-  -- it has the same lines and answers, and what f shows of the state after them
-  pub weaker_run_state : (a : S) (Stands : S → Type 0) (Stands' : T → Type 0) (then : (b : S) → Stands b → Stands' (f b)) (status : Status)
-      (left left' taken taken' : Option (List ℕ)) (h : IsRun r a Stands status left left' taken taken') →
-      (weaker_run_by a Stands Stands' then status left left' taken taken' h).state ≡ f h.state
+  -- the lines and answers are the same, and the state after them is mapped by `f`
+  pub weaker_run_state : (a : S) (Represents : S → Type 0) (Stands' : T → Type 0) (then : (b : S) → Represents b → Stands' (f b))
+      (status : Status)
+      (left left' taken taken' : Option (List ℕ)) (h : IsRun r a Represents status left left' taken taken') →
+      (weaker_run_by a Represents Stands' then status left left' taken taken' h).state ≡ f h.state
   unfolding weaker_run_by
-  weaker_run_state a Stands Stands' then status left left' taken taken' h = refl
+  weaker_run_state a Represents Stands' then status left left' taken taken' h = refl
 
--- the same states
+-- weaker rules over the same states
 abbrev pub IsWeaker : {State : Type 0} → Rules State → Rules State → Type 0
 IsWeaker {State} r r' = IsWeakerBy (λ (a : State). a) r r'
 
@@ -87,8 +88,8 @@ pub as_weak : {State : Type 0} (r : Rules State) → IsWeaker r r
 as_weak r = record { fault = λ a line. refl; end_fault = λ a. refl; step = λ a b line answer step. step }
 
 module _ {State : Type 0} (r r' : Rules State) (w : IsWeaker r r') where
-  pub weaker_run : (a : State) (Stands Stands' : State → Type 0) → ((b : State) → Stands b → Stands' b)
+  pub weaker_run : (a : State) (Represents Stands' : State → Type 0) → ((b : State) → Represents b → Stands' b)
       → (status : Status) (left left' taken taken' : Option (List ℕ)) →
-      IsRun r a Stands status left left' taken taken' → IsRun r' a Stands' status left left' taken taken'
-  weaker_run a Stands Stands' then status left left' taken taken' h =
-      weaker_run_by (λ (s : State). s) r r' w a Stands Stands' then status left left' taken taken' h
+      IsRun r a Represents status left left' taken taken' → IsRun r' a Stands' status left left' taken taken'
+  weaker_run a Represents Stands' then status left left' taken taken' h =
+      weaker_run_by (λ (s : State). s) r r' w a Represents Stands' then status left left' taken taken' h

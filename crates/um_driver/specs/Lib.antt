@@ -1,5 +1,5 @@
 -- The definitions that the contracts of this crate cite.
-pub mod Course
+pub mod Progress
 pub mod Divided
 pub mod Laws
 pub mod Outputs

@@ -1,4 +1,4 @@
--- What a command's rules say of a whole input.
+-- The output that a command's rules give for a whole input (this project's own rule).
 use Rattle.std.specs.Prelude.{ℕ, ◌≡◌, ◌≤◌, ◌<◌, ◌+◌, Bool, true, false, List, [], ◌∷◌, ◌++◌, length, Some}
 use Rattle.std.specs.Prelude.{None, ◌⊎◌}
 use Rattle.um_io.specs.Lines.{IsLine}
@@ -10,38 +10,40 @@ use Rattle.um_driver.specs.Rules.{Rules, IsGood, IsBad}
 use Rattle.um_driver.specs.declared.status.Status.{Status}
 use Rattle.um_driver.specs.declared.status.Status.TheVariants.{Done, BadInput, TooLong}
 
--- these octets go on past the limit: the first of them count, and the others do not
+-- an input above the limit: `counted` are its octets up to the limit, `past` the others
 pub record IsOver (q counted past : List ℕ) : Type 0 where
   pub whole : q ≡ counted ++ past
   pub count : length counted ≡ input_limit
   pub some : 0 < length past
 
--- these octets of an input count: all of them where it ends within the limit
-abbrev pub Counts : (x octets : List ℕ) (ended : Bool) → Type 0
-Counts x octets true = (x ≡ octets) × (length x ≤ input_limit)
-Counts x octets false = (past : List ℕ) × IsOver x octets past
+-- the octets of an input that count: all of them if the input is within the limit
+abbrev pub IsWithinLimit : (x octets : List ℕ) (ended : Bool) → Type 0
+IsWithinLimit x octets true = (x ≡ octets) × (length x ≤ input_limit)
+IsWithinLimit x octets false = (past : List ℕ) × IsOver x octets past
 
--- what follows the whole lines is judged: where the input ends with it, or it is longer than a line may be
+-- the octets after the last whole line are processed: they end the input, or are too long for a
+-- line
 abbrev pub AlsoJudged : (last : List ℕ) (ended : Bool) → Type 0
 AlsoJudged last true = 0 < length last
 AlsoJudged last false = line_limit < length last
 
--- what follows the whole lines is not judged
+-- the octets after the last whole line are not processed
 abbrev pub NotJudged : (last : List ℕ) (ended : Bool) → Type 0
 NotJudged last true = last ≡ []
 NotJudged last false = length last ≤ line_limit
 
--- these lines of an input are judged, which ends within the limit or goes on past it
+-- the lines of x that a run processes; `ended` says whether x is within the input limit
 pub record Judges (x : List ℕ) (judged : List (List ℕ)) (ended : Bool) : Type 0 where
   pub octets : List ℕ
   pub lines : List (List ℕ)
   pub last : List ℕ
-  pub counts : Counts x octets ended
+  pub counts : IsWithinLimit x octets ended
   pub begins : Begins octets lines last
   pub plain : IsLine last
   pub tail : ((judged ≡ lines) × NotJudged last ended) ⊎ ((judged ≡ lines ++ last ∷ []) × AlsoJudged last ended)
 
--- the line is good and answered, and so on
+-- the line is good, and its answer is the front of z; `Then` holds for the state after it and the
+-- rest of z
 pub record Goes {State : Type 0} (r : Rules State) (a : State) (line : List ℕ) (Then : State → List ℕ → Type 0) (z : List ℕ) : Type 0 where
   pub answer : List ℕ
   pub rest : List ℕ
@@ -51,27 +53,27 @@ pub record Goes {State : Type 0} (r : Rules State) (a : State) (line : List ℕ)
   pub then_ : Then mid rest
   pub output : z ≡ answer ++ rest
 
--- the line, which has the number n, has a reason
+-- line number n has a reason, and z is its refusal
 pub record Stops {State : Type 0} (r : Rules State) (a : State) (n : ℕ) (line : List ℕ) (status : Status) (z : List ℕ) : Type 0 where
   pub fault : LineFault
   pub bad : IsBad r a line fault
   pub status_is : status ≡ BadInput
   pub output : z ≡ refused_text n fault
 
--- the end has a reason
+-- the input must not end in this state, and z is the refusal; n is one past the last line
 pub record StopsAtEnd {State : Type 0} (r : Rules State) (a : State) (n : ℕ) (status : Status) (z : List ℕ) : Type 0 where
   pub fault : LineFault
   pub bad : r.end_fault a ≡ Some fault
   pub status_is : status ≡ BadInput
   pub output : z ≡ refused_text n fault
 
--- what comes of these judged lines, the first of which has the number n
-abbrev pub Gives : {State : Type 0} → Rules State → State → ℕ → List (List ℕ) → Bool → Status → List ℕ → Type 0
-Gives r a n [] true status z = ((r.end_fault a ≡ None) × (status ≡ Done) × (z ≡ [])) ⊎ StopsAtEnd r a n status z
-Gives r a n [] false status z = (status ≡ TooLong) × (z ≡ [])
-Gives r a n (line ∷ judged) ended status z =
-    Goes r a line (λ mid rest. Gives r mid (n + 1) judged ended status rest) z ⊎ Stops r a n line status z
+-- the status and the output z for these processed lines, the first of which has number n
+abbrev pub Yields : {State : Type 0} → Rules State → State → ℕ → List (List ℕ) → Bool → Status → List ℕ → Type 0
+Yields r a n [] true status z = ((r.end_fault a ≡ None) × (status ≡ Done) × (z ≡ [])) ⊎ StopsAtEnd r a n status z
+Yields r a n [] false status z = (status ≡ TooLong) × (z ≡ [])
+Yields r a n (line ∷ judged) ended status z =
+    Goes r a line (λ mid rest. Yields r mid (n + 1) judged ended status rest) z ⊎ Stops r a n line status z
 
--- a run over the input x is to end so, with the output z
+-- the status and the output z that the rules give for the input x
 abbrev pub IsOutput : {State : Type 0} → Rules State → State → List ℕ → Status → List ℕ → Type 0
-IsOutput r a x status z = (judged : List (List ℕ)) × (ended : Bool) × Judges x judged ended × Gives r a 1 judged ended status z
+IsOutput r a x status z = (judged : List (List ℕ)) × (ended : Bool) × Judges x judged ended × Yields r a 1 judged ended status z

@@ -1,4 +1,4 @@
--- What a command says of the lines of its input: a machine over lines.
+-- The rules of a command: a state machine over lines (this project's own rule).
 use Rattle.std.specs.Prelude.{ℕ, ◌≡◌, ◌≤◌, ◌<◌, List, [], ◌∷◌, ◌++◌, length, Option, Some, None, Result}
 use Rattle.std.specs.Prelude.{MatchResult, ◌⊎◌}
 use Rattle.um_io.specs.Lines.{IsLine}
@@ -6,8 +6,8 @@ use Rattle.um_io.specs.Reading.{line_limit}
 use Rattle.um_lines.specs.declared.fault.LineFault.{LineFault}
 use Rattle.um_lines.specs.declared.fault.LineFault.TheVariants.{Long}
 
--- the command's first reason of a line in a state, if there is one; the reason of an input that ends in a state, if
--- there is one; and what may answer a line in a state, and which state may come then
+-- `fault` is the first reason of a line in a state, if any; `end_fault` is the reason of an input
+-- that ends in a state, if any; `Step` relates a state and a line to an answer and the next state
 pub record Rules (State : Type 0) : Type 1 where
   pub fault : State → List ℕ → Option LineFault
   pub end_fault : State → Option LineFault
@@ -21,7 +21,7 @@ stateless fault Answer = record {
   Step = λ _ line answer _. Answer line answer;
 }
 
--- a command's rules, and the state in which a run of it begins
+-- the rules of a command, and its first state
 pub record Machine : Type 1 where
   pub State : Type 0
   pub rules : Rules State
@@ -32,12 +32,12 @@ pub record IsGood {State : Type 0} (r : Rules State) (a : State) (line : List �
   pub short : length line ≤ line_limit
   pub no_fault : r.fault a line ≡ None
 
--- the first reason of a line in this state: above the limit of a line it is `long`
+-- the first reason of a line in this state; `Long` for a line above the line limit
 abbrev pub IsBad : {State : Type 0} → Rules State → State → List ℕ → LineFault → Type 0
 IsBad r a line fault =
     ((line_limit < length line) × (fault ≡ Long)) ⊎ ((length line ≤ line_limit) × (r.fault a line ≡ Some fault))
 
--- these lines are good one after another, and each is answered so, from one state to another
+-- these lines are good in turn, and these are their answers, from one state to another
 abbrev pub Runs : {State : Type 0} → Rules State → State → (lines answers : List (List ℕ)) → State → Type 0
 Runs r a [] [] b = b ≡ a
 Runs {State} r a (line ∷ lines) (answer ∷ answers) b =
@@ -45,24 +45,24 @@ Runs {State} r a (line ∷ lines) (answer ∷ answers) b =
 Runs r a [] (answer ∷ answers) b = ⊥
 Runs r a (line ∷ lines) [] b = ⊥
 
--- texts one after another
-abbrev pub joined : List (List ℕ) → List ℕ
-joined [] = []
-joined (text ∷ texts) = text ++ joined texts
+-- texts, one after another
+abbrev pub joined_text : List (List ℕ) → List ℕ
+joined_text [] = []
+joined_text (text ∷ texts) = text ++ joined_text texts
 
--- what a command answers to a line in a state: an answer, and it stands for the state after it; or the reason of
--- the line, with no answer, and it stands for the same state
+-- what a command's call for a line does: it writes an answer and then represents the next state, or
+-- it returns the reason, writes nothing, and represents the same state
 abbrev pub Answers : {State : Type 0} → Rules State → State → List ℕ → Result Unit LineFault → List ℕ → (State → Type 0) → Type 0
-Answers {State} r a line result text Stands = MatchResult result
-    (λ _. (b : State) × (r.fault a line ≡ None) × r.Step a line text b × Stands b)
-    (λ fault. (r.fault a line ≡ Some fault) × (text ≡ []) × Stands a)
+Answers {State} r a line result text Represents = MatchResult result
+    (λ _. (b : State) × (r.fault a line ≡ None) × r.Step a line text b × Represents b)
+    (λ fault. (r.fault a line ≡ Some fault) × (text ≡ []) × Represents a)
 
 -- no line has two answers in a state
 abbrev pub IsDetermined : {State : Type 0} → Rules State → Type 0
 IsDetermined {State} r =
     (a : State) (line y y' : List ℕ) (b b' : State) → r.Step a line y b → r.Step a line y' b' → (y ≡ y') × (b ≡ b')
 
--- whatever good lines came first, a good line has an answer
+-- after any good lines, each good line has an answer
 abbrev pub IsTotal : {State : Type 0} → Rules State → State → Type 0
 IsTotal {State} r a =
     (lines answers : List (List ℕ)) (b : State) → Runs r a lines answers b →

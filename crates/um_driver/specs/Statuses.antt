@@ -1,9 +1,9 @@
--- The numbers of the answers of a run: this project's own.
+-- The exit statuses of a run (this project's own rule).
 use Rattle.std.specs.Prelude.{ℕ}
 use Rattle.um_driver.specs.declared.status.Status.{Status}
 use Rattle.um_driver.specs.declared.status.Status.TheVariants.{Done, BadWords, BadInput, ReadFault, WriteFault, NoMemory, TooLong}
 
--- the number with which the program ends
+-- the exit status of the program
 abbrev pub number_of : Status → ℕ
 number_of Done = 0
 number_of BadWords = 2

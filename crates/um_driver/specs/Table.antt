@@ -1,19 +1,19 @@
--- What each status of a run says of what was read and what was written.
+-- What each status says of what was read and what was written (this project's own rule).
 use Rattle.std.specs.Prelude.{ℕ, ◌≡◌, ◌≤◌, ◌<◌, ◌+◌, List, [], ◌∷◌, ◌++◌, length, Option, Some, None}
 use Rattle.std.specs.Prelude.{IfSome, ◌⊎◌}
 use Rattle.std.specs.Io.KnownBytes.{Appends, Keeps}
 use Rattle.um_io.specs.Lines.{IsLine, IsDivided, text_of}
-use Rattle.um_io.specs.Outside.{Rose}
+use Rattle.um_io.specs.Streams.{Rose}
 use Rattle.um_io.specs.Reading.{input_limit, line_limit, held_limit}
 use Rattle.um_lines.specs.declared.fault.LineFault.{LineFault}
 use Rattle.um_lines.specs.Refusals.{refused_text}
 use Rattle.um_driver.specs.Divided.{Begins}
-use Rattle.um_driver.specs.Rules.{Rules, IsBad, Runs, joined}
+use Rattle.um_driver.specs.Rules.{Rules, IsBad, Runs, joined_text}
 use Rattle.um_driver.specs.Outputs.{IsOver, IsOutput}
 use Rattle.um_driver.specs.declared.status.Status.{Status}
 use Rattle.um_driver.specs.declared.status.Status.TheVariants.{Done, BadWords, BadInput, ReadFault, WriteFault, NoMemory, TooLong}
 
--- ---- which lines were read. Of the input q was read and rest was not.
+-- ---- what was read: q, while rest was not read
 
 -- the whole input was read, it is within the limit, and these are its lines
 pub record IsWhole (q rest : List ℕ) (lines : List (List ℕ)) : Type 0 where
@@ -21,18 +21,19 @@ pub record IsWhole (q rest : List ℕ) (lines : List (List ℕ)) : Type 0 where
   pub all : IsDivided q lines
   pub limit : length q ≤ input_limit
 
--- these are first lines of the input, each with its line feed within the limit; or they are all its lines
+-- these are the first lines of the input, each with its line feed within the limit; or they are all
+-- its lines
 abbrev pub AreFirst : List ℕ → List ℕ → List (List ℕ) → Type 0
 AreFirst q rest lines = ((more : List ℕ) × Begins q lines more × (length (text_of lines) ≤ input_limit)) ⊎ IsWhole q rest lines
 
--- these octets are whole lines, and this is the beginning of one that is not too long
+-- the octets are these whole lines, and the beginning of one that is not too long
 pub record IsUnfinished (octets : List ℕ) (lines : List (List ℕ)) (line : List ℕ) : Type 0 where
   pub begins : Begins octets lines line
   pub plain : IsLine line
   pub short : length line ≤ line_limit
 
--- after these whole lines stands a line that is judged: within the limit its line feed came, or it is longer than a line
--- may be, or the whole input ends with it
+-- the line after these whole lines is processed: its line feed was read within the limit, or it is
+-- too long, or it ends the input
 pub record IsJudged (q rest : List ℕ) (lines : List (List ℕ)) (line : List ℕ) : Type 0 where
   pub more : List ℕ
   pub begins : Begins q lines (line ++ more)
@@ -47,7 +48,7 @@ abbrev pub IsRefused : {State : Type 0} → Rules State → (q rest : List ℕ) 
 IsRefused r q rest lines b fault =
     ((line : List ℕ) × IsJudged q rest lines line × IsBad r b line fault) ⊎ (IsWhole q rest lines × (r.end_fault b ≡ Some fault))
 
--- ---- which answers were written. y is what the sink took.
+-- ---- what was written: y
 
 -- z begins with y
 abbrev pub IsFront : List ℕ → List ℕ → Type 0
@@ -61,13 +62,13 @@ pub record EndsWithin (y : List ℕ) (answers : List (List ℕ)) : Type 0 where
   pub answers_are : answers ≡ earlier ++ answer ∷ []
   pub front : IsFront part answer
   pub some : 0 < length part
-  pub y_is : y ≡ joined earlier ++ part
+  pub y_is : y ≡ joined_text earlier ++ part
 
--- each of these answers that is not empty has an octet in y
+-- each nonempty answer has at least one octet in y
 abbrev pub IsReached : List ℕ → List (List ℕ) → Type 0
-IsReached y answers = IsFront (joined answers) y ⊎ EndsWithin y answers
+IsReached y answers = IsFront (joined_text answers) y ⊎ EndsWithin y answers
 
--- no more was read than the reader holds, past first lines whose answers were all written
+-- what was read after the lines whose answers are all written is no more than a reader holds
 pub record IsNear (q y : List ℕ) (lines answers : List (List ℕ)) : Type 0 where
   pub before : List (List ℕ)
   pub after : List (List ℕ)
@@ -78,43 +79,44 @@ pub record IsNear (q y : List ℕ) (lines answers : List (List ℕ)) : Type 0 wh
   pub answers_are : answers ≡ written ++ others
   pub count : length before ≡ length written
   pub begins : Begins q before rest
-  pub front : IsFront (joined written) y
+  pub front : IsFront (joined_text written) y
   pub near : length rest ≤ held_limit
 
 -- ---- the table
 
--- how the input ends after these lines, and which text follows their answers
-abbrev pub Ends : {State : Type 0} → Rules State → Status → (q rest : List ℕ) → List (List ℕ) → State → List ℕ → Type 0
-Ends r Done q rest lines b text = IsWhole q rest lines × (r.end_fault b ≡ None) × (text ≡ [])
-Ends r BadInput q rest lines b text =
+-- how the input ends after these lines, and the text that follows their answers
+abbrev pub InputEnds : {State : Type 0} → Rules State → Status → (q rest : List ℕ) → List (List ℕ) → State → List ℕ → Type 0
+InputEnds r Done q rest lines b text = IsWhole q rest lines × (r.end_fault b ≡ None) × (text ≡ [])
+InputEnds r BadInput q rest lines b text =
     (fault : LineFault) × IsRefused r q rest lines b fault × (text ≡ refused_text (length lines + 1) fault)
-Ends r ReadFault q rest lines b text = (length q ≤ input_limit) × ((line : List ℕ) × IsUnfinished q lines line) × (text ≡ [])
-Ends r TooLong q rest lines b text =
+InputEnds r ReadFault q rest lines b text = (length q ≤ input_limit) × ((line : List ℕ) × IsUnfinished q lines line) × (text ≡ [])
+InputEnds r TooLong q rest lines b text =
     ((counted past line : List ℕ) × IsOver q counted past × IsUnfinished counted lines line) × (text ≡ [])
-Ends r _ q rest lines b text = ⊥
+InputEnds r _ q rest lines b text = ⊥
 
--- what was read and written with each status, where these lines were answered and written, and further lines answered
+-- what was read and written with each status; `lines` are those with an octet of their answer
+-- written, `further` those answered after them
 abbrev pub Row : {State : Type 0} → Rules State → Status → (q rest y : List ℕ) → (lines answers further : List (List ℕ)) → State → Type 0
--- some of the answers, or all of them and some of the text that follows them
+-- a prefix of the answers, or all of them and a prefix of the text that follows
 Row r WriteFault q rest y lines answers further b =
-    IsFront y (joined answers)
-    ⊎ ((due : Status) × (text part : List ℕ) × Ends r due q rest lines b text × (further ≡ []) × IsFront part text
-    × (y ≡ joined answers ++ part))
+    IsFront y (joined_text answers)
+    ⊎ ((due : Status) × (text part : List ℕ) × InputEnds r due q rest lines b text × (further ≡ []) × IsFront part text
+    × (y ≡ joined_text answers ++ part))
 Row r NoMemory q rest y lines answers further b = (q ≡ []) × (y ≡ []) × (lines ≡ []) × (further ≡ [])
 Row r BadWords q rest y lines answers further b = ⊥
 -- all the answers, and the text that follows them
 Row r status q rest y lines answers further b =
-    (text : List ℕ) × Ends r status q rest lines b text × (further ≡ []) × (y ≡ joined answers ++ text)
+    (text : List ℕ) × InputEnds r status q rest lines b text × (further ≡ []) × (y ≡ joined_text answers ++ text)
 
--- a source that tells its octets gave q, and has rest left
-abbrev pub Reads : Option (List ℕ) → Option (List ℕ) → List ℕ → List ℕ → Type 0
-Reads None left' q rest = Unit {0}
-Reads (Some x) left' q rest = (x ≡ q ++ rest) × (left' ≡ Some rest)
+-- a source gave q and has rest left, if it knows its octets
+abbrev pub ReadsFrom : Option (List ℕ) → Option (List ℕ) → List ℕ → List ℕ → Type 0
+ReadsFrom None left' q rest = Unit {0}
+ReadsFrom (Some x) left' q rest = (x ≡ q ++ rest) × (left' ≡ Some rest)
 
--- a run: what the source gave and has left, and what the sink took, where they tell it; the lines whose answers have an
--- octet in what was written, these answers, and the state after them; and the lines that were answered after them, no
--- octet of whose answers was written, up to the state that the command stands for
-pub record IsRun {State : Type 0} (r : Rules State) (a : State) (Stands : State → Type 0) (status : Status)
+-- a run: q was read and rest is left, y was written; `lines` have at least one octet of their
+-- `answers` in y, and lead to `state`; `further` lines were answered, but no octet of their answers
+-- was written, and lead to `last`, which the command represents
+pub record IsRun {State : Type 0} (r : Rules State) (a : State) (Represents : State → Type 0) (status : Status)
     (left left' taken taken' : Option (List ℕ)) : Type 0 where
   pub q : List ℕ
   pub rest : List ℕ
@@ -125,37 +127,39 @@ pub record IsRun {State : Type 0} (r : Rules State) (a : State) (Stands : State 
   pub further : List (List ℕ)
   pub unwritten : List (List ℕ)
   pub last : State
-  pub read : Reads left left' q rest
+  pub read : ReadsFrom left left' q rest
   pub written : Appends taken taken' y
   pub bound : length q ≤ input_limit + held_limit
   pub first : AreFirst q rest (lines ++ further)
   pub runs : Runs r a lines answers state
   pub ahead : Runs r state further unwritten last
-  pub stands : Stands last
+  pub represents : Represents last
   pub reached : IsReached y answers
   pub near : IsNear q y (lines ++ further) (answers ++ unwritten)
   pub row : Row r status q rest y lines answers further state
 
--- the count of the source rose where it failed, and the count of the sink where that failed; else they stay
-abbrev pub HasCause : Status → (read read' written written' : ℕ) → Type 0
-HasCause ReadFault read read' written written' = Rose read read' × (read ≤ read') × (written' ≡ written)
-HasCause WriteFault read read' written written' = (read' ≡ read) × Rose written written' × (written ≤ written')
-HasCause _ read read' written written' = (read' ≡ read) × (written' ≡ written)
+-- the count of faults of the source rises with `ReadFault`, that of the sink with `WriteFault`;
+-- otherwise they are unchanged
+abbrev pub HasFaultCause : Status → (read read' written written' : ℕ) → Type 0
+HasFaultCause ReadFault read read' written written' = Rose read read' × (read ≤ read') × (written' ≡ written)
+HasFaultCause WriteFault read read' written written' = (read' ≡ read) × Rose written written' × (written ≤ written')
+HasFaultCause _ read read' written written' = (read' ≡ read) × (written' ≡ written)
 
--- ---- over an input that is told
+-- ---- a run over an input that is known
 
--- the sink took a front of z
+-- the sink took a prefix of z
 abbrev pub TakesFront : Option (List ℕ) → Option (List ℕ) → List ℕ → Type 0
 TakesFront taken taken' z = (y : List ℕ) × IsFront y z × Appends taken taken' y
 
--- how a run may end over an input that is to end as due, with the output z
+-- what a run with this status has written, if the rules give the status `due` and the output z for
+-- its input
 abbrev pub Agrees : Status → Status → List ℕ → Option (List ℕ) → Option (List ℕ) → Type 0
 Agrees ReadFault due z taken taken' = TakesFront taken taken' z
 Agrees WriteFault due z taken taken' = TakesFront taken taken' z
 Agrees NoMemory due z taken taken' = Keeps taken taken'
 Agrees status due z taken taken' = (status ≡ due) × Appends taken taken' z
 
--- a run ends as the rules have it for the whole input, or by a fault of the outside with a front of the output
+-- a run ends as the rules say for the whole input, or fails and has written a prefix of the output
 abbrev pub EndsAsDue : {State : Type 0} → Rules State → State → Status → (left taken taken' : Option (List ℕ)) → Type 0
 EndsAsDue r a status left taken taken' =
     IfSome left (λ x. (due : Status) (z : List ℕ) → IsOutput r a x due z → Agrees status due z taken taken')

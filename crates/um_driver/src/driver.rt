@@ -1,11 +1,11 @@
-//! The one driver.
+//! The driver of all commands.
 ghost use Rattle.std.specs.Prelude.{◌≡◌, ◌≢◌, ℕ, ◌<◌, List, Option, Some, None, [], ◌++◌, ◌⊎◌, OnOk};
 ghost use Rattle.um_io.specs.Reading.{at_start, IsReady};
 ghost use Rattle.um_lines.specs.Refusals.{refused_text};
 ghost use Rattle.um_driver.specs.Rules.{IsDetermined};
-ghost use Rattle.um_driver.specs.Table.{IsRun, HasCause, EndsAsDue};
+ghost use Rattle.um_driver.specs.Table.{IsRun, HasFaultCause, EndsAsDue};
 ghost use Rattle.um_driver.specs.Taking.{GathersAll, Counted};
-ghost use Rattle.um_driver.specs.Course.{IsUnderway, Comes, Concludes, ReadCause};
+ghost use Rattle.um_driver.specs.Progress.{IsUnderway, Comes, Concludes, ReadCause};
 
 use crate::command::Command;
 use crate::gathered::Gathered;
@@ -14,7 +14,8 @@ use std::alloc::Global;
 use um_io::{Failed, Lines, Next, Sink, Source};
 use um_lines::{LineFault, Text, refused_line};
 
-/// Has the command answer the next line of the input, or says how the run ends.
+/// Has the command answer the next line of the input, or returns the status with which the run
+/// ends.
 fn ask<C: Command, S: Source>(
     command: &mut C,
     lines: &mut Lines,
@@ -23,9 +24,9 @@ fn ask<C: Command, S: Source>(
 ) -> Option<Status>
     requires { out.old ≡ [] }
     ensures comes { (a : C.State) (left taken taken' : Option (List ℕ)) (gathered : List ℕ) →
-        IsUnderway C.rules a (C.stands command.old) lines.old left (S.left input.old) taken taken' gathered →
+        IsUnderway C.rules a (C.represents command.old) lines.old left (S.left input.old) taken taken' gathered →
         IsReady lines.old ⊎ (gathered ≡ []) →
-        Comes C.rules a (C.stands command.new) lines.new left (S.left input.new) taken taken' gathered out.new result }
+        Comes C.rules a (C.represents command.new) lines.new left (S.left input.new) taken taken' gathered out.new result }
     ensures goes_on { result ≡ None → lines.old.answered < lines.new.answered }
     ensures cause { ReadCause result (S.faults input.old) (S.faults input.new) }
     ensures keeps { C.kept command.new ≡ C.kept command.old }
@@ -45,7 +46,7 @@ fn ask<C: Command, S: Source>(
     }
 }
 
-/// Refuses the input by its line `number`, or by its end.
+/// Refuses line `number` of the input, or its end.
 #[cold]
 #[inline(never)]
 fn refuse(number: u64, fault: LineFault, out: &mut Text) -> Status
@@ -57,14 +58,14 @@ fn refuse(number: u64, fault: LineFault, out: &mut Text) -> Status
     Status::BadInput
 }
 
-/// Writes what is gathered and then `out`, and says how the run ends. After a fault of the source nothing is gathered,
-/// since all is written before a reading.
+/// Writes the gathered octets and then `out`, and returns the final status. With `ReadFault`
+/// nothing is gathered, since everything is written before a reading.
 #[cold]
 #[inline(never)]
 fn conclude<K: Sink>(status: Status, out: &Text, gathered: &mut Gathered, output: &mut K) -> Status
     ensures concludes { Concludes status (gathered.old ++ out.now) (K.taken output.old) (K.taken output.new) result }
     ensures cause { (before now : ℕ) → ReadCause (Some status) before now →
-        HasCause result before now (K.faults output.old) (K.faults output.new) × (result ≢ Status.NoMemory) }
+        HasFaultCause result before now (K.faults output.old) (K.faults output.new) × (result ≢ Status.NoMemory) }
 {
     match status {
         Status::ReadFault => status,
@@ -75,14 +76,14 @@ fn conclude<K: Sink>(status: Status, out: &Text, gathered: &mut Gathered, output
     }
 }
 
-/// Writes what is gathered, where the next answer of the reader takes a reading.
+/// Writes the gathered octets if the next answer of the reader needs a reading.
 #[inline(always)]
 fn make_way<K: Sink>(
     lines: &mut Lines,
     gathered: &mut Gathered,
     output: &mut K,
 ) -> Result<(), Failed>
-    ensures kept { lines.new ≡ lines.old }
+    ensures unchanged { lines.new ≡ lines.old }
     ensures gathers { GathersAll result gathered.old gathered.new (K.taken output.old) (K.taken output.new) }
     ensures ready { OnOk result (IsReady lines.new ⊎ (gathered.new ≡ [])) }
     ensures counted { Counted result (K.faults output.old) (K.faults output.new) }
@@ -94,20 +95,20 @@ fn make_way<K: Sink>(
     }
 }
 
-/// Answers line after line, until the run ends. It reads only when all answers are written.
+/// Answers line after line until the run ends. Writes all answers before each reading.
 fn serve<C: Command, S: Source, K: Sink>(
     command: &mut C,
     lines: &mut Lines,
     input: &mut S,
     output: &mut K,
 ) -> Status
-    requires stands { C.stands command.old (C.start command.old) }
+    requires represents { C.represents command.old (C.start command.old) }
     requires first { lines.old ≡ at_start }
 
-    ensures table { IsRun C.rules (C.start command.old) (C.stands command.new) result
+    ensures table { IsRun C.rules (C.start command.old) (C.represents command.new) result
         (S.left input.old) (S.left input.new) (K.taken output.old) (K.taken output.new) }
 
-    ensures cause { HasCause result (S.faults input.old) (S.faults input.new)
+    ensures cause { HasFaultCause result (S.faults input.old) (S.faults input.new)
         (K.faults output.old) (K.faults output.new) }
 
     ensures opened { result ≢ Status.NoMemory }
@@ -133,28 +134,28 @@ fn serve<C: Command, S: Source, K: Sink>(
 
 /// Runs a command over the lines of `input`, and writes its answers to `output`.
 ///
-/// All memory is taken before the first octet is read.
+/// Allocates all memory before the first octet is read.
 pub fn drive<C: Command, S: Source, K: Sink>(
     alloc: Global,
     command: &mut C,
     input: &mut S,
     output: &mut K,
 ) -> Status
-    requires { C.stands command.old (C.start command.old) }
+    requires { C.represents command.old (C.start command.old) }
 
-    ensures table { IsRun C.rules (C.start command.old) (C.stands command.new) result
+    ensures table { IsRun C.rules (C.start command.old) (C.represents command.new) result
         (S.left input.old) (S.left input.new) (K.taken output.old) (K.taken output.new) }
 
-    // Where no line has two answers, it ends and writes as the rules have it for the whole input.
+    // If no line has two answers, the run ends as the rules say for the whole input.
     ensures due { IsDetermined C.rules → EndsAsDue C.rules (C.start command.old) result
         (S.left input.old) (K.taken output.old) (K.taken output.new) }
 
-    ensures cause { HasCause result (S.faults input.old) (S.faults input.new)
+    ensures cause { HasFaultCause result (S.faults input.old) (S.faults input.new)
         (K.faults output.old) (K.faults output.new) }
 
     ensures words { result ≢ Status.BadWords }
 
-    // Want of memory comes before anything is read or written.
+    // Allocation fails before anything is read or written.
     ensures opening { result ≡ Status.NoMemory → (input.new ≡ input.old) × (output.new ≡ output.old) }
     ensures unasked { result ≡ Status.NoMemory → command.new ≡ command.old }
 

@@ -6,7 +6,7 @@ use crate::writing::put_all;
 use std::marker::Model;
 use um_io::{Failed, Sink};
 
-/// How many octets are gathered at most.
+/// The capacity in octets.
 const ROOM: usize = 16384;
 
 /// Octets that wait to be written.
@@ -16,7 +16,7 @@ pub(crate) struct Gathered {
     length: usize,
 }
 
-// Clauses see the list of octets.
+// Its model is the list of octets.
 impl Model for Gathered {
     ghost use Rattle.std.specs.Prelude.{ℕ, ◌≤◌, List, take};
 
@@ -59,7 +59,7 @@ impl Gathered {
         &self.room[..self.length]
     }
 
-    /// Writes all that is gathered.
+    /// Writes all gathered octets.
     #[cold]
     #[inline(never)]
     pub(crate) fn flush<K: Sink>(&mut self, output: &mut K) -> Result<(), Failed>
@@ -72,7 +72,7 @@ impl Gathered {
         Ok(())
     }
 
-    /// Writes all that is gathered, where it may not wait.
+    /// Writes all gathered octets if `due`.
     pub(crate) fn flush_if<K: Sink>(&mut self, due: bool, output: &mut K) -> Result<(), Failed>
         ensures gathers { GathersAll result self.old self.new (K.taken output.old) (K.taken output.new) }
         ensures empty { IsTrue due → OnOk result (self.new ≡ []) }
@@ -82,7 +82,7 @@ impl Gathered {
         if due { self.flush(output) } else { Ok(()) }
     }
 
-    /// Gathers `octets` too, and writes what was gathered before where there is no room for them.
+    /// Gathers `octets`; writes the earlier ones first if they do not all fit.
     pub(crate) fn add<K: Sink>(&mut self, octets: &[u8], output: &mut K) -> Result<(), Failed>
         requires { length octets.now ≤ 4096 }
         ensures gathers { GathersAll result (self.old ++ octets.now) self.new (K.taken output.old) (K.taken output.new) }
@@ -94,7 +94,7 @@ impl Gathered {
         Ok(())
     }
 
-    /// Writes what is gathered and then `octets`.
+    /// Writes the gathered octets and then `octets`.
     pub(crate) fn give<K: Sink>(&mut self, octets: &[u8], output: &mut K) -> Result<(), Failed>
         requires { length octets.now ≤ 4096 }
         ensures taken { TakesAll (K.taken output.old) (K.taken output.new) result (self.old ++ octets.now) }

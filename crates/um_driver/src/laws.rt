@@ -1,14 +1,14 @@
-//! What holds of the rules of every command.
+//! Laws of the rules of every command.
 ghost use Rattle.um_driver.specs.Laws.{OutputIsUnique, OutputExists};
 
 use crate::command::Command;
 
-/// The whole output of an input, and the way in which it ends, are determined by its octets.
+/// An input determines its output and its status.
 pub fn output_is_unique<C: Command>()
     ensures { OutputIsUnique C.rules }
 {}
 
-/// Every list of octets, within the limit or not, good or bad, has an output.
+/// Every input has an output, whatever its size and whether its lines are good or bad.
 pub fn output_exists<C: Command>()
     ensures { OutputExists C.rules }
 {}

@@ -6,15 +6,15 @@ ghost use Rattle.um_driver.specs.Rules.{Answers, stateless};
 use crate::command::Command;
 use um_lines::{LineFault, Text};
 
-/// What answers a line by what the line says alone.
+/// A command that answers each line by itself.
 pub trait Answer {
     /// The first reason of a line, if it has one.
     ghost fault: { List ℕ → Option Fault };
 
-    /// What may answer a line.
+    /// The answers that a line may have.
     ghost answers: { List ℕ → List ℕ → Type 0 };
 
-    /// Answers a line.
+    /// Answers a line, or returns the reason to refuse it.
     fn answer(&self, line: &[u8], out: &mut Text) -> Result<(), LineFault>
         requires empty { out.old ≡ [] }
         ensures { MatchResult result
@@ -22,7 +22,7 @@ pub trait Answer {
             (λ reason. (fault line.now ≡ Some reason) × (out.new ≡ [])) };
 }
 
-/// The command that answers each line so.
+/// The command of an `Answer`.
 #[derive(Clone, Copy, Debug)]
 pub struct Stateless<A>(pub A);
 
@@ -33,7 +33,7 @@ impl<A: Answer> Command for Stateless<A> {
 
     ghost start = { λ _. tt };
 
-    ghost stands = { λ _ _. Unit {0} };
+    ghost represents = { λ _ _. Unit {0} };
 
     ghost Kept = { Unit {0} };
 

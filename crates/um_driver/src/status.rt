@@ -9,20 +9,20 @@ pub enum Status {
     Done,
     /// The words name no command. Nothing was read or written.
     BadWords,
-    /// A line of the input is bad, or its end. The last line of the output says which and why.
+    /// A line of the input is bad, or its end. The last output line says which and why.
     BadInput,
     /// The source failed.
     ReadFault,
     /// The sink failed.
     WriteFault,
-    /// There was no memory. Nothing was read or written.
+    /// Memory could not be allocated. Nothing was read or written.
     NoMemory,
-    /// The input goes on past the 67,108,864 octets that count.
+    /// The input has more than 67,108,864 octets.
     TooLong,
 }
 
 impl Status {
-    /// The number with which the program ends.
+    /// The exit status of the program.
     pub fn number(self) -> u8
         ensures { result ≡ number_of self }
     {

@@ -6,8 +6,8 @@ use std::test::Fail;
 use um_io::{Failed, MemorySink, MemorySource, PlainSource, Source};
 use um_lines::{LineFault, Text, refused_line};
 
-/// Answers lines by their lengths. One octet opens and closes, three octets are refused, and the
-/// input may not end while something is open.
+/// Answers lines by their lengths. One octet opens or closes, three octets are refused, and the
+/// input may not end while open.
 #[derive(Drop)]
 struct Sizes {
     open: bool,
@@ -28,7 +28,7 @@ impl Command for Sizes {
 
     ghost start = { λ s. s.open };
 
-    ghost stands = { λ s a. s.open ≡ a };
+    ghost represents = { λ s a. s.open ≡ a };
 
     ghost Kept = { Unit {0} };
 
@@ -103,7 +103,7 @@ fn lines_are_answered_up_to_the_first_bad_one(rt: HostRuntime) -> Result<(), Fai
     Ok(())
 }
 
-// Four octets a reading: the lines end in the first, the third and the fourth.
+// Read four octets at a time, its lines end in the first, the third and the fourth reading.
 const THREE: &[u8] = b"ab\nhello\nxyzzy\n";
 
 const ANSWERS: &[u8] = b"refused 2 twice\nrefused 5 twice\nrefused 5 twice\n";

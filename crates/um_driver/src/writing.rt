@@ -3,7 +3,8 @@ ghost use Rattle.um_driver.specs.Taking.{TakesAll, Counted};
 
 use um_io::{Failed, Sink};
 
-/// Writes the whole piece, in as many calls of the sink as it takes. After a failure a front of it was taken.
+/// Writes all octets of `piece`, in as many calls as needed. After a failure a prefix of them was
+/// taken.
 pub fn put_all<K: Sink>(output: &mut K, piece: &[u8]) -> Result<(), Failed>
     ensures taken { TakesAll (K.taken output.old) (K.taken output.new) result piece.now }
     ensures counted { Counted result (K.faults output.old) (K.faults output.new) }

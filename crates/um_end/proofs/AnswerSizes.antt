@@ -1,4 +1,5 @@
--- How long an answer is: a step reports at most one message, and beside it at most that another was acknowledged.
+-- The length of an answer: a step reports at most one message, preceded by at most one
+-- acknowledgement, so its lines fit the output buffer.
 use Rattle.std.proofs.Common.{◌≡◌, ℕ, ◌+◌, ◌*◌, ◌<◌, ◌≤◌, ◌^◌, Bool, true, false, ◌&&◌}
 use Rattle.std.proofs.Common.{if◌then◌else◌, nat_eq, nat_lt, ℤ, pos, negsuc, nat_abs, List, [], ◌∷◌, ◌++◌, length}
 use Rattle.std.proofs.Common.{length-append, append-nil, codes, map, Option, None, Some, refl, sym, ap, ◌∙◌, subst, arith}
@@ -13,10 +14,10 @@ use Rattle.std.proofs.lemmas.List.{length-map}
 use Rattle.lapdm_frame.specs.declared.Channel.TheVariants.{Sdcch}
 use Rattle.lapdm_frame.specs.Content.{Content, I, Rr, Rnr, Rej, Sabm, Dm, Ui, Disc, Ua, Frame, information}
 use Rattle.lapdm_frame.specs.Frames.{InformationFits, IsFrame, octets_of}
-use Rattle.segmenting.specs.declared.joiner.Joined.{Joined}
-use Rattle.segmenting.specs.declared.joiner.Joined.TheVariants as J
-use Rattle.segmenting.specs.Pieces.{Message, Piece, longest}
-use Rattle.segmenting.specs.Joining.{open_part, answer_to}
+use Rattle.lapdm_window.specs.segmenting.declared.joiner.Joined.{Joined}
+use Rattle.lapdm_window.specs.segmenting.declared.joiner.Joined.TheVariants as J
+use Rattle.lapdm_window.specs.segmenting.Segments.{Message, Segment, longest}
+use Rattle.lapdm_window.specs.segmenting.Joining.{open_part, answer_to}
 use Rattle.lapdm_window.specs.declared.Sapi.{Sapi}
 use Rattle.lapdm_window.specs.declared.Sapi.TheVariants.{Zero, Three}
 use Rattle.lapdm_window.specs.declared.State.{State}
@@ -24,30 +25,31 @@ use Rattle.lapdm_window.specs.declared.State.TheVariants as S
 use Rattle.lapdm_window.specs.declared.Notice.{Notice}
 use Rattle.lapdm_window.specs.declared.Notice.TheVariants as N
 use Rattle.lapdm_window.specs.declared.Reason.TheVariants as R
-use Rattle.lapdm_window.specs.Ends.{Role, Mobile, Network, EndState, Outcome, stays, ◌then◌, next_piece, n200, vr}
-use Rattle.lapdm_window.specs.Rules.{has_next, sends_piece, sends_next, acknowledges, reports_acked, counts, notices_of, accepts, says_rr}
-use Rattle.lapdm_window.specs.Rules.{answers_piece, reject_is_due, rejects, takes_i, answers_poll, takes_rr, sends_again, takes_rej}
-use Rattle.lapdm_window.specs.Calls.{Call, Opens, OpensBare, Sends, SendsUnit, Closes, Ticks, Idles, after_call, with_taken}
+use Rattle.lapdm_window.specs.Ends.{Role, Mobile, Network, EndState, Outcome, stays, ◌then◌, next_segment, n200, vr}
+use Rattle.lapdm_window.specs.Rules.{has_next, sends_segment, sends_next, acknowledges, reports_acked, counts, notices_of, accepts, says_rr}
+use Rattle.lapdm_window.specs.Rules.{answers_segment, reject_is_due, rejects, takes_i_frame, answers_poll, takes_rr, sends_again, takes_rej}
+use Rattle.lapdm_window.specs.Calls.{Call, Opens, OpensBare, Sends, SendsUnit, Closes, T200Expires, Idles, after_call, with_taken}
 use Rattle.lapdm_window.specs.Tables.{Reply, Nothing, SaysDm, SaysUa, IsOpenedBy, IsOpen, IsClosed, IsReleased, TakesUnit, TakesI}
 use Rattle.lapdm_window.specs.Tables.{TakesRr, TakesRej, becomes_closed, outcome_of, reply_to, after_frame}
 use Rattle.lapdm_window.proofs.Lemmas.{IsReplyTo, cause_of, by_sapi, few-frame, few-call}
 use Rattle.um_lines.proofs.SpelledLaws.{length-encode_lower}
 use Rattle.um_block.specs.declared.received.Received.{Received}
-use Rattle.lapdm_link.specs.Events.{Open, OpenBare, Ask, Deliver, Lose, Rival, End, call_of}
-use Rattle.um_air.specs.Air.{Octets, Block, Reads, Event, Step, Answer, Refuses, Does}
+use Rattle.um_link.specs.lapdm_link.Events.{Open, OpenBare, Ask, Deliver, Lose, Rival, BySide, call_of}
+use Rattle.um_link.specs.um_air.Air.{Octets, Block, Reads, Event, Step, Answer, Refuses, Does}
 use Rattle.um_link.specs.Coded.{AreCoded}
 use Rattle.um_lines.specs.Spelled.{octets_word}
 use Rattle.um_script.specs.AnswerWords.{who_word, link_word}
 use Rattle.um_script.specs.AnswerLines as L
-use Rattle.um_script.specs.AnswerLines.{Said, heard, heard_words, notice_words, block_line, arrival_lines, spaced, lines_text}
-use Rattle.um_script.specs.AnswerLines.{answer_text, FitsHeard}
-use Rattle.um_script.proofs.AnswerLaws.{lines_text_append, join-spaced, told_line}
-use Rattle.um_end.specs.Terminals.{SideState, link_in, does, does_nothing, takes, takes_read, step_of, IsAsked, Asks, Hears}
+use Rattle.um_script.specs.AnswerLines.{AnswerLine, reception, reception_words, notice_words, block_line, arrival_lines, spaced_words}
+use Rattle.um_script.specs.AnswerLines.{lines_text}
+use Rattle.um_script.specs.AnswerLines.{answer_text, FitsReception}
+use Rattle.um_script.proofs.AnswerLaws.{lines_text_append, join-spaced, report_line}
+use Rattle.um_end.specs.Terminals.{SideState, link_in, does, does_nothing, takes, takes_read, step_of, IsAsked, Asks, ReceivesBursts}
 use Rattle.um_end.specs.EndRuns.{frames_of, IsAnswerText}
 
 -- ---- what a step reports
 
--- octets of at most one message, or a number of at most 20 digits
+-- the octets of at most one message, or a number of at most 20 digits
 abbrev pub IsLight : Notice → Type 0
 IsLight (N.Opened m) = length m ≤ 251
 IsLight (N.Got m) = length m ≤ 251
@@ -56,7 +58,7 @@ IsLight (N.Acked n) = n < 2 ^ 64
 IsLight N.Oversize = Unit {0}
 IsLight (N.Closed reason) = Unit {0}
 
--- nothing, or that a message is acknowledged
+-- no notice, or an acknowledgement
 abbrev pub IsAcked : List Notice → Type 0
 IsAcked [] = Unit {0}
 IsAcked (N.Acked n ∷ []) = n < 2 ^ 64
@@ -68,7 +70,7 @@ IsOne [] = Unit {0}
 IsOne (notice ∷ []) = IsLight notice
 IsOne other = ⊥
 
--- at most one notice, behind that a message is acknowledged
+-- at most one notice, and an acknowledgement before it
 abbrev pub IsBrief : List Notice → Type 0
 IsBrief [] = Unit {0}
 IsBrief (notice ∷ []) = IsLight notice
@@ -100,13 +102,13 @@ by_test : (P : List Notice → Type 0) (b : Bool) (o p : Outcome) → P o.notice
 by_test P true o p h g = h
 by_test P false o p h g = g
 
--- ---- the rules of the window
+-- ---- window rules
 
 next : (e : EndState) → (sends_next e).notices ≡ []
-next e = by_test (λ ns. ns ≡ []) (has_next e) (sends_piece e) (stays e) refl refl
+next e = by_test (λ ns. ns ≡ []) (has_next e) (sends_segment e) (stays e) refl refl
 
 acked : (nr : ℕ) (e : EndState) → IsAcked (counts nr e).notices
-acked nr e = by_test IsAcked (acknowledges nr e) (reports_acked (next_piece e).1 e) (stays e) (by_more (next_piece e).1) tt
+acked nr e = by_test IsAcked (acknowledges nr e) (reports_acked (next_segment e).1 e) (stays e) (by_more (next_segment e).1) tt
   where
     by_more : (b : Bool) → IsAcked (reports_acked b e).notices
     by_more true = tt
@@ -117,26 +119,26 @@ IsWhole J.Whole = Unit {0}
 IsWhole J.More = ⊥
 IsWhole J.Oversize = ⊥
 
-accepted : (piece : Piece) (e : EndState) → IsOne (accepts piece e).notices
-accepted piece e = by_answer (answer_to e.accepted piece) piece.1 refl
+accepted : (segment : Segment) (e : EndState) → IsOne (accepts segment e).notices
+accepted segment e = by_answer (answer_to e.accepted segment) segment.1 refl
   where
     m : Message
-    m = open_part e.accepted ++ piece.0
+    m = open_part e.accepted ++ segment.0
 
-    by_answer : (j : Joined) (b : Bool) → answer_to e.accepted piece ≡ j → IsOne (notices_of j b m)
+    by_answer : (j : Joined) (b : Bool) → answer_to e.accepted segment ≡ j → IsOne (notices_of j b m)
     by_answer J.Whole b is = whole (nat_lt longest (length m)) refl
       where
         whole : (t : Bool) → nat_lt longest (length m) ≡ t → length m ≤ 251
         whole true q =
-            absurd (subst IsWhole (sym is ∙ ap (λ (t : Bool). if t then J.Oversize else (if piece.1 then J.More else J.Whole)) q) tt)
+            absurd (subst IsWhole (sym is ∙ ap (λ (t : Bool). if t then J.Oversize else (if segment.1 then J.More else J.Whole)) q) tt)
         whole false q = grind (arith, nat_tests)
     by_answer J.Oversize false is = tt
     by_answer J.Oversize true is = tt
     by_answer J.More b is = tt
 
-answered : (p : Bool) (e : EndState) → (answers_piece p e).notices ≡ []
+answered : (p : Bool) (e : EndState) → (answers_segment p e).notices ≡ []
 answered true e = next e
-answered false e = by_test (λ ns. ns ≡ []) (has_next e) (sends_piece e) (says_rr false e) refl refl
+answered false e = by_test (λ ns. ns ≡ []) (has_next e) (sends_segment e) (says_rr false e) refl refl
 
 rejected : (p : Bool) (e : EndState) → IsOne (rejects p e).notices
 rejected p e = by_test IsOne (reject_is_due p e) _ (stays e) tt tt
@@ -147,17 +149,18 @@ polled b e = by_test IsOne b (says_rr true e) (stays e) tt tt
 again : (e : EndState) → (sends_again e).notices ≡ []
 again e = by_test (λ ns. ns ≡ []) _ _ (sends_next e) refl (next e)
 
--- an N(R) is counted, and one rule and another follow
+-- N(R) is processed, and then two rules in turn
 counted : (nr : ℕ) (first second : EndState → Outcome) (e : EndState) → ((x : EndState) → IsOne (first x).notices) →
     ((x : EndState) → (second x).notices ≡ []) → IsBrief (counts nr e then first then second).notices
 counted nr first second e h g =
     let o = counts nr e in
     all_three o.notices (first o.after).notices (second (o then first).after).notices (acked nr e) (h o.after) (g (o then first).after)
 
-brief-i : (ns nr : ℕ) (p : Bool) (piece : Piece) (e : EndState) → IsBrief (takes_i ns nr p piece e).notices
-brief-i ns nr p piece e =
-    by_test IsBrief (nat_eq ns (vr e)) (counts nr e then accepts piece then answers_piece p) (counts nr e then rejects p then sends_next)
-    (counted nr (accepts piece) (answers_piece p) e (accepted piece) (answered p))
+brief-i : (ns nr : ℕ) (p : Bool) (segment : Segment) (e : EndState) → IsBrief (takes_i_frame ns nr p segment e).notices
+brief-i ns nr p segment e =
+    by_test IsBrief (nat_eq ns (vr e)) (counts nr e then accepts segment then answers_segment p)
+    (counts nr e then rejects p then sends_next)
+    (counted nr (accepts segment) (answers_segment p) e (accepted segment) (answered p))
     (counted nr (rejects p) sends_next e (rejected p) next)
 
 brief-rr : (nr : ℕ) (b : Bool) (e : EndState) → IsBrief (takes_rr nr b e).notices
@@ -166,9 +169,9 @@ brief-rr nr b e = counted nr (answers_poll b) sends_next e (polled b) next
 brief-rej : (nr : ℕ) (b : Bool) (e : EndState) → IsBrief (takes_rej nr b e).notices
 brief-rej nr b e = counted nr (answers_poll b) sends_again e (polled b) again
 
--- ---- the tables
+-- ---- reply tables
 
--- the information of a frame that a reply repeats
+-- a reply repeats at most the information of its frame
 short : (c d : Content) → c ≡ d → length (information c) ≤ 251 → length (information d) ≤ 251
 short c d is h = subst (λ (x : Content). length (information x) ≤ 251) is h
 
@@ -182,11 +185,11 @@ brief-reply (IsOpen info) c e cause h = short c _ cause.0 h
 brief-reply (IsClosed reason) c e cause h = tt
 brief-reply IsReleased c e cause h = tt
 brief-reply (TakesUnit info) c e cause h = short c _ cause.1 h
-brief-reply (TakesI ns nr p piece) c e cause h = brief-i ns nr p piece e
+brief-reply (TakesI ns nr p segment) c e cause h = brief-i ns nr p segment e
 brief-reply (TakesRr nr poll) c e cause h = brief-rr nr poll e
 brief-reply (TakesRej nr poll) c e cause h = brief-rej nr poll e
 
--- a step at a frame, and one at a call, reports at most one message, behind that another is acknowledged
+-- a frame or a call leads to at most one notice, and an acknowledgement before it
 pub brief-frame : (f : Frame) (e : EndState) → length (information f.content) ≤ 251 → IsBrief (after_frame f e).notices
 brief-frame f e h = brief-reply (reply_to f e) f.content e (cause_of e f) h
 
@@ -196,7 +199,7 @@ brief-call OpensBare e = tt
 brief-call (Sends m) e = subst IsBrief (sym (next (with_taken m e))) tt
 brief-call (SendsUnit m) e = tt
 brief-call Closes e = tt
-brief-call Ticks e = by_test IsBrief (nat_lt e.retries (n200 e.channel e.state)) _ (becomes_closed _ e) tt tt
+brief-call T200Expires e = by_test IsBrief (nat_lt e.retries (n200 e.channel e.state)) _ (becomes_closed _ e) tt tt
 brief-call Idles e = tt
 
 -- ---- texts
@@ -207,7 +210,7 @@ append_four a b c d = omega (arith, length-append (a ++ b ++ c) d, length-append
 append_five : (a b c d e : List ℕ) → length (a ++ b ++ c ++ d ++ e) ≡ length a + length b + length c + length d + length e
 append_five a b c d e = omega (arith, length-append (a ++ b ++ c ++ d) e, append_four a b c d)
 
-who_three : (role : Role) → length (who_word (End role)) ≡ 3
+who_three : (role : Role) → length (who_word (BySide role)) ≡ 3
 who_three Mobile = refl
 who_three Network = refl
 
@@ -215,14 +218,14 @@ link_short : (sapi : Sapi) → length (link_word sapi) ≤ 1
 link_short Zero = omega arith
 link_short Three = omega arith
 
-acked_short : (n : ℕ) → n < 2 ^ 64 → length (spaced (notice_words (N.Acked n))) ≤ 27
+acked_short : (n : ℕ) → n < 2 ^ 64 → length (spaced_words (notice_words (N.Acked n))) ≤ 27
 acked_short n h = omega (arith, length-append (decimal n) [], length-decimal-le 20 n (omega arith) (omega (arith, h)) h)
 
 octets_short : (m : List ℕ) → length m ≤ 251 → length (octets_word m) ≤ 502
 octets_short [] h = omega arith
 octets_short (octet ∷ rest) h = omega (arith, h, length-encode_lower (octet ∷ rest))
 
-notice_short : (notice : Notice) → IsLight notice → length (spaced (notice_words notice)) ≤ 510
+notice_short : (notice : Notice) → IsLight notice → length (spaced_words (notice_words notice)) ≤ 510
 notice_short (N.Opened m) h = omega (arith, length-append (octets_word m) [], octets_short m h)
 notice_short (N.Got m) h = omega (arith, length-append (octets_word m) [], octets_short m h)
 notice_short (N.Unit m) h = omega (arith, length-append (octets_word m) [], octets_short m h)
@@ -233,18 +236,18 @@ notice_short (N.Closed R.Failed) h = omega arith
 notice_short (N.Closed R.Refused) h = omega arith
 notice_short (N.Closed R.Released) h = omega arith
 
--- the lines of what is reported
-abbrev told : Role → Sapi → List Notice → List ℕ
-told role sapi notices = lines_text (map (L.Tells (End role) sapi) notices)
+-- the lines of notices
+abbrev notified : Role → Sapi → List Notice → List ℕ
+notified role sapi notices = lines_text (map (L.Reports (BySide role) sapi) notices)
 
 line_short : (role : Role) (sapi : Sapi) (notice : Notice) (notices : List Notice) →
-    length (told role sapi (notice ∷ notices)) ≤ 5 + length (spaced (notice_words notice)) + length (told role sapi notices)
+    length (notified role sapi (notice ∷ notices)) ≤ 5 + length (spaced_words (notice_words notice)) + length (notified role sapi notices)
 line_short role sapi notice notices =
-    let rest = told role sapi notices in
-    let all = append_five (who_word (End role)) (link_word sapi) (spaced (notice_words notice)) (codes "\n") rest in
-    omega (arith, all, ap length (told_line [] (End role) sapi notice rest), who_three role, link_short sapi)
+    let rest = notified role sapi notices in
+    let all = append_five (who_word (BySide role)) (link_word sapi) (spaced_words (notice_words notice)) (codes "\n") rest in
+    omega (arith, all, ap length (report_line [] (BySide role) sapi notice rest), who_three role, link_short sapi)
 
-notices_short : (role : Role) (sapi : Sapi) (ns : List Notice) → IsBrief ns → length (told role sapi ns) ≤ 547
+notices_short : (role : Role) (sapi : Sapi) (ns : List Notice) → IsBrief ns → length (notified role sapi ns) ≤ 547
 notices_short role sapi [] h = omega arith
 notices_short role sapi (n ∷ []) h = omega (arith, line_short role sapi n [], notice_short n h)
 notices_short role sapi (N.Acked k ∷ n ∷ []) h =
@@ -257,16 +260,16 @@ notices_short role sapi (N.Oversize ∷ n ∷ ns) h = absurd h
 notices_short role sapi (N.Closed reason ∷ n ∷ ns) h = absurd h
 
 frames_short : (role : Role) (tsc : ℕ) (frames : List Octets) (blocks : List Block) → AreCoded tsc frames blocks →
-    length (lines_text (map (L.Sends (End role)) frames)) ≡ 57 * length frames
+    length (lines_text (map (L.Sends (BySide role)) frames)) ≡ 57 * length frames
 frames_short role tsc [] [] h = refl
 frames_short role tsc [] (b ∷ bs) h = absurd h
 frames_short role tsc (f ∷ fs) [] h = absurd h
 frames_short role tsc (f ∷ fs) (b ∷ bs) h =
-    let name = who_word (End role) in
+    let name = who_word (BySide role) in
     let words = codes " sends " ++ encode_lower f in
     omega (
       arith,
-      length-append ((name ++ words) ++ codes "\n") (lines_text (map (L.Sends (End role)) fs)),
+      length-append ((name ++ words) ++ codes "\n") (lines_text (map (L.Sends (BySide role)) fs)),
       length-append (name ++ words) (codes "\n"),
       length-append name words,
       who_three role,
@@ -279,8 +282,8 @@ mag_is : (z : ℤ) → mag z ≤ nat_abs z
 mag_is (pos n) = omega arith
 mag_is (negsuc n) = omega arith
 
-heard_short : (r : Received) → r.tsc ≤ 7 → FitsHeard (heard r) → length (spaced (heard_words (heard r))) ≤ 61
-heard_short r tsc h =
+reception_short : (r : Received) → r.tsc ≤ 7 → FitsReception (reception r) → length (spaced_words (reception_words (reception r))) ≤ 61
+reception_short r tsc h =
     let t = length-decimal-le 1 r.tsc (omega arith) (omega (arith, tsc)) (omega (arith, tsc)) in
     let w = length-decimal-le 20 r.wrong_training (omega arith) (omega (arith, h.train)) h.train in
     let m = length_signed_le 19 r.metric (omega (arith, h.metric, mag_is r.metric)) (omega (arith, h.metric, mag_is r.metric)) in
@@ -297,32 +300,32 @@ heard_short r tsc h =
     )
 
 arrival_short : (role : Role) (r : Received) (octets : Octets) → r.accepted ≡ Some octets → length octets ≡ 23 → r.tsc ≤ 7 →
-    FitsHeard (heard r) → length (lines_text (arrival_lines (End role) (Some r))) ≤ 118
+    FitsReception (reception r) → length (lines_text (arrival_lines (BySide role) (Some r))) ≤ 118
 arrival_short role r octets is count tsc fits =
-    let name = who_word (End role) in
-    let words = codes "takes" ∷ encode_lower octets ∷ heard_words (heard r) in
+    let name = who_word (BySide role) in
+    let words = codes "takes" ∷ encode_lower octets ∷ reception_words (reception r) in
     let line = join_with_byte 32 (name ∷ words) in
     omega (
       arith,
-      ap (λ accepted. length (lines_text (block_line (End role) accepted r ∷ []))) is,
+      ap (λ accepted. length (lines_text (block_line (BySide role) accepted r ∷ []))) is,
       length-append (line ++ codes "\n") [],
       length-append line (codes "\n"),
       ap length (join-spaced name words),
-      length-append name (spaced words),
-      length-append (encode_lower octets) (spaced (heard_words (heard r))),
+      length-append name (spaced_words words),
+      length-append (encode_lower octets) (spaced_words (reception_words (reception r))),
       who_three role,
       length-encode_lower octets,
       count,
-      heard_short r tsc fits,
+      reception_short r tsc fits,
     )
 
 -- ---- answers
 
--- an answer's lines, and those of the bursts of each frame that is sent
+-- the lines of an answer, and those of the bursts of each frame sent
 abbrev pub IsShort : Answer → Type 0
 IsShort answer = length (answer_text answer) + 604 * length (frames_of answer) < 2000
 
-lines_four : (a b c d : List Said) → length (lines_text (a ++ b ++ c ++ d))
+lines_four : (a b c d : List AnswerLine) → length (lines_text (a ++ b ++ c ++ d))
     ≡ length (lines_text a) + length (lines_text b) + length (lines_text c) + length (lines_text d)
 lines_four a b c d =
     ap length (lines_text_append (a ++ b ++ c) d ∙ ap (λ t. t ++ lines_text d) (lines_text_append (a ++ b) c
@@ -330,11 +333,12 @@ lines_four a b c d =
     ∙ append_four (lines_text a) (lines_text b) (lines_text c) (lines_text d)
 
 outcome_short : (role : Role) (received : Option Received) (sapi : Sapi) (o : Outcome) (a : SideState) (tsc : ℕ) (blocks : List Block) →
-    length o.frames ≤ 2 → IsBrief o.notices → length (lines_text (arrival_lines (End role) received)) ≤ 118 →
+    length o.frames ≤ 2 → IsBrief o.notices → length (lines_text (arrival_lines (BySide role) received)) ≤ 118 →
     AreCoded tsc (map (octets_of Sdcch) o.frames) blocks → IsShort (Does (step_of role received (does sapi o a)))
 outcome_short role received sapi o a tsc blocks few brief arrived coded =
     let frames = map (octets_of Sdcch) o.frames in
-    let all = lines_four (arrival_lines (End role) received) (map (L.Tells (End role) sapi) o.notices) (map (L.Sends (End role)) frames)
+    let all = lines_four (arrival_lines (BySide role) received) (map (L.Reports (BySide role) sapi) o.notices)
+    (map (L.Sends (BySide role)) frames)
     (L.All ∷ []) in
     omega (
       arith,
@@ -368,7 +372,7 @@ call_short role a event b answer tsc text h t lines = by_event event h
     by_event (Lose sender) h = absurd h
     by_event (Rival info) h = absurd h
 
--- where nothing is sent
+-- if nothing is sent
 unsent : (step : Step) → step.frames ≡ [] → length (answer_text (Does step)) < 2000 → IsShort (Does step)
 unsent step none lines = let n = ap (λ fs. length fs) none in omega (arith, n, lines)
 
@@ -378,7 +382,7 @@ has_room other h = omega (arith, h)
 
 taken_short : (role : Role) (a : SideState) (r : Received) (f : Frame) (octets : Octets) (tsc : ℕ) (blocks : List Block) →
     r.accepted ≡ Some octets →
-    IsFrame Sdcch f octets → r.tsc ≤ 7 → FitsHeard (heard r) → AreCoded tsc (step_of role (Some r) (takes f a)).frames blocks →
+    IsFrame Sdcch f octets → r.tsc ≤ 7 → FitsReception (reception r) → AreCoded tsc (step_of role (Some r) (takes f a)).frames blocks →
     length (answer_text (Does (step_of role (Some r) (takes f a)))) < 2000 → IsShort (Does (step_of role (Some r) (takes f a)))
 taken_short role a r f octets tsc blocks is frame known fits =
     let arrived = arrival_short role r octets is frame.count known fits in
@@ -393,7 +397,8 @@ taken_short role a r f octets tsc blocks is frame known fits =
 
 -- the answer to a block
 pub block_short : (role : Role) (a : SideState) (bursts : List (List ℤ)) (b : SideState) (step : Step) (tsc : ℕ) (text : List ℕ) →
-    Hears role a bursts b step → ((r : Received) → step.received ≡ Some r → FitsHeard (heard r)) → IsAnswerText tsc (Does step) text →
+    ReceivesBursts role a bursts b step → ((r : Received) → step.received ≡ Some r → FitsReception (reception r)) →
+    IsAnswerText tsc (Does step) text →
     length (answer_text (Does step)) < 2000 → IsShort (Does step)
 block_short role a bursts b step tsc text h fits t lines = by_read h.read h.report.accepted h.reads refl h.step_is
   where

@@ -1,18 +1,18 @@
--- A line is answered by what its call or its block comes to.
+-- The answer to a line is the answer of its call or its block.
 use Rattle.std.proofs.Common.{◌≡◌, ℕ, ◌+◌, ◌<◌, List, [], ◌∷◌, ◌++◌, length, take, get_or, append_assoc}
 use Rattle.std.proofs.Common.{append-nil, refl, sym, ap, ◌∙◌, subst}
 use Rattle.std.specs.List.{flat_map}
 use Rattle.std.proofs.lemmas.List.{take_more}
 use Rattle.lapdm_window.specs.Ends.{Role}
 use Rattle.um_block.specs.Sent.{IsSentBlock}
-use Rattle.um_text.specs.BurstTexts.{block_text}
-use Rattle.um_air.specs.Air.{Octets, Block}
-use Rattle.um_link.specs.Coded.{Adds}
+use Rattle.um_formats.specs.BurstTexts.{block_text}
+use Rattle.um_link.specs.um_air.Air.{Octets, Block}
+use Rattle.um_link.specs.Coded.{AppendsCoded}
 use Rattle.um_link.proofs.Adding.{adds-more}
 use Rattle.um_end.specs.declared.command.OneEnd.{OneEnd}
-use Rattle.um_end.specs.Standing.{side_of}
+use Rattle.um_end.specs.Abstraction.{side_of}
 use Rattle.um_end.specs.EndRuns.{EndRun, IsCodedText}
-use Rattle.um_end.specs.Commands.{StandsFor}
+use Rattle.um_end.specs.Commands.{RunRepresents}
 
 -- ---- texts
 
@@ -25,7 +25,7 @@ coded_more : (tsc : ℕ) (os : List Octets) (o : Octets) (old mid new : List ℕ
     IsSentBlock o tsc b →
     new ≡ mid ++ block_text b → IsCodedText tsc (os ++ o ∷ []) old new
 coded_more tsc os o old mid new b h sent is =
-    let a : Adds tsc (os ++ o ∷ []) [] (h.blocks ++ b ∷ []) =
+    let a : AppendsCoded tsc (os ++ o ∷ []) [] (h.blocks ++ b ∷ []) =
     adds-more tsc os [] h.blocks o b (record { blocks = h.blocks; coded = h.coded; behind = refl }) sent in
     record {
       blocks = a.blocks;
@@ -41,10 +41,10 @@ coded_next tsc os i old mid new b within h sent is =
     subst (λ (x : List Octets). IsCodedText tsc x old new) (sym (take_more os i [] within))
     (coded_more tsc (take i os) (get_or os i []) old mid new b h sent is)
 
--- ---- what stands for a run
+-- ---- the run that a command represents
 
--- what holds for the side and the number of bursts held, holds in the run
-pub at_run : (P : Role → ℕ → Type 0) (c : OneEnd) (s : EndRun) (count : ℕ) → StandsFor c s → count ≡ length c.held.held →
+-- if P holds for the side and the number of bursts of the command, it holds for those of the run that the command represents
+pub at_run : (P : Role → ℕ → Type 0) (c : OneEnd) (s : EndRun) (count : ℕ) → RunRepresents c s → count ≡ length c.held.held →
     P (side_of c.terminal) count →
     P s.role (length s.held)
 at_run P c s count st e h =

@@ -1,4 +1,4 @@
--- Calls and bursts determine their answers and the links after them.
+-- A call, or the bursts of a block, determines the answer and the links after it.
 use Rattle.std.proofs.Common.{◌≡◌, sym, ◌∙◌, ap, ap₂, subst, ℤ, List, Option, Some, None}
 use Rattle.lapdm_frame.specs.declared.Channel.TheVariants.{Sdcch}
 use Rattle.lapdm_frame.specs.Content.{Frame}
@@ -7,12 +7,12 @@ use Rattle.lapdm_window.specs.Calls.{Call}
 use Rattle.lapdm_window.specs.Ends.{Role}
 use Rattle.um_block.specs.declared.received.Received.{Received}
 use Rattle.um_block.proofs.Lemmas.{one_received_block}
-use Rattle.lapdm_link.specs.Events.{Open, OpenBare, Ask, Deliver, Lose, Rival, Why, Nothing, call_of}
-use Rattle.um_air.specs.Air.{Event, Reads, Step, Answer, Refuses, Does}
-use Rattle.um_air.proofs.Laws.{one_read}
+use Rattle.um_link.specs.lapdm_link.Events.{Open, OpenBare, Ask, Deliver, Lose, Rival, Why, Nothing, call_of}
+use Rattle.um_link.specs.um_air.Air.{Event, Reads, Step, Answer, Refuses, Does}
+use Rattle.um_link.proofs.um_air.Laws.{one_read}
 use Rattle.lapdm_window.specs.Calls.{Opens, OpensBare}
 use Rattle.lapdm_window.specs.declared.Sapi.TheVariants.{Zero, Three}
-use Rattle.um_end.specs.Terminals.{SideState, takes_read, step_of, IsAsked, Asks, Hears}
+use Rattle.um_end.specs.Terminals.{SideState, takes_read, step_of, IsAsked, Asks, ReceivesBursts}
 
 why_or : Option Why → Why
 why_or (Some why) = why
@@ -42,9 +42,10 @@ one_asking role a (Deliver sender places) b c x y h k = absurd h
 one_asking role a (Lose sender) b c x y h k = absurd h
 one_asking role a (Rival info) b c x y h k = absurd h
 
-pub one_hearing : (role : Role) (a : SideState) (bursts : List (List ℤ)) (b c : SideState) (s t : Step) → Hears role a bursts b s →
-    Hears role a bursts c t → (b ≡ c) × (s ≡ t)
-one_hearing role a bursts b c s t h k =
+pub one_reception : (role : Role) (a : SideState) (bursts : List (List ℤ)) (b c : SideState) (s t : Step) →
+    ReceivesBursts role a bursts b s →
+    ReceivesBursts role a bursts c t → (b ≡ c) × (s ≡ t)
+one_reception role a bursts b c s t h k =
     let report : h.report ≡ k.report = one_received_block bursts h.report k.report h.received k.received in
     let read : h.read ≡ k.read =
     one_read Sdcch k.report.accepted h.read k.read (subst (λ (q : Received). Reads Sdcch q.accepted h.read) report h.reads) k.reads in (

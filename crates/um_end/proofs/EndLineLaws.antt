@@ -1,4 +1,5 @@
--- The lines of one end, by those of a script and of `replay`.
+-- The line forms of `end`, reduced to those of a script and of `replay`: a line that begins with an
+-- endpoint of the side is a script line, every other line is a burst.
 use Rattle.std.proofs.Common.{◌≡◌, ℕ, ℤ, ◌≤◌, ◌==◌, Bool, true, false, not, ◌&&◌, ◌||◌, List, [], ◌∷◌}
 use Rattle.std.proofs.Common.{◌++◌, length, map, option_map, Option, Some, None, codes, if◌then◌else◌, refl, ap, sym, ◌∙◌}
 use Rattle.std.proofs.Common.{subst, inl, inr}
@@ -6,8 +7,8 @@ use Rattle.std.specs.Str.{bytes_eq}
 use Rattle.std.proofs.lemmas.Bool.{cases_Bool, le-ltb}
 use Rattle.std.proofs.lemmas.Slice.Eq.{bytes_eq-Decides}
 use Rattle.lapdm_window.specs.Ends.{Role, Mobile, Network}
-use Rattle.um_air.specs.Air.{Event}
-use Rattle.um_air.specs.Sessions.{IsOctetEvent}
+use Rattle.um_link.specs.um_air.Air.{Event}
+use Rattle.um_link.specs.um_air.Sessions.{IsOctetEvent}
 use Rattle.um_lines.specs.declared.fault.LineFault.{LineFault}
 use Rattle.um_lines.specs.declared.fault.LineFault.TheVariants.{Word, Order, Digits, Length, Soft, Twice}
 use Rattle.um_lines.specs.declared.fault.LineFault.TheVariants as R
@@ -22,9 +23,9 @@ use Rattle.um_lines.specs.LinkForms as L
 use Rattle.um_lines.specs.Meanings.{HasOneMeaningUnless}
 use Rattle.um_lines.specs.Reading.{LineIs}
 use Rattle.um_lines.proofs.FormLaws.{line_means, one_meaning, one_made}
-use Rattle.um_text.specs.declared.burst_lines.BurstLine.{BurstLine}
-use Rattle.um_text.specs.BurstLines.{burst_line, burst_fault, BurstMeans}
-use Rattle.um_text.proofs.BurstLaws.{one_meaning as one_burst, AreSoft, hard, soft, lost}
+use Rattle.um_formats.specs.declared.burst_lines.BurstLine.{BurstLine}
+use Rattle.um_formats.specs.BurstLines.{burst_line, burst_fault, BurstMeans}
+use Rattle.um_formats.proofs.BurstLaws.{one_meaning as one_burst, AreSoft, hard, soft, lost}
 use Rattle.um_lines.proofs.KnownValues.{line_is}
 use Rattle.um_lines.proofs.OneMeaning.{no_fault, same_meaning}
 use Rattle.um_script.specs.ScriptLines.{event_said, ScriptMeans}
@@ -32,16 +33,16 @@ use Rattle.um_link.specs.Naming.{event_of}
 use Rattle.um_end.specs.declared.lines.EndLine.{EndLine}
 use Rattle.um_end.specs.declared.lines.EndLine.TheVariants as V
 use Rattle.um_end.specs.Terminals.{IsCallOf}
-use Rattle.um_end.specs.EndLines.{Meaning, Nothing, Brings, Calls, meaning_of, IsPossible, own_forms, brought_by, called, end_line}
+use Rattle.um_end.specs.EndLines.{Meaning, Nothing, Brings, Calls, meaning_of, IsPossible, own_forms, brought_by, call_meaning, end_line}
 use Rattle.um_end.specs.EndLines.{end_fault, EndMeans, begins_own, inside, without_singles}
 
--- ---- lines without a reason, of any table
+-- ---- lines without a fault, of any table
 
 module _ {Name A : Type 0} (table : Table Name) (elsewhere : Name → Bool) (make : Option (Name × List Value) → A) (line : List ℕ) where
   means_said : line_fault table elsewhere line ≡ None → LineIs table elsewhere make line (make (line_says table line))
   means_said good = (line_says table line, line_means table elsewhere line good, refl)
 
--- ---- the same forms by other names
+-- ---- the same forms under other names
 
 abbrev renamed : {A B : Type 0} → (A → B) → Table A → Table B
 renamed {A} name table = map (λ (entry : A × Form). (name entry.0, entry.1)) table
@@ -58,7 +59,7 @@ find_mapped name ws (entry ∷ table) =
 abbrev as_call : LinkName × Form → EndName × Form
 as_call entry = (L.Call entry.0, entry.1)
 
--- ---- lines that begin with the name of an end of the side
+-- ---- lines that begin with an endpoint of the side
 
 by_word : (P : List ℕ → Type 0) (known w : List ℕ) → P known → (bytes_eq w known ≡ false → P w) → P w
 by_word P known w here other =
@@ -79,7 +80,7 @@ own_form Network (name ∷ ws) e =
     by_word (λ n. IsOwnForm Network (n ∷ ws)) (codes "net") name (find_mapped L.Call (codes "net" ∷ ws) network_forms) (λ a.
     by_word (λ n. IsOwnForm Network (n ∷ ws)) (codes "net3") name (find_mapped L.Call (codes "net3" ∷ ws) network_forms) (λ b. absurd cc))
 
--- the same words by the forms of a side and by those of a script
+-- the same words by the forms of `end` and by those of a script
 abbrev inside_if : Bool → Option LineFault → Option LineFault
 inside_if b fault = if b then inside fault else fault
 
@@ -96,7 +97,7 @@ no_word false false false false false = refl
 
 record IsSameCall (held : ℕ) (ws : List (List ℕ)) (own : Option (EndName × Form)) (script : Option (LinkName × Form)) : Type 0 where
   pub fault : form_fault (end_elsewhere held) own ws ≡ inside_if (not (held == 0)) (form_fault anywhere script ws)
-  pub says : end_line (entry_says own ws) ≡ called (event_said (entry_says script ws))
+  pub says : end_line (entry_says own ws) ≡ call_meaning (event_said (entry_says script ws))
 
 by_bool : (P : Bool → Type 0) (b : Bool) → P true → P false → P b
 by_bool P true t f = t
@@ -127,7 +128,7 @@ own_words role held ws own =
 
 -- ---- other lines
 
--- they have the form of no call
+-- no call has the form of these words
 abbrev IsNoCall : Role → List (List ℕ) → Type 0
 IsNoCall role ws = form_of (renamed L.Call (own_forms role)) ws ≡ None
 
@@ -145,7 +146,7 @@ no_call Network (name ∷ ws) e =
     let other = neither (bytes_eq name (codes "net")) (bytes_eq name (codes "net3")) e in
     rw (other.0, other.1) refl
 
--- the same words by the forms of a side and by those of `replay` inside a block
+-- the same words by the forms of `end` and by those of `replay` inside a block
 record IsSameBurst (held : ℕ) (ws : List (List ℕ)) (own : Option (EndName × Form)) (burst : Option (BurstName × Form)) : Type 0 where
   pub fault : form_fault (end_elsewhere held) own ws ≡ without_singles (form_fault (burst_elsewhere 3) burst ws)
   pub says : form_fault (burst_elsewhere 3) burst ws ≡ None → end_line (entry_says own ws) ≡ brought_by (burst_line (entry_says burst ws))
@@ -252,20 +253,21 @@ module _ (role : Role) (held : ℕ) (line : List ℕ) (short : length line ≤ 4
         fault_of_words (end_forms (own_forms role)) (end_elsewhere held) line short kept ∙ same.fault
         ∙ ap (inside_if (not (held == 0))) (sym (fault_of_words link_forms anywhere line short kept))
 
-    own_says : end_line (line_says (end_forms (own_forms role)) line) ≡ called (event_said (line_says link_forms line))
+    own_says : end_line (line_says (end_forms (own_forms role)) line) ≡ call_meaning (event_said (line_says link_forms line))
     own_says =
         ap end_line (says_of_words (end_forms (own_forms role)) (end_elsewhere held) line short kept) ∙ same.says
-        ∙ ap (λ said. called (event_said said)) (sym (says_of_words link_forms anywhere line short kept))
+        ∙ ap (λ said. call_meaning (event_said said)) (sym (says_of_words link_forms anywhere line short kept))
 
-    -- inside a block a call has no meaning
+    -- inside a block a call is out of order
     pub inside_fault : not (held == 0) ≡ true → end_fault role held line ≡ inside (line_fault link_forms anywhere line)
     inside_fault some = own_fault ∙ rw some refl
 
-    -- elsewhere it is read as in a script
+    -- outside a block a call is read as in a script
     pub call_fault : not (held == 0) ≡ false → end_fault role held line ≡ line_fault link_forms anywhere line
     call_fault none = own_fault ∙ rw none refl
 
-    pub call_means : not (held == 0) ≡ false → (event : Option Event) → ScriptMeans line event → EndMeans role held line (called event)
+    pub call_means : not (held == 0) ≡ false → (event : Option Event) → ScriptMeans line event →
+        EndMeans role held line (call_meaning event)
     call_means none event means =
         let good : line_fault link_forms anywhere line ≡ None =
         no_fault (ScriptMeans line) (line_fault link_forms anywhere line) (script_one_meaning line) event means in
@@ -273,7 +275,7 @@ module _ (role : Role) (held : ℕ) (line : List ℕ) (short : length line ≤ 4
         same_meaning (ScriptMeans line) (line_fault link_forms anywhere line) (script_one_meaning line)
         event (event_said (line_says link_forms line)) means
         (means_said link_forms anywhere event_said line good) in
-        subst (EndMeans role held line) (own_says ∙ ap called (sym said))
+        subst (EndMeans role held line) (own_says ∙ ap call_meaning (sym said))
         (means_said (end_forms (own_forms role)) (end_elsewhere held) end_line line (call_fault none ∙ good))
 
   module _ (other : begins_own role (words line) ≡ false) where
@@ -298,7 +300,7 @@ module _ (role : Role) (held : ℕ) (line : List ℕ) (short : length line ≤ 4
         subst (EndMeans role held line) (says ∙ ap brought_by (sym said))
         (means_said (end_forms (own_forms role)) (end_elsewhere held) end_line line (other_fault ∙ ap without_singles good))
 
--- ---- what a line means, a terminal of its side can be given
+-- ---- a terminal of the side accepts the meaning of a line
 
 abbrev pub IsWell : Role → Meaning → Type 0
 IsWell role Nothing = Unit {0}
@@ -383,12 +385,12 @@ end_well Network held line meaning means =
       ),
     ) line meaning means
 
--- a burst is 148 soft values
+-- a burst has 148 soft values
 pub burst_is_soft : (role : Role) (held : ℕ) (line : List ℕ) (values : List ℤ) → EndMeans role held line (Brings values) →
     AreSoft 148 values
 burst_is_soft role held line values means = end_well role held line (Brings values) means
 
--- a call is one of the side, and of octets
+-- a call is a call of this side, and its message consists of octets
 pub call_is_own : (role : Role) (held : ℕ) (line : List ℕ) (event : Event) → EndMeans role held line (Calls event) →
     IsCallOf role event × IsOctetEvent event
 call_is_own role held line event means = end_well role held line (Calls event) means

@@ -1,4 +1,5 @@
--- The command `end` answers each good line in one way.
+-- The command `end` has one output for every input: calls and bursts have exactly one answer, which
+-- exists since every link reached holds only frames that fit and octets.
 use Rattle.std.proofs.Common.{◌≡◌, ℕ, ℤ, ◌+◌, ◌<◌, ◌≤◌, inl, inr, List, [], ◌∷◌, ◌++◌, length}
 use Rattle.std.proofs.Common.{length-append, map, Option, None, Some, refl, sym, ap, ap₂, ◌∙◌, subst, arith}
 use Rattle.std.specs.Prelude.{IfSome}
@@ -17,28 +18,29 @@ use Rattle.lapdm_window.specs.Ends.{Role, EndState, Outcome, IsEnd, start}
 use Rattle.lapdm_window.specs.Calls.{Call, Opens, OpensBare, HasCall, refusal_of, after_call}
 use Rattle.lapdm_window.specs.Tables.{after_frame}
 use Rattle.lapdm_window.proofs.Lemmas.{by_sapi, Keeps, keeps-call, keeps-frame, IsEnd-start}
-use Rattle.lapdm_link.proofs.Lemmas.{AreOctets, CallOctets, EndOctets, SaysOctets, AllSay, OutcomeOctets, call-octets, frame-octets}
-use Rattle.lapdm_link.specs.Events.{Request, Send, SendUnit, Close, Tick, Idle, Open, OpenBare, Ask, Deliver, Lose, Rival, because}
-use Rattle.lapdm_link.specs.Events.{Because, call_of}
+use Rattle.um_link.proofs.lapdm_link.Lemmas.{AreOctets, CallOctets, EndOctets, SaysOctets, AllSay, OutcomeOctets, call-octets, frame-octets}
+use Rattle.um_link.specs.lapdm_link.Events.{Request, Send, SendUnit, Close, T200Expiry, Idle, Open, OpenBare, Ask, Deliver, Lose, Rival}
+use Rattle.um_link.specs.lapdm_link.Events.{because}
+use Rattle.um_link.specs.lapdm_link.Events.{Because, call_of}
 use Rattle.um_block.proofs.Lemmas.{one_sent_block, some_sent_block, some_received_block, accepted_count, accepted_octets}
 use Rattle.um_block.specs.declared.received.Received.{Received}
 use Rattle.um_lines.proofs.OneMeaning.{good_meaning, same_meaning}
-use Rattle.um_text.specs.BurstTexts.{block_text}
-use Rattle.um_air.specs.Air.{Octets, Block, Event, Reads, Answer, Refuses, Does, Step}
-use Rattle.um_air.specs.Sessions.{IsOctetEvent}
-use Rattle.um_air.proofs.Laws.{some_reading, reads-well, octets_small}
+use Rattle.um_formats.specs.BurstTexts.{block_text}
+use Rattle.um_link.specs.um_air.Air.{Octets, Block, Event, Reads, Answer, Refuses, Does, Step}
+use Rattle.um_link.specs.um_air.Sessions.{IsOctetEvent}
+use Rattle.um_link.proofs.um_air.Laws.{some_reading, reads-well, octets_small}
 use Rattle.um_link.specs.Coded.{AreCoded}
 use Rattle.um_script.specs.AnswerLines.{answer_text}
 use Rattle.um_driver.specs.Rules.{IsDetermined, IsTotal}
 use Rattle.um_driver.specs.Laws.{HasOneOutput}
 use Rattle.um_driver.proofs.OutputExists.{has_one_output}
 use Rattle.um_driver.proofs.RunLemmas.{Runs-keep}
-use Rattle.um_end.specs.Terminals.{SideState, link_in, with_link_in, Deed, does, does_nothing, asks, takes_read, step_of, IsAsked}
+use Rattle.um_end.specs.Terminals.{SideState, link_in, with_link_in, SideStep, does, does_nothing, asks, takes_read, step_of, IsAsked}
 use Rattle.um_end.specs.Terminals.{IsCallOf, Asks}
 use Rattle.um_end.specs.EndLines.{Meaning, Nothing, Brings, Calls, end_fault, EndMeans}
 use Rattle.um_end.specs.EndRuns.{EndRun, idle, frames_of, IsAnswerText, Arrived, AnswersBursts, Asked, AnswersMeaning, AnswersLine}
 use Rattle.um_end.specs.EndRuns.{end_rules}
-use Rattle.um_end.proofs.Determined.{one_asking, one_hearing}
+use Rattle.um_end.proofs.Determined.{one_asking, one_reception}
 use Rattle.um_end.proofs.EndLineLaws.{end_one_meaning, burst_is_soft, call_is_own}
 
 -- ---- one answer
@@ -60,7 +62,7 @@ same_text tsc answer y y' h k =
 same_arrival : (s : EndRun) (bursts : List (List ℤ)) (y y' : List ℕ) (b b' : EndRun) → Arrived s bursts y b → Arrived s bursts y' b' →
     (y ≡ y') × (b ≡ b')
 same_arrival s bursts y y' b b' h k =
-    let same = one_hearing s.role s.links bursts h.links k.links h.step k.step h.heard k.heard in (
+    let same = one_reception s.role s.links bursts h.links k.links h.step k.step h.heard k.heard in (
       same_text s.tsc (Does k.step) y y' (subst (λ (x : Step). IsAnswerText s.tsc (Does x) y) same.1 h.text_is) k.text_is,
       h.after_is ∙ ap (λ (x : SideState). let r : EndRun = record s { links = x; held = [] } in r) same.0 ∙ sym k.after_is,
     )
@@ -94,7 +96,7 @@ end_is_determined s line y y' b b' (m, means, answer) (m', means', answer') =
 
 -- ---- some answer
 
--- a link of this SAPI on SDCCH, whose frames fit and are octets
+-- a link of this SAPI on SDCCH, whose frames fit and consist of octets
 record IsFit (sapi : Sapi) (e : EndState) : Type 0 where
   pub end : IsEnd e
   pub sapi_is : e.sapi ≡ sapi
@@ -113,14 +115,15 @@ fit_with : (sapi : Sapi) (e : EndState) (a : SideState) → AreFit a → IsFit s
 fit_with Zero e a h fit = record { link0 = fit; link3 = h.link3 }
 fit_with Three e a h fit = record { link0 = h.link0; link3 = fit }
 
--- what is done leaves links that fit, and so do its frames
-record IsFitDeed (d : Deed) : Type 0 where
+-- the links after an action fit, and so do the frames that it sends
+record IsFitSideStep (d : SideStep) : Type 0 where
   pub after : AreFit d.after
   pub frames : All (Fits Sdcch) d.frames
   pub said : AllSay d.frames
 
-fit_deed : (sapi : Sapi) (o : Outcome) (a : SideState) → AreFit a → Keeps (link_in sapi a) o → OutcomeOctets o → IsFitDeed (does sapi o a)
-fit_deed sapi o a h keeps octets =
+fit_side_step : (sapi : Sapi) (o : Outcome) (a : SideState) → AreFit a → Keeps (link_in sapi a) o → OutcomeOctets o →
+    IsFitSideStep (does sapi o a)
+fit_side_step sapi o a h keeps octets =
     let fit = fit_in sapi a h in
     record {
       after = fit_with sapi o.after a h (record {
@@ -134,32 +137,32 @@ fit_deed sapi o a h keeps octets =
     }
 
 fit_call : (sapi : Sapi) (call : Call) (a : SideState) → CallOctets call → HasCall (link_in sapi a) call → AreFit a →
-    refusal_of call (link_in sapi a) ≡ None → IsFitDeed (asks sapi call a)
+    refusal_of call (link_in sapi a) ≡ None → IsFitSideStep (asks sapi call a)
 fit_call sapi call a octets has h ok =
     let fit = fit_in sapi a h in
-    fit_deed sapi (after_call call (link_in sapi a)) a h (keeps-call call (link_in sapi a) fit.end has ok)
+    fit_side_step sapi (after_call call (link_in sapi a)) a h (keeps-call call (link_in sapi a) fit.end has ok)
     (call-octets call (link_in sapi a) octets ok fit.end.window fit.octets)
 
 fit_frame : (sapi : Sapi) (f : Frame) (a : SideState) → Fits Sdcch f → AreOctets (information f.content) → AreFit a →
-    IsFitDeed (does sapi (after_frame f (link_in sapi a)) a)
+    IsFitSideStep (does sapi (after_frame f (link_in sapi a)) a)
 fit_frame sapi f a fits octets h =
     let fit = fit_in sapi a h in
-    fit_deed sapi (after_frame f (link_in sapi a)) a h
+    fit_side_step sapi (after_frame f (link_in sapi a)) a h
     (keeps-frame f (link_in sapi a) fit.end (subst (λ (c : Channel). Fits c f) (sym fit.channel) fits))
     (frame-octets f (link_in sapi a) octets fit.end.window fit.octets)
 
-fit_nothing : (a : SideState) → AreFit a → IsFitDeed (does_nothing a)
+fit_nothing : (a : SideState) → AreFit a → IsFitSideStep (does_nothing a)
 fit_nothing a h = record { after = h; frames = All-nil (Fits Sdcch); said = All-nil SaysOctets }
 
 fit_read : (a : SideState) (accepted : Option Octets) (read : Option Frame) → IfSome accepted AreOctets → Reads Sdcch accepted read →
     AreFit a →
-    IsFitDeed (takes_read read a)
+    IsFitSideStep (takes_read read a)
 fit_read a accepted None octets reads h = fit_nothing a h
 fit_read a accepted (Some f) octets reads h =
     let well = reads-well Sdcch accepted f octets reads in
-    by_sapi f a IsFitDeed (λ e. fit_frame Zero f a well.0 well.1 h) (λ e. fit_frame Three f a well.0 well.1 h) (λ e g. fit_nothing a h)
+    by_sapi f a IsFitSideStep (λ e. fit_frame Zero f a well.0 well.1 h) (λ e. fit_frame Three f a well.0 well.1 h) (λ e g. fit_nothing a h)
 
--- each frame that fits is coded
+-- frames that fit can be coded
 some_coded : (tsc : ℕ) (fs : List Frame) → tsc ≤ 7 → All (Fits Sdcch) fs → AllSay fs →
     (bs : List Block) × AreCoded tsc (map (octets_of Sdcch) fs) bs
 some_coded tsc [] known h said = ([], tt)
@@ -170,13 +173,13 @@ some_coded tsc (f ∷ fs) known h said =
     let bs = some_coded tsc fs known (All-tail (Fits Sdcch) f fs h) (All-tail SaysOctets f fs said) in
     (b.0 ∷ bs.0, (b.1, bs.1))
 
-some_text : (tsc : ℕ) (role : Role) (received : Option Received) (d : Deed) → tsc ≤ 7 → IsFitDeed d →
+some_text : (tsc : ℕ) (role : Role) (received : Option Received) (d : SideStep) → tsc ≤ 7 → IsFitSideStep d →
     (y : List ℕ) × IsAnswerText tsc (Does (step_of role received d)) y
 some_text tsc role received d known h =
     let bs = some_coded tsc d.frames known h.frames h.said in
     (answer_text (Does (step_of role received d)) ++ flat_map block_text bs.0, record { blocks = bs.0; coded = bs.1; text_is = refl })
 
--- what a run keeps
+-- what every step of a run preserves
 record IsKept (role : Role) (tsc : ℕ) (s : EndRun) : Type 0 where
   pub role_is : s.role ≡ role
   pub tsc_is : s.tsc ≡ tsc
@@ -203,7 +206,7 @@ asked_by s sapi call (Some why) is known octets has h = (
   (answer_text (Refuses (Because why)) ++ [], record { blocks = []; coded = tt; text_is = refl }),
 )
 asked_by s sapi call None is known octets has h =
-    let d : Deed = asks sapi call s.links in
+    let d : SideStep = asks sapi call s.links in
     let text = some_text s.tsc s.role None d known (fit_call sapi call s.links octets has h is) in
     (d.after, Does (step_of s.role None d), (ap because is, refl, refl), text)
 
@@ -211,20 +214,20 @@ some_asked : (s : EndRun) (sapi : Sapi) (call : Call) → s.tsc ≤ 7 → CallOc
     (b : SideState) × (answer : Answer) × IsAsked s.role s.links sapi call b answer × ((y : List ℕ) × IsAnswerText s.tsc answer y)
 some_asked s sapi call known octets has h = asked_by s sapi call (refusal_of call (link_in sapi s.links)) refl known octets has h
 
--- a request of octets is a call of octets
+-- a request that consists of octets is a call that does
 request_octets : (role : Role) (sapi : Sapi) (request : Request) → IsOctetEvent (Ask role sapi request) → CallOctets (call_of request)
 request_octets role sapi (Send m) h = h
 request_octets role sapi (SendUnit m) h = h
 request_octets role sapi Close h = tt
-request_octets role sapi Tick h = tt
+request_octets role sapi T200Expiry h = tt
 request_octets role sapi Idle h = tt
 
--- and every link has it
+-- every link has this call
 request_has : (e : EndState) (request : Request) → HasCall e (call_of request)
 request_has e (Send m) = tt
 request_has e (SendUnit m) = tt
 request_has e Close = tt
-request_has e Tick = tt
+request_has e T200Expiry = tt
 request_has e Idle = tt
 
 some_asking : (s : EndRun) (event : Event) → IsCallOf s.role event × IsOctetEvent event → s.tsc ≤ 7 → AreFit s.links → SomeAnswer s event
@@ -250,8 +253,8 @@ some_arrival : (s : EndRun) (bursts : List (List ℤ)) → length bursts ≡ 4 �
 some_arrival s bursts four each known h =
     let report = some_received_block bursts four each in
     let read = some_reading Sdcch report.0.accepted (accepted_count bursts report.0 report.1) in
-    let d : Deed = takes_read read.0 s.links in
-    let fit : IsFitDeed d = fit_read s.links report.0.accepted read.0 (accepted_octets bursts report.0 report.1) read.1 h in
+    let d : SideStep = takes_read read.0 s.links in
+    let fit : IsFitSideStep d = fit_read s.links report.0.accepted read.0 (accepted_octets bursts report.0 report.1) read.1 h in
     let text = some_text s.tsc s.role (Some report.0) d known fit in (
       text.0,
       record s { links = d.after; held = [] },
@@ -303,7 +306,7 @@ some_meaning role tsc s line (Calls event) known k means =
       },
     )
 
--- ---- every run can go on
+-- ---- every run can continue
 
 idle_fit : (role : Role) (sapi : Sapi) → IsFit sapi (start role sapi Sdcch)
 idle_fit role sapi = record {

@@ -1,4 +1,4 @@
-mod Deeds
+mod SideSteps
 mod Determined
 mod EndLineLaws
 mod Answering

@@ -1,9 +1,9 @@
--- For the bodies: the events that are calls, which link each is a call of, and what it asks.
+-- The calls among the events, the SAPI of each, and the call of the link (internal).
 use Rattle.lapdm_window.specs.declared.Sapi.{Sapi}
 use Rattle.lapdm_window.specs.declared.Sapi.TheVariants.{Zero, Three}
 use Rattle.lapdm_window.specs.Calls.{Call, Opens, OpensBare, Idles}
-use Rattle.lapdm_link.specs.Events.{Open, OpenBare, Ask, Deliver, Lose, Rival, call_of}
-use Rattle.um_air.specs.Air.{Event}
+use Rattle.um_link.specs.lapdm_link.Events.{Open, OpenBare, Ask, Deliver, Lose, Rival, call_of}
+use Rattle.um_link.specs.um_air.Air.{Event}
 
 abbrev pub IsCall : Event → Type 0
 IsCall (Deliver sender places) = ⊥

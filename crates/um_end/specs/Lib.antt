@@ -1,6 +1,6 @@
 -- The definitions that the contracts of this crate cite.
 pub mod Terminals
-pub mod Standing
+pub mod Abstraction
 pub mod Asking
 pub mod Doing
 pub mod EndLines

@@ -1,4 +1,4 @@
-//! What a link is asked, by the events of the air.
+//! The calls of a link, from events.
 ghost use Rattle.std.specs.Prelude.{◌≡◌};
 ghost use Rattle.lapdm_window.specs.Calls.{call_of, IsOfSapi};
 ghost use Rattle.um_link.specs.Naming.{event_of};
@@ -7,7 +7,7 @@ ghost use Rattle.um_end.specs.Asking.{IsCall, sapi_in, call_in};
 use lapdm_window::{Call, Sapi};
 use um_link::Event;
 
-/// The link that a call is of.
+/// The SAPI of the link that an event calls.
 pub(crate) fn link_asked(event: &Event<'_>) -> Sapi
     ensures { result ≡ sapi_in (event_of event.now) }
 {
@@ -20,7 +20,7 @@ pub(crate) fn link_asked(event: &Event<'_>) -> Sapi
     }
 }
 
-/// What it asks.
+/// The call of an event.
 pub(crate) fn call_asked<'a>(event: &Event<'a>) -> Call<'a>
     requires call { IsCall (event_of event.now) }
     ensures asked { call_of result ≡ call_in (event_of event.now) }

@@ -1,4 +1,5 @@
-//! One end of the air by itself, a mobile or a network, over recorded bursts: its calls, and the groups of four bursts that it receives.
+//! One side of a channel, a mobile or a network, over recorded bursts: its calls, and the groups of
+//! four bursts that it receives.
 #![tactic(auto)]
 
 mod asking;

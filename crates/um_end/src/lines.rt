@@ -1,8 +1,7 @@
-//! The lines of one end by itself.
+//! The lines of the command `end`.
 //!
-//! A line that begins with the name of an end of the side is read as a line of a script is, and all others as a burst is: so each
-//! form is read where its own command reads it, and what is left to say here is which of their lines have no form here, and that
-//! no call stands inside a block.
+//! A line that begins with an endpoint of the side is read as a script line, any other line as a
+//! burst. This module only excludes the forms that `end` does not have, and calls inside a block.
 ghost use Rattle.std.specs.Prelude.{◌≡◌, ◌≤◌, ℕ, List, true, false, Some, length, IfOk};
 ghost use Rattle.std.specs.Result.{result_err};
 ghost use Rattle.um_lines.specs.Words.{words, is_skipped};
@@ -10,30 +9,32 @@ ghost use Rattle.um_lines.specs.Meanings.{HasOneMeaningUnless};
 ghost use Rattle.lapdm_window.specs.Ends.{Role};
 ghost use Rattle.um_link.specs.Naming.{role_of};
 ghost use Rattle.um_script.specs.Naming.{meaning_of as script_meaning};
-ghost use Rattle.um_end.specs.EndLines.{end_fault, EndMeans, meaning_of, IsPossible, begins_own, brought_by, called, inside};
+ghost use Rattle.um_end.specs.EndLines.{end_fault, EndMeans, meaning_of, IsPossible, begins_own, brought_by, call_meaning, inside};
 ghost use Rattle.um_end.specs.EndLines.{without_singles};
 
+use burst_map::BURST_BITS;
+use um_formats::{BurstLine, parse_burst};
 use um_lines::{LINE_LIMIT, LineFault, first_word, is_skipped};
 use um_link::{End, Event};
 use um_script::{Room, ScriptLine, parse_script};
-use um_text::{BurstLine, parse_burst};
 
-/// What a line of one end brings.
+/// What a line of `end` asks for.
 #[derive(Clone, Copy, Drop)]
 pub enum EndLine<'a> {
-    /// Nothing: an empty line, or one that begins with `#`.
+    /// Nothing: the line is empty, or begins with `#`.
     Skip,
-    /// One of the four bursts of a block, as soft values: positive for a 0 and negative for a 1.
-    Burst([i8; 148]),
-    /// A call of the end.
+    /// One of the four bursts of a block, as soft values: positive for 0 and negative for 1.
+    Burst([i8; BURST_BITS]),
+    /// A call of an endpoint.
     Ask(Event<'a>),
 }
 
-/// Reads a line of one end, given without its line feed, where `held` bursts of an unfinished block came before:
-/// `n DIGITS148`, `N HEX296`, `lost`, or a call of the side as a script has it. The octets of a call lie in the room.
+/// Reads a line of `end` without its line feed, after `held` bursts of an unfinished block:
+/// `n DIGITS148`, `N HEX296`, `lost`, or a call of the side as in a script. The octets of a call
+/// are stored in `room`.
 ///
-/// Its reasons are `Long`, `Word`, `Order` (a call inside a block), `Digits`, `Length` and `Soft`, each looked for in the whole
-/// line before the next.
+/// The first reason that applies to the whole line is returned: `Long`, `Word`, `Order` (a call
+/// inside a block), `Digits`, `Length` or `Soft`.
 pub fn parse_end<'a>(
     line: &[u8],
     side: End,
@@ -44,7 +45,7 @@ pub fn parse_end<'a>(
     ensures means { IfOk result (λ read. EndMeans (role_of side) held line.now (meaning_of read)) }
     ensures refused { result_err result ≡ end_fault (role_of side) held line.now }
 
-    // A terminal of the side takes what was read.
+    // A terminal of this side accepts the line.
     ensures possible { IfOk result (IsPossible (role_of side)) }
 {
     if line.len() > LINE_LIMIT {
@@ -60,7 +61,7 @@ pub fn parse_end<'a>(
     }
 }
 
-/// Whether a line begins with the name of an end of this side.
+/// Whether a line begins with an endpoint of this side.
 fn is_own(line: &[u8], side: End) -> bool
     ensures { result ≡ begins_own (role_of side) (words line.now) }
 {
@@ -80,8 +81,8 @@ fn read_call<'a>(
     held: u8,
     room: &'a mut Room,
 ) -> Result<EndLine<'a>, LineFault>
-    requires short { length line.now ≤ 4096 }
-    requires kept { is_skipped line.now ≡ false }
+    requires size { length line.now ≤ 4096 }
+    requires not_skipped { is_skipped line.now ≡ false }
     requires own { begins_own (role_of side) (words line.now) ≡ true }
     ensures means { IfOk result (λ read. EndMeans (role_of side) held line.now (meaning_of read)) }
     ensures refused { result_err result ≡ end_fault (role_of side) held line.now }
@@ -97,7 +98,7 @@ fn read_call<'a>(
 }
 
 fn of_script(script: ScriptLine<'_>) -> EndLine<'_>
-    ensures { meaning_of result ≡ called (script_meaning script.entry) }
+    ensures { meaning_of result ≡ call_meaning (script_meaning script.entry) }
 {
     match script {
         ScriptLine::Skip => EndLine::Skip,
@@ -105,7 +106,7 @@ fn of_script(script: ScriptLine<'_>) -> EndLine<'_>
     }
 }
 
-/// The reason of a call inside a block, by the reason that it has elsewhere.
+/// The reason against a call inside a block, given its reason elsewhere.
 fn inside_block(fault: Option<LineFault>) -> LineFault
     ensures { Some result ≡ inside fault }
 {
@@ -115,10 +116,10 @@ fn inside_block(fault: Option<LineFault>) -> LineFault
     }
 }
 
-/// A burst that stands alone has no form here, inside a block or outside.
+/// Reads a burst of a block. Access and synchronisation bursts have no form here.
 fn read_burst<'a>(line: &[u8], side: End, held: u8) -> Result<EndLine<'a>, LineFault>
-    requires short { length line.now ≤ 4096 }
-    requires kept { is_skipped line.now ≡ false }
+    requires size { length line.now ≤ 4096 }
+    requires not_skipped { is_skipped line.now ≡ false }
     requires other { begins_own (role_of side) (words line.now) ≡ false }
     ensures means { IfOk result (λ read. EndMeans (role_of side) held line.now (meaning_of read)) }
     ensures refused { result_err result ≡ end_fault (role_of side) held line.now }
@@ -140,7 +141,7 @@ fn of_block<'a>(burst: BurstLine) -> EndLine<'a>
     }
 }
 
-/// The reason of a line here, by its reason inside a block of `replay`.
+/// The reason against a line, given its reason inside a block of `replay`.
 fn without_form(fault: LineFault) -> LineFault
     ensures { Some result ≡ without_singles (Some fault) }
 {
@@ -150,7 +151,7 @@ fn without_form(fault: LineFault) -> LineFault
     }
 }
 
-/// Each line has one meaning and no other where it has no reason, and none where it has one.
+/// A line has exactly one meaning, or is refused for a first reason and has none.
 pub fn law_end_lines()
     ensures { (role : Role) (held : ℕ) (line : List ℕ) → HasOneMeaningUnless (end_fault role held line) (EndMeans role held line) }
 {}

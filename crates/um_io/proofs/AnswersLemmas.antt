@@ -1,4 +1,5 @@
--- The lines answered are those of the octets that came.
+-- The lines that a reader answers before it ends are the lines of its source: by induction over the
+-- calls, each of which takes one line off the front of the octets.
 use Rattle.std.proofs.Common.{◌≡◌, ◌<◌, ◌+◌, ◌⊎◌, ℕ, Bool, true, false, List, [], ◌∷◌, ◌++◌, length}
 use Rattle.std.proofs.Common.{Option, None, Some, refl, sym, ap, subst, ◌∙◌, arith, inl, inr, ⊎_elim}
 use Rattle.std.proofs.lemmas.List.{append-nil, append_assoc, length-append, nil_from_length}
@@ -13,7 +14,7 @@ use Rattle.um_io.specs.Next.{IsAnswered, IsHeld, IsStep}
 use Rattle.um_io.specs.Answers.{AnswersLines, AreCut, EndsWith}
 use Rattle.um_io.proofs.DivisionLemmas.{lines_of-only}
 
--- a line and its line feed before the octets is a line before their lines
+-- a line and its line feed, put before octets, is a line before their lines
 IsDivided-line : (line octets : List ℕ) (lines : List (List ℕ)) → IsLine line → IsDivided octets lines
     → IsDivided (line ++ 10 ∷ octets) (line ∷ lines)
 IsDivided-line line octets lines plain divided =
@@ -31,7 +32,7 @@ IsDivided-line line octets lines plain divided =
           divided.whole;
     }
 
--- a line without a line feed
+-- a nonempty line without a line feed is the only line of its octets
 IsDivided-last : (line : List ℕ) → IsLine line → 0 < length line → IsDivided line (line ∷ [])
 IsDivided-last line plain some =
     record {
@@ -39,7 +40,7 @@ IsDivided-last line plain some =
       whole = inr record { front = []; last = line; lines_are = refl; octets_are = refl; some = some };
     }
 
--- behind what is left over at the end of the source no line is answered
+-- once the source has ended and nothing is held, no further line is answered
 no_more : (r r' : Reading) (left left' : Option (List ℕ)) (lines : List (List ℕ)) (came : List ℕ) → r.held ++ r.past ≡ [] → r.ended ≡ true
     → AnswersLines r left lines came r' left' → (lines ≡ []) × (came ≡ [])
 no_more r r' left left' [] came none ended answers = (refl, answers.0)
@@ -55,7 +56,8 @@ no_more r r' left left' (line ∷ lines) came none ended answers =
     omega (arith, ap length last.0.octets, length-append (answers.4.now ++ []) (answers.2.held ++ answers.2.past), last.0.some))
     step.gives)
 
--- the lines answered are those of the octets held and of those that came, where none is held in the end
+-- if nothing is held at the end, the lines answered divide the octets held at the start and those
+-- read
 pub IsDivided-answers : (lines : List (List ℕ)) (r r' : Reading) (left left' : Option (List ℕ)) (came : List ℕ)
     → AnswersLines r left lines came r' left' → r'.held ++ r'.past ≡ [] → IsDivided (r.held ++ r.past ++ came) lines
 IsDivided-answers [] r r' left left' came answers none =
@@ -92,14 +94,14 @@ IsDivided-answers (line ∷ lines) r r' left left' came answers none =
     step.gives in
     subst (λ l. IsDivided (r.held ++ r.past ++ came) (l ∷ lines)) answers.5 divided
 
--- nothing came where nothing is held in the end
+-- if nothing is held at the end, nothing was read
 nothing_came : (held came : List ℕ) → held ++ came ≡ [] → (held ≡ []) × (came ≡ [])
 nothing_came held came none =
     let size = ap length none in
     let both = length-append held came in
     (nil_from_length held (omega arith), nil_from_length came (omega arith))
 
--- what a source has left after a step that took these octets
+-- what a source has left after a step that read `came`
 pub record IsLeft (octets came : List ℕ) (left' : Option (List ℕ)) (ended : Bool) : Type 0 where
   pub rest : List ℕ
   pub left_is : left' ≡ Some rest
@@ -122,7 +124,7 @@ IsLeft-step r r' octets (Some rest) next came known step =
           (cases_Bool r.ended);
     }
 
--- what a source has left after calls that took these octets
+-- what a source has left after calls that read `came`
 IsLeft-answers : (lines : List (List ℕ)) (r r' : Reading) (octets came : List ℕ) (left' : Option (List ℕ))
     → (r.ended ≡ true → octets ≡ []) → AnswersLines r (Some octets) lines came r' left' → IsLeft octets came left' r'.ended
 IsLeft-answers [] r r' octets came left' known answers =
@@ -145,7 +147,7 @@ IsLeft-answers (line ∷ lines) r r' octets came left' known answers =
       end = rest.end;
     }
 
--- the lines answered until the end are the lines of all that the source had
+-- the lines answered up to the end are the lines of all the octets of the source
 lines_of-answers : (octets : List ℕ) (lines : List (List ℕ)) (came last : List ℕ) (r r' : Reading) (left left' : Option (List ℕ))
     → AnswersLines at_start (Some octets) lines came r left → IsStep r r' left left' End last → lines ≡ lines_of octets
 lines_of-answers octets lines came last r r' left left' answers step =
@@ -157,13 +159,14 @@ lines_of-answers octets lines came last r r' left left' answers step =
     lines_of-only octets lines (subst (λ l. IsDivided l lines) (sym all)
     (IsDivided-answers lines at_start r (Some octets) left came answers none.0))
 
--- the octets held and those that came are the lines answered, each with its line feed, and what is held in the end
+-- the octets held and those read are the lines answered, each with its line feed, and what is held
+-- at the end
 record AreWhole (r r' : Reading) (lines : List (List ℕ)) (came : List ℕ) : Type 0 where
   octets : r.held ++ r.past ++ came ≡ text_of lines ++ (r'.held ++ r'.past)
   answered : r'.answered ≡ r.answered + length (text_of lines)
   plain : All IsLine lines
 
--- so it is, or the last line was what was left over at the end of the source
+-- either this holds, or the last line had no line feed
 AreWhole-answers : (lines : List (List ℕ)) (r r' : Reading) (left left' : Option (List ℕ)) (came : List ℕ)
     → AnswersLines r left lines came r' left'
     → AreWhole r r' lines came ⊎ ((r'.held ++ r'.past ≡ []) × (r'.ended ≡ true))
@@ -201,7 +204,8 @@ AreWhole-answers (line ∷ lines) r r' left left' came (first, rest, mid, betwee
         (ap (λ (s : Reading). s.held ++ s.past) is ∙ none, ap (λ (s : Reading). s.ended) is ∙ ended)
     after_end (line ∷ lines) mid r' between left' rest none ended same later = absurd (cc same)
 
--- where a reader stops with something held, or was not at the end, the octets that came are whole lines and what is held
+-- if a reader stops with octets held or before the end of its source, the octets read are whole
+-- lines and what is held
 AreCut-answers : (octets : List ℕ) (lines : List (List ℕ)) (came last : List ℕ) (r r' : Reading) (left left' : Option (List ℕ))
     (next : Next)
     → AnswersLines at_start (Some octets) lines came r left → IsStep r r' left left' next last → IsReading r'
@@ -227,7 +231,7 @@ AreCut-answers octets lines came last r r' left left' next answers step valid he
     absurd (open_ (ap (λ l. r.held ++ r.past ++ l) none ∙ append-nil (r.held ++ r.past) ∙ over.0) (step.still over.1).1))
     (AreWhole-answers lines at_start r (Some octets) left came answers)
 
--- however a reader ends
+-- for each way in which a reader ends
 pub ends_with : (octets : List ℕ) (lines : List (List ℕ)) (came last : List ℕ) (r r' : Reading) (left left' : Option (List ℕ)) (next : Next)
     → AnswersLines at_start (Some octets) lines came r left → IsStep r r' left left' next last → IsReading r'
     → EndsWith next octets (came ++ last) lines

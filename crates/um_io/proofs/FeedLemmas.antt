@@ -9,18 +9,18 @@ use Rattle.std.proofs.lemmas.List.{take-take, drop-take, length-take, length-app
 use Rattle.std.proofs.lemmas.List.Elements.{All-from_get_or, All-nil, All-append, All-take, All-drop}
 use Rattle.std.proofs.Math.Seq.{take-append-add, take-add}
 use Rattle.memchr.specs.Find.{IsFirstByte, is_byte, Nowhere, Passes}
-use Rattle.um_io.specs.Lines.{IsPlain, IsLine, IsFirstFeed}
+use Rattle.um_io.specs.Lines.{IsNoFeed, IsLine, IsFirstFeed}
 
--- no place of the first n holds a line feed
+-- if none of the first n octets is a line feed, they are a line
 pub IsLine-front : (octets : List ℕ) (n : ℕ) → n ≤ length octets → Nowhere (Passes (is_byte 10) octets) 0 n → IsLine (take n octets)
 IsLine-front octets n fits none =
-    All-from_get_or IsPlain (take n octets) 0
+    All-from_get_or IsNoFeed (take n octets) 0
     (λ k below is.
     let size = length-take n octets in
     let low : k < n = omega arith in
     none k (omega arith) low (eq-eqb (slice_index octets k) 10 (sym (get_or-take n octets k 0 low) ∙ is)))
 
--- what a search for a line feed finds
+-- what a search for a line feed returns
 pub MatchOption-feed : (octets : List ℕ) (r : Option ℕ) → IsFirstByte (is_byte 10) octets r
     → MatchOption r (IsLine octets) (IsFirstFeed octets)
 MatchOption-feed octets None none = subst IsLine (take_all (length octets) octets (le_refl (length octets)))
@@ -32,17 +32,17 @@ MatchOption-feed octets (Some n) found =
       feed = eqb-true (slice_index octets n) 10 found.1;
     }
 
--- the octets before stay the same, and have no line feed
+-- octets without a line feed, put in front, move the first line feed by their number
 pub IsFirstFeed-behind : (front octets : List ℕ) (n : ℕ) → IsLine front → IsFirstFeed octets n
     → IsFirstFeed (front ++ octets) (length front + n)
 IsFirstFeed-behind front octets n plain first =
     let high = first.within in record {
       within = omega (arith, length-append front octets);
-      plain = subst IsLine (sym (take-append-add front octets n)) (All-append IsPlain front (take n octets) plain first.plain);
+      plain = subst IsLine (sym (take-append-add front octets n)) (All-append IsNoFeed front (take n octets) plain first.plain);
       feed = get_or-append-add front octets n 0 ∙ first.feed;
     }
 
--- two parts of a list, one behind the other
+-- two adjacent parts of a list
 pub slice_range-joined : (octets : List ℕ) (i j k : ℕ) → i ≤ j → j ≤ k
     → slice_range octets i j ++ slice_range octets j k ≡ slice_range octets i k
 slice_range-joined octets i j k first second =
@@ -65,14 +65,14 @@ slice_range-rest octets i k n fits =
     ap (λ m. drop n (take m (drop i octets))) size ∙ drop-take n (k - (i + n)) (drop i octets)
     ∙ ap (λ l. take (k - (i + n)) l) (drop-drop n i octets)
 
--- the octets before have no line feed, and those behind them have none
+-- two adjacent parts without a line feed have none together
 pub IsLine-upto : (octets : List ℕ) (i j k : ℕ) → i ≤ j → j ≤ k → IsLine (slice_range octets i j) → IsLine (slice_range octets j k)
     → IsLine (slice_range octets i k)
 IsLine-upto octets i j k first second before behind =
-    subst IsLine (slice_range-joined octets i j k first second) (All-append IsPlain (slice_range octets i j) (slice_range octets j k)
+    subst IsLine (slice_range-joined octets i j k first second) (All-append IsNoFeed (slice_range octets i j) (slice_range octets j k)
     before behind)
 
--- the octets before have no line feed, and those behind them have none up to the first
+-- no line feed before index j, and none from there up to the first, n octets on
 pub IsLine-upto_feed : (octets : List ℕ) (i j k n : ℕ) → i ≤ j → j ≤ k → k ≤ length octets → IsLine (slice_range octets i j)
     → IsFirstFeed (slice_range octets j k) n → IsLine (slice_range octets i (j + n))
 IsLine-upto_feed octets i j k n first second fits before found =
@@ -80,7 +80,7 @@ IsLine-upto_feed octets i j k n first second fits before found =
     let size = length-between octets j k fits in
     IsLine-upto octets i j (j + n) first (omega arith) before (subst IsLine (slice_range-front octets j k n (omega arith)) found.plain)
 
--- where the first line feed stands, counted from further before
+-- the index of the first line feed, counted from an earlier start
 pub IsFirstFeed-upto : (octets : List ℕ) (i j k n : ℕ) → i ≤ j → j ≤ k → k ≤ length octets → IsLine (slice_range octets i j)
     → IsFirstFeed (slice_range octets j k) n → IsFirstFeed (slice_range octets i k) (j + n - i)
 IsFirstFeed-upto octets i j k n first second fits before found =
@@ -90,41 +90,41 @@ IsFirstFeed-upto octets i j k n first second fits before found =
     subst (λ m. IsFirstFeed (slice_range octets i k) m) at (subst (λ l. IsFirstFeed l (length (slice_range octets i j) + n))
     (slice_range-joined octets i j k first second) joined)
 
--- what was scanned has no line feed behind what is given up, up to the greater of the two places
+-- after n octets are dropped, the scanned part has no line feed still
 pub IsLine-skipped : (octets : List ℕ) (i j n : ℕ) → IsLine (slice_range octets i j) → IsLine (slice_range octets (i + n) (max j (i + n)))
 IsLine-skipped octets i j n plain =
     ⊎_elim
     (λ (less : j < i + n).
     let none : max j (i + n) - (i + n) ≡ 0 = omega arith in
-    subst (λ m. IsLine (take m (drop (i + n) octets))) (sym none) (All-nil IsPlain))
+    subst (λ m. IsLine (take m (drop (i + n) octets))) (sym none) (All-nil IsNoFeed))
     (λ (more : i + n ≤ j).
     let same : j ≡ max j (i + n) = omega arith in
     subst (λ m. IsLine (slice_range octets (i + n) m)) same (subst IsLine (slice_range-rest octets i j n more)
-    (All-drop IsPlain n (slice_range octets i j) plain)))
+    (All-drop IsNoFeed n (slice_range octets i j) plain)))
     (cases_lt j (i + n))
 
--- a part of the front that stayed
+-- a part of an unchanged prefix is unchanged
 pub slice_range-kept : (old new : List ℕ) (i j n : ℕ) → j ≤ n → take n new ≡ take n old → slice_range new i j ≡ slice_range old i j
 slice_range-kept old new i j n within same =
     let front : take j new ≡ take j old = sym (take-take j n new within) ∙ ap (take j) same ∙ take-take j n old within in
     between_is new i j ∙ ap (drop i) front ∙ sym (between_is old i j)
 
--- octets came behind those held, which stayed
+-- new octets after the unchanged ones that are held
 pub slice_range-came : (old new : List ℕ) (i j n : ℕ) → i ≤ j → take j new ≡ take j old
     → slice_range new i (j + n) ≡ slice_range old i j ++ slice_range new j (j + n)
 slice_range-came old new i j n ordered same =
     sym (slice_range-joined new i j (j + n) ordered (omega arith)) ∙ ap (λ l. l ++ slice_range new j (j + n))
     (slice_range-kept old new i j j (le_refl j) same)
 
--- the first line feed stands behind a front of the octets
+-- if the first line feed lies after a prefix, the prefix has none
 pub IsLine-before_feed : (octets : List ℕ) (m n : ℕ) → IsFirstFeed octets n → length (take m octets) ≤ n → IsLine (take m octets)
 IsLine-before_feed octets m n found cut =
     let high = found.within in
     let size = length-take m octets in
     let low : m ≤ n = omega arith in
-    subst IsLine (take-take m n octets low) (All-take IsPlain m (take n octets) found.plain)
+    subst IsLine (take-take m n octets low) (All-take IsNoFeed m (take n octets) found.plain)
 
--- the first line feed stands in a front of the octets
+-- the first line feed of a prefix that contains it
 pub IsFirstFeed-front : (octets : List ℕ) (m n : ℕ) → IsFirstFeed octets n → n < length (take m octets) → IsFirstFeed (take m octets) n
 IsFirstFeed-front octets m n found cut =
     let size = length-take m octets in

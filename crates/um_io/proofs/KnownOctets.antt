@@ -1,6 +1,6 @@
--- What is known of the octets that a source has left and a sink took, over several calls.
+-- What is known of the octets left in a source and taken by a sink, over several calls.
 use Rattle.std.proofs.Common.{◌≡◌, ℕ, ◌+◌, List, [], ◌++◌, length, ◌-◌, take, drop, Option, Some, None, sym, refl, ap}
-use Rattle.std.proofs.Common.{◌∙◌, append_assoc, append-nil, take-append-drop}
+use Rattle.std.proofs.Common.{◌∙◌, append_assoc, append-nil}
 use Rattle.std.specs.Io.KnownBytes.{Appends, Consumes, Keeps}
 use Rattle.std.proofs.Math.Seq.{take-add}
 use Rattle.std.proofs.lemmas.List.{take_rest}
@@ -10,7 +10,7 @@ pub Appends-nil : (known : Option (List ℕ)) → Appends known known []
 Appends-nil None = tt
 Appends-nil (Some xs) = sym (append-nil xs)
 
--- one piece after another
+-- one part after another
 pub Appends-append : (a b c : Option (List ℕ)) (x y : List ℕ) → Appends a b x → Appends b c y → Appends a c (x ++ y)
 Appends-append None b c x y first then = tt
 Appends-append (Some xs) None c x y first then = absurd first
@@ -22,21 +22,21 @@ pub Consumes-nil : (known : Option (List ℕ)) → Consumes known known []
 Consumes-nil None = tt
 Consumes-nil (Some xs) = refl
 
--- one piece after another
+-- one part after another
 pub Consumes-append : (a b c : Option (List ℕ)) (x y : List ℕ) → Consumes a b x → Consumes b c y → Consumes a c (x ++ y)
 Consumes-append None b c x y first then = tt
 Consumes-append (Some xs) None c x y first then = absurd first
 Consumes-append (Some xs) (Some ys) None x y first then = absurd then
 Consumes-append (Some xs) (Some ys) (Some zs) x y first then = first ∙ ap (λ w. x ++ w) then ∙ sym (append_assoc x y zs)
 
--- a piece, and then a call that took nothing
+-- some octets, then a call that took none
 pub Appends-keeps : (a b c : Option (List ℕ)) (x : List ℕ) → Appends a b x → Keeps b c → Appends a c x
 Appends-keeps None b c x first then = tt
 Appends-keeps (Some xs) None c x first then = absurd first
 Appends-keeps (Some xs) (Some ys) None x first then = absurd then
 Appends-keeps (Some xs) (Some ys) (Some zs) x first then = then ∙ first
 
--- a front of the piece, and then n octets of the rest of it
+-- the first w octets, then n octets of the rest
 pub Appends-front : (a b c : Option (List ℕ)) (w n : ℕ) (piece : List ℕ) → Appends a b (take w piece) →
     Appends b c (take n (take (length piece - w) (drop w piece))) → Appends a c (take (w + n) piece)
 Appends-front a b c w n piece first then =

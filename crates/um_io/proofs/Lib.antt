@@ -1,5 +1,6 @@
 -- Lemmas that several proofs of this crate share.
 pub mod AnswersLemmas
+pub mod AskingLemmas
 pub mod DivisionLemmas
 pub mod FeedLemmas
 pub mod KnownOctets

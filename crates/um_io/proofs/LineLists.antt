@@ -1,11 +1,12 @@
--- How octets are divided into lines, and that they are divided in one way.
+-- Octets are divided into whole lines and a rest without a line feed in one way: of two divisions
+-- one begins with the lines of the other, and what follows cannot contain a line feed.
 use Rattle.std.proofs.Common.{◌≡◌, ℕ, ◌+◌, List, [], ◌∷◌, ◌++◌, length, ◌⊎◌, inl, inr, sym, refl, ap}
 use Rattle.std.proofs.Common.{◌∙◌, append_assoc, length-append, arith}
 use Rattle.std.specs.List.{All}
 use Rattle.std.proofs.lemmas.List.Elements.{All-nil, All-cons, All-head, All-tail}
-use Rattle.um_io.specs.Lines.{IsPlain, IsLine, text_of}
+use Rattle.um_io.specs.Lines.{IsNoFeed, IsLine, text_of}
 
--- a line that begins another line, the rest of which follows
+-- a line is the beginning of another, whose rest follows
 pub record IsWithin (line more line' after : List ℕ) : Type 0 where
   pub part : List ℕ
   pub line_is : line' ≡ line ++ part
@@ -13,33 +14,33 @@ pub record IsWithin (line more line' after : List ℕ) : Type 0 where
 
 pub within : (u more v t : List ℕ) → IsLine u → IsLine v → u ++ more ≡ v ++ 10 ∷ t → IsWithin u more v t
 within [] more v t hu hv e = record { part = v; line_is = refl; more_is = e }
-within (o ∷ u) more [] t hu hv e = absurd (All-head IsPlain o u hu (cc e))
+within (o ∷ u) more [] t hu hv e = absurd (All-head IsNoFeed o u hu (cc e))
 within (o ∷ u) more (p ∷ v) t hu hv e =
-    let rest = within u more v t (All-tail IsPlain o u hu) (All-tail IsPlain p v hv) (cc e) in
+    let rest = within u more v t (All-tail IsNoFeed o u hu) (All-tail IsNoFeed p v hv) (cc e) in
     record { part = rest.part; line_is = let l = rest.line_is in cc (e, l); more_is = rest.more_is }
 
 pub no_feed : (u v t : List ℕ) → IsLine u → u ≡ v ++ 10 ∷ t → ⊥
 no_feed [] [] t h e = cc e
 no_feed [] (p ∷ v) t h e = cc e
-no_feed (o ∷ u) [] t h e = All-head IsPlain o u h (cc e)
-no_feed (o ∷ u) (p ∷ v) t h e = no_feed u v t (All-tail IsPlain o u h) (cc e)
+no_feed (o ∷ u) [] t h e = All-head IsNoFeed o u h (cc e)
+no_feed (o ∷ u) (p ∷ v) t h e = no_feed u v t (All-tail IsNoFeed o u h) (cc e)
 
 pub same_line : (u x v y : List ℕ) → IsLine u → IsLine v → u ++ 10 ∷ x ≡ v ++ 10 ∷ y → (u ≡ v) × (x ≡ y)
 same_line [] x [] y hu hv e = (refl, cc e)
-same_line [] x (p ∷ v) y hu hv e = absurd (All-head IsPlain p v hv (cc e))
-same_line (o ∷ u) x [] y hu hv e = absurd (All-head IsPlain o u hu (cc e))
+same_line [] x (p ∷ v) y hu hv e = absurd (All-head IsNoFeed p v hv (cc e))
+same_line (o ∷ u) x [] y hu hv e = absurd (All-head IsNoFeed o u hu (cc e))
 same_line (o ∷ u) x (p ∷ v) y hu hv e =
-    let rest = same_line u x v y (All-tail IsPlain o u hu) (All-tail IsPlain p v hv) (cc e) in
+    let rest = same_line u x v y (All-tail IsNoFeed o u hu) (All-tail IsNoFeed p v hv) (cc e) in
     (let l = rest.0 in cc (e, l), rest.1)
 
--- these lines go on after those
+-- `lines'` continue `lines`
 pub record GoesOn (lines lines' : List (List ℕ)) (rest rest' : List ℕ) : Type 0 where
   pub line : List ℕ
   pub more : List (List ℕ)
   pub lines_are : lines' ≡ lines ++ line ∷ more
   pub rest_is : rest ≡ line ++ 10 ∷ (text_of more ++ rest')
 
--- two lists of lines with which the same octets begin
+-- two lists of lines at the beginning of the same octets
 abbrev pub Compared : List (List ℕ) → List (List ℕ) → List ℕ → List ℕ → Type 0
 Compared lines lines' rest rest' =
     ((lines ≡ lines') × (rest ≡ rest')) ⊎ (GoesOn lines lines' rest rest' ⊎ GoesOn lines' lines rest' rest)
@@ -90,7 +91,7 @@ one_division ls ls' u v h h' hu hv e = elim (compared ls ls' u v h h' e) [
   ]
 ]
 
--- one line more
+-- one more line
 pub text-push : (ls : List (List ℕ)) (l u : List ℕ) → text_of (ls ++ l ∷ []) ++ u ≡ text_of ls ++ (l ++ 10 ∷ u)
 text-push [] l u = text-cons l [] u
 text-push (k ∷ ls) l u =

@@ -1,4 +1,4 @@
--- What the answers of a reader of lines follow from.
+-- Lemmas for the clauses of `Lines::next`: what was read and what was found determine the answer.
 use Rattle.std.proofs.Common.{◌≡◌, ◌≤◌, ◌<◌, ◌+◌, ◌-◌, ℕ, Bool, true, false, List, [], ◌∷◌, ◌++◌}
 use Rattle.std.proofs.Common.{length, take, drop, slice_index, Option, Result, Ok, Err, Bor, refl, sym, ap, subst, ◌∙◌, arith, inl}
 use Rattle.std.proofs.Common.{inr, ◌⊎◌, ⊎_elim, slice_range}
@@ -10,19 +10,19 @@ use Rattle.um_io.specs.declared.lines.Next.{Next}
 use Rattle.um_io.specs.declared.lines.Next.TheVariants.{Line, End, Long, TooMany, Failed}
 use Rattle.um_io.specs.Lines.{IsLine, IsFirstFeed}
 use Rattle.um_io.specs.Buffer.{octets_of}
-use Rattle.um_io.specs.Reading.{Reading, IsReading, NeedsMore, IsReady, reading_of, input_limit, line_limit}
+use Rattle.um_io.specs.Reading.{Reading, IsReading, NeedsMore, IsReady, reader_of, input_limit, line_limit}
 use Rattle.um_io.specs.Found.{HasCome, Shows, Looks, Finds}
 use Rattle.um_io.specs.declared.lines.Found.TheVariants.{Line as WholeLine, Above, Past}
-use Rattle.um_io.specs.declared.outside.Failed.{Failed as Error}
+use Rattle.um_io.specs.declared.streams.Failed.{Failed as Error}
 use Rattle.um_io.specs.declared.lines.Found.{Found}
-use Rattle.um_io.specs.Next.{IsAnswered, IsHeld, Gives, IsNext}
+use Rattle.um_io.specs.Next.{IsAnswered, IsHeld, AnswersNext, IsNext}
 use Rattle.um_io.proofs.FeedLemmas.{slice_range-front}
 use Rattle.um_io.proofs.ReadingLemmas.{length-cut, length-octets_of, IsReading-from}
 
--- a reader that is not over answers by what came
+-- a reader that has not stopped answers according to what was read
 pub IsNext-from : (r s t : Reading) (left left' : Option (List ℕ)) (next : Next) (came : List ℕ) → r.over ≡ false
     → HasCome r s left left' came → NeedsMore r ⊎ (came ≡ []) → IsReading s → t.ended ≡ s.ended → IsReading t
-    → Gives r t (r.held ++ r.past ++ came) next → IsNext r left left' next t
+    → AnswersNext r t (r.held ++ r.past ++ came) next → IsNext r left left' next t
 IsNext-from r s t left left' next came going has needed held same valid gives =
     record {
       valid = valid;
@@ -40,17 +40,17 @@ IsNext-from r s t left left' next came going has needed held same valid gives =
       );
     }
 
--- a reader that answers no line any more
+-- a reader after its last answer
 abbrev pub stopped : Reading → Reading
 stopped s = record s { over = true }
 
--- no line is answered, and all that came is held
+-- no line is answered, and all octets read are held
 IsHeld-stopped : (r s : Reading) (left left' : Option (List ℕ)) (came : List ℕ) → HasCome r s left left' came → IsLine s.held
     → IsHeld r (stopped s) (r.held ++ r.past ++ came) true
 IsHeld-stopped r s left left' came has plain =
     record { octets = sym has.octets; plain = plain; answered = has.answered; number = has.number; stops = refl }
 
--- what a reader answers that stops: what it holds gives this
+-- what is held when a reader stops with this answer
 abbrev pub Stops : Reading → Next → Type 0
 Stops s (Line line) = ⊥
 Stops s End = ⊥
@@ -67,25 +67,25 @@ IsNext-stopped r s left left' next came going has needed valid plain stops =
     IsNext-from r s (stopped s) left left' next came going has needed valid refl same (gives next stops held)
   where
     gives : (next : Next) → Stops s next → IsHeld r (stopped s) (r.held ++ r.past ++ came) true
-        → Gives r (stopped s) (r.held ++ r.past ++ came) next
+        → AnswersNext r (stopped s) (r.held ++ r.past ++ came) next
     gives (Line line) stops held = absurd stops
     gives End stops held = absurd stops
     gives Long stops held = (held, stops)
     gives TooMany stops held = (held, stops.0, stops.1)
     gives Failed stops held = (held, record { plain = stops.plain; short = stops.short; past = stops.past; ended = stops.ended })
 
--- a source that was asked only where it was needed was not asked where the answer was there
+-- if a source is asked only when needed, it is not asked when the answer is already held
 pub unasked : {X : Type 0} (r : Reading) (old new : X) → r.over ≡ false → NeedsMore r ⊎ (new ≡ old) → IsReady r → new ≡ old
 unasked {X} r old new going needed ready =
     ⊎_elim (λ (more : NeedsMore r). ⊎_elim (λ (over : r.over ≡ true). absurd (false≢true (sym going ∙ over)))
     (λ (none : NeedsMore r → ⊥). absurd (none more)) ready) (λ (same : new ≡ old). same) needed
 
--- what was found in a reader was found in the same reader
+-- `Finds` holds for an equal reader
 pub Finds-same : (r s t : Reading) (left left' : Option (List ℕ)) (result : Result Found Error) → t ≡ s → Finds r s left left' result
     → Finds r t left left' result
 Finds-same r s t left left' result same found = subst (λ u. Finds r u left left' result) (sym same) found
 
--- a line that was found has an octet at least, and no more than are held
+-- a line that is found has at least one octet, with its line feed, and no more than are held
 pub whole_counts : (s : Reading) (n whole : ℕ) → Looks s (WholeLine n whole) → (0 < whole) × (whole ≤ length s.held)
 whole_counts s n whole looks =
     ⊎_elim
@@ -94,12 +94,12 @@ whole_counts s n whole looks =
     (WholeLine n whole)). (omega (arith, last.1.1, last.1.2), omega (arith, last.1.1)))
     looks
 
--- the numbers stay within their limits
+-- the counts stay within their limits
 pub counts-after : (octets : List ℕ) (answered number n whole : ℕ) (ended over : Bool) → answered ≤ input_limit → number ≤ answered
-    → Looks (reading_of octets answered number ended over) (WholeLine n whole)
+    → Looks (reader_of octets answered number ended over) (WholeLine n whole)
     → (answered + whole ≤ input_limit) × (number + 1 ≤ answered + whole)
 counts-after octets answered number n whole ended over limit numbered looks =
-    let counts = whole_counts (reading_of octets answered number ended over) n whole looks in
+    let counts = whole_counts (reader_of octets answered number ended over) n whole looks in
     let front = length-take (input_limit - answered) octets in
     (omega (arith, counts.1), omega (arith, counts.0))
 
@@ -118,27 +118,28 @@ pub IsNext-failed : (r s : Reading) (left left' : Option (List ℕ)) (e : Error)
 IsNext-failed r s left left' e going valid found = IsNext-stopped r s left left' Failed found.came going found.has found.needed valid
     found.shows.plain found.shows
 
--- a line of n octets and its line feed, behind which the rest begins
+-- a line of n octets, its line feed, and the rest
 pub line_and_rest : (octets : List ℕ) (n : ℕ) → n < length octets → slice_index octets n ≡ 10
     → octets ≡ take n octets ++ (10 ∷ []) ++ drop (n + 1) octets
 line_and_rest octets n within feed =
     let rest : drop n octets ≡ 10 ∷ drop (n + 1) octets = drop_more octets n 0 within ∙ ap (λ x. x ∷ drop (n + 1) octets) feed in
     sym (take-append-drop n octets) ∙ ap (λ l. take n octets ++ l) rest ∙ sym (append_assoc (take n octets) (10 ∷ []) (drop (n + 1) octets))
 
--- the front of what was given up is lent
+-- the line is the front of the octets given up
 lent_line : (octets held : List ℕ) (from n whole : ℕ) → n ≤ whole → slice_range octets from (from + whole) ≡ take whole held
     → slice_range octets from (from + n) ≡ take n held
 lent_line octets held from n whole fits skipped =
     sym (slice_range-front octets from (from + whole) n (omega arith)) ∙ ap (take n) skipped ∙ take-take n whole held fits
 
--- a reader that held the octets of `b` answered the first `whole` of them as a line, and holds those of `after`
+-- a reader that held the octets of `b` answered the first `whole` of them as a line, and now holds
+-- those of `after`
 module _ (r : Reading) (b after : Buffer) (answered number whole : ℕ) (ended over : Bool) (left left' : Option (List ℕ)) (came : List ℕ)
   where
     abbrev held_before : Reading
-    held_before = reading_of (octets_of b) answered number ended over
+    held_before = reader_of (octets_of b) answered number ended over
 
     abbrev held_after : Reading
-    held_after = reading_of (octets_of after) (answered + whole) (number + 1) ended over
+    held_after = reader_of (octets_of after) (answered + whole) (number + 1) ended over
 
     IsAnswered-from : r.over ≡ false → HasCome r held_before left left' came → octets_of after ≡ drop whole (octets_of b)
         → (line feed : List ℕ) → octets_of b ≡ line ++ feed ++ drop whole (octets_of b) → IsLine line → length line ≤ line_limit
@@ -164,7 +165,7 @@ module _ (r : Reading) (b after : Buffer) (answered number whole : ℕ) (ended o
         let front = length-take (input_limit - answered) (octets_of b) in
         IsReading-from after (answered + whole) (number + 1) ended over (omega arith) (omega arith)
 
-    -- a line and its line feed
+    -- a line with a line feed
     IsNext-line : (n : ℕ) (line : Bor (List ℕ)) → r.over ≡ false → HasCome r held_before left left' came → NeedsMore r ⊎ (came ≡ [])
         → answered ≤ input_limit → number ≤ answered
         → octets_of after ≡ drop whole (octets_of b) → line.now ≡ take n (octets_of b) → IsFirstFeed held_before.held n → whole ≡ n + 1
@@ -187,7 +188,7 @@ module _ (r : Reading) (b after : Buffer) (answered number whole : ℕ) (ended o
         (IsReading-after limit numbered (omega arith) (omega arith))
         (inl (subst (λ l. IsAnswered r held_after (r.held ++ r.past ++ came) l (10 ∷ [])) (sym shown) answers))
 
-    -- what is left over at the end of the source
+    -- the last line, without a line feed
     IsNext-last : (n : ℕ) (line : Bor (List ℕ)) → r.over ≡ false → HasCome r held_before left left' came → NeedsMore r ⊎ (came ≡ [])
         → answered ≤ input_limit → number ≤ answered
         → octets_of after ≡ drop whole (octets_of b) → line.now ≡ take n (octets_of b) → IsLine held_before.held
@@ -215,7 +216,7 @@ module _ (r : Reading) (b after : Buffer) (answered number whole : ℕ) (ended o
         (IsReading-after limit numbered (omega (arith, shows.1, shows.2)) (omega (arith, shows.1)))
         (inr (subst (λ l. IsAnswered r held_after (r.held ++ r.past ++ came) l []) (sym shown) answers, nothing, shows.5))
 
-    -- what was found is a line, and it is lent out of what was given up
+    -- the line found is the borrowed front of the octets given up
     pub IsNext-found : (from n : ℕ) (line : Bor (List ℕ)) → r.over ≡ false → HasCome r held_before left left' came
         → NeedsMore r ⊎ (came ≡ []) → answered ≤ input_limit → number ≤ answered
         → octets_of after ≡ drop whole (octets_of b) → slice_range after.octets.items from (from + whole) ≡ take whole (octets_of b)

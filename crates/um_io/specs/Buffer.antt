@@ -1,7 +1,7 @@
--- What a reader of lines holds: only its own body needs this.
+-- The octets that a reader of lines holds (internal).
 use Rattle.std.specs.Prelude.{ℕ, List, slice_range}
 use Rattle.um_io.specs.declared.buffer.Buffer.{Buffer}
 
--- the octets held, the first to come first
+-- the octets held, in order of arrival
 abbrev pub octets_of : Buffer → List ℕ
 octets_of b = slice_range b.octets.items b.start b.end

@@ -1,9 +1,10 @@
 -- The definitions that the contracts of this crate cite.
 pub mod Answers
+pub mod Asking
 pub mod Buffer
 pub mod Found
 pub mod Lines
 pub mod Memory
 pub mod Next
-pub mod Outside
+pub mod Streams
 pub mod Reading

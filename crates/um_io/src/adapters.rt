@@ -2,14 +2,14 @@
 ghost use Rattle.std.specs.Prelude.{◌≡◌, ◌≤◌, OnOk, OnErr};
 ghost use Rattle.std.specs.Io.{ReadsAtMost, WritesAtMost};
 ghost use Rattle.std.specs.Io.KnownBytes.{ReadConsumes, WriteAppends};
-ghost use Rattle.um_io.specs.Outside.{raised, Rose, TakesSome};
+ghost use Rattle.um_io.specs.Streams.{next_count, Rose, TakesSome};
 
-use crate::outside::{Failed, Sink, Source, fault};
+use crate::streams::{Failed, Sink, Source, fault};
 use std::io::{Read, Write};
 
-/// A source over a reader. An error of the reader is a fault.
+/// A source over a reader; each error of the reader is a fault.
 ///
-/// It tells what is left where the reader tells it.
+/// It knows what is left if the reader does.
 #[derive(Debug, Drop)]
 pub struct ReadSource<R> {
     reader: R,
@@ -37,10 +37,10 @@ impl<R: Read> Source for ReadSource<R> {
         ensures later { let count = ⟦<ReadSource<R> as Source>⟧.faults in count self.old ≤ count self.new }
         ensures cause { let count = ⟦<ReadSource<R> as Source>⟧.faults in
             OnErr result (Rose (count self.old) (count self.new)) }
-        ensures kept { let count = ⟦<ReadSource<R> as Source>⟧.faults in
+        ensures unchanged { let count = ⟦<ReadSource<R> as Source>⟧.faults in
             OnOk result (count self.new ≡ count self.old) }
         ensures counted { let count = ⟦<ReadSource<R> as Source>⟧.faults in
-            OnErr result (count self.new ≡ raised (count self.old)) }
+            OnErr result (count self.new ≡ next_count (count self.old)) }
     {
         match self.reader.read(into) {
             Ok(count) => Ok(count),
@@ -49,10 +49,10 @@ impl<R: Read> Source for ReadSource<R> {
     }
 }
 
-/// A sink over a writer. An error of the writer is a fault, and so is a writer that takes nothing of
-/// a piece that is not empty.
+/// A sink over a writer. An error of the writer is a fault, and so is a writer that takes nothing
+/// although it was given some octets.
 ///
-/// It tells what was taken where the writer tells it.
+/// It knows what was taken if the writer does.
 #[derive(Debug, Drop)]
 pub struct WriteSink<W> {
     writer: W,
@@ -81,10 +81,10 @@ impl<W: Write> Sink for WriteSink<W> {
         ensures later { let count = ⟦<WriteSink<W> as Sink>⟧.faults in count self.old ≤ count self.new }
         ensures cause { let count = ⟦<WriteSink<W> as Sink>⟧.faults in
             OnErr result (Rose (count self.old) (count self.new)) }
-        ensures kept { let count = ⟦<WriteSink<W> as Sink>⟧.faults in
+        ensures unchanged { let count = ⟦<WriteSink<W> as Sink>⟧.faults in
             OnOk result (count self.new ≡ count self.old) }
         ensures counted { let count = ⟦<WriteSink<W> as Sink>⟧.faults in
-            OnErr result (count self.new ≡ raised (count self.old)) }
+            OnErr result (count self.new ≡ next_count (count self.old)) }
     {
         match self.writer.write(piece) {
             Ok(count) if count > 0 || piece.is_empty() => Ok(count),

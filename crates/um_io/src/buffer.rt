@@ -2,21 +2,22 @@
 ghost use Rattle.std.specs.Prelude.{◌≡◌, ◌≤◌, ◌<◌, ◌+◌, ◌-◌, ℕ, List, [], ◌++◌, length, take, drop};
 ghost use Rattle.std.specs.Prelude.{slice_range, vec_len, MatchOption, IfOk, OnOk, OnErr};
 ghost use Rattle.std.specs.Io.KnownBytes.{Consumes, Keeps, IsAtEnd};
+ghost use Rattle.std.specs.Result.{result_ok};
 ghost use Rattle.um_io.specs.Lines.{IsLine, IsFirstFeed};
-ghost use Rattle.um_io.specs.Outside.{Rose};
+ghost use Rattle.um_io.specs.Streams.{Rose};
 ghost use Rattle.um_io.specs.Reading.{held_limit};
 
-use crate::outside::{Failed, NoMemory, Source};
+use crate::streams::{Failed, NoMemory, Source};
 use memchr::memchr;
 use std::alloc::Global;
 
-/// How many octets a line has at most before its line feed.
+/// The maximum number of octets in a line, without its line feed.
 pub(crate) const LINE_LIMIT: usize = 4096;
 
-/// How many octets are held at most: a longest line and its line feed.
+/// The capacity in octets: a longest line and its line feed.
 const ROOM: usize = LINE_LIMIT + 1;
 
-/// What stands from `start` up to `end` is held, and up to `scanned` it has no line feed.
+/// Holds the octets from `start` up to `end`; those up to `scanned` have no line feed.
 #[derive(Debug, Drop)]
 pub(crate) struct Buffer {
     octets: Vec<u8>,
@@ -48,14 +49,15 @@ impl Buffer {
     /// How many octets are held.
     pub(crate) fn len(&self) -> usize
         ensures held { result ≡ length (octets_of self.now) }
-        ensures room { result ≤ held_limit }
+        ensures space { result ≤ held_limit }
     {
         self.end - self.start
     }
 
-    /// Where the first line feed stands. Each octet is looked at once, but for a line feed that was found before.
+    /// The index of the first line feed. Scans each octet once, except a line feed that was found
+    /// before.
     pub(crate) fn first_feed(&mut self) -> Option<usize>
-        ensures kept { octets_of self.new ≡ octets_of self.old }
+        ensures unchanged { octets_of self.new ≡ octets_of self.old }
         ensures found { MatchOption result (IsLine (octets_of self.old)) (IsFirstFeed (octets_of self.old)) }
     {
         match feed_in(&self.octets[self.scanned..self.end]) {
@@ -70,12 +72,13 @@ impl Buffer {
         }
     }
 
-    /// Asks the source once, for all that there is room for, and answers how many octets came.
+    /// Asks the source once, for as many octets as fit, and returns how many came.
     pub(crate) fn read<S: Source>(&mut self, source: &mut S) -> Result<usize, Failed>
-        requires room { length (octets_of self.old) < held_limit }
+        requires space { length (octets_of self.old) < held_limit }
         ensures came { IfOk result (λ n. (came : List ℕ) × (octets_of self.new ≡ octets_of self.old ++ came) × (length came ≡ n)
             × Consumes (S.left source.old) (S.left source.new) came) }
         ensures end { IfOk result (λ n. n ≡ 0 → IsAtEnd (S.left source.new)) }
+        ensures asked { S.took source.old (result_ok result) source.new }
         ensures failed { OnErr result ((octets_of self.new ≡ octets_of self.old) × Keeps (S.left source.old) (S.left source.new)) }
         ensures counted { OnOk result (S.faults source.new ≡ S.faults source.old) }
         ensures later { S.faults source.old ≤ S.faults source.new }
@@ -88,7 +91,7 @@ impl Buffer {
     }
 
     fn move_to_front(&mut self)
-        ensures kept { octets_of self.new ≡ octets_of self.old }
+        ensures unchanged { octets_of self.new ≡ octets_of self.old }
         ensures front { self.new.start ≡ 0 }
     {
         if self.start > 0 {
@@ -99,7 +102,7 @@ impl Buffer {
         }
     }
 
-    /// Gives up the first octets, and answers where they stood.
+    /// Drops the first `count` octets, and returns their index in the buffer.
     pub(crate) fn skip(&mut self, count: usize) -> usize
         requires { count ≤ length (octets_of self.old) }
         ensures rest { octets_of self.new ≡ drop count (octets_of self.old) }
@@ -121,7 +124,7 @@ impl Buffer {
     }
 }
 
-/// Asks the source once for what stands from `end` on, and answers how many octets came.
+/// Asks the source once, writing from `end` on, and returns how many octets came.
 fn fill_from<S: Source>(source: &mut S, octets: &mut Vec<u8>, end: usize) -> Result<usize, Failed>
     requires { end < vec_len octets.old }
     ensures len { vec_len octets.new ≡ vec_len octets.old }
@@ -129,6 +132,7 @@ fn fill_from<S: Source>(source: &mut S, octets: &mut Vec<u8>, end: usize) -> Res
     ensures bound { IfOk result (λ n. n + end ≤ vec_len octets.old) }
     ensures came { IfOk result (λ n. Consumes (S.left source.old) (S.left source.new) (slice_range octets.new.items end (end + n))) }
     ensures at_end { IfOk result (λ n. n ≡ 0 → IsAtEnd (S.left source.new)) }
+    ensures asked { S.took source.old (result_ok result) source.new }
     ensures failed { OnErr result (Keeps (S.left source.old) (S.left source.new)) }
     ensures counted { OnOk result (S.faults source.new ≡ S.faults source.old) }
     ensures later { S.faults source.old ≤ S.faults source.new }
@@ -137,7 +141,7 @@ fn fill_from<S: Source>(source: &mut S, octets: &mut Vec<u8>, end: usize) -> Res
     source.take(&mut octets[end..])
 }
 
-/// Where the first line feed stands. One at the front, as where it was found before, takes no search.
+/// The index of the first line feed. A line feed at the front needs no search.
 fn feed_in(octets: &[u8]) -> Option<usize>
     ensures { MatchOption result (IsLine octets.now) (IsFirstFeed octets.now) }
 {

@@ -1,4 +1,4 @@
-//! The outside of the link: where octets come from and where they go to.
+//! Input and output of the commands: sources and sinks of octets, and a reader of lines.
 #![tactic(auto)]
 
 mod adapters;
@@ -6,10 +6,10 @@ mod buffer;
 mod laws;
 mod lines;
 mod memory;
-mod outside;
+mod streams;
 
 pub use adapters::{ReadSource, WriteSink};
 pub use laws::{law_answers, law_lines};
 pub use lines::{Lines, Next};
 pub use memory::{MemorySink, MemorySource, PlainSource};
-pub use outside::{Failed, NoMemory, Sink, Source};
+pub use streams::{Failed, NoMemory, Sink, Source};

@@ -1,16 +1,17 @@
-//! The lines of an input, one after another, over one buffer.
+//! A reader of the lines of an input, over one buffer.
 ghost use Rattle.std.specs.Prelude.{◌≡◌, ◌≤◌, ◌<◌, ◌+◌, ◌-◌, ◌↔◌, ℕ, List, Bool, true, false, None, []};
 ghost use Rattle.std.specs.Prelude.{◌++◌, length, MatchBool, MatchOption, IfOk, IfSome, OnOk, OnErr, IsTrue, ◌⊎◌};
 ghost use Rattle.std.specs.Borrow.{sem};
-ghost use Rattle.um_io.specs.Outside.{Rose};
+ghost use Rattle.um_io.specs.Asking.{Asked, AskedOnce};
+ghost use Rattle.um_io.specs.Streams.{Rose};
 ghost use Rattle.um_io.specs.Found.{Shows, LacksAnswer};
 
 use crate::buffer::{Buffer, LINE_LIMIT};
-use crate::outside::{Failed, NoMemory, Source};
+use crate::streams::{Failed, NoMemory, Source};
 use std::alloc::Global;
 use std::marker::Model;
 
-/// How many octets of an input count.
+/// The maximum number of octets in an input.
 const INPUT_LIMIT: u64 = 67_108_864;
 
 /// What a reader of lines answers.
@@ -18,7 +19,7 @@ const INPUT_LIMIT: u64 = 67_108_864;
 pub enum Next<'a> {
     /// The next line, without its line feed.
     Line(&'a [u8]),
-    /// The input is at its end.
+    /// The input has ended.
     End,
     /// The next line has more than 4,096 octets.
     Long,
@@ -28,10 +29,10 @@ pub enum Next<'a> {
     Failed,
 }
 
-/// What is held shows a line, an end or a limit.
+/// What the octets held show.
 #[derive(Clone, Copy, Debug, PartialEq, Eq)]
 enum Found {
-    /// A line, and how many octets it has with its line feed, if it has one.
+    /// A line, and its number of octets with its line feed, if it has one.
     Line { length: usize, whole: usize },
     /// The end of the input.
     Nothing,
@@ -54,11 +55,11 @@ pub struct Lines {
 impl Model for Lines {
     ghost use Rattle.std.specs.Prelude.{◌≤◌};
     ghost use Rattle.um_io.specs.Buffer.{octets_of};
-    ghost use Rattle.um_io.specs.Reading.{Reading, reading_of, input_limit};
+    ghost use Rattle.um_io.specs.Reading.{Reading, reader_of, input_limit};
 
     ghost Value = { Reading };
 
-    ghost view = { λ s. reading_of (octets_of s.buffer) s.answered s.number s.ended s.over };
+    ghost view = { λ s. reader_of (octets_of s.buffer) s.answered s.number s.ended s.over };
 
     ghost invariant = { λ s. (s.answered ≤ input_limit) × (s.number ≤ s.answered) };
 }
@@ -69,7 +70,7 @@ impl Lines {
     ghost use Rattle.um_io.specs.Found.{Looks, HasRead, Finds};
     ghost use Rattle.um_io.specs.Next.{EndsNext, FailedOnly};
 
-    /// A reader that has read nothing. All its memory is taken here.
+    /// A reader that has read nothing. Allocates all its memory.
     pub fn new(alloc: Global) -> Result<Lines, NoMemory>
         ensures { IfOk result (λ lines. lines ≡ at_start) }
     {
@@ -89,9 +90,9 @@ impl Lines {
         self.number
     }
 
-    /// Whether the next answer stands in what is held, so that `next` reads nothing.
+    /// Whether the octets held give the next answer; then `next` reads nothing.
     pub fn is_ready(&mut self) -> bool
-        ensures kept { self.new ≡ self.old }
+        ensures unchanged { self.new ≡ self.old }
         ensures ready { MatchBool result (IsReady self.old) (NeedsReading self.old) }
     {
         self.over || self.look().is_some()
@@ -100,17 +101,17 @@ impl Lines {
     /// How many of the octets held are within the limit.
     fn within(&self) -> usize
         ensures within { result ≡ length self.now.held }
-        ensures room { result ≤ held_limit }
+        ensures space { result ≤ held_limit }
     {
         let left = INPUT_LIMIT - self.answered;
         left.min(self.buffer.len() as u64) as usize
     }
 
-    /// Where the first line feed within the limit stands.
+    /// The index of the first line feed within the limit.
     fn first_feed(&mut self) -> Option<usize>
-        ensures kept { self.new ≡ self.old }
+        ensures unchanged { self.new ≡ self.old }
         ensures found { MatchOption result (IsLine self.old.held) (IsFirstFeed self.old.held) }
-        ensures room { IfSome result (λ at. at < held_limit) }
+        ensures space { IfSome result (λ at. at < held_limit) }
     {
         let within = self.within();
         match self.buffer.first_feed() {
@@ -119,9 +120,9 @@ impl Lines {
         }
     }
 
-    /// What is held shows, where it gives an answer.
+    /// What the octets held show, or `None` if they give no answer yet.
     fn look(&mut self) -> Option<Found>
-        ensures kept { self.new ≡ self.old }
+        ensures unchanged { self.new ≡ self.old }
         ensures found { MatchOption result (NeedsMore self.old) (Looks self.old) }
     {
         if let Some(at) = self.first_feed() {
@@ -140,6 +141,7 @@ impl Lines {
     fn read<S: Source>(&mut self, source: &mut S) -> Result<(), Failed>
         requires { NeedsMore self.old }
         ensures read { HasRead self.old self.new (S.left source.old) (S.left source.new) result }
+        ensures asked { AskedOnce S.took source.old source.new self.new.ended result }
         ensures valid { IsReading self.new }
         ensures counted { OnOk result (S.faults source.new ≡ S.faults source.old) }
         ensures later { S.faults source.old ≤ S.faults source.new }
@@ -150,10 +152,11 @@ impl Lines {
         Ok(())
     }
 
-    /// Asks the source until what is held gives an answer.
+    /// Asks the source until the octets held give an answer.
     fn find<S: Source>(&mut self, source: &mut S) -> Result<Found, Failed>
         ensures found { Finds self.old self.new (S.left source.old) (S.left source.new) result }
         ensures unasked { NeedsMore self.old ⊎ (source.new ≡ source.old) }
+        ensures asked { Asked S.took source.old source.new }
         ensures counted { OnOk result (S.faults source.new ≡ S.faults source.old) }
         ensures later { S.faults source.old ≤ S.faults source.new }
         ensures cause { OnErr result (Rose (S.faults source.old) (S.faults source.new)) }
@@ -166,13 +169,14 @@ impl Lines {
         }
     }
 
-    /// Answers the next line, and reads only where what is held gives no answer.
+    /// Returns the next line; reads only if the octets held give no answer.
     ///
-    /// After `Long`, `TooMany` or `Failed` every further answer is `End`.
+    /// After `Long`, `TooMany` or `Failed` every further answer is `End`. A source that has come to its end is not asked again.
     #[inline(always)]
     pub fn next<S: Source>(&mut self, source: &mut S) -> Next<'_>
         ensures* ends { sem 𝓛 (EndsNext self.entry (S.left source.old) (S.left source.new) result) }
         ensures unasked { IsReady self.old → source.new ≡ source.old }
+        ensures asked { Asked S.took source.old source.new }
         ensures failed { FailedOnly (S.faults source.old) (S.faults source.new) result }
     {
         if self.over {
@@ -202,7 +206,7 @@ impl Lines {
     }
 }
 
-/// What so many octets within the limit show that have no line feed, and so many past it.
+/// What `within` octets without a line feed and `past` octets past the limit show.
 fn without_feed(within: usize, past: usize, ended: bool) -> Option<Found>
     ensures { MatchOption result (LacksAnswer within past ended) (Shows within past ended) }
 {
@@ -303,7 +307,7 @@ mod tests {
         Ok(())
     }
 
-    /// A source of so many line feeds.
+    /// A source of a number of line feeds.
     #[derive(Drop)]
     struct Feeds(usize);
 

@@ -1,20 +1,21 @@
-//! Sources and sinks in memory, which tell their content and fail at the calls that they are told.
+//! Sources and sinks in memory, whose content is known and which fail at given calls.
 ghost use Rattle.std.specs.Prelude.{◌≡◌, ◌≤◌, ◌+◌, ◌↔◌, ℕ, Some, Ok, Err, [], ◌++◌, length, take, drop};
 ghost use Rattle.std.specs.Prelude.{vec_len, vec_capacity, IfOk, OnOk, OnErr, IsErr};
 ghost use Rattle.std.specs.Io.{ReadsAtMost, WritesAtMost};
 ghost use Rattle.std.specs.Io.KnownBytes.{ReadConsumes, WriteAppends};
-ghost use Rattle.um_io.specs.Outside.{raised, Rose, TakesSome};
-ghost use Rattle.um_io.specs.Memory.{Plain, Feed, Store, new_feed, new_store, given_count, taken_count, filled, FailsNext, Refuses};
-ghost use Rattle.um_io.specs.Memory.{after_giving, after_failing, after_taking, after_refusing};
+ghost use Rattle.um_io.specs.Streams.{next_count, Rose, TakesSome};
+ghost use Rattle.um_io.specs.Memory.{Plain, Feed, Store, new_feed, new_store, given_count, taken_count, with_front, FailsNext, Refuses};
+ghost use Rattle.um_io.specs.Memory.{after_giving, after_failing, after_taking, after_refusing, TookFrom};
+ghost use Rattle.std.specs.Result.{result_ok};
 
-use crate::outside::{Failed, NoMemory, Sink, Source, fault};
+use crate::streams::{Failed, NoMemory, Sink, Source, fault};
 use std::alloc::Global;
 use std::marker::Model;
 
-/// Moves at most `most` octets from the front of those left to the front of `into`.
+/// Moves at most `most` octets from the front of `left` to the front of `into`.
 fn give(left: &mut &[u8], most: usize, into: &mut [u8]) -> usize
     ensures exact { result ≡ given_count most left.old.now into.old }
-    ensures copied { into.new ≡ filled left.old.now result into.old }
+    ensures copied { into.new ≡ with_front left.old.now result into.old }
     ensures rest { left.new.now ≡ drop result left.old.now }
 {
     let octets = *left;
@@ -60,7 +61,7 @@ impl<'a> Source for PlainSource<'a> {
     fn take(&mut self, into: &mut [u8]) -> Result<usize, Failed>
         ensures bound { ReadsAtMost result into.new }
         ensures octets { ReadConsumes (Some self.old.left) (Some self.new.left) result into.new }
-        ensures kept { let count = ⟦<PlainSource<'a> as Source>⟧.faults in
+        ensures unchanged { let count = ⟦<PlainSource<'a> as Source>⟧.faults in
             OnOk result (count self.new ≡ count self.old) }
         ensures later { let count = ⟦<PlainSource<'a> as Source>⟧.faults in
             count self.old ≤ count self.new }
@@ -68,7 +69,7 @@ impl<'a> Source for PlainSource<'a> {
             OnErr result (Rose (count self.old) (count self.new)) }
 
         ensures exact { result ≡ Ok (given_count self.old.most self.old.left into.old) }
-        ensures copied { IfOk result (λ n. into.new ≡ filled self.old.left n into.old) }
+        ensures copied { IfOk result (λ n. into.new ≡ with_front self.old.left n into.old) }
         ensures rest { IfOk result (λ n. self.new ≡ record self.old { left = drop n self.old.left }) }
     {
         Ok(give(&mut self.octets, self.most, into))
@@ -77,7 +78,7 @@ impl<'a> Source for PlainSource<'a> {
 
 /// A source over octets in memory, some of whose calls fail.
 ///
-/// Its calls are numbered from 1; a number past the greatest `u64` counts as the greatest `u64`.
+/// Calls are numbered from 1; every call after the greatest `u64` has that number.
 #[derive(Debug, Drop)]
 pub struct MemorySource<'a> {
     octets: &'a [u8],
@@ -105,8 +106,8 @@ impl<'a> Model for MemorySource<'a> {
 }
 
 impl<'a> MemorySource<'a> {
-    /// A source of `octets`, which gives at most `most` of them a call and fails at the calls whose
-    /// numbers stand in `fails`.
+    /// A source of `octets`, which gives at most `most` of them a call and fails at the calls
+    /// numbered in `fails`.
     pub fn new(octets: &'a [u8], most: usize, fails: &'a [u64]) -> Self
         requires { 1 ≤ most }
         ensures { result ≡ new_feed octets.now most fails.now }
@@ -126,16 +127,19 @@ impl<'a> Source for MemorySource<'a> {
 
     ghost faults = { λ s. s.faults };
 
+    ghost took = { TookFrom };
+
     fn take(&mut self, into: &mut [u8]) -> Result<usize, Failed>
         ensures bound { ReadsAtMost result into.new }
         ensures octets { ReadConsumes (Some self.old.left) (Some self.new.left) result into.new }
-        ensures kept { OnOk result (self.new.faults ≡ self.old.faults) }
+        ensures step { TookFrom self.old (result_ok result) self.new }
+        ensures unchanged { OnOk result (self.new.faults ≡ self.old.faults) }
         ensures later { self.old.faults ≤ self.new.faults }
         ensures cause { OnErr result (Rose self.old.faults self.new.faults) }
 
         ensures fails { IsErr result ↔ FailsNext self.old.failing self.old.calls }
         ensures exact { IfOk result (λ n. n ≡ given_count self.old.most self.old.left into.old) }
-        ensures copied { IfOk result (λ n. into.new ≡ filled self.old.left n into.old) }
+        ensures copied { IfOk result (λ n. into.new ≡ with_front self.old.left n into.old) }
         ensures given { IfOk result (λ n. self.new ≡ after_giving self.old n) }
         ensures failed { OnErr result (self.new ≡ after_failing self.old) }
         ensures untouched { OnErr result (into.new ≡ into.old) }
@@ -150,7 +154,7 @@ impl<'a> Source for MemorySource<'a> {
 
 /// A sink in memory, some of whose calls fail.
 ///
-/// Its calls are numbered from 1; a number past the greatest `u64` counts as the greatest `u64`.
+/// Calls are numbered from 1; every call after the greatest `u64` has that number.
 #[derive(Debug, Drop)]
 pub struct MemorySink<'a> {
     octets: Vec<u8>,
@@ -176,13 +180,13 @@ impl<'a> Model for MemorySink<'a> {
       faults = s.faults;
     } };
 
-    // All the memory is there from the beginning.
+    // All memory is allocated in `new`.
     ghost invariant = { λ s. (1 ≤ s.most) × (vec_len s.octets ≤ s.room) × (s.room ≤ vec_capacity s.octets) };
 }
 
 impl<'a> MemorySink<'a> {
-    /// A sink that takes at most `most` octets a call, holds at most `room` octets in all, and fails
-    /// at the calls whose numbers stand in `fails`. All its memory is taken here.
+    /// A sink that takes at most `most` octets a call and `room` octets in all, and fails at the
+    /// calls numbered in `fails`. Allocates all its memory.
     pub fn new(alloc: Global, room: usize, most: usize, fails: &'a [u64]) -> Result<Self, NoMemory>
         requires { 1 ≤ most }
         ensures { IfOk result (λ sink. sink ≡ new_store room most fails.now) }
@@ -198,7 +202,7 @@ impl<'a> MemorySink<'a> {
         })
     }
 
-    /// What was taken, the first octet first.
+    /// The octets taken, in order.
     pub fn octets(&self) -> &[u8]
         ensures { result.now ≡ self.now.taken }
     {
@@ -215,7 +219,7 @@ impl<'a> Sink for MemorySink<'a> {
         ensures bound { WritesAtMost result piece.now }
         ensures some { TakesSome result piece.now }
         ensures octets { WriteAppends (Some self.old.taken) (Some self.new.taken) result piece.now }
-        ensures kept { OnOk result (self.new.faults ≡ self.old.faults) }
+        ensures unchanged { OnOk result (self.new.faults ≡ self.old.faults) }
         ensures later { self.old.faults ≤ self.new.faults }
         ensures cause { OnErr result (Rose self.old.faults self.new.faults) }
 

@@ -1,4 +1,4 @@
--- What is known of the values of a line that has a form.
+-- The types and ranges of the values of a line that has a form.
 use Rattle.std.proofs.Common.{◌≡◌, ◌≢◌, ℕ, ◌<◌, ◌≤◌, Bool, true, false, List, [], ◌∷◌, length, Option, Some}
 use Rattle.std.proofs.Common.{None, sym, subst, inl, inr, arith}
 use Rattle.std.specs.List.{All}
@@ -11,16 +11,16 @@ use Rattle.um_lines.specs.Forms.{Form, Table, fields_for, Fill, IsOf, LineMeans}
 use Rattle.um_lines.specs.Reading.{LineIs}
 use Rattle.um_lines.proofs.HexLists.{hex_octets-small, length-hex_octets}
 
--- octets are no more than may be
+-- a list is no longer than this limit, if there is one
 abbrev pub AreWithin : Option ℕ → List ℕ → Type 0
 AreWithin None octets = Unit {0}
 AreWithin (Some most) octets = length octets ≤ most
 
--- so many octets
+-- a list of this many octets
 abbrev pub AreOctets : ℕ → List ℕ → Type 0
 AreOctets count octets = (length octets ≡ count) × All (λ octet. octet < 256) octets
 
--- values are those of words at the places of fields
+-- these values are of the types and ranges of these fields
 abbrev pub Fitting : List Field → List Value → Type 0
 Fitting [] values = values ≡ []
 Fitting (Fixed text ∷ fields) values = Fitting fields values
@@ -49,7 +49,7 @@ counted least most word e =
     let many = leb-true least (octet_count word) inner.0 in
     (omega (arith, length-hex_octets word), within most word inner.1, hex_octets-small word)
 
--- the values of words that fill fields are
+-- the values of words that fill fields fit them
 fill_fitting : (fields : List Field) (words : List (List ℕ)) (values : List Value) → Fill fields words values → Fitting fields values
 fill_fitting [] [] values f = f
 fill_fitting [] (word ∷ words) values f = absurd f
@@ -81,7 +81,7 @@ fill_fitting (BlockPlace ∷ fields) (word ∷ words) values f =
     let s = f.2 in (s.0, f.1, rw s.3 at f.4, s.1, fill_fitting fields words f.1 f.3)
 
 module _ {Name : Type 0} (elsewhere : Name → Bool) (P : Name → List Value → Type 0) where
-  -- each form of a table, where it may stand, has only such values
+  -- the property holds for all fitting values of each form that is allowed at this point
   abbrev pub Each : Table Name → Type 0
   Each [] = Unit {0}
   Each (entry ∷ table) =
@@ -100,7 +100,7 @@ module _ {Name : Type 0} (elsewhere : Name → Bool) (P : Name → List Value �
         | inr later ↦ each_of table each.1 entry later here count values fits
       ]
 
--- so what a command makes of lines is as it is of the values of each form
+-- what holds for the values of every form holds for every line
 pub line_is : {Name A : Type 0} (table : Table Name) (elsewhere : Name → Bool) (make : Option (Name × List Value) → A) (Q : A → Type 0)
     → Q (make None) → Each elsewhere (λ name values. Q (make (Some (name, values)))) table
     → (line : List ℕ) (a : A) → LineIs table elsewhere make line a → Q a
@@ -113,7 +113,7 @@ line_is {Name} table elsewhere make Q none each line a m = subst Q (sym m.2) (go
         each_of elsewhere (λ name values. Q (make (Some (name, values)))) table each (meaning.0, w.form) w.of_table w.here _ meaning.1
         (fill_fitting _ _ meaning.1 w.filled)
 
--- and a line that means something is no longer than a line may be
+-- a line with a meaning has at most 4096 octets
 pub line_short : {Name A : Type 0} (table : Table Name) (elsewhere : Name → Bool) (make : Option (Name × List Value) → A) (line : List ℕ)
     (a : A)
     → LineIs table elsewhere make line a → length line ≤ 4096

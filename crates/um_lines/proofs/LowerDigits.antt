@@ -1,4 +1,4 @@
--- The digits of octets, more of them at a time.
+-- Hexadecimal digits of octets, several octets at a time.
 use Rattle.std.proofs.Common.{◌≡◌, ℕ, true, ◌==◌, ◌+◌, ◌*◌, ◌<◌, ◌≤◌, ◌-◌, ◌/◌, ◌%◌, List, []}
 use Rattle.std.proofs.Common.{◌∷◌, length, set, get_or, suc, refl, ap, ap₂, ◌∙◌, sym, arith, inl, inr}
 use Rattle.std.proofs.lemmas.Grind.{common_steps}
@@ -7,7 +7,7 @@ use Rattle.bit_blocks.proofs.Lemmas.{passes_below, at_passes_below}
 use Rattle.hex.specs.Hex.{encode_with, encode_lower, lower_digits}
 use Rattle.um_lines.specs.HexPlaces.{HasDigits}
 
--- digits that are those of the octet at each place are those of all octets
+-- if the two digits at each position are those of its octet, the list is the digits of all octets
 pub digits_from_places : (octets digits : List ℕ) → length digits ≡ 2 * length octets
     → ((k : ℕ) → k < length octets → HasDigits octets digits k) → digits ≡ encode_lower octets
 unfolding encode_with
@@ -27,7 +27,7 @@ digits_from_places (octet ∷ octets) (high ∷ low ∷ digits) many each =
     ap₂ (λ h l. h ∷ l ∷ digits) first.0 first.1
     ∙ ap (λ others. get_or lower_digits (octet / 16) 0 ∷ get_or lower_digits (octet % 16) 0 ∷ others) rest
 
--- two digits more
+-- two more digits
 pub digits_set : (octets digits : List ℕ) (n high low : ℕ) → 2 * n + 1 < length digits
     → high ≡ get_or lower_digits (get_or octets n 0 / 16) 0 → low ≡ get_or lower_digits (get_or octets n 0 % 16) 0
     → ((k : ℕ) → k < n → HasDigits octets digits k)

@@ -1,4 +1,4 @@
--- What follows where a line has one meaning and no other, or a reason and none.
+-- Consequences of a line having either exactly one meaning or a fault.
 use Rattle.std.proofs.Common.{◌≡◌, Option, None, Some, refl, sym, ◌∙◌, subst}
 use Rattle.um_lines.specs.declared.fault.LineFault.{LineFault}
 use Rattle.um_lines.specs.Meanings.{HasOneMeaningUnless}

@@ -1,4 +1,4 @@
--- A line that is written of values means these values.
+-- A line written from values means these values: field by field, reading inverts writing.
 use Rattle.std.proofs.Common.{append-nil, ◌≡◌, ◌≢◌, ℕ, ◌+◌, ◌*◌, ◌/◌, ◌%◌, ◌<◌, ◌≤◌, ◌==◌}
 use Rattle.std.proofs.Common.{Bool, true, false, ◌&&◌, ◌||◌, not, List, [], ◌∷◌, length, slice_index, Option, Some, None}
 use Rattle.std.proofs.Common.{codes, refl, sym, ap, ◌∙◌, subst, arith}
@@ -14,14 +14,14 @@ use Rattle.um_lines.specs.Words.{is_skipped, words}
 use Rattle.um_lines.specs.Fields.{Field, Fixed, DigitTo, BitDigits, HexOctets, SoftOctets, AnyOctets, BlockPlace, Value, Number, Several}
 use Rattle.um_lines.specs.Fields.{Place, bit_digits, hex_octets, is_within, octet_count, are_octets, are_octet_digits}
 use Rattle.um_lines.specs.Forms.{Just, Table, Fill, IsOf, LineMeans, AreDistinct, places}
-use Rattle.um_lines.specs.Spelled.{octets_word, spelled, spelled_line}
+use Rattle.um_lines.specs.Spelled.{octets_word, spelling, spelled_line}
 use Rattle.um_lines.proofs.FieldLaws.{decimal_digits}
 use Rattle.um_lines.proofs.KnownValues.{Fitting, AreWithin}
 use Rattle.um_lines.proofs.WordLists.{words-join}
 
 -- ---- hexadecimal digits
 
--- the digits of an octet are digits, and have its value
+-- the hexadecimal digits of octets are digits, and decode to these octets
 pub encoded : (octets : List ℕ) → All (λ octet. octet < 256) octets
     → (list_all is_hex_digit (encode_lower octets) ≡ true) × (hex_octets (encode_lower octets) ≡ octets)
 unfolding encode_with
@@ -66,8 +66,8 @@ any_many least most (octet ∷ octets) many few =
 
 -- ---- fields
 
--- the words of values fill their fields
-pub spelled_fill : (fields : List Field) (values : List Value) → Fitting fields values → Fill fields (spelled fields values) values
+-- the words written for values fill their fields
+pub spelled_fill : (fields : List Field) (values : List Value) → Fitting fields values → Fill fields (spelling fields values) values
 spelled_fill [] values f = f
 spelled_fill (Fixed text ∷ fields) values f = ([], values, (refl, refl), spelled_fill fields values f, refl)
 spelled_fill (DigitTo most ∷ fields) values (n, rest, is, within, f) =
@@ -100,13 +100,13 @@ spelled_fill (AnyOctets least most ∷ fields) values (octets, rest, is, known, 
 spelled_fill (BlockPlace ∷ fields) values (n, rest, is, within, f) =
     rw is (Place n ∷ [], rest, (n, within, refl, refl), spelled_fill fields rest f, refl)
 
--- ---- words without an octet that no digit is
+-- ---- words without a given octet below 45, which is no digit
 
 module _ (other : ℕ) (below : other < 45) where
   abbrev pub Is : ℕ → Type 0
   Is octet = octet ≢ other
 
-  -- a word of octets that pass a test which the other does not pass
+  -- if all octets of a word pass a test that `other` fails, the word lacks `other`
   pub passing_lack : (p : ℕ → Bool) → p other ≡ false → (word : List ℕ) → list_all p word ≡ true → All Is word
   passing_lack p fails [] passes = All-nil Is
   passing_lack p fails (octet ∷ word) passes =
@@ -131,7 +131,7 @@ module _ (other : ℕ) (below : other < 45) where
       let parts = and_parts _ (all_ascii_digits word) digits in
       All-cons Is digit word (λ same. let is = parts.0 in absurd (grind arith)) (ascii_lack word parts.1)
 
-  -- fixed words lack it
+  -- no fixed word has the octet
   abbrev pub lack : List Field → Bool
   lack [] = true
   lack (Fixed text ∷ fields) = list_all (λ octet. not (octet == other)) text && lack fields
@@ -141,27 +141,27 @@ module _ (other : ℕ) (below : other < 45) where
   cons word words first rest = All-cons (All Is) word words first rest
 
   pub spelled_lack : (fields : List Field) (values : List Value) → Fitting fields values → lack fields ≡ true
-      → All (All Is) (spelled fields values)
+      → All (All Is) (spelling fields values)
   spelled_lack [] values f lacks = All-nil (All Is)
   spelled_lack (Fixed text ∷ fields) values f lacks =
       let parts = and_parts (list_all (λ octet. not (octet == other)) text) (lack fields) lacks in
       let first = passing_lack (λ octet. not (octet == other)) (rw (eq-eqb other other refl) refl) text parts.0 in
-      cons text (spelled fields values) first (spelled_lack fields values f parts.1)
+      cons text (spelling fields values) first (spelled_lack fields values f parts.1)
   spelled_lack (DigitTo most ∷ fields) values (n, rest, is, within, f) lacks =
-      rw is (cons ((48 + n) ∷ []) (spelled fields rest) (All-cons Is (48 + n) [] (λ same. omega arith) (All-nil Is))
+      rw is (cons ((48 + n) ∷ []) (spelling fields rest) (All-cons Is (48 + n) [] (λ same. omega arith) (All-nil Is))
       (spelled_lack fields rest f lacks))
   spelled_lack (BitDigits count ∷ fields) values (bits, rest, is, known, f) lacks =
-      rw is (cons (bit_digits bits) (spelled fields rest) (bits_lack bits) (spelled_lack fields rest f lacks))
+      rw is (cons (bit_digits bits) (spelling fields rest) (bits_lack bits) (spelled_lack fields rest f lacks))
   spelled_lack (HexOctets count ∷ fields) values (octets, rest, is, known, f) lacks =
-      rw is (cons (encode_lower octets) (spelled fields rest) (hex_lack (encode_lower octets) (encoded octets known.1).0)
+      rw is (cons (encode_lower octets) (spelling fields rest) (hex_lack (encode_lower octets) (encoded octets known.1).0)
       (spelled_lack fields rest f lacks))
   spelled_lack (SoftOctets count ∷ fields) values (octets, rest, is, known, f) lacks =
-      rw is (cons (encode_lower octets) (spelled fields rest) (hex_lack (encode_lower octets) (encoded octets known.0.1).0)
+      rw is (cons (encode_lower octets) (spelling fields rest) (hex_lack (encode_lower octets) (encoded octets known.0.1).0)
       (spelled_lack fields rest f lacks))
   spelled_lack (AnyOctets least most ∷ fields) values (octets, rest, is, known, f) lacks =
-      rw is (cons (octets_word octets) (spelled fields rest) (any_lack octets known.2) (spelled_lack fields rest f lacks))
+      rw is (cons (octets_word octets) (spelling fields rest) (any_lack octets known.2) (spelled_lack fields rest f lacks))
   spelled_lack (BlockPlace ∷ fields) values (n, rest, is, within, f) lacks =
-      rw is (cons (decimal n) (spelled fields rest) (ascii_lack (decimal n) (decimal_digits n within)) (spelled_lack fields rest f lacks))
+      rw is (cons (decimal n) (spelling fields rest) (ascii_lack (decimal n) (decimal_digits n within)) (spelled_lack fields rest f lacks))
 
   pub join_lack : other ≢ 32 → (parts : List (List ℕ)) → All (All Is) parts → All Is (join_with_byte 32 parts)
   join_lack unlike [] each = All-nil Is
@@ -173,7 +173,7 @@ module _ (other : ℕ) (below : other < 45) where
 
 -- ---- lines
 
--- the line of a form's values means them, if it is no longer than a line may be and not passed over
+-- the line written for the values of a form means them, unless it is too long or skipped
 pub spelled_means : {Name : Type 0} (table : Table Name) (elsewhere : Name → Bool) (name : Name) (text : List ℕ) (fields : List Field)
     (values : List Value) → IsOf table (name, Just (Fixed text ∷ fields)) → elsewhere name ≡ false
     → lack 32 (omega arith) (Fixed text ∷ fields) ≡ true
@@ -189,15 +189,15 @@ spelled_means table elsewhere name text fields values is here lacks fits once sh
     here = here;
     filled = subst (λ all. Fill all (words (spelled_line (Fixed text ∷ fields) values)) values) (sym (append-nil (Fixed text ∷ fields)))
         (subst (λ parts. Fill (Fixed text ∷ fields) parts values)
-        (sym (words-join (spelled (Fixed text ∷ fields) values) (λ e. absurd cc)
+        (sym (words-join (spelling (Fixed text ∷ fields) values) (λ e. absurd cc)
         (spelled_lack 32 (omega arith) (Fixed text ∷ fields) values fits lacks)))
         (spelled_fill (Fixed text ∷ fields) values fits));
     once = once;
   },
 )
 
--- and none of its octets is a line feed
+-- the line has no line feed
 pub spelled_uncut : (fields : List Field) (values : List Value) → lack 10 (omega arith) fields ≡ true → Fitting fields values
     → All (λ octet. octet ≢ 10) (spelled_line fields values)
 spelled_uncut fields values lacks fits =
-    join_lack 10 (omega arith) (λ same. omega arith) (spelled fields values) (spelled_lack 10 (omega arith) fields values fits lacks)
+    join_lack 10 (omega arith) (λ same. omega arith) (spelling fields values) (spelled_lack 10 (omega arith) fields values fits lacks)

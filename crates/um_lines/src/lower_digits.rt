@@ -6,7 +6,7 @@ ghost use Rattle.um_lines.specs.HexPlaces.{HasDigits};
 /// Writes the digits of octets, the high one of each first.
 #[tactic(auto, using(crate::proofs::LowerDigits::digits_from_places))]
 pub(crate) fn write_lower(octets: &[u8], digits: &mut [u8])
-    requires many { length digits.old ≡ 2 * length octets.now }
+    requires size { length digits.old ≡ 2 * length octets.now }
     ensures { digits.new ≡ encode_lower octets.now }
 {
     if octets.len() < 16 {
@@ -17,7 +17,7 @@ pub(crate) fn write_lower(octets: &[u8], digits: &mut [u8])
 }
 
 fn write_few(octets: &[u8], digits: &mut [u8])
-    requires many { length digits.old ≡ 2 * length octets.now }
+    requires size { length digits.old ≡ 2 * length octets.now }
     ensures { digits.new ≡ encode_lower octets.now }
 {
     match hex::encode_to_slice(octets, digits) {
@@ -26,9 +26,9 @@ fn write_few(octets: &[u8], digits: &mut [u8])
     }
 }
 
-// Sixteen at a time, and the last sixteen once more, of which some may stand there already.
+// Converts sixteen octets at a time; the last sixteen may overlap those before them.
 fn write_many(octets: &[u8], digits: &mut [u8])
-    requires many { length digits.old ≡ 2 * length octets.now }
+    requires size { length digits.old ≡ 2 * length octets.now }
     requires some { 16 ≤ length octets.now }
     ensures length { length digits.new ≡ length digits.old }
     ensures written { (k : ℕ) → k < length octets.now → HasDigits octets.now digits.new k }
@@ -43,8 +43,8 @@ fn write_many(octets: &[u8], digits: &mut [u8])
 }
 
 fn write_sixteen(octets: &[u8], digits: &mut [u8], at: usize)
-    requires many { length digits.old ≡ 2 * length octets.now }
-    requires room { at + 16 ≤ length octets.now }
+    requires size { length digits.old ≡ 2 * length octets.now }
+    requires space { at + 16 ≤ length octets.now }
     requires before { (k : ℕ) → k < at → HasDigits octets.now digits.old k }
     ensures length { length digits.new ≡ length digits.old }
     ensures written { (k : ℕ) → k < at + 16 → HasDigits octets.now digits.new k }
@@ -56,8 +56,8 @@ fn write_sixteen(octets: &[u8], digits: &mut [u8], at: usize)
     }
 }
 
-/// The digits of the high halves of sixteen octets, and those of the low ones. They lie apart, so that the compiler sees that
-/// writing one changes no octet.
+/// The high and the low digits of sixteen octets from `at` on. Two separate arrays show the
+/// compiler that writing a digit changes no octet.
 fn sixteen(octets: &[u8], at: usize) -> ([u8; 16], [u8; 16])
     requires { at + 16 ≤ length octets.now }
     ensures high { (i : ℕ) → i < 16 → slice_index result.0 i ≡ slice_index lower_digits (slice_index octets.now (at + i) / 16) }

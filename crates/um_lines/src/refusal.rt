@@ -1,15 +1,15 @@
-//! The line that ends the output of an input that is refused.
+//! The output line for an input that is refused.
 ghost use Rattle.std.specs.Prelude.{◌≡◌, ◌<◌, ◌≤◌, [], length};
 ghost use Rattle.um_lines.specs.Refusals.{reason_word, refused_text};
 
 use crate::fault::LineFault;
 use crate::text::Text;
 
-/// Writes the line that says which line of the input was refused, and why.
+/// Writes `refused LINE REASON`.
 pub fn refused_line(out: &mut Text, number: u64, fault: LineFault)
     requires { out.old ≡ [] }
     ensures line { out.new ≡ refused_text number fault }
-    ensures few { length out.new < 2000 }
+    ensures size { length out.new < 2000 }
 {
     out.push(b"refused ");
     out.push_decimal(number);
@@ -20,7 +20,7 @@ pub fn refused_line(out: &mut Text, number: u64, fault: LineFault)
 
 fn reason(fault: LineFault) -> &'static [u8]
     ensures word { result.now ≡ reason_word fault }
-    ensures short { length result.now ≤ 6 }
+    ensures size { length result.now ≤ 6 }
 {
     match fault {
         LineFault::Long => b"long",

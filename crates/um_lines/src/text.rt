@@ -1,4 +1,4 @@
-//! What is written before it goes out.
+//! Text for output.
 ghost use Rattle.std.specs.Prelude.{◌≡◌, ◌+◌, ◌*◌, ◌≤◌, [], ◌++◌, length};
 ghost use Rattle.std.specs.Fmt.{decimal};
 ghost use Rattle.hex.specs.Hex.{encode_lower};
@@ -8,14 +8,14 @@ ghost use Rattle.um_lines.specs.Fields.{bit_digits};
 use crate::lower_digits::write_lower;
 use std::marker::Model;
 
-/// Lines of output, in at most 4,096 octets, which lie in the value itself.
+/// Up to 4,096 octets of output lines, stored inline.
 #[derive(Drop)]
 pub struct Text {
     room: [u8; 4096],
     length: usize,
 }
 
-// Clauses see the list of octets.
+// Its model is the list of octets.
 impl Model for Text {
     ghost use Rattle.std.specs.Prelude.{ℕ, ◌≤◌, List, take};
 
@@ -27,7 +27,7 @@ impl Model for Text {
 }
 
 impl Text {
-    /// A text of no octet.
+    /// An empty text.
     pub fn new() -> Text
         ensures { result ≡ [] }
     {
@@ -37,22 +37,22 @@ impl Text {
         }
     }
 
-    /// What was written.
+    /// The octets written.
     pub fn octets(&self) -> &[u8]
         ensures value { result.now ≡ self.now }
-        ensures room { length result.now ≤ 4096 }
+        ensures space { length result.now ≤ 4096 }
     {
         &self.room[..self.length]
     }
 
-    /// Forgets what was written.
+    /// Empties the text.
     pub fn clear(&mut self)
         ensures { self.new ≡ [] }
     {
         self.length = 0;
     }
 
-    /// Appends octets as they are.
+    /// Appends octets unchanged.
     pub fn push(&mut self, octets: &[u8])
         requires { length self.old + length octets.now ≤ 4096 }
         ensures { self.new ≡ self.old ++ octets.now }
@@ -62,12 +62,12 @@ impl Text {
         self.length = end;
     }
 
-    /// Appends a decimal number.
+    /// Appends a number in decimal.
     #[tactic(auto, using(std::proofs::lemmas::Fmt::decimal_digit))]
     pub fn push_decimal(&mut self, number: u64)
         requires { length self.old + 20 ≤ 4096 }
         ensures text { self.new ≡ self.old ++ decimal number }
-        ensures short { length self.new ≤ length self.old + 20 }
+        ensures size { length self.new ≤ length self.old + 20 }
     {
         if number < 10 {
             self.push(&[b'0' + number as u8]);
@@ -78,7 +78,7 @@ impl Text {
 
     /// Appends a digit `0` or `1` for each bit.
     pub fn push_digits(&mut self, bits: &[u8])
-        requires room { length self.old + length bits.now ≤ 4096 }
+        requires space { length self.old + length bits.now ≤ 4096 }
         requires bits { AllBits bits.now }
         ensures { self.new ≡ self.old ++ bit_digits bits.now }
     {

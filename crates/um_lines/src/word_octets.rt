@@ -1,10 +1,10 @@
-//! Octets of the bits of a word, as they are written in hexadecimal digits.
+//! Bits of a word packed into octets.
 ghost use Rattle.std.specs.Prelude.{◌≡◌, ◌+◌, ◌*◌, ◌≤◌, take, drop};
 ghost use Rattle.bit_blocks.specs.Octets.{bits_of, octets_of};
 
 use bit_blocks::{Bits, to_octets};
 
-/// The octets of 8 N bits of a word, from this place on.
+/// Packs the `8 * N` bits of a word from index `place` on into octets.
 pub fn packed<const N: usize, const M: usize>(word: &Bits<M>, place: usize) -> [u8; N]
     requires { place + 8 * N ≤ M }
     ensures value { result ≡ octets_of (take (8 * N) (drop place word.now)) }

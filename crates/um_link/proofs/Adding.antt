@@ -1,11 +1,11 @@
--- One more block.
+-- The loop of `send_all`: one more block is appended.
 use Rattle.std.proofs.Common.{◌≡◌, sym, ◌∙◌, ap, subst, arith, ℕ, ◌+◌, ◌-◌, ◌<◌, ◌≤◌, length, take, drop}
 use Rattle.std.proofs.Common.{get_or, List, [], ◌∷◌, ◌++◌}
 use Rattle.std.proofs.Common.{append_assoc}
 use Rattle.std.proofs.lemmas.List.{append-nil, length-append, take_more}
 use Rattle.um_block.specs.Sent.{IsSentBlock}
 use Rattle.um_air.specs.Air.{Octets, Block}
-use Rattle.um_link.specs.Coded.{AreCoded, Adds}
+use Rattle.um_link.specs.Coded.{AreCoded, AppendsCoded}
 
 coded-push : (tsc : ℕ) (os : List Octets) (bs : List Block) (o : Octets) (b : Block) → AreCoded tsc os bs → IsSentBlock o tsc b →
     AreCoded tsc (os ++ o ∷ []) (bs ++ b ∷ [])
@@ -14,11 +14,11 @@ coded-push tsc [] (c ∷ cs) o b h s = absurd h
 coded-push tsc (p ∷ ps) [] o b h s = absurd h
 coded-push tsc (p ∷ ps) (c ∷ cs) o b h s = (h.0, coded-push tsc ps cs o b h.1 s)
 
-pub adds-none : (tsc : ℕ) (old : List Block) → Adds tsc [] old old
+pub adds-none : (tsc : ℕ) (old : List Block) → AppendsCoded tsc [] old old
 adds-none tsc old = record { blocks = []; coded = tt; behind = sym (append-nil old) }
 
-pub adds-more : (tsc : ℕ) (os : List Octets) (old mid : List Block) (o : Octets) (b : Block) → Adds tsc os old mid →
-    IsSentBlock o tsc b → Adds tsc (os ++ o ∷ []) old (mid ++ b ∷ [])
+pub adds-more : (tsc : ℕ) (os : List Octets) (old mid : List Block) (o : Octets) (b : Block) → AppendsCoded tsc os old mid →
+    IsSentBlock o tsc b → AppendsCoded tsc (os ++ o ∷ []) old (mid ++ b ∷ [])
 adds-more tsc os old mid o b h s = record {
   blocks = h.blocks ++ b ∷ [];
   coded = coded-push tsc os h.blocks o b h.coded s;
@@ -26,18 +26,18 @@ adds-more tsc os old mid o b h s = record {
       (λ bs. bs ++ b ∷ []) h.behind ∙ append_assoc old h.blocks (b ∷ []);
 }
 
-pub adds-as : (tsc : ℕ) (os os' : List Octets) (old new new' : List Block) → os' ≡ os → new' ≡ new → Adds tsc os old new →
-    Adds tsc os' old new'
+pub adds-as : (tsc : ℕ) (os os' : List Octets) (old new new' : List Block) → os' ≡ os → new' ≡ new → AppendsCoded tsc os old new →
+    AppendsCoded tsc os' old new'
 adds-as tsc os os' old new new' e f h =
-    subst (λ (x : List Octets). Adds tsc x old new') (sym e) (subst (λ (y : List Block). Adds tsc os old y) (sym f) h)
+    subst (λ (x : List Octets). AppendsCoded tsc x old new') (sym e) (subst (λ (y : List Block). AppendsCoded tsc os old y) (sym f) h)
 
--- the blocks of the first frames are on their way
+-- the first i frames are coded and appended
 pub record AreOnTheirWay (tsc : ℕ) (octets : List Octets) (i : ℕ) (old new : List Block) (before now : ℕ) : Type 0 where
-  pub added : Adds tsc (take i octets) old new
+  pub added : AppendsCoded tsc (take i octets) old new
   pub capacity : now ≡ before
   pub count : length new ≡ length old + i
 
--- nothing is overwritten where there is room
+-- a circular buffer with free space overwrites nothing
 nothing_gone : (n : ℕ) (bs : List Block) → length bs ≤ n → drop (length bs - n) bs ≡ bs
 nothing_gone n bs h = ap (λ k. drop k bs) (let e : length bs - n ≡ 0 = omega arith in e)
 

@@ -1,8 +1,8 @@
--- A world that holds the same stands for the same.
+-- Equal worlds represent the same states.
 use Rattle.std.proofs.Common.{◌≡◌, sym, subst}
 use Rattle.um_air.specs.Air.{AirState}
-use Rattle.um_link.specs.declared.links.Links.{Links}
-use Rattle.um_link.specs.Standing.{Stands}
+use Rattle.um_link.specs.declared.links.WorldState.{WorldState}
+use Rattle.um_link.specs.Abstraction.{Represents}
 
-pub stands_as : (v w : Links) (a : AirState) → v ≡ w → Stands w a → Stands v a
-stands_as v w a same h = subst (λ (u : Links). Stands u a) (sym same) h
+pub represents_as : (v w : WorldState) (a : AirState) → v ≡ w → Represents w a → Represents v a
+represents_as v w a same h = subst (λ (u : WorldState). Represents u a) (sym same) h

@@ -1,4 +1,4 @@
--- From what the calls do to a step of the definition.
+-- From the contracts of the calls to a step of the definition, by kinds of events.
 use Rattle.std.proofs.Common.{◌≡◌, refl, sym, ◌∙◌, ap, subst, ℕ, Bool, true, false, List, [], ◌∷◌, ◌++◌, length}
 use Rattle.std.proofs.Common.{drop, map, Option, Some}
 use Rattle.std.proofs.Common.{None, arith, ◌≤◌, nat_eq, nat_lt, Result}
@@ -9,11 +9,11 @@ use Rattle.lapdm_frame.specs.Layout.{n201}
 use Rattle.lapdm_window.specs.declared.Sapi.TheVariants.{Zero}
 use Rattle.lapdm_window.specs.declared.Refused.TheVariants as Q
 use Rattle.lapdm_window.specs.Calls.{first_of}
-use Rattle.segmenting.specs.Pieces.{Message}
+use Rattle.lapdm_window.specs.segmenting.Segments.{Message}
 use Rattle.um_air.specs.Air.{Reads}
 use Rattle.um_link.specs.declared.events.No.{No}
 use Rattle.um_link.specs.declared.events.Step.{Step}
-use Rattle.um_link.specs.Standing.{Follows}
+use Rattle.um_link.specs.Abstraction.{Refines}
 use Rattle.lapdm_frame.specs.declared.Channel.{Channel}
 use Rattle.lapdm_frame.specs.Content.{Frame}
 use Rattle.lapdm_frame.specs.Frames.{octets_of}
@@ -23,20 +23,20 @@ use Rattle.lapdm_window.specs.declared.effects.Effects.{Effects}
 use Rattle.lapdm_window.specs.Ends.{Role, Mobile, Network}
 use Rattle.lapdm_window.specs.Calls.{Call, refusal_of}
 use Rattle.um_block.specs.declared.received.Received.{Received}
-use Rattle.lapdm_link.specs.Events as E
-use Rattle.lapdm_link.specs.Events.{sender_of, taken}
-use Rattle.lapdm_link.specs.Ways.{Ways, way, with_more, without_first, count}
+use Rattle.um_air.specs.lapdm_link.Events as E
+use Rattle.um_air.specs.lapdm_link.Events.{sender_of, without_taken}
+use Rattle.um_air.specs.lapdm_link.Queues.{Queues, queue_of, with_more, without_first, count}
 use Rattle.um_air.specs.Air as A
 use Rattle.um_air.specs.Air.{Octets, Block, AirState, as_read, AreSent, Arrives, Happens, AirStep, refusal}
-use Rattle.um_link.specs.Coded.{AreCoded, Adds}
+use Rattle.um_link.specs.Coded.{AreCoded, AppendsCoded}
 use Rattle.um_link.specs.declared.ends.Ends.{Ends}
-use Rattle.um_link.specs.FourEnds as F
-use Rattle.um_link.specs.declared.links.Links.{Links}
-use Rattle.um_link.specs.Hearing.{Hears}
-use Rattle.um_link.specs.Hearing as H
-use Rattle.um_link.specs.Standing.{IsAskedBy, IsSound, Stands, blocks_from}
+use Rattle.um_link.specs.FourEndpoints as F
+use Rattle.um_link.specs.declared.links.WorldState.{WorldState}
+use Rattle.um_link.specs.BlockTaking.{RefinesTake}
+use Rattle.um_link.specs.BlockTaking as H
+use Rattle.um_link.specs.Abstraction.{IsAskedBy, IsSound, Represents, blocks_from}
 use Rattle.um_link.specs.Moves.{Sends, IsSameBut, ReceivesFrom, LosesFrom}
-use Rattle.um_link.specs.Ways.{Receives}
+use Rattle.um_link.specs.Queues.{Receives}
 
 coded-sent : (channel : Channel) (tsc : ℕ) (fs : List Frame) (bs : List Block) → AreCoded tsc (map (octets_of channel) fs) bs →
     AreSent channel tsc fs bs
@@ -45,69 +45,69 @@ coded-sent channel tsc [] (b ∷ bs) h = absurd h
 coded-sent channel tsc (f ∷ fs) [] h = absurd h
 coded-sent channel tsc (f ∷ fs) (b ∷ bs) h = (h.0, coded-sent channel tsc fs bs h.1)
 
--- before its frames go out the world stands for the air with these ways, and the ends after the deed
-pub record IsReady (a : AirState) (ways : Ways Block) (m : Links) (effects : Effects) (d : E.Deed) : Type 0 where
+-- before its frames are sent, the world represents the endpoints after the step d, with these blocks in transit
+pub record IsReady (a : AirState) (queues : Queues Block) (m : WorldState) (effects : Effects) (d : E.SideStep) : Type 0 where
   pub tsc : m.tsc ≡ a.tsc
   pub channel : m.channel ≡ a.channel
-  pub ends : F.Stands m.ends d.after
-  pub does : F.Does effects a.channel d
-  pub up : m.up.items ≡ ways.up
-  pub down : m.down.items ≡ ways.down
+  pub ends : F.Represents m.ends d.after
+  pub does : F.HasEffects effects a.channel d
+  pub up : m.up.items ≡ queues.up
+  pub down : m.down.items ≡ queues.down
 
-record IsSent (role : Role) (a : AirState) (ways : Ways Block) (w : Links) (d : E.Deed) : Type 0 where
+record IsSent (role : Role) (a : AirState) (queues : Queues Block) (w : WorldState) (d : E.SideStep) : Type 0 where
   blocks : List Block
   sent : AreSent a.channel a.tsc d.frames blocks
-  stands : Stands w (record a { ends = d.after; ways = with_more role blocks ways })
+  represents : Represents w (record a { ends = d.after; queues = with_more role blocks queues })
 
-sent-frames : (a : AirState) (ways : Ways Block) (m : Links) (effects : Effects) (d : E.Deed) (blocks : List Block) →
-    IsReady a ways m effects d → AreCoded m.tsc effects.frames blocks → AreSent a.channel a.tsc d.frames blocks
-sent-frames a ways m effects d blocks r h =
+sent-frames : (a : AirState) (queues : Queues Block) (m : WorldState) (effects : Effects) (d : E.SideStep) (blocks : List Block) →
+    IsReady a queues m effects d → AreCoded m.tsc effects.frames blocks → AreSent a.channel a.tsc d.frames blocks
+sent-frames a queues m effects d blocks r h =
     coded-sent a.channel a.tsc d.frames blocks (subst (λ (t : ℕ). AreCoded t (map (octets_of a.channel) d.frames) blocks) r.tsc
     (subst (λ (os : List Octets). AreCoded m.tsc os blocks) r.does.frames h))
 
-sent-state : (role : Role) (a : AirState) (ways : Ways Block) (m w : Links) (effects : Effects) (d : E.Deed) →
-    IsReady a ways m effects d → Sends role effects.frames m w → IsSent role a ways w d
-sent-state Mobile a ways m w effects d r h = record {
+sent-state : (role : Role) (a : AirState) (queues : Queues Block) (m w : WorldState) (effects : Effects) (d : E.SideStep) →
+    IsReady a queues m effects d → Sends role effects.frames m w → IsSent role a queues w d
+sent-state Mobile a queues m w effects d r h = record {
   blocks = h.added.blocks;
-  sent = sent-frames a ways m effects d h.added.blocks r h.added.coded;
-  stands = record {
+  sent = sent-frames a queues m effects d h.added.blocks r h.added.coded;
+  represents = record {
     tsc = h.same.tsc ∙ r.tsc;
     channel = h.same.channel ∙ r.channel;
-    ends = subst (λ (p : Ends). F.Stands p d.after) (sym h.same.ends) r.ends;
+    ends = subst (λ (p : Ends). F.Represents p d.after) (sym h.same.ends) r.ends;
     up = h.added.behind ∙ ap (λ bs. bs ++ h.added.blocks) r.up;
     down = h.same.kept ∙ r.down;
   };
 }
-sent-state Network a ways m w effects d r h = record {
+sent-state Network a queues m w effects d r h = record {
   blocks = h.added.blocks;
-  sent = sent-frames a ways m effects d h.added.blocks r h.added.coded;
-  stands = record {
+  sent = sent-frames a queues m effects d h.added.blocks r h.added.coded;
+  represents = record {
     tsc = h.same.tsc ∙ r.tsc;
     channel = h.same.channel ∙ r.channel;
-    ends = subst (λ (p : Ends). F.Stands p d.after) (sym h.same.ends) r.ends;
+    ends = subst (λ (p : Ends). F.Represents p d.after) (sym h.same.ends) r.ends;
     up = h.same.kept ∙ r.up;
     down = h.added.behind ∙ ap (λ bs. bs ++ h.added.blocks) r.down;
   };
 }
 
--- the answer of a deed of an end
+-- the step of an endpoint, from its effects
 abbrev pub step_by : E.Who → Sapi → Option Received → Effects → A.Step
 step_by who sapi received effects =
     record { who = who; sapi = sapi; received = received; frames = effects.frames; notices = effects.notices }
 
-pub finish : (event : A.Event) (a : AirState) (m w : Links) (read : Option Frame) (effects : Effects) (who : E.Who) (sapi : Sapi)
+pub finish : (event : A.Event) (a : AirState) (m w : WorldState) (read : Option Frame) (effects : Effects) (who : E.Who) (sapi : Sapi)
     (received : Option Received) (role : Role) →
-    IsReady a (taken event a.ways) m effects (E.deed (as_read read event) a.ends) → Sends role effects.frames m w →
+    IsReady a (without_taken event a.queues) m effects (E.side_step (as_read read event) a.ends) → Sends role effects.frames m w →
     Arrives a event received read → sender_of who ≡ role →
-    who ≡ (E.deed (as_read read event) a.ends).who → sapi ≡ (E.deed (as_read read event) a.ends).sapi →
-    (b : AirState) × Stands w b × Happens a event b (step_by who sapi received effects)
+    who ≡ (E.side_step (as_read read event) a.ends).who → sapi ≡ (E.side_step (as_read read event) a.ends).sapi →
+    (b : AirState) × Represents w b × Happens a event b (step_by who sapi received effects)
 finish event a m w read effects who sapi received role r h arrives sender same_who same_sapi =
-    let d = E.deed (as_read read event) a.ends in
-    let s : IsSent (sender_of d.who) a (taken event a.ways) w d =
-    sent-state (sender_of d.who) a (taken event a.ways) m w effects d r
+    let d = E.side_step (as_read read event) a.ends in
+    let s : IsSent (sender_of d.who) a (without_taken event a.queues) w d =
+    sent-state (sender_of d.who) a (without_taken event a.queues) m w effects d r
     (subst (λ (x : Role). Sends x effects.frames m w) (sym sender ∙ ap sender_of same_who) h) in (
-      record a { ends = d.after; ways = with_more (sender_of d.who) s.blocks (taken event a.ways) },
-      s.stands,
+      record a { ends = d.after; queues = with_more (sender_of d.who) s.blocks (without_taken event a.queues) },
+      s.represents,
       record {
         read = read;
         blocks = s.blocks;
@@ -124,35 +124,37 @@ finish event a m w read effects who sapi received role r h arrives sender same_w
       },
     )
 
--- an end that is asked does something
-pub called : (event : A.Event) (role : Role) (w w' : Links) (ends' : Ends) (effects : Effects) (who : E.Who) (sapi : Sapi)
+-- a call of an endpoint that is not refused
+pub called : (event : A.Event) (role : Role) (w w' : WorldState) (ends' : Ends) (effects : Effects) (who : E.Who) (sapi : Sapi)
     (step : A.Step) → step ≡ step_by who sapi None effects →
-    F.Follows w.channel (E.deed (as_read None event)) w.ends effects ends' → ((a : AirState) → Stands w a → refusal event a ≡ None) →
-    ((a : AirState) → Arrives a event None None × (taken event a.ways ≡ a.ways)) →
-    sender_of who ≡ role → ((es : E.Ends) → who ≡ (E.deed (as_read None event) es).who) →
-    ((es : E.Ends) → sapi ≡ (E.deed (as_read None event) es).sapi) → Sends role effects.frames (record w { ends = ends' }) w' →
-    (a : AirState) → Stands w a → (b : AirState) × Stands w' b × AirStep a event b (A.Does step)
+    F.Refines w.channel (E.side_step (as_read None event)) w.ends effects ends' →
+    ((a : AirState) → Represents w a → refusal event a ≡ None) →
+    ((a : AirState) → Arrives a event None None × (without_taken event a.queues ≡ a.queues)) →
+    sender_of who ≡ role → ((es : E.Ends) → who ≡ (E.side_step (as_read None event) es).who) →
+    ((es : E.Ends) → sapi ≡ (E.side_step (as_read None event) es).sapi) → Sends role effects.frames (record w { ends = ends' }) w' →
+    (a : AirState) → Represents w a → (b : AirState) × Represents w' b × AirStep a event b (A.Does step)
 called event role w w' ends' effects who sapi step is follows unrefused plain sender same_who same_sapi sends a st =
     let g = follows a.ends st.ends in
-    let p : Arrives a event None None × (taken event a.ways ≡ a.ways) = plain a in
-    let d : E.Deed = E.deed (as_read None event) a.ends in
-    let m : Links = record w { ends = ends' } in
-    let r : IsReady a a.ways m effects d =
+    let p : Arrives a event None None × (without_taken event a.queues ≡ a.queues) = plain a in
+    let d : E.SideStep = E.side_step (as_read None event) a.ends in
+    let m : WorldState = record w { ends = ends' } in
+    let r : IsReady a a.queues m effects d =
     record {
       tsc = st.tsc;
       channel = st.channel;
       ends = g.0;
       does = subst
-          (λ (c : Channel). F.Does effects c d) st.channel g.1;
+          (λ (c : Channel). F.HasEffects effects c d) st.channel g.1;
       up = st.up;
       down = st.down;
     } in
-    let f = finish event a m w' None effects who sapi None role (subst (λ (ways : Ways Block). IsReady a ways m effects d) (sym p.1) r)
+    let f = finish event a m w' None effects who sapi None role
+    (subst (λ (queues : Queues Block). IsReady a queues m effects d) (sym p.1) r)
     sends p.0 sender (same_who a.ends) (same_sapi a.ends) in
     (f.0, f.1, (unrefused a st, subst (λ (s : A.Step). Happens a event f.0 s) (sym is) f.2))
 
--- refusals
-same-way : (role : Role) (w : Links) (a : AirState) → Stands w a → blocks_from role w ≡ way role a.ways
+-- ---- refusals
+same-way : (role : Role) (w : WorldState) (a : AirState) → Represents w a → blocks_from role w ≡ queue_of role a.queues
 same-way Mobile w a st = st.up
 same-way Network w a st = st.down
 
@@ -164,64 +166,65 @@ unless-true : (b : Bool) (why : E.Why) (others : Option E.Why) → b ≡ true �
 unless-true true why others h = refl
 unless-true false why others h = absurd (false≢true h)
 
-on-way : (test : ℕ → Bool) (b : Bool) (role : Role) (w : Links) (a : AirState) → Stands w a → test (length (blocks_from role w)) ≡ b →
-    test (count a.ways role) ≡ b
+on-way : (test : ℕ → Bool) (b : Bool) (role : Role) (w : WorldState) (a : AirState) → Represents w a →
+    test (length (blocks_from role w)) ≡ b →
+    test (count a.queues role) ≡ b
 on-way test b role w a st h = sym (ap (λ bs. test (length bs)) (same-way role w a st)) ∙ h
 
-pub asked-full : (role : Role) (sapi : Sapi) (call : Call) (w : Links) → E.is_full (length (blocks_from role w)) ≡ true →
-    (a : AirState) → Stands w a → E.asked_refusal (count a.ways) role sapi call a.ends ≡ Some E.AirFull
+pub asked-full : (role : Role) (sapi : Sapi) (call : Call) (w : WorldState) → E.is_full (length (blocks_from role w)) ≡ true →
+    (a : AirState) → Represents w a → E.asked_refusal (count a.queues) role sapi call a.ends ≡ Some E.AirFull
 asked-full role sapi call w h a st = unless-true _ E.AirFull _ (on-way E.is_full true role w a st h)
 
-pub asked-none : (role : Role) (sapi : Sapi) (call : Call) (w : Links) → E.is_full (length (blocks_from role w)) ≡ false →
-    ((es : E.Ends) → F.Stands w.ends es → None ≡ refusal_of call (E.end_in role sapi es)) → (a : AirState) → Stands w a →
-    E.asked_refusal (count a.ways) role sapi call a.ends ≡ None
+pub asked-none : (role : Role) (sapi : Sapi) (call : Call) (w : WorldState) → E.is_full (length (blocks_from role w)) ≡ false →
+    ((es : E.Ends) → F.Represents w.ends es → None ≡ refusal_of call (E.end_in role sapi es)) → (a : AirState) → Represents w a →
+    E.asked_refusal (count a.queues) role sapi call a.ends ≡ None
 asked-none role sapi call w h n a st =
     unless-false _ E.AirFull _ (on-way E.is_full false role w a st h) ∙ ap E.because (sym (n a.ends st.ends))
 
-pub asked-because : (role : Role) (sapi : Sapi) (call : Call) (w : Links) (refused : Refused) →
+pub asked-because : (role : Role) (sapi : Sapi) (call : Call) (w : WorldState) (refused : Refused) →
     E.is_full (length (blocks_from role w)) ≡ false →
-    ((es : E.Ends) → F.Stands w.ends es → Some refused ≡ refusal_of call (E.end_in role sapi es)) → (a : AirState) → Stands w a →
-    E.asked_refusal (count a.ways) role sapi call a.ends ≡ Some (E.Because refused)
+    ((es : E.Ends) → F.Represents w.ends es → Some refused ≡ refusal_of call (E.end_in role sapi es)) → (a : AirState) → Represents w a →
+    E.asked_refusal (count a.queues) role sapi call a.ends ≡ Some (E.Because refused)
 asked-because role sapi call w refused h n a st =
     unless-false _ E.AirFull _ (on-way E.is_full false role w a st h) ∙ ap E.because (sym (n a.ends st.ends))
 
--- an event that asks an end
+-- an event that is a call of an endpoint
 module _ (role : Role) (sapi : Sapi) (call : Call) where
-  pub asked-deed : (event : A.Event) → IsAskedBy event role sapi call → (es : E.Ends) →
-      E.deed (as_read None event) es ≡ E.asks role sapi call es
-  asked-deed (E.Open info) (a, b, c) es = rw (a, b, c) refl
-  asked-deed (E.OpenBare end) (a, b, c) es = rw (a, b, c) refl
-  asked-deed (E.Ask end link request) (a, b, c) es = rw (a, b, c) refl
-  asked-deed other h es = absurd h
+  pub asked-side_step : (event : A.Event) → IsAskedBy event role sapi call → (es : E.Ends) →
+      E.side_step (as_read None event) es ≡ E.asks role sapi call es
+  asked-side_step (E.Open info) (a, b, c) es = rw (a, b, c) refl
+  asked-side_step (E.OpenBare end) (a, b, c) es = rw (a, b, c) refl
+  asked-side_step (E.Ask end link request) (a, b, c) es = rw (a, b, c) refl
+  asked-side_step other h es = absurd h
 
   pub asked-refusal : (event : A.Event) → IsAskedBy event role sapi call → (a : AirState) →
-      refusal event a ≡ E.asked_refusal (count a.ways) role sapi call a.ends
+      refusal event a ≡ E.asked_refusal (count a.queues) role sapi call a.ends
   asked-refusal (E.Open info) (x, y, z) a = rw (x, y, z) refl
   asked-refusal (E.OpenBare end) (x, y, z) a = rw (x, y, z) refl
   asked-refusal (E.Ask end link request) (x, y, z) a = rw (x, y, z) refl
   asked-refusal other h a = absurd h
 
   pub asked-plain : (event : A.Event) → IsAskedBy event role sapi call → (a : AirState) →
-      Arrives a event None None × (taken event a.ways ≡ a.ways)
+      Arrives a event None None × (without_taken event a.queues ≡ a.queues)
   asked-plain (E.Open info) h a = (tt, refl)
   asked-plain (E.OpenBare end) h a = (tt, refl)
   asked-plain (E.Ask end link request) h a = (tt, refl)
   asked-plain other h a = absurd h
 
--- a refused event
-pub stays : (event : A.Event) (why : E.Why) (w : Links) → ((a : AirState) → Stands w a → refusal event a ≡ Some why) → (a : AirState) →
-    Stands w a → (b : AirState) × Stands w b × AirStep a event b (A.Refuses why)
+pub stays : (event : A.Event) (why : E.Why) (w : WorldState) → ((a : AirState) → Represents w a → refusal event a ≡ Some why) →
+    (a : AirState) →
+    Represents w a → (b : AirState) × Represents w b × AirStep a event b (A.Refuses why)
 stays event why w h a st = (a, st, (h a st, refl))
 
-pub stays-ends : (event : A.Event) (why : E.Why) (w : Links) (ends' : Ends) → ends' ≡ w.ends →
-    ((a : AirState) → Stands w a → refusal event a ≡ Some why) → (a : AirState) → Stands w a →
-    (b : AirState) × Stands (record w { ends = ends' }) b × AirStep a event b (A.Refuses why)
+pub stays-ends : (event : A.Event) (why : E.Why) (w : WorldState) (ends' : Ends) → ends' ≡ w.ends →
+    ((a : AirState) → Represents w a → refusal event a ≡ Some why) → (a : AirState) → Represents w a →
+    (b : AirState) × Represents (record w { ends = ends' }) b × AirStep a event b (A.Refuses why)
 stays-ends event why w ends' e h a st = (
   a,
   record {
     tsc = st.tsc;
     channel = st.channel;
-    ends = subst (λ (p : Ends). F.Stands p a.ends)
+    ends = subst (λ (p : Ends). F.Represents p a.ends)
         (sym e) st.ends;
     up = st.up;
     down = st.down;
@@ -229,8 +232,8 @@ stays-ends event why w ends' e h a st = (
   (h a st, refl),
 )
 
--- what the world keeps to
-pub sound-ends : (w : Links) (ends' : Ends) → IsSound w → F.IsOn (F.ends_channel w.ends) ends' → IsSound (record w { ends = ends' })
+-- ---- `IsSound` is preserved
+pub sound-ends : (w : WorldState) (ends' : Ends) → IsSound w → F.IsOn (F.ends_channel w.ends) ends' → IsSound (record w { ends = ends' })
 sound-ends w ends' s on = record {
   tsc = s.tsc;
   channel = s.channel ∙ sym on.mobile;
@@ -240,47 +243,47 @@ sound-ends w ends' s on = record {
   down = s.down;
 }
 
-pub on-channel : (w : Links) (ends' : Ends) (effects : Effects) (deed : E.Ends → E.Deed) → IsSound w →
-    F.Follows (F.ends_channel w.ends) deed w.ends effects ends' → F.Follows w.channel deed w.ends effects ends'
-on-channel w ends' effects deed s h = subst (λ (c : Channel). F.Follows c deed w.ends effects ends') (sym s.channel) h
+pub on-channel : (w : WorldState) (ends' : Ends) (effects : Effects) (side_step : E.Ends → E.SideStep) → IsSound w →
+    F.Refines (F.ends_channel w.ends) side_step w.ends effects ends' → F.Refines w.channel side_step w.ends effects ends'
+on-channel w ends' effects side_step s h = subst (λ (c : Channel). F.Refines c side_step w.ends effects ends') (sym s.channel) h
 
--- a block is gone from the way of an end
-record IsBetween (a : AirState) (ways : Ways Block) (m : Links) : Type 0 where
+-- the first block of a side is removed
+record IsBetween (a : AirState) (queues : Queues Block) (m : WorldState) : Type 0 where
   tsc : m.tsc ≡ a.tsc
   channel : m.channel ≡ a.channel
-  ends : F.Stands m.ends a.ends
-  up : m.up.items ≡ ways.up
-  down : m.down.items ≡ ways.down
+  ends : F.Represents m.ends a.ends
+  up : m.up.items ≡ queues.up
+  down : m.down.items ≡ queues.down
 
-is-between : (sender : Role) (w m : Links) (a : AirState) (b : Block) → blocks_from sender w ≡ b ∷ blocks_from sender m →
-    IsSameBut sender w m → Stands w a → IsBetween a (without_first sender a.ways) m
+is-between : (sender : Role) (w m : WorldState) (a : AirState) (b : Block) → blocks_from sender w ≡ b ∷ blocks_from sender m →
+    IsSameBut sender w m → Represents w a → IsBetween a (without_first sender a.queues) m
 is-between Mobile w m a b first s st = record {
   tsc = s.tsc ∙ st.tsc;
   channel = s.channel ∙ st.channel;
-  ends = subst (λ (p : Ends). F.Stands p a.ends) (sym s.ends) st.ends;
+  ends = subst (λ (p : Ends). F.Represents p a.ends) (sym s.ends) st.ends;
   up = sym (ap (drop 1) (sym st.up ∙ first));
   down = s.kept ∙ st.down;
 }
 is-between Network w m a b first s st = record {
   tsc = s.tsc ∙ st.tsc;
   channel = s.channel ∙ st.channel;
-  ends = subst (λ (p : Ends). F.Stands p a.ends) (sym s.ends) st.ends;
+  ends = subst (λ (p : Ends). F.Represents p a.ends) (sym s.ends) st.ends;
   up = s.kept ∙ st.up;
   down = sym (ap (drop 1) (sym st.down ∙ first));
 }
 
-sends-none : (w : Links) (effects : Effects) → effects.frames ≡ [] → Sends Mobile effects.frames w w
+sends-none : (w : WorldState) (effects : Effects) → effects.frames ≡ [] → Sends Mobile effects.frames w w
 sends-none w effects none = record {
-  added = subst (λ (os : List Octets). Adds w.tsc os (blocks_from Mobile w) (blocks_from Mobile w))
+  added = subst (λ (os : List Octets). AppendsCoded w.tsc os (blocks_from Mobile w) (blocks_from Mobile w))
       (sym none) (adds-none w.tsc (blocks_from Mobile w));
   same = record { kept = refl; tsc = refl; channel = refl; ends = refl };
 }
 
-pub lost : (sender : Role) (w m : Links) (effects : Effects) → LosesFrom sender w m →
-    E.is_empty (length (blocks_from sender w)) ≡ false → effects.frames ≡ [] → effects.notices ≡ [] → (a : AirState) → Stands w a →
-    (b : AirState) × Stands m b × AirStep a (E.Lose sender) b (A.Does (step_by E.Nobody Zero None effects))
+pub lost : (sender : Role) (w m : WorldState) (effects : Effects) → LosesFrom sender w m →
+    E.is_empty (length (blocks_from sender w)) ≡ false → effects.frames ≡ [] → effects.notices ≡ [] → (a : AirState) → Represents w a →
+    (b : AirState) × Represents m b × AirStep a (E.Lose sender) b (A.Does (step_by E.Nobody Zero None effects))
 lost sender w m effects h some no_frames no_notices a st =
-    let i : IsBetween a (without_first sender a.ways) m = is-between sender w m a h.block h.first h.same st in
+    let i : IsBetween a (without_first sender a.queues) m = is-between sender w m a h.block h.first h.same st in
     let f = finish (E.Lose sender) a m m None effects E.Nobody Zero None Mobile
     (record {
       tsc = i.tsc;
@@ -294,24 +297,24 @@ lost sender w m effects h some no_frames no_notices a st =
     (sends-none m effects no_frames) tt refl refl refl in
     (f.0, f.1, (unless-false _ E.Nothing None (on-way E.is_empty false sender w a st some), f.2))
 
-arrived-at : (sender : Role) (places : List ℕ) (w m w' : Links) (ends' : Ends) (report : Received) (sapi : Sapi) (effects : Effects)
+arrived-at : (sender : Role) (places : List ℕ) (w m w' : WorldState) (ends' : Ends) (report : Received) (sapi : Sapi) (effects : Effects)
     (step : A.Step) → Receives places (blocks_from sender w) report (blocks_from sender m) → IsSameBut sender w m →
-    Hears (E.other sender) m.channel report.accepted m.ends sapi effects ends' → E.is_empty (length (blocks_from sender w)) ≡ false →
+    RefinesTake (E.other sender) m.channel report.accepted m.ends sapi effects ends' → E.is_empty (length (blocks_from sender w)) ≡ false →
     E.is_full (length (blocks_from (E.other sender) w)) ≡ false →
-    Sends (E.other sender) effects.frames (record m { ends = ends' }) w' → step ≡ step_by (E.End (E.other sender)) sapi
-    (Some report) effects → (a : AirState) → Stands w a →
-    (b : AirState) × Stands w' b × AirStep a (E.Deliver sender places) b (A.Does step)
+    Sends (E.other sender) effects.frames (record m { ends = ends' }) w' → step ≡ step_by (E.BySide (E.other sender)) sapi
+    (Some report) effects → (a : AirState) → Represents w a →
+    (b : AirState) × Represents w' b × AirStep a (E.Deliver sender places) b (A.Does step)
 arrived-at sender places w m w' ends' report sapi effects step h same hears some room sends is a st =
-    let i : IsBetween a (without_first sender a.ways) m = is-between sender w m a h.block h.first same st in
+    let i : IsBetween a (without_first sender a.queues) m = is-between sender w m a h.block h.first same st in
     let t : H.Takes (E.other sender) m.channel report.accepted a.ends sapi effects ends' = hears a.ends i.ends in
-    let f = finish (E.Deliver sender places) a (record m { ends = ends' }) w' t.read effects (E.End (E.other sender)) sapi (Some report)
+    let f = finish (E.Deliver sender places) a (record m { ends = ends' }) w' t.read effects (E.BySide (E.other sender)) sapi (Some report)
     (E.other sender)
     (record {
       tsc = i.tsc;
       channel = i.channel;
-      ends = t.stands;
+      ends = t.represents;
       does = subst
-          (λ (c : Channel). F.Does effects c (E.takes_read (E.other sender) t.read a.ends)) i.channel t.does;
+          (λ (c : Channel). F.HasEffects effects c (E.takes_read (E.other sender) t.read a.ends)) i.channel t.does;
       up = i.up;
       down = i.down;
     })
@@ -336,27 +339,27 @@ arrived-at sender places w m w' ends' report sapi effects step h same hears some
       ),
     )
 
-pub arrived : (sender end : Role) (places : List ℕ) (w m w' : Links) (ends' : Ends) (received : Option Received) (sapi : Sapi)
+pub arrived : (sender end : Role) (places : List ℕ) (w m w' : WorldState) (ends' : Ends) (received : Option Received) (sapi : Sapi)
     (effects : Effects) (step : A.Step) → end ≡ E.other sender → ReceivesFrom sender places w received m →
-    Hears end m.channel (H.accepted_in received) m.ends sapi effects ends' → E.is_empty (length (blocks_from sender w)) ≡ false →
+    RefinesTake end m.channel (H.accepted_in received) m.ends sapi effects ends' → E.is_empty (length (blocks_from sender w)) ≡ false →
     E.is_full (length (blocks_from end w)) ≡ false →
-    Sends end effects.frames (record m { ends = ends' }) w' → step ≡ step_by (E.End end) sapi received effects →
-    (a : AirState) → Stands w a → (b : AirState) × Stands w' b × AirStep a (E.Deliver sender places) b (A.Does step)
+    Sends end effects.frames (record m { ends = ends' }) w' → step ≡ step_by (E.BySide end) sapi received effects →
+    (a : AirState) → Represents w a → (b : AirState) × Represents w' b × AirStep a (E.Deliver sender places) b (A.Does step)
 arrived sender end places w m w' ends' received sapi effects step e h hears some room sends is =
-    let heard : Hears end m.channel h.report.accepted m.ends sapi effects ends' =
-    subst (λ (o : Option Received). Hears end m.channel (H.accepted_in o) m.ends sapi effects ends') h.is hears in
-    let stepped : step ≡ step_by (E.End end) sapi (Some h.report) effects =
-    subst (λ (o : Option Received). step ≡ step_by (E.End end) sapi o effects) h.is is in
+    let heard : RefinesTake end m.channel h.report.accepted m.ends sapi effects ends' =
+    subst (λ (o : Option Received). RefinesTake end m.channel (H.accepted_in o) m.ends sapi effects ends') h.is hears in
+    let stepped : step ≡ step_by (E.BySide end) sapi (Some h.report) effects =
+    subst (λ (o : Option Received). step ≡ step_by (E.BySide end) sapi o effects) h.is is in
     arrived-at sender places w m w' ends' h.report sapi effects step h.received h.same (subst
-    (λ (r : Role). Hears r m.channel h.report.accepted m.ends sapi effects ends') e heard) some
+    (λ (r : Role). RefinesTake r m.channel h.report.accepted m.ends sapi effects ends') e heard) some
     (subst (λ (r : Role). E.is_full (length (blocks_from r w)) ≡ false) e room)
     (subst (λ (r : Role). Sends r effects.frames (record m { ends = ends' }) w') e sends)
-    (subst (λ (r : Role). step ≡ step_by (E.End r) sapi (Some h.report) effects) e stepped)
+    (subst (λ (r : Role). step ≡ step_by (E.BySide r) sapi (Some h.report) effects) e stepped)
 
--- a block that may not arrive yet
-pub arrives-full : (sender end : Role) (places : List ℕ) (w : Links) → end ≡ E.other sender →
-    E.is_empty (length (blocks_from sender w)) ≡ false → E.is_full (length (blocks_from end w)) ≡ true → (a : AirState) → Stands w a →
-    (b : AirState) × Stands w b × AirStep a (E.Deliver sender places) b (A.Refuses E.AirFull)
+-- a block cannot arrive if the queue lacks space for the answers
+pub arrives-full : (sender end : Role) (places : List ℕ) (w : WorldState) → end ≡ E.other sender →
+    E.is_empty (length (blocks_from sender w)) ≡ false → E.is_full (length (blocks_from end w)) ≡ true → (a : AirState) → Represents w a →
+    (b : AirState) × Represents w b × AirStep a (E.Deliver sender places) b (A.Refuses E.AirFull)
 arrives-full sender end places w e some full =
     stays (E.Deliver sender places) E.AirFull w
     (λ a st. unless-false _ E.Nothing _ (on-way E.is_empty false sender w a st some) ∙ unless-true _ E.AirFull None
@@ -365,12 +368,12 @@ arrives-full sender end places w e some full =
 room-bound : (n m : ℕ) → nat_lt 62 n ≡ false → m ≡ n → m ≤ 62
 room-bound n m h e = grind (arith, nat_tests)
 
-room-at : (sender : Role) (w m : Links) (ends' : Ends) → IsSameBut sender w m →
+room-at : (sender : Role) (w m : WorldState) (ends' : Ends) → IsSameBut sender w m →
     E.is_full (length (blocks_from (E.other sender) w)) ≡ false → length (blocks_from (E.other sender) (record m { ends = ends' })) ≤ 62
 room-at Mobile w m ends' s h = room-bound (length w.down.items) (length m.down.items) h (ap length s.kept)
 room-at Network w m ends' s h = room-bound (length w.up.items) (length m.up.items) h (ap length s.kept)
 
-pub room-other : (sender end : Role) (w m : Links) (ends' : Ends) → end ≡ E.other sender → IsSameBut sender w m →
+pub room-other : (sender end : Role) (w m : WorldState) (ends' : Ends) → end ≡ E.other sender → IsSameBut sender w m →
     E.is_full (length (blocks_from end w)) ≡ false → length (blocks_from end (record m { ends = ends' })) ≤ 62
 room-other sender end w m ends' e s h =
     subst (λ (r : Role). length (blocks_from r (record m { ends = ends' })) ≤ 62) (sym e)
@@ -381,11 +384,12 @@ rival-by false false h g = refl
 rival-by true c h g = absurd (false≢true (sym h))
 rival-by false true h g = absurd (false≢true (sym g))
 
-pub rival-none : (info : Message) (w : Links) → E.is_full (length (blocks_from Mobile w)) ≡ false → nat_eq (length info) 0 ≡ false →
-    nat_lt (n201 w.channel) (length info) ≡ false → (a : AirState) → Stands w a → refusal (E.Rival info) a ≡ None
+pub rival-none : (info : Message) (w : WorldState) → E.is_full (length (blocks_from Mobile w)) ≡ false → nat_eq (length info) 0 ≡ false →
+    nat_lt (n201 w.channel) (length info) ≡ false → (a : AirState) → Represents w a → refusal (E.Rival info) a ≡ None
 rival-none info w full some short a st =
     unless-false _ E.AirFull _ (on-way E.is_full false Mobile w a st full) ∙ ap E.because
     (rival-by _ _ some (subst (λ (c : Channel). nat_lt (n201 c) (length info) ≡ false) st.channel short))
 
-pub at-event : (e e' : A.Event) (old new : Links) (result : Result Step No) → e ≡ e' → Follows e' old result new → Follows e old result new
-at-event e e' old new result same h = subst (λ (x : A.Event). Follows x old result new) (sym same) h
+pub at-event : (e e' : A.Event) (old new : WorldState) (result : Result Step No) → e ≡ e' → Refines e' old result new →
+    Refines e old result new
+at-event e e' old new result same h = subst (λ (x : A.Event). Refines x old result new) (sym same) h

@@ -1,15 +1,16 @@
--- Octets, coded as blocks.
+-- Blocks as coded octets.
 use Rattle.std.specs.Prelude.{◌≡◌, ℕ, List, [], ◌∷◌, ◌++◌}
 use Rattle.um_block.specs.Sent.{IsSentBlock}
 use Rattle.um_air.specs.Air.{Octets, Block}
 
+-- the blocks are these octets, coded with this training sequence
 abbrev pub AreCoded : ℕ → List Octets → List Block → Type 0
 AreCoded tsc [] [] = Unit {0}
 AreCoded tsc (o ∷ os) (b ∷ bs) = IsSentBlock o tsc b × AreCoded tsc os bs
 AreCoded tsc os bs = ⊥
 
--- behind the old blocks there are these octets, coded
-pub record Adds (tsc : ℕ) (octets : List Octets) (old new : List Block) : Type 0 where
+-- the octets are coded and appended to the blocks
+pub record AppendsCoded (tsc : ℕ) (octets : List Octets) (old new : List Block) : Type 0 where
   pub blocks : List Block
   pub coded : AreCoded tsc octets blocks
   pub behind : new ≡ old ++ blocks

@@ -1,9 +1,9 @@
--- What the program's names for events and answers mean.
+-- What the events and answers of the program represent.
 use Rattle.std.specs.Prelude.{[], Result, Ok, Err}
 use Rattle.lapdm_window.specs.Ends as R
 use Rattle.lapdm_window.specs.Calls as K
 use Rattle.lapdm_window.specs.declared.Refused.TheVariants as Q
-use Rattle.lapdm_link.specs.Events as E
+use Rattle.um_air.specs.lapdm_link.Events as E
 use Rattle.um_air.specs.Air as A
 use Rattle.um_link.specs.declared.events.End.{End}
 use Rattle.um_link.specs.declared.events.End.TheVariants as D
@@ -21,30 +21,34 @@ use Rattle.um_link.specs.declared.events.No.{No}
 use Rattle.um_link.specs.declared.events.No.TheVariants as N
 use Rattle.um_link.specs.declared.events.Step.{Step}
 
+-- the side that an `End` represents
 abbrev pub role_of : End → R.Role
 role_of D.Mobile = R.Mobile
 role_of D.Network = R.Network
 
--- a way goes by the end that sends into it
+-- the side that sends into a queue
 abbrev pub sender_of : Way → R.Role
 sender_of Up = R.Mobile
 sender_of Down = R.Network
 
+-- the request, and the call, that a `Call` represents
 abbrev pub request_of : Call → E.Request
 request_of (C.Send m) = E.Send m.now
 request_of (C.Unit m) = E.SendUnit m.now
 request_of C.Close = E.Close
-request_of C.Timer = E.Tick
+request_of C.Timer = E.T200Expiry
 request_of C.Idle = E.Idle
 
 abbrev pub call_of : Call → K.Call
 call_of call = E.call_of (request_of call)
 
+-- the event that an `Air` represents: the oldest block of a side arrives, with bits inverted, or is lost
 abbrev pub air_event : R.Role → Air → A.Event
 air_event sender V.Deliver = E.Deliver sender []
 air_event sender V.Lose = E.Lose sender
 air_event sender (V.Flip places) = E.Deliver sender places.now
 
+-- the event that an `Event` represents
 abbrev pub event_of : Event → A.Event
 event_of (T.Open info) = E.Open info.now
 event_of (T.OpenBare end) = E.OpenBare (role_of end)
@@ -52,12 +56,14 @@ event_of (T.End end sapi call) = E.Ask (role_of end) sapi (request_of call)
 event_of (T.Air way air) = air_event (sender_of way) air
 event_of (T.Rival info) = E.Rival info.now
 
+-- what a `Who` represents
 abbrev pub who_of : Who → E.Who
-who_of W.Mobile = E.End R.Mobile
-who_of W.Network = E.End R.Network
+who_of W.Mobile = E.BySide R.Mobile
+who_of W.Network = E.BySide R.Network
 who_of W.Rival = E.Other
 who_of W.Nobody = E.Nobody
 
+-- the refusal that a `No` represents
 abbrev pub why_of : No → E.Why
 why_of N.NotIdle = E.Because Q.NotIdle
 why_of N.NotOpen = E.Because Q.NotOpen
@@ -68,6 +74,7 @@ why_of N.Full = E.Because Q.Full
 why_of N.Nothing = E.Nothing
 why_of N.AirFull = E.AirFull
 
+-- the step that a `Step` represents
 abbrev pub step_of : Step → A.Step
 step_of s = record {
   who = who_of s.who;
@@ -77,11 +84,12 @@ step_of s = record {
   notices = s.effects.notices;
 }
 
+-- the answer that a result represents
 abbrev pub answer_of : Result Step No → A.Answer
 answer_of (Ok s) = A.Does (step_of s)
 answer_of (Err reason) = A.Refuses (why_of reason)
 
--- what a call answers that writes its step into the caller's room
-abbrev pub written : {A : Type 0} → Result A No → Step → Result Step No
-written (Ok done) step = Ok step
-written (Err reason) step = Err reason
+-- the result of a call that writes its step into a buffer of the caller
+abbrev pub step_result : {A : Type 0} → Result A No → Step → Result Step No
+step_result (Ok done) step = Ok step
+step_result (Err reason) step = Err reason

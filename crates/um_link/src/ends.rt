@@ -1,11 +1,11 @@
-//! Both sides of the air, each with its ends of both links.
+//! Both sides, mobile and network, each with its endpoints of both links.
 
 ghost use Rattle.std.specs.Prelude.{◌≡◌, OnOk, OnErr, Some};
 ghost use Rattle.std.specs.Result.{result_err};
 ghost use Rattle.lapdm_frame.specs.Content.{frame_of};
 ghost use Rattle.lapdm_frame.specs.Frames.{Fits};
 ghost use Rattle.lapdm_window.specs.Calls.{call_of, IsOfSapi, refusal_of};
-ghost use Rattle.lapdm_link.specs.Events as E;
+ghost use Rattle.um_air.specs.lapdm_link.Events as E;
 ghost use Rattle.um_link.specs.Naming.{role_of};
 
 use crate::events::End;
@@ -13,7 +13,7 @@ use lapdm_end::{Role, Side};
 use lapdm_frame::{Channel, FrameView};
 use lapdm_window::{Call, Effects, Refused, Sapi};
 
-/// The ends of both links.
+/// The four endpoints.
 #[derive(Drop)]
 pub(crate) struct Ends {
     mobile: Side,
@@ -21,11 +21,11 @@ pub(crate) struct Ends {
 }
 
 impl Ends {
-    ghost use Rattle.um_link.specs.FourEnds.{IsOn, Stands, Follows, ends_channel};
+    ghost use Rattle.um_link.specs.FourEndpoints.{IsOn, Represents, Refines, ends_channel};
 
-    /// All ends in Idle.
+    /// All endpoints in Idle.
     pub(crate) fn new_on(channel: Channel) -> Ends
-        ensures stands { Stands result (E.idle_ends channel) }
+        ensures represents { Represents result (E.idle_ends channel) }
         ensures channel { IsOn channel result }
     {
         Ends {
@@ -34,7 +34,7 @@ impl Ends {
         }
     }
 
-    /// Asks an end of a link.
+    /// Carries out a call of layer 3 to an endpoint.
     pub(crate) fn ask(
         &mut self,
         end: End,
@@ -44,13 +44,13 @@ impl Ends {
     ) -> Result<(), Refused>
         requires on { IsOn (ends_channel self.old) self.old }
         requires call { IsOfSapi sapi (call_of call.now) }
-        ensures refusal { (es : E.Ends) → Stands self.old es
+        ensures refusal { (es : E.Ends) → Represents self.old es
             → result_err result ≡ refusal_of (call_of call.now) (E.end_in (role_of end) sapi es) }
-        ensures follows { OnOk result
-            (Follows (ends_channel self.old) (E.asks (role_of end) sapi (call_of call.now)) self.old effects.new self.new) }
+        ensures refines { OnOk result
+            (Refines (ends_channel self.old) (E.asks (role_of end) sapi (call_of call.now)) self.old effects.new self.new) }
         ensures on { IsOn (ends_channel self.old) self.new }
         ensures refused { OnErr result (self.new ≡ self.old) }
-        ensures kept { OnErr result (effects.new ≡ effects.old) }
+        ensures out_unchanged { OnErr result (effects.new ≡ effects.old) }
     {
         match end {
             End::Mobile => self.mobile.call(sapi, call, effects),
@@ -58,13 +58,14 @@ impl Ends {
         }
     }
 
-    /// A frame arrives at a side; its end of the frame's SAPI takes it. Gives that SAPI, or 0 where there is no such end.
+    /// Gives a frame to a side, whose endpoint of the frame's SAPI receives it. Returns
+    /// that SAPI, or 0 for a SAPI without endpoint.
     pub(crate) fn take(&mut self, end: End, frame: &FrameView<'_>, effects: &mut Effects) -> Sapi
         requires on { IsOn (ends_channel self.old) self.old }
         requires fits { Fits (ends_channel self.old) (frame_of frame.now) }
-        ensures follows { Follows (ends_channel self.old) (E.takes_read (role_of end) (Some (frame_of frame.now))) self.old effects.new
+        ensures refines { Refines (ends_channel self.old) (E.takes_read (role_of end) (Some (frame_of frame.now))) self.old effects.new
             self.new }
-        ensures sapi { (es : E.Ends) → Stands self.old es → result ≡ (E.takes_read (role_of end) (Some (frame_of frame.now)) es).sapi }
+        ensures sapi { (es : E.Ends) → Represents self.old es → result ≡ (E.takes_read (role_of end) (Some (frame_of frame.now)) es).sapi }
         ensures on { IsOn (ends_channel self.old) self.new }
     {
         match end {

@@ -1,45 +1,46 @@
-//! What may happen to a mobile and a network over the air, and what comes of it.
+//! Events of a mobile and a network, and their results.
 
 ghost use Rattle.std.specs.Prelude.{◌≡◌, None, []};
 ghost use Rattle.lapdm_window.specs.declared.Sapi.TheVariants as S;
 ghost use Rattle.lapdm_window.specs.declared.Sapi.{Sapi as AnySapi};
 ghost use Rattle.lapdm_window.specs.Calls.{call_of, IsOfSapi};
-ghost use Rattle.lapdm_link.specs.Events as E;
+ghost use Rattle.um_air.specs.lapdm_link.Events as E;
 ghost use Rattle.um_link.specs.Naming.{request_of};
 
 use lapdm_window::{Call as EndCall, Effects, Sapi};
+use thiserror::Error;
 use um_block::Received;
 
-/// Which way blocks go: up to the network, or down to the mobile.
+/// The direction of blocks: up to the network, or down to the mobile.
 #[derive(Clone, Copy, PartialEq, Eq, Debug)]
 pub enum Way {
     Up,
     Down,
 }
 
-/// Which of both sides of the air.
+/// A side, mobile or network.
 #[derive(Clone, Copy, PartialEq, Eq, Debug)]
 pub enum End {
     Mobile,
     Network,
 }
 
-/// What an end of a link may be asked.
+/// A call of layer 3 to an endpoint of either side and SAPI, or T200 expiry.
 #[derive(Clone, Copy, Drop)]
 pub enum Call<'a> {
     /// Send a message of 1 to 251 octets, acknowledged.
     Send(&'a [u8]),
-    /// Send a message in one unnumbered frame.
+    /// Send a message of 1 to N201 octets in one UI frame, unacknowledged.
     Unit(&'a [u8]),
     Close,
-    /// The timer T200 has run out.
+    /// T200 expiry.
     Timer,
-    /// Send the fill frame; it is of SAPI 0 whatever the link.
+    /// Send the fill frame, which is of SAPI 0 on either link.
     Idle,
 }
 
 impl<'a> Call<'a> {
-    /// The same, among all calls of an end.
+    /// The same call in the type of all calls of an endpoint.
     pub fn whole(self) -> EndCall<'a>
         ensures same { call_of result ≡ E.call_of (request_of self.entry) }
         ensures any { (sapi : AnySapi) → IsOfSapi sapi (call_of result) }
@@ -54,47 +55,47 @@ impl<'a> Call<'a> {
     }
 }
 
-/// What the air does with the first block of a way.
+/// What happens to the oldest block of a direction.
 #[derive(Clone, Copy, Drop)]
 pub enum Air<'a> {
     Deliver,
     Lose,
-    /// It arrives with the bits at these places turned over, one after the other. Place `p`, 0 to 591, is
-    /// bit `p % 148` of burst `p / 148`.
+    /// It arrives with these bits inverted, one after another. Index `p`, 0 to 591, is bit
+    /// `p % 148` of burst `p / 148`.
     Flip(&'a [u16]),
 }
 
-/// What may happen.
+/// An event.
 #[derive(Clone, Copy, Drop)]
 pub enum Event<'a> {
-    /// The mobile asks for the link of SAPI 0, with information for contention resolution.
+    /// The mobile establishes SAPI 0, with information for contention resolution.
     Open(&'a [u8]),
-    /// An end asks for the link of SAPI 3.
+    /// A side establishes SAPI 3.
     OpenBare(End),
     End(End, Sapi, Call<'a>),
     Air(Way, Air<'a>),
-    /// Another mobile asks for the link of SAPI 0, with its own information.
+    /// Another mobile sends a SABM on SAPI 0, with its own information.
     Rival(&'a [u8]),
 }
 
-/// Who did something.
+/// Who acted.
 #[derive(Clone, Copy, PartialEq, Eq, Debug)]
 pub enum Who {
     Mobile,
     Network,
     /// The other mobile.
     Rival,
-    /// A block was lost.
+    /// Nobody: a block was lost.
     Nobody,
 }
 
-/// What came of an event.
+/// The result of an event.
 #[derive(Debug, Drop)]
 pub struct Step {
     pub who: Who,
-    /// The link whose call was made or that took the frame; Zero where there is none.
+    /// The SAPI of the endpoint that was called or received the frame; 0 if there is none.
     pub sapi: Sapi,
-    /// What was received, where a block arrived.
+    /// What was received, if a block arrived.
     pub received: Option<Received>,
     pub effects: Effects,
 }
@@ -102,7 +103,7 @@ pub struct Step {
 impl Step {
     ghost use Rattle.um_link.specs.Naming.{step_of};
 
-    /// Nobody did anything.
+    /// A step in which nobody acts.
     pub fn new() -> Step
         ensures { step_of result
             ≡ record { who = E.Nobody; sapi = S.Zero; received = None; frames = []; notices = [] } }
@@ -117,16 +118,24 @@ impl Step {
 }
 
 /// Why an event is refused.
-#[derive(Clone, Copy, PartialEq, Eq, Debug)]
+#[derive(Clone, Copy, PartialEq, Eq, Debug, Error)]
 pub enum No {
+    #[error("the link was opened before")]
     NotIdle,
+    #[error("the link is not open")]
     NotOpen,
+    #[error("the timer T200 is not running: no frame awaits an answer")]
     NotRunning,
+    #[error("the message is empty, expected at least one octet")]
     Empty,
+    #[error("the message is too long: more than 251 octets, or more than N201 in one frame")]
     TooLong,
+    #[error("eight messages are not wholly acknowledged, the most that a link holds")]
     Full,
-    /// No block is on that way.
+    /// No block is in transit in that direction.
+    #[error("no block is in transit in that direction")]
     Nothing,
-    /// More than 62 blocks are on the way into which the event's end or the rival sends.
+    /// More than 62 blocks are in the queue into which the side or the other mobile sends.
+    #[error("more than 62 blocks are in transit in the direction in which the event sends")]
     AirFull,
 }

@@ -1,22 +1,22 @@
-//! The ends of both links, and the blocks on their way between them.
+//! The endpoints of both links, and the blocks in transit between them.
 ghost use Rattle.std.specs.Prelude.{◌≡◌, ◌≤◌, ◌<◌, length, IfOk, OnOk, OnErr, None, [], ◌∷◌};
 ghost use Rattle.lapdm_window.specs.declared.Sapi.TheVariants as S;
 ghost use Rattle.lapdm_window.specs.Ends as R;
 ghost use Rattle.lapdm_frame.specs.Layout.{n201};
 ghost use Rattle.lapdm_frame.specs.Frames.{octets_of};
-ghost use Rattle.lapdm_link.specs.Events as E;
+ghost use Rattle.um_air.specs.lapdm_link.Events as E;
 ghost use Rattle.um_air.specs.Air as A;
 ghost use Rattle.um_air.specs.Air.{start_on};
-ghost use Rattle.um_link.specs.Naming.{role_of, air_event, event_of, step_of, written};
+ghost use Rattle.um_link.specs.Naming.{role_of, air_event, event_of, step_of, step_result};
 ghost use Rattle.lapdm_window.specs.Calls.{call_of, IsOfSapi};
 ghost use Rattle.um_link.specs.Possible.{IsPossible, IsPossibleAir};
-ghost use Rattle.um_block.specs.Tallies.{raised, raised_by};
-ghost use Rattle.um_link.specs.Ways.{ArePlaces};
+ghost use Rattle.um_block.specs.Tallies.{next_tally, tally_after};
+ghost use Rattle.um_link.specs.Queues.{ArePlaces};
 
 use crate::ends::Ends;
 use crate::events::{Air, End, Event, No, Step, Way, Who};
-use crate::hearing::hear;
 use crate::queue::{drop_first, receive_first, send_all};
+use crate::taking::take_block;
 use circular_buffer::HeapCircularBuffer;
 use lapdm_frame::{Body, Channel, FrameView, write_on};
 use lapdm_window::{Call, Effects, Refused, Sapi};
@@ -24,31 +24,31 @@ use std::alloc::Global;
 use um_block::{Radio, Received};
 use um_io::NoMemory;
 
-/// The ends, and the blocks on both ways.
+/// The endpoints, and the queues of both directions.
 #[derive(Drop)]
-pub(crate) struct Links {
+pub(crate) struct WorldState {
     tsc: u8,
     channel: Channel,
     ends: Ends,
     up: HeapCircularBuffer<[[u8; 148]; 4]>,
     down: HeapCircularBuffer<[[u8; 148]; 4]>,
-    // Room for the soft values of the block that arrives. Were it cleared just before, a step would wait for that.
+    // The soft values of an arriving block. Kept across steps: clearing it on each would stall.
     soft: [[i8; 148]; 4],
 }
 
-impl Links {
-    ghost use Rattle.um_link.specs.Standing.{IsAskedBy, Stands, IsSound, Follows, FitsWho, frames_in, arrivals_in, blocks_from};
+impl WorldState {
+    ghost use Rattle.um_link.specs.Abstraction.{IsAskedBy, Represents, IsSound, Refines, FitsWho, frames_in, arrivals_in, blocks_from};
     ghost use Rattle.um_link.specs.Moves.{Sends, ReceivesFrom, LosesFrom};
 
-    /// Idle ends on a channel, with nothing on its way. All memory is taken here.
-    pub(crate) fn new_on(alloc: Global, tsc: u8, channel: Channel) -> Result<Links, NoMemory>
+    /// Idle endpoints on a channel, and empty queues. Allocates all memory.
+    pub(crate) fn new_on(alloc: Global, tsc: u8, channel: Channel) -> Result<WorldState, NoMemory>
         requires { tsc ≤ 7 }
-        ensures stands { IfOk result (λ w. Stands w (start_on tsc channel)) }
+        ensures represents { IfOk result (λ w. Represents w (start_on tsc channel)) }
         ensures sound { IfOk result (λ w. IsSound w) }
     {
         let up = HeapCircularBuffer::with_capacity(alloc, 64).map_err(|_| NoMemory)?;
         let down = HeapCircularBuffer::with_capacity(alloc, 64).map_err(|_| NoMemory)?;
-        Ok(Links {
+        Ok(WorldState {
             tsc,
             channel,
             ends: Ends::new_on(channel),
@@ -67,7 +67,7 @@ impl Links {
         }
     }
 
-    /// Whether there is no room for what one more step may send.
+    /// Whether the queue lacks space for the frames of one more step.
     fn is_full(&self, sender: End) -> bool
         ensures { result ≡ E.is_full (length (blocks_from (role_of sender) self.now)) }
     {
@@ -77,13 +77,13 @@ impl Links {
         }
     }
 
-    /// Sends an end's frames.
+    /// Sends the frames of a side.
     fn send<R: Radio>(&mut self, radio: &mut R, sender: End, effects: &Effects)
         requires sound { IsSound self.old }
-        requires room { length (blocks_from (role_of sender) self.old) ≤ 62 }
+        requires space { length (blocks_from (role_of sender) self.old) ≤ 62 }
         ensures sends { Sends (role_of sender) effects.now.frames self.old self.new }
         ensures sound { IsSound self.new }
-        ensures sent { R.sent radio.new ≡ raised_by (length effects.now.frames) (R.sent radio.old) }
+        ensures sent { R.sent radio.new ≡ tally_after (length effects.now.frames) (R.sent radio.old) }
         ensures heard { R.heard radio.new ≡ R.heard radio.old }
     {
         let frames = effects.frames.as_slice();
@@ -93,7 +93,7 @@ impl Links {
         }
     }
 
-    /// Receives the first block that an end sent.
+    /// Receives the oldest block that a side sent.
     fn receive<R: Radio>(
         &mut self,
         radio: &mut R,
@@ -106,7 +106,7 @@ impl Links {
         requires places { ArePlaces places.now }
         ensures receives { ReceivesFrom (role_of sender) places.now self.old received.new self.new }
         ensures sound { IsSound self.new }
-        ensures heard { R.heard radio.new ≡ raised (R.heard radio.old) }
+        ensures heard { R.heard radio.new ≡ next_tally (R.heard radio.old) }
         ensures sent { R.sent radio.new ≡ R.sent radio.old }
     {
         match sender {
@@ -115,14 +115,14 @@ impl Links {
         }
     }
 
-    /// What an end did goes out.
+    /// Sends the frames of a step, and enters who acted.
     fn goes_out<R: Radio>(&mut self, radio: &mut R, end: End, step: &mut Step)
         requires sound { IsSound self.old }
-        requires room { length (blocks_from (role_of end) self.old) ≤ 62 }
+        requires space { length (blocks_from (role_of end) self.old) ≤ 62 }
         ensures sends { Sends (role_of end) step.old.effects.frames self.old self.new }
         ensures sound { IsSound self.new }
         ensures step { step_of step.new ≡ record {
-          who = E.End (role_of end);
+          who = E.BySide (role_of end);
           sapi = step.old.sapi;
           received = step.old.received;
           frames = step.old.effects.frames;
@@ -131,7 +131,7 @@ impl Links {
         ensures who { FitsWho (step_of step.new) }
         ensures effects { step.new.effects ≡ step.old.effects }
         ensures received { step.new.received ≡ step.old.received }
-        ensures sent { R.sent radio.new ≡ raised_by (length step.old.effects.frames) (R.sent radio.old) }
+        ensures sent { R.sent radio.new ≡ tally_after (length step.old.effects.frames) (R.sent radio.old) }
         ensures heard { R.heard radio.new ≡ R.heard radio.old }
     {
         self.send(radio, end, &step.effects);
@@ -141,7 +141,7 @@ impl Links {
         };
     }
 
-    /// An end of a link is asked, by an event.
+    /// Carries out a call of layer 3 to an endpoint.
     fn ask<R: Radio>(
         &mut self,
         radio: &mut R,
@@ -152,14 +152,14 @@ impl Links {
     ) -> Result<(), No>
         requires sound { IsSound self.old }
         requires call { IsOfSapi sapi (call_of call.now) }
-        ensures follows { (event : A.Event) → IsAskedBy event (role_of end) sapi (call_of call.now)
-            → Follows event self.old (written result step.new) self.new }
+        ensures refines { (event : A.Event) → IsAskedBy event (role_of end) sapi (call_of call.now)
+            → Refines event self.old (step_result result step.new) self.new }
         ensures sound { IsSound self.new }
         ensures refused { OnErr result (self.new ≡ self.old) }
-        ensures kept { OnErr result (step.new ≡ step.old) }
+        ensures out_unchanged { OnErr result (step.new ≡ step.old) }
         ensures silent { OnErr result (radio.new ≡ radio.old) }
-        ensures sent { R.sent radio.new ≡ raised_by (frames_in (written result step.new)) (R.sent radio.old) }
-        ensures heard { R.heard radio.new ≡ raised_by (arrivals_in (written result step.new)) (R.heard radio.old) }
+        ensures sent { R.sent radio.new ≡ tally_after (frames_in (step_result result step.new)) (R.sent radio.old) }
+        ensures heard { R.heard radio.new ≡ tally_after (arrivals_in (step_result result step.new)) (R.heard radio.old) }
         ensures who { OnOk result (FitsWho (step_of step.new)) }
     {
         if self.is_full(end) {
@@ -176,7 +176,7 @@ impl Links {
         }
     }
 
-    /// The first block that an end sent arrives at the other, with the bits at these places turned over.
+    /// The oldest block that a side sent arrives at the other, with these bits inverted.
     fn deliver<R: Radio>(
         &mut self,
         radio: &mut R,
@@ -186,13 +186,13 @@ impl Links {
     ) -> Result<(), No>
         requires sound { IsSound self.old }
         requires places { ArePlaces places.now }
-        ensures follows { Follows (E.Deliver (role_of sender) places.now) self.old (written result step.new) self.new }
+        ensures refines { Refines (E.Deliver (role_of sender) places.now) self.old (step_result result step.new) self.new }
         ensures sound { IsSound self.new }
         ensures refused { OnErr result (self.new ≡ self.old) }
-        ensures kept { OnErr result (step.new ≡ step.old) }
+        ensures out_unchanged { OnErr result (step.new ≡ step.old) }
         ensures silent { OnErr result (radio.new ≡ radio.old) }
-        ensures sent { R.sent radio.new ≡ raised_by (frames_in (written result step.new)) (R.sent radio.old) }
-        ensures heard { R.heard radio.new ≡ raised_by (arrivals_in (written result step.new)) (R.heard radio.old) }
+        ensures sent { R.sent radio.new ≡ tally_after (frames_in (step_result result step.new)) (R.sent radio.old) }
+        ensures heard { R.heard radio.new ≡ tally_after (arrivals_in (step_result result step.new)) (R.heard radio.old) }
         ensures who { OnOk result (FitsWho (step_of step.new)) }
     {
         let end = other_end(sender);
@@ -203,7 +203,7 @@ impl Links {
             return Err(No::AirFull);
         }
         self.receive(radio, sender, places, &mut step.received);
-        step.sapi = hear(
+        step.sapi = take_block(
             &mut self.ends,
             self.channel,
             end,
@@ -214,7 +214,7 @@ impl Links {
         Ok(())
     }
 
-    /// The first block that an end sent is gone.
+    /// Removes the oldest block that a side sent.
     fn drop_first(&mut self, sender: End)
         requires sound { IsSound self.old }
         requires some { 0 < length (blocks_from (role_of sender) self.old) }
@@ -227,14 +227,14 @@ impl Links {
         }
     }
 
-    /// The first block that an end sent is lost.
+    /// The oldest block that a side sent is lost.
     fn lose(&mut self, sender: End, step: &mut Step) -> Result<(), No>
         requires sound { IsSound self.old }
-        ensures follows { Follows (E.Lose (role_of sender)) self.old (written result step.new) self.new }
+        ensures refines { Refines (E.Lose (role_of sender)) self.old (step_result result step.new) self.new }
         ensures sound { IsSound self.new }
         ensures refused { OnErr result (self.new ≡ self.old) }
-        ensures kept { OnErr result (step.new ≡ step.old) }
-        ensures silent { (frames_in (written result step.new) ≡ 0) × (arrivals_in (written result step.new) ≡ 0) }
+        ensures out_unchanged { OnErr result (step.new ≡ step.old) }
+        ensures silent { (frames_in (step_result result step.new) ≡ 0) × (arrivals_in (step_result result step.new) ≡ 0) }
         ensures who { OnOk result (FitsWho (step_of step.new)) }
     {
         if self.has_none(sender) {
@@ -248,16 +248,16 @@ impl Links {
         Ok(())
     }
 
-    /// Another mobile asks for the link of SAPI 0.
+    /// Another mobile sends a SABM on SAPI 0.
     fn rival<R: Radio>(&mut self, radio: &mut R, info: &[u8], step: &mut Step) -> Result<(), No>
         requires sound { IsSound self.old }
-        ensures follows { Follows (E.Rival info.now) self.old (written result step.new) self.new }
+        ensures refines { Refines (E.Rival info.now) self.old (step_result result step.new) self.new }
         ensures sound { IsSound self.new }
         ensures refused { OnErr result (self.new ≡ self.old) }
-        ensures kept { OnErr result (step.new ≡ step.old) }
+        ensures out_unchanged { OnErr result (step.new ≡ step.old) }
         ensures silent { OnErr result (radio.new ≡ radio.old) }
-        ensures sent { R.sent radio.new ≡ raised_by (frames_in (written result step.new)) (R.sent radio.old) }
-        ensures heard { R.heard radio.new ≡ raised_by (arrivals_in (written result step.new)) (R.heard radio.old) }
+        ensures sent { R.sent radio.new ≡ tally_after (frames_in (step_result result step.new)) (R.sent radio.old) }
+        ensures heard { R.heard radio.new ≡ tally_after (arrivals_in (step_result result step.new)) (R.heard radio.old) }
         ensures who { OnOk result (FitsWho (step_of step.new)) }
     {
         if self.is_full(End::Mobile) {
@@ -277,7 +277,7 @@ impl Links {
         Ok(())
     }
 
-    /// The air does something with the first block that an end sent.
+    /// The oldest block that a side sent arrives or is lost.
     fn on_air<R: Radio>(
         &mut self,
         radio: &mut R,
@@ -287,13 +287,13 @@ impl Links {
     ) -> Result<(), No>
         requires sound { IsSound self.old }
         requires possible { IsPossibleAir air.now }
-        ensures follows { Follows (air_event (role_of sender) air.now) self.old (written result step.new) self.new }
+        ensures refines { Refines (air_event (role_of sender) air.now) self.old (step_result result step.new) self.new }
         ensures sound { IsSound self.new }
         ensures refused { OnErr result (self.new ≡ self.old) }
-        ensures kept { OnErr result (step.new ≡ step.old) }
+        ensures out_unchanged { OnErr result (step.new ≡ step.old) }
         ensures silent { OnErr result (radio.new ≡ radio.old) }
-        ensures sent { R.sent radio.new ≡ raised_by (frames_in (written result step.new)) (R.sent radio.old) }
-        ensures heard { R.heard radio.new ≡ raised_by (arrivals_in (written result step.new)) (R.heard radio.old) }
+        ensures sent { R.sent radio.new ≡ tally_after (frames_in (step_result result step.new)) (R.sent radio.old) }
+        ensures heard { R.heard radio.new ≡ tally_after (arrivals_in (step_result result step.new)) (R.heard radio.old) }
         ensures who { OnOk result (FitsWho (step_of step.new)) }
     {
         match air {
@@ -311,13 +311,13 @@ impl Links {
     ) -> Result<(), No>
         requires sound { IsSound self.old }
         requires possible { IsPossible event.now }
-        ensures follows { Follows (event_of event.now) self.old (written result step.new) self.new }
+        ensures refines { Refines (event_of event.now) self.old (step_result result step.new) self.new }
         ensures sound { IsSound self.new }
         ensures refused { OnErr result (self.new ≡ self.old) }
-        ensures kept { OnErr result (step.new ≡ step.old) }
+        ensures out_unchanged { OnErr result (step.new ≡ step.old) }
         ensures silent { OnErr result (radio.new ≡ radio.old) }
-        ensures sent { R.sent radio.new ≡ raised_by (frames_in (written result step.new)) (R.sent radio.old) }
-        ensures heard { R.heard radio.new ≡ raised_by (arrivals_in (written result step.new)) (R.heard radio.old) }
+        ensures sent { R.sent radio.new ≡ tally_after (frames_in (step_result result step.new)) (R.sent radio.old) }
+        ensures heard { R.heard radio.new ≡ tally_after (arrivals_in (step_result result step.new)) (R.heard radio.old) }
         ensures who { OnOk result (FitsWho (step_of step.new)) }
     {
         match event {

@@ -1,17 +1,17 @@
-//! Blocks go into a queue and come out of it.
+//! Puts blocks into a queue, and takes them out.
 ghost use Rattle.std.specs.Prelude.{◌≡◌, ◌+◌, ◌<◌, ◌≤◌, List, All, Some, map, length, ◌∷◌};
-ghost use Rattle.bit_blocks.specs.Bits.{AllBits};
-ghost use Rattle.conv_code.specs.Likelihood.{AllSoft};
-ghost use Rattle.um_block.specs.Received.{softened};
-ghost use Rattle.um_air.specs.Air.{Block, turned_at, turned};
-ghost use Rattle.um_link.specs.Coded.{Adds};
-ghost use Rattle.um_block.specs.Tallies.{raised, raised_by};
-ghost use Rattle.um_link.specs.Ways.{ArePlaces, IsWay, Receives};
+ghost use Rattle.um_block.specs.bit_blocks.Bits.{AllBits};
+ghost use Rattle.um_block.specs.conv_code.Likelihood.{AllSoft};
+ghost use Rattle.um_block.specs.Received.{soft_bits};
+ghost use Rattle.um_air.specs.Air.{Block, with_flip, with_flips};
+ghost use Rattle.um_link.specs.Coded.{AppendsCoded};
+ghost use Rattle.um_block.specs.Tallies.{next_tally, tally_after};
+ghost use Rattle.um_link.specs.Queues.{ArePlaces, IsQueue, Receives};
 
 use circular_buffer::HeapCircularBuffer;
 use um_block::{Radio, Received, soften_block};
 
-/// Each frame goes out as a block, behind those that are on their way.
+/// Codes each frame as a block, and appends it to the queue.
 pub(crate) fn send_all<R: Radio>(
     radio: &mut R,
     way: &mut HeapCircularBuffer<[[u8; 148]; 4]>,
@@ -19,11 +19,11 @@ pub(crate) fn send_all<R: Radio>(
     tsc: u8,
 )
     requires tsc { tsc ≤ 7 }
-    requires way { IsWay way.old }
-    requires room { length way.old.items + length frames.now ≤ 64 }
-    ensures added { Adds tsc frames.now way.old.items way.new.items }
-    ensures way { IsWay way.new }
-    ensures sent { R.sent radio.new ≡ raised_by (length frames.now) (R.sent radio.old) }
+    requires way { IsQueue way.old }
+    requires space { length way.old.items + length frames.now ≤ 64 }
+    ensures added { AppendsCoded tsc frames.now way.old.items way.new.items }
+    ensures way { IsQueue way.new }
+    ensures sent { R.sent radio.new ≡ tally_after (length frames.now) (R.sent radio.old) }
     ensures heard { R.heard radio.new ≡ R.heard radio.old }
 {
     for octets in frames {
@@ -31,8 +31,8 @@ pub(crate) fn send_all<R: Radio>(
     }
 }
 
-/// Receives the first block, with the bits at these places turned over, into the caller's room. Its soft values are
-/// written into room of the caller's too, which need not be cleared for each block.
+/// Receives the first block, with these bits inverted. Writes the soft values into a
+/// buffer of the caller, which need not be cleared.
 pub(crate) fn receive_first<R: Radio>(
     radio: &mut R,
     way: &mut HeapCircularBuffer<[[u8; 148]; 4]>,
@@ -40,12 +40,12 @@ pub(crate) fn receive_first<R: Radio>(
     soft: &mut [[i8; 148]; 4],
     received: &mut Option<Received>,
 )
-    requires way { IsWay way.old }
+    requires way { IsQueue way.old }
     requires some { 0 < length way.old.items }
     requires places { ArePlaces places.now }
     ensures received { (report : Received) × (received.new ≡ Some report) × Receives places.now way.old.items report way.new.items }
-    ensures way { IsWay way.new }
-    ensures heard { R.heard radio.new ≡ raised (R.heard radio.old) }
+    ensures way { IsQueue way.new }
+    ensures heard { R.heard radio.new ≡ next_tally (R.heard radio.old) }
     ensures sent { R.sent radio.new ≡ R.sent radio.old }
 {
     soften_first(way, places, soft);
@@ -53,13 +53,13 @@ pub(crate) fn receive_first<R: Radio>(
     *received = Some(radio.receive(soft));
 }
 
-/// The first block as sure soft values, with the bits at these places turned over.
+/// Writes the first block as certain soft values, with these bits inverted.
 fn soften_first(way: &HeapCircularBuffer<[[u8; 148]; 4]>, places: &[u16], soft: &mut [[i8; 148]; 4])
-    requires way { IsWay way.now }
+    requires way { IsQueue way.now }
     requires some { 0 < length way.now.items }
     requires places { ArePlaces places.now }
     ensures value { (block : Block) (others : List Block) → way.now.items ≡ block ∷ others
-        → soft.new ≡ map softened (turned places.now block) }
+        → soft.new ≡ map soft_bits (with_flips places.now block) }
     ensures soft { All AllSoft soft.new }
 {
     let first = way.front().unwrap();
@@ -67,18 +67,18 @@ fn soften_first(way: &HeapCircularBuffer<[[u8; 148]; 4]>, places: &[u16], soft: 
         soften_block(first, soft);
     } else {
         let mut block = *first;
-        turn_over(&mut block, places);
+        flip_bits(&mut block, places);
         soften_block(&block, soft);
     }
 }
 
-/// Drops the first block.
-// A queue that this leaves empty begins again where it began, so that the next block goes into room that was used just now.
+/// Removes the first block.
+// `clear` resets an emptied queue to its start, so that the next block reuses memory that was just used.
 pub(crate) fn drop_first(way: &mut HeapCircularBuffer<[[u8; 148]; 4]>)
-    requires way { IsWay way.old }
+    requires way { IsQueue way.old }
     requires some { 0 < length way.old.items }
     ensures first { (block : Block) × (way.old.items ≡ block ∷ way.new.items) }
-    ensures way { IsWay way.new }
+    ensures way { IsQueue way.new }
 {
     if way.len() == 1 {
         way.clear();
@@ -87,22 +87,22 @@ pub(crate) fn drop_first(way: &mut HeapCircularBuffer<[[u8; 148]; 4]>)
     }
 }
 
-/// Turns the bits at these places over.
-fn turn_over(block: &mut [[u8; 148]; 4], places: &[u16])
+/// Inverts these bits.
+fn flip_bits(block: &mut [[u8; 148]; 4], places: &[u16])
     requires bits { All AllBits block.old }
     requires places { ArePlaces places.now }
-    ensures turned { block.new ≡ turned places.now block.old }
+    ensures flipped { block.new ≡ with_flips places.now block.old }
     ensures bits { All AllBits block.new }
 {
     for place in places {
-        turn_over_at(block, *place);
+        flip_at(block, *place);
     }
 }
 
-fn turn_over_at(block: &mut [[u8; 148]; 4], place: u16)
+fn flip_at(block: &mut [[u8; 148]; 4], place: u16)
     requires bits { All AllBits block.old }
     requires place { place < 592 }
-    ensures turned { block.new ≡ turned_at place block.old }
+    ensures flipped { block.new ≡ with_flip place block.old }
     ensures bits { All AllBits block.new }
 {
     let burst = usize::from(place / 148);

@@ -1,28 +1,29 @@
--- A generated run goes on, event by event, to its end.
+-- A generated run, event by event: each answer is counted, and no counter overflows, since an event
+-- raises a counter by at most 192,015.
 use Rattle.std.proofs.Common.{◌≡◌, ◌∙◌, refl, sym, ap, subst, ℕ, ◌+◌, ◌*◌, ◌^◌, ◌≤◌, List, [], ◌∷◌}
 use Rattle.std.proofs.Common.{◌++◌, length, length-append, append_assoc, Result, arith}
 use Rattle.std.proofs.lemmas.List.{append-nil}
-use Rattle.lapdm_frame.specs.declared.Channel.TheVariants.{Sdcch}
+use Rattle.lapdm_window.specs.lapdm_frame.declared.Channel.TheVariants.{Sdcch}
 use Rattle.lapdm_window.specs.declared.Sapi.TheVariants.{Zero}
 use Rattle.lapdm_window.specs.Ends.{Mobile, Network}
-use Rattle.lapdm_link.specs.Claims.{CountsAgree}
-use Rattle.um_air.specs.Air.{Event, Answer, start_on, AirRun}
-use Rattle.um_air.specs.Sessions.{lines, IsHarmless}
-use Rattle.um_air.proofs.Laws.{air_counts, kind_is_harmless, one_run}
+use Rattle.um_link.specs.lapdm_link.Claims.{CountsAgree}
+use Rattle.um_link.specs.um_air.Air.{Event, Answer, start_on, AirRun}
+use Rattle.um_link.specs.um_air.Sessions.{lines, IsHarmless}
+use Rattle.um_link.proofs.um_air.Laws.{air_counts, benign_is_harmless, one_run}
 use Rattle.um_link.specs.declared.events.No.{No}
 use Rattle.um_link.specs.declared.events.Step.{Step}
-use Rattle.um_link.specs.declared.links.Links.{Links}
+use Rattle.um_link.specs.declared.links.WorldState.{WorldState}
 use Rattle.um_link.specs.Naming.{answer_of}
-use Rattle.um_link.specs.Standing.{Stands}
-use Rattle.um_link.specs.Sessions.{GoesOn}
+use Rattle.um_link.specs.Abstraction.{Represents}
+use Rattle.um_link.specs.Sessions.{ExtendsSession}
 use Rattle.um_make.specs.declared.end_summary.EndSummary.{EndSummary}
 use Rattle.um_make.specs.declared.summary.Summary.{Summary}
-use Rattle.um_make.specs.Generated.{generated}
+use Rattle.um_make.specs.Generated.{generated_events}
 use Rattle.um_make.specs.Summaries.{IsSummary}
 use Rattle.um_make.specs.Runs.{SumsUp, IsDelivered}
 use Rattle.um_make.specs.Counting.{Counts, GrowsAtMost, RisesAtMost, IsEndBelow, IsBelow}
 use Rattle.um_make.specs.Underway.{IsUnderway}
-use Rattle.um_make.proofs.KindEvents.{kind-generated}
+use Rattle.um_make.proofs.BenignEvents.{benign-generated}
 use Rattle.um_make.proofs.Totals.{summary-push}
 use Rattle.um_make.proofs.Sizes.{generated-size}
 
@@ -59,21 +60,22 @@ stays s = record {
   network = stays-end s.network;
 }
 
-pub begins : (tsc : ℕ) (all : List Event) (world : Links) (s : Summary) → Stands world (start_on tsc Sdcch) → IsSummary [] [] s →
+pub begins : (tsc : ℕ) (all : List Event) (world : WorldState) (s : Summary) → Represents world (start_on tsc Sdcch) → IsSummary [] [] s →
     IsBelow 0 s → IsUnderway tsc all all world s
-begins tsc all world s stands counts small = record {
+begins tsc all world s represents counts small = record {
   events = [];
   answers = [];
   state = start_on tsc Sdcch;
   whole = refl;
   same = refl;
-  after = record { run = refl; stands = stands };
+  after = record { run = refl; represents = represents };
   summary = counts;
   small = small;
 }
 
-pub goes_on : (tsc : ℕ) (all script others : List Event) (world next : Links) (s t : Summary) (e : Event) (r : Result Step No) →
-    IsUnderway tsc all script world s → script ≡ e ∷ others → GoesOn e world r next → Counts e (answer_of r) s t → RisesAtMost 192015 s t →
+pub goes_on : (tsc : ℕ) (all script others : List Event) (world next : WorldState) (s t : Summary) (e : Event) (r : Result Step No) →
+    IsUnderway tsc all script world s → script ≡ e ∷ others → ExtendsSession e world r next → Counts e (answer_of r) s t →
+    RisesAtMost 192015 s t →
     IsUnderway tsc all others next t
 goes_on tsc all script others world next s t e r h first goes counts rises =
     let to = goes tsc Sdcch h.events h.answers h.state h.after in
@@ -89,13 +91,13 @@ goes_on tsc all script others world next s t e r h first goes counts rises =
           (omega (arith, length-append h.events (e ∷ []))) h.small rises;
     }
 
-pub small_enough : (tsc n : ℕ) (script : List Event) (world : Links) (s : Summary) → n ≤ 1000 →
-    IsUnderway tsc (generated n) script world s → IsBelow (2 ^ 58) s
+pub small_enough : (tsc n : ℕ) (script : List Event) (world : WorldState) (s : Summary) → n ≤ 1000 →
+    IsUnderway tsc (generated_events n) script world s → IsBelow (2 ^ 58) s
 small_enough tsc n script world s most h =
     below-more (192015 * length h.events) 0 (2 ^ 58) s s (omega (arith, generated-size n, ap length h.whole, length-append h.events script))
     h.small (stays s)
 
-pub sums_up : (tsc : ℕ) (all script : List Event) (world : Links) (s : Summary) → script ≡ [] → IsUnderway tsc all script world s →
+pub sums_up : (tsc : ℕ) (all script : List Event) (world : WorldState) (s : Summary) → script ≡ [] → IsUnderway tsc all script world s →
     SumsUp tsc all s
 sums_up tsc all script world s none h =
     let done : h.events ≡ all = sym (append-nil h.events) ∙ ap (λ (es : List Event). h.events ++ es) (sym none) ∙ sym h.whole in
@@ -111,11 +113,12 @@ sums_up tsc all script world s none h =
           (one_run (start_on tsc Sdcch) all h.state b h.answers others run other).1 summary;
     }
 
-pub delivered : (tsc n : ℕ) (s : Summary) → SumsUp tsc (generated n) s → IsDelivered s
-delivered tsc n s h =
-    let harmless : IsHarmless (generated n) h.answers = kind_is_harmless tsc Sdcch (generated n) h.answers h.last h.run
-    (kind-generated n) in
-    let agree : CountsAgree (lines (generated n) h.answers) = air_counts tsc Sdcch (generated n) h.answers h.last h.run harmless in
+pub is_delivered : (tsc n : ℕ) (s : Summary) → SumsUp tsc (generated_events n) s → IsDelivered s
+is_delivered tsc n s h =
+    let harmless : IsHarmless (generated_events n) h.answers = benign_is_harmless tsc Sdcch (generated_events n) h.answers h.last h.run
+    (benign-generated n) in
+    let agree : CountsAgree (lines (generated_events n) h.answers) =
+    air_counts tsc Sdcch (generated_events n) h.answers h.last h.run harmless in
     record {
       mobile = omega (arith, agree Mobile Zero, h.summary.mobile.acknowledged, h.summary.network.messages);
       network = omega (arith, agree Network Zero, h.summary.network.acknowledged, h.summary.mobile.messages);

@@ -1,2 +1,2 @@
--- The lemmas of this crate for the crates above.
+-- The lemmas that other crates use.
 pub use Rattle.um_make.proofs.OneSummary.{one_generated_summary}

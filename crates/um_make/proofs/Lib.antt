@@ -1,7 +1,7 @@
 pub mod Laws
 mod OneSummary
 mod Worked
-pub mod KindEvents
+pub mod BenignEvents
 pub mod Courses
 pub mod Counting
 pub mod Totals

@@ -1,27 +1,28 @@
--- The events of a session have one summary.
+-- The events of a session have exactly one summary: the answers to them are determined, and so is
+-- each counter.
 use Rattle.std.proofs.Common.{◌≡◌, ◌∙◌, refl, sym, subst, ℕ, ◌≤◌, List, [], ◌∷◌, All, length, sum, count_by}
 use Rattle.std.proofs.lemmas.List.Elements.{All-nil, All-cons}
 use Rattle.std.specs.List.{sum_by}
-use Rattle.lapdm_frame.specs.declared.Channel.TheVariants.{Sdcch}
+use Rattle.lapdm_window.specs.lapdm_frame.declared.Channel.TheVariants.{Sdcch}
 use Rattle.lapdm_window.specs.declared.Sapi.TheVariants.{Zero}
 use Rattle.lapdm_window.specs.Ends.{Role, Mobile, Network}
-use Rattle.lapdm_link.specs.Claims.{Line, got, acked}
-use Rattle.um_air.specs.Air.{Event, Answer, start_on}
-use Rattle.um_air.specs.Sessions.{lines, IsKind, IsOctetEvent}
-use Rattle.um_air.proofs.Laws.{one_run, some_run}
+use Rattle.um_link.specs.lapdm_link.Claims.{Line, delivered, acked_numbers}
+use Rattle.um_link.specs.um_air.Air.{Event, Answer, start_on}
+use Rattle.um_link.specs.um_air.Sessions.{lines, IsBenign, IsOctetEvent}
+use Rattle.um_link.proofs.um_air.Laws.{one_run, some_run}
 use Rattle.um_make.specs.declared.end_summary.EndSummary.{EndSummary}
 use Rattle.um_make.specs.declared.summary.Summary.{Summary}
 use Rattle.um_make.specs.Summaries.{sends, is_take, is_drop, is_loss, IsEndSummary, IsSummary}
-use Rattle.um_make.specs.Generated.{generated}
+use Rattle.um_make.specs.Generated.{generated_events}
 use Rattle.um_make.specs.Runs.{HasOneSummary}
-use Rattle.um_make.proofs.KindEvents.{kind-generated}
+use Rattle.um_make.proofs.BenignEvents.{benign-generated}
 
 end_summary_of : Role → List Line → EndSummary
 end_summary_of r ls = record {
-  got = length (got r Zero ls);
-  octets = sum_by (λ m. length m) (got r Zero ls);
-  sum = sum_by (λ m. sum m) (got r Zero ls);
-  acked = length (acked r Zero ls);
+  got = length (delivered r Zero ls);
+  octets = sum_by (λ m. length m) (delivered r Zero ls);
+  sum = sum_by (λ m. sum m) (delivered r Zero ls);
+  acked = length (acked_numbers r Zero ls);
 }
 
 summary_of : List Event → List Answer → Summary
@@ -52,7 +53,7 @@ is_summary events answers = record {
 }
 
 end_with : ℕ → ℕ → ℕ → ℕ → EndSummary
-end_with got octets total acked = record { got = got; octets = octets; sum = total; acked = acked }
+end_with delivered octets total acked_numbers = record { got = delivered; octets = octets; sum = total; acked = acked_numbers }
 
 same_numbers : (g g' o o' t t' a a' : ℕ) → g ≡ g' → o ≡ o' → t ≡ t' → a ≡ a' → end_with g o t a ≡ end_with g' o' t' a'
 same_numbers g g' o o' t t' a a' p q r s = cc
@@ -81,10 +82,10 @@ same_summary events answers s t h k =
     (h.steps ∙ sym k.steps) (h.sent ∙ sym k.sent) (h.takes ∙ sym k.takes) (h.drops ∙ sym k.drops) (h.lost ∙ sym k.lost)
     (same_end Mobile ls s.mobile t.mobile h.mobile k.mobile) (same_end Network ls s.network t.network h.network k.network)
 
--- the messages of a kind script are octets
-octets_of_kind : (events : List Event) → IsKind events → All IsOctetEvent events
-octets_of_kind [] kind = All-nil IsOctetEvent
-octets_of_kind (event ∷ events) kind = All-cons IsOctetEvent event events kind.1 (octets_of_kind events kind.2)
+-- the messages of a script that satisfies `IsBenign` are octets
+octets_of_benign : (events : List Event) → IsBenign events → All IsOctetEvent events
+octets_of_benign [] benign = All-nil IsOctetEvent
+octets_of_benign (event ∷ events) benign = All-cons IsOctetEvent event events benign.1 (octets_of_benign events benign.2)
 
 one_summary : (tsc : ℕ) (events : List Event) → tsc ≤ 7 → All IsOctetEvent events → HasOneSummary tsc events
 one_summary tsc events within octets =
@@ -106,6 +107,7 @@ one_summary tsc events within octets =
           (is_summary events answers);
     }
 
--- and so have the generated ones
-pub one_generated_summary : (n tsc : ℕ) → tsc ≤ 7 → HasOneSummary tsc (generated n)
-one_generated_summary n tsc within = one_summary tsc (generated n) within (octets_of_kind (generated n) (kind-generated n))
+-- the generated events have exactly one summary
+pub one_generated_summary : (n tsc : ℕ) → tsc ≤ 7 → HasOneSummary tsc (generated_events n)
+one_generated_summary n tsc within =
+    one_summary tsc (generated_events n) within (octets_of_benign (generated_events n) (benign-generated n))

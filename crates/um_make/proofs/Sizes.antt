@@ -1,17 +1,19 @@
--- How long a generated run is at most: a message has at most 13 pieces, and a piece at most two turns of two events.
+-- The length of a generated run: a message has at most 13 segments, and a segment at most two turns
+-- of two events.
 use Rattle.std.proofs.Common.{◌≡◌, ℕ, zero, suc, ◌+◌, ◌*◌, ◌%◌, ◌≤◌, Bool, true, false, if◌then◌else◌, []}
 use Rattle.std.proofs.Common.{◌∷◌, length, length-append, arith}
 use Rattle.std.proofs.lemmas.List.FromFn.{length-map-range_with_len}
 use Rattle.lapdm_window.specs.declared.Sapi.TheVariants.{Zero}
 use Rattle.lapdm_window.specs.Ends.{Role}
-use Rattle.lapdm_link.specs.Events.{Ask, Deliver, Lose, Tick, other}
-use Rattle.um_make.specs.Generated.{places, size_of, message, sender, is_lost, turn, piece_turns, last_turn, turns, turn_after, pieces_of}
-use Rattle.um_make.specs.Generated.{messages, generated}
+use Rattle.um_link.specs.lapdm_link.Events.{Ask, Deliver, Lose, T200Expiry, other}
+use Rattle.um_make.specs.Generated.{places, size_of, message, sender, is_lost, turn, segment_turns, last_turn, turns, turn_after}
+use Rattle.um_make.specs.Generated.{segments_of}
+use Rattle.um_make.specs.Generated.{messages, generated_events}
 
 turn-size : (r : Role) (c : ℕ) → length (turn r c) ≤ 2
 turn-size r c = by (is_lost c)
   where
-    by : (lost : Bool) → length (if lost then Lose r ∷ Ask r Zero Tick ∷ [] else Deliver r (places c) ∷ Deliver (other r) [] ∷ []) ≤ 2
+    by : (lost : Bool) → length (if lost then Lose r ∷ Ask r Zero T200Expiry ∷ [] else Deliver r (places c) ∷ Deliver (other r) [] ∷ []) ≤ 2
     by true = omega arith
     by false = omega arith
 
@@ -19,20 +21,20 @@ again-size : (r : Role) (c : ℕ) (lost : Bool) → length (if lost then turn r 
 again-size r c true = turn-size r (c + 1)
 again-size r c false = omega arith
 
-turns-size : (r : Role) (pieces c : ℕ) → length (turns r pieces c) ≤ 4 * pieces
+turns-size : (r : Role) (segments c : ℕ) → length (turns r segments c) ≤ 4 * segments
 turns-size r zero c = omega arith
-turns-size r (suc pieces) c =
+turns-size r (suc segments) c =
     omega (
       arith,
-      length-append (piece_turns r (c + 1)) (turns r pieces (last_turn (c + 1))),
+      length-append (segment_turns r (c + 1)) (turns r segments (last_turn (c + 1))),
       length-append (turn r (c + 1)) (if is_lost (c + 1) then turn r (c + 1 + 1) else []),
       turn-size r (c + 1),
       again-size r (c + 1) (is_lost (c + 1)),
-      turns-size r pieces (last_turn (c + 1)),
+      turns-size r segments (last_turn (c + 1)),
     )
 
-few_pieces : (i : ℕ) → pieces_of i ≤ 13
-few_pieces i =
+few_segments : (i : ℕ) → segments_of i ≤ 13
+few_segments i =
     let size : length (message i) ≡ size_of i = length-map-range_with_len (λ j. (i + j) % 256) 0 (size_of i) in
     omega arith
 
@@ -41,11 +43,11 @@ messages-size zero i c = omega arith
 messages-size (suc more) i c =
     omega (
       arith,
-      length-append (turns (sender i) (pieces_of i) c) (messages more (i + 1) (turn_after (pieces_of i) c)),
-      turns-size (sender i) (pieces_of i) c,
-      few_pieces i,
-      messages-size more (i + 1) (turn_after (pieces_of i) c),
+      length-append (turns (sender i) (segments_of i) c) (messages more (i + 1) (turn_after (segments_of i) c)),
+      turns-size (sender i) (segments_of i) c,
+      few_segments i,
+      messages-size more (i + 1) (turn_after (segments_of i) c),
     )
 
-pub generated-size : (n : ℕ) → length (generated n) ≤ 53 * n + 3
+pub generated-size : (n : ℕ) → length (generated_events n) ≤ 53 * n + 3
 generated-size n = omega (arith, messages-size n 1 0)

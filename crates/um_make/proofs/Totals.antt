@@ -1,4 +1,4 @@
--- The numbers of a session with one event more.
+-- The counters of a session after one more event.
 use Rattle.std.proofs.Common.{◌≡◌, ◌∙◌, refl, sym, ap, subst, ℕ, Bool, true, false, if◌then◌else◌, ◌&&◌, List, []}
 use Rattle.std.proofs.Common.{◌∷◌, ◌++◌, length, sum, map, length-append, append_assoc, arith}
 use Rattle.std.specs.List.{sum_by, filter_map}
@@ -8,42 +8,44 @@ use Rattle.lapdm_window.specs.declared.Notice.{Notice}
 use Rattle.lapdm_window.specs.declared.Sapi.{Sapi}
 use Rattle.lapdm_window.specs.declared.Sapi.TheVariants.{Zero}
 use Rattle.lapdm_window.specs.Ends.{Role, Mobile, Network}
-use Rattle.lapdm_link.specs.Events.{Open, OpenBare, Ask, Deliver, Lose, Rival, Who, End, Other, Nobody}
-use Rattle.lapdm_link.specs.Claims.{Line, Told, answer_lines, notice_lines, notice_in, notices, got_in, acked_in, got, acked, is_role}
-use Rattle.lapdm_link.specs.Claims.{is_sapi}
-use Rattle.um_air.specs.Air.{Event, Answer, Refuses, Does}
-use Rattle.um_air.specs.Sessions.{told, lines}
+use Rattle.um_link.specs.lapdm_link.Events.{Open, OpenBare, Ask, Deliver, Lose, Rival, Who, BySide, Other, Nobody}
+use Rattle.um_link.specs.lapdm_link.Claims.{Line, Notified, answer_lines, notice_lines, notice_in, notices, delivered_in, acked_in}
+use Rattle.um_link.specs.lapdm_link.Claims.{delivered}
+use Rattle.um_link.specs.lapdm_link.Claims.{acked_numbers, is_role}
+use Rattle.um_link.specs.lapdm_link.Claims.{is_sapi}
+use Rattle.um_link.specs.um_air.Air.{Event, Answer, Refuses, Does}
+use Rattle.um_link.specs.um_air.Sessions.{ends_answer, lines}
 use Rattle.um_make.specs.declared.end_summary.EndSummary.{EndSummary}
 use Rattle.um_make.specs.declared.summary.Summary.{Summary}
 use Rattle.um_make.specs.Summaries.{sends, is_take, is_drop, is_loss, IsEndSummary, IsSummary}
-use Rattle.um_make.specs.Counting.{Tells, told_of, told_in, one_if, Counts}
+use Rattle.um_make.specs.Counting.{CountsNotices, notices_of_side, notices_in, one_if, Counts}
 
--- the lines of one event more stand behind those before
+-- the lines of one more event follow those before
 lines-push : (es : List Event) (answers : List Answer) (e : Event) (a : Answer) → length answers ≡ length es →
     lines (es ++ e ∷ []) (answers ++ a ∷ []) ≡ lines es answers ++ lines (e ∷ []) (a ∷ [])
 lines-push [] [] e a same = refl
 lines-push [] (y ∷ answers) e a same = absurd (omega arith)
 lines-push (x ∷ es) [] e a same = absurd (omega arith)
 lines-push (x ∷ es) (y ∷ answers) e a same =
-    let first : List Line = answer_lines x (told y) in
+    let first : List Line = answer_lines x (ends_answer y) in
     ap (λ (ls : List Line). first ++ ls) (lines-push es answers e a (omega arith))
     ∙ sym (append_assoc first (lines es answers) (lines (e ∷ []) (a ∷ [])))
 
--- an end's notices of one answer
+-- the notices of one endpoint in one answer
 said_by : (r role : Role) (s : Sapi) (b : Bool) → (is_role r role && is_sapi Zero s) ≡ b → (ns : List Notice) →
-    filter_map (notice_in r Zero) (map (Told role s) ns ++ []) ≡ (if b then ns else [])
+    filter_map (notice_in r Zero) (map (Notified role s) ns ++ []) ≡ (if b then ns else [])
 said_by r role s true e [] = refl
 said_by r role s false e [] = refl
 said_by r role s true e (n ∷ ns) = rw e (ap (λ (ms : List Notice). n ∷ ms) (said_by r role s true e ns))
 said_by r role s false e (n ∷ ns) = rw e (said_by r role s false e ns)
 
 said_of : (r : Role) (who : Who) (s : Sapi) (ns : List Notice) →
-    filter_map (notice_in r Zero) (notice_lines who s ns ++ []) ≡ told_of r who s ns
-said_of r (End role) s ns = said_by r role s (is_role r role && is_sapi Zero s) refl ns
+    filter_map (notice_in r Zero) (notice_lines who s ns ++ []) ≡ notices_of_side r who s ns
+said_of r (BySide role) s ns = said_by r role s (is_role r role && is_sapi Zero s) refl ns
 said_of r Other s ns = refl
 said_of r Nobody s ns = refl
 
-said_in : (r : Role) (e : Event) (a : Answer) → notices r Zero (lines (e ∷ []) (a ∷ [])) ≡ told_in r a
+said_in : (r : Role) (e : Event) (a : Answer) → notices r Zero (lines (e ∷ []) (a ∷ [])) ≡ notices_in r a
 said_in r e (Refuses why) = refl
 said_in r (Open info) (Does step) = said_of r step.who step.sapi step.notices
 said_in r (OpenBare role) (Does step) = said_of r step.who step.sapi step.notices
@@ -52,39 +54,46 @@ said_in r (Deliver sender places) (Does step) = said_of r step.who step.sapi ste
 said_in r (Lose sender) (Does step) = said_of r step.who step.sapi step.notices
 said_in r (Rival info) (Does step) = said_of r step.who step.sapi step.notices
 
-got-more : (r : Role) (ls ms : List Line) → got r Zero (ls ++ ms) ≡ got r Zero ls ++ filter_map got_in (notices r Zero ms)
-got-more r ls ms = ap (filter_map got_in) (filter_map-append (notice_in r Zero) ls ms)
-    ∙ filter_map-append got_in (notices r Zero ls) (notices r Zero ms)
+got-more : (r : Role) (ls ms : List Line) → delivered r Zero (ls ++ ms) ≡ delivered r Zero ls ++ filter_map delivered_in (notices r Zero ms)
+got-more r ls ms = ap (filter_map delivered_in) (filter_map-append (notice_in r Zero) ls ms)
+    ∙ filter_map-append delivered_in (notices r Zero ls) (notices r Zero ms)
 
-acked-more : (r : Role) (ls ms : List Line) → acked r Zero (ls ++ ms) ≡ acked r Zero ls ++ filter_map acked_in (notices r Zero ms)
+acked-more : (r : Role) (ls ms : List Line) → acked_numbers r Zero (ls ++ ms) ≡ acked_numbers r Zero ls
+    ++ filter_map acked_in (notices r Zero ms)
 acked-more r ls ms = ap (filter_map acked_in) (filter_map-append (notice_in r Zero) ls ms)
     ∙ filter_map-append acked_in (notices r Zero ls) (notices r Zero ms)
 
-end-more : (r : Role) (ls ms : List Line) (old new : EndSummary) → IsEndSummary r ls old → Tells (notices r Zero ms) old new →
+end-more : (r : Role) (ls ms : List Line) (old new : EndSummary) → IsEndSummary r ls old → CountsNotices (notices r Zero ms) old new →
     IsEndSummary r (ls ++ ms) new
 end-more r ls ms old new h t =
-    let gs : List (List ℕ) = filter_map got_in (notices r Zero ms) in
+    let gs : List (List ℕ) = filter_map delivered_in (notices r Zero ms) in
     let numbers : List ℕ = filter_map acked_in (notices r Zero ms) in
     record {
-      messages = omega (arith, h.messages, t.got, ap length (got-more r ls ms), length-append (got r Zero ls) gs);
+      messages = omega (arith, h.messages, t.got, ap length (got-more r ls ms), length-append (delivered r Zero ls) gs);
       octets = omega (
         arith,
         h.octets,
         t.octets,
         ap (sum_by (λ m. length m)) (got-more r ls ms),
-        sum_by-append (λ m. length m) (got r Zero ls) gs,
+        sum_by-append (λ m. length m) (delivered r Zero ls) gs,
       );
-      sum = omega (arith, h.sum, t.sum, ap (sum_by (λ m. sum m)) (got-more r ls ms), sum_by-append (λ m. sum m) (got r Zero ls) gs);
-      acknowledged = omega (arith, h.acknowledged, t.acked, ap length (acked-more r ls ms), length-append (acked r Zero ls) numbers);
+      sum = omega (arith, h.sum, t.sum, ap (sum_by (λ m. sum m)) (got-more r ls ms), sum_by-append (λ m. sum m) (delivered r Zero ls) gs);
+      acknowledged = omega (
+        arith,
+        h.acknowledged,
+        t.acked,
+        ap length (acked-more r ls ms),
+        length-append (acked_numbers r Zero ls) numbers,
+      );
     }
 
 end-push : (r : Role) (es : List Event) (answers : List Answer) (e : Event) (a : Answer) (old new : EndSummary) →
-    length answers ≡ length es → IsEndSummary r (lines es answers) old → Tells (told_in r a) old new →
+    length answers ≡ length es → IsEndSummary r (lines es answers) old → CountsNotices (notices_in r a) old new →
     IsEndSummary r (lines (es ++ e ∷ []) (answers ++ a ∷ [])) new
 end-push r es answers e a old new same h t =
     subst (λ (ls : List Line). IsEndSummary r ls new) (sym (lines-push es answers e a same))
     (end-more r (lines es answers) (lines (e ∷ []) (a ∷ [])) old new h
-    (subst (λ (ns : List Notice). Tells ns old new) (sym (said_in r e a)) t))
+    (subst (λ (ns : List Notice). CountsNotices ns old new) (sym (said_in r e a)) t))
 
 pub summary-push : (es : List Event) (answers : List Answer) (e : Event) (a : Answer) (old new : Summary) → length answers ≡ length es →
     IsSummary es answers old → Counts e a old new → IsSummary (es ++ e ∷ []) (answers ++ a ∷ []) new

@@ -1,3 +1,4 @@
+pub use Rattle.um_script.specs as um_script
 pub mod Generated
 pub mod Summaries
 pub mod Runs

@@ -1,11 +1,12 @@
--- A session from the start to its end, summed up.
+-- The summary of a whole session (this project's own rule).
 use Rattle.std.specs.Prelude.{◌≡◌, ◌≤◌, ℕ, List}
-use Rattle.lapdm_frame.specs.declared.Channel.TheVariants.{Sdcch}
-use Rattle.um_air.specs.Air.{Event, Answer, AirState, start_on, AirRun}
+use Rattle.lapdm_window.specs.lapdm_frame.declared.Channel.TheVariants.{Sdcch}
+use Rattle.um_link.specs.um_air.Air.{Event, Answer, AirState, start_on, AirRun}
 use Rattle.um_make.specs.declared.summary.Summary.{Summary}
 use Rattle.um_make.specs.Summaries.{IsSummary}
 
--- the numbers are those of the answers to these events, from idle ends on SDCCH; there are no other answers
+-- the summary counts the answers to these events, from idle endpoints on SDCCH; other answers that
+-- are possible give the same summary
 pub record SumsUp (tsc : ℕ) (events : List Event) (s : Summary) : Type 0 where
   pub answers : List Answer
   pub last : AirState
@@ -13,13 +14,13 @@ pub record SumsUp (tsc : ℕ) (events : List Event) (s : Summary) : Type 0 where
   pub summary : IsSummary events answers s
   pub only : (others : List Answer) (b : AirState) → AirRun (start_on tsc Sdcch) events others b → IsSummary events others s
 
--- the events have a summary, and no other
+-- the events have exactly one summary
 pub record HasOneSummary (tsc : ℕ) (events : List Event) : Type 0 where
   pub summary : Summary
   pub sums_up : SumsUp tsc events summary
   pub one : (other : Summary) → SumsUp tsc events other → other ≡ summary
 
--- at neither end are more messages acknowledged than the other handed up
+-- neither side has more messages acknowledged than the other side delivered
 pub record IsDelivered (s : Summary) : Type 0 where
   pub mobile : s.mobile.acked ≤ s.network.got
   pub network : s.network.acked ≤ s.mobile.got

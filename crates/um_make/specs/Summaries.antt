@@ -1,49 +1,53 @@
--- What a session comes to, counted from its events and their answers (this project's own rule).
+-- The counters of a session, from its events and their answers (this project's own rule).
 use Rattle.std.specs.Prelude.{◌≡◌, ℕ, Bool, true, false, not, List, length, sum, count_by, Option, Some, None, is_some}
 use Rattle.std.specs.List.{sum_by}
 use Rattle.lapdm_window.specs.declared.Sapi.TheVariants.{Zero}
 use Rattle.lapdm_window.specs.Ends.{Role, Mobile, Network}
 use Rattle.um_block.specs.declared.received.Received.{Received}
-use Rattle.lapdm_link.specs.Claims.{Line, got, acked}
-use Rattle.lapdm_link.specs.Events.{Lose}
-use Rattle.um_air.specs.Air.{Event, Answer, Refuses, Does}
-use Rattle.um_air.specs.Sessions.{lines}
+use Rattle.um_link.specs.lapdm_link.Claims.{Line, delivered, acked_numbers}
+use Rattle.um_link.specs.lapdm_link.Events.{Lose}
+use Rattle.um_link.specs.um_air.Air.{Event, Answer, Refuses, Does}
+use Rattle.um_link.specs.um_air.Sessions.{lines}
 use Rattle.um_make.specs.declared.end_summary.EndSummary.{EndSummary}
 use Rattle.um_make.specs.declared.summary.Summary.{Summary}
 
--- how many blocks are sent
+-- the number of blocks that an answer sends
 abbrev pub sends : Answer → ℕ
 sends (Refuses why) = 0
 sends (Does step) = length step.frames
 
-abbrev pub has_parity : Option Received → Bool
-has_parity None = false
-has_parity (Some r) = is_some r.accepted
+-- whether a block was received with a good CRC, or with a bad one
+abbrev pub crc_holds : Option Received → Bool
+crc_holds None = false
+crc_holds (Some r) = is_some r.accepted
 
-abbrev pub lacks_parity : Option Received → Bool
-lacks_parity None = false
-lacks_parity (Some r) = not (is_some r.accepted)
+abbrev pub crc_fails : Option Received → Bool
+crc_fails None = false
+crc_fails (Some r) = not (is_some r.accepted)
 
--- whether a block arrives with its parity, or without it
+-- whether an answer reports a block with a good CRC (`is_take`) or a bad one (`is_drop`)
 abbrev pub is_take : Answer → Bool
 is_take (Refuses why) = false
-is_take (Does step) = has_parity step.received
+is_take (Does step) = crc_holds step.received
 
 abbrev pub is_drop : Answer → Bool
 is_drop (Refuses why) = false
-is_drop (Does step) = lacks_parity step.received
+is_drop (Does step) = crc_fails step.received
 
+-- whether an event loses a block
 abbrev pub is_loss : Event → Bool
 is_loss (Lose sender) = true
 is_loss event = false
 
--- what an end tells of the link of SAPI 0: its messages, their octets, and how many were acknowledged to it
+-- the counters of one side on its link of SAPI 0: messages delivered, their octets, the sum of
+-- these octets, and messages acknowledged
 pub record IsEndSummary (r : Role) (ls : List Line) (e : EndSummary) : Type 0 where
-  pub messages : e.got ≡ length (got r Zero ls)
-  pub octets : e.octets ≡ sum_by (λ m. length m) (got r Zero ls)
-  pub sum : e.sum ≡ sum_by (λ m. sum m) (got r Zero ls)
-  pub acknowledged : e.acked ≡ length (acked r Zero ls)
+  pub messages : e.got ≡ length (delivered r Zero ls)
+  pub octets : e.octets ≡ sum_by (λ m. length m) (delivered r Zero ls)
+  pub sum : e.sum ≡ sum_by (λ m. sum m) (delivered r Zero ls)
+  pub acknowledged : e.acked ≡ length (acked_numbers r Zero ls)
 
+-- the counters of a session
 pub record IsSummary (events : List Event) (answers : List Answer) (s : Summary) : Type 0 where
   pub steps : s.steps ≡ length events
   pub sent : s.sends ≡ sum_by sends answers

@@ -1,15 +1,15 @@
--- A session that is underway.
+-- A session in progress (internal).
 use Rattle.std.specs.Prelude.{◌≡◌, ℕ, ◌*◌, List, ◌++◌, length}
-use Rattle.lapdm_frame.specs.declared.Channel.TheVariants.{Sdcch}
-use Rattle.um_air.specs.Air.{Event, Answer, AirState}
-use Rattle.um_link.specs.declared.links.Links.{Links}
+use Rattle.lapdm_window.specs.lapdm_frame.declared.Channel.TheVariants.{Sdcch}
+use Rattle.um_link.specs.um_air.Air.{Event, Answer, AirState}
+use Rattle.um_link.specs.declared.links.WorldState.{WorldState}
 use Rattle.um_link.specs.Sessions.{IsAfter}
 use Rattle.um_make.specs.declared.summary.Summary.{Summary}
 use Rattle.um_make.specs.Summaries.{IsSummary}
 use Rattle.um_make.specs.Counting.{IsBelow}
 
--- of all events some were answered and counted, and these are still to come
-pub record IsUnderway (tsc : ℕ) (all to_come : List Event) (world : Links) (s : Summary) : Type 0 where
+-- some of all events were answered and counted, and the others are still to come
+pub record IsUnderway (tsc : ℕ) (all to_come : List Event) (world : WorldState) (s : Summary) : Type 0 where
   pub events : List Event
   pub answers : List Answer
   pub state : AirState

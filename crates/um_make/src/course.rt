@@ -1,13 +1,13 @@
-//! How far a generated run has come.
+//! The position in a generated run.
 ghost use Rattle.std.specs.Prelude.{◌≡◌, ◌≤◌, ◌<◌, ◌+◌, ◌%◌, ℕ, [], ◌∷◌, map, length, MatchOption};
 ghost use Rattle.std.specs.Prelude.{IfSome, All};
 ghost use Rattle.std.specs.List.{range_with_len};
-ghost use Rattle.lapdm_link.specs.Events.{other};
+ghost use Rattle.um_link.specs.lapdm_link.Events.{other};
 ghost use Rattle.um_link.specs.Naming.{event_of, role_of, sender_of};
 ghost use Rattle.um_link.specs.Possible.{IsPossible};
-ghost use Rattle.um_link.specs.Ways.{ArePlaces};
+ghost use Rattle.um_link.specs.Queues.{ArePlaces};
 ghost use Rattle.um_make.specs.declared.course.Stage.TheVariants as S;
-ghost use Rattle.um_make.specs.Generated.{generated, size_of, message, pieces_of, places, sender};
+ghost use Rattle.um_make.specs.Generated.{generated_events, size_of, message, segments_of, places, sender};
 
 use lapdm_window::Sapi;
 use um_link::{Air, Call, End, Event, Way};
@@ -16,29 +16,29 @@ use um_script::Room;
 /// What comes next.
 #[derive(Clone, Copy, Debug, PartialEq, Eq)]
 pub(crate) enum Stage {
-    /// The mobile asks for the link.
+    /// The mobile opens the link.
     Opening,
-    /// What it asked arrives.
+    /// The SABM frame arrives.
     Request,
-    /// The answer to that arrives.
+    /// The answer to it arrives.
     Answer,
-    /// The next piece has a turn, or the next message is sent.
+    /// The next segment has a turn, or the next message is sent.
     Turn,
-    /// The answer to a piece arrives.
+    /// The answer to a segment arrives.
     Back,
-    /// A piece was lost, and its sender's timer runs out.
+    /// A segment was lost, and T200 of its sender expires.
     Timer,
 }
 
-/// How far the run has come.
+/// The position in the run.
 #[derive(Drop)]
 pub(crate) struct Course {
     stage: Stage,
-    /// How many messages are not sent yet.
+    /// How many messages are still to be sent.
     left: u32,
-    /// The number of the message that was sent last; 0 before the first.
+    /// The number of the last message sent; 0 before the first.
     number: u32,
-    /// How many of its pieces have not arrived.
+    /// How many segments of that message have not arrived.
     pieces: u32,
     /// How many turns have begun.
     turns: u32,
@@ -49,7 +49,7 @@ impl Course {
 
     pub(crate) fn new(n: u32) -> Course
         requires { n ≤ 1000 }
-        ensures all { to_come result ≡ generated n }
+        ensures all { to_come result ≡ generated_events n }
         ensures sound { IsSound result }
     {
         Course {
@@ -94,7 +94,7 @@ impl Course {
         }
     }
 
-    /// A turn, or a message where no piece is left.
+    /// A turn, or the next message if no segment is left.
     fn go_on<'a>(&mut self, room: &'a mut Room) -> Option<Event<'a>>
         requires sound { IsSound self.old }
         requires stage { self.old.stage ≡ S.Turn }
@@ -112,7 +112,7 @@ impl Course {
         }
     }
 
-    /// The block of a piece arrives or is lost.
+    /// The block of a segment arrives or is lost.
     fn turn<'a>(&mut self, room: &'a mut Room) -> Event<'a>
         requires sound { IsSound self.old }
         requires stage { self.old.stage ≡ S.Turn }
@@ -136,7 +136,7 @@ impl Course {
         Event::Air(way, Air::Deliver)
     }
 
-    /// The next message is sent.
+    /// Sends the next message.
     fn send<'a>(&mut self, room: &'a mut Room) -> Event<'a>
         requires sound { IsSound self.old }
         requires stage { self.old.stage ≡ S.Turn }
@@ -155,7 +155,7 @@ impl Course {
         Event::End(self.sender(), Sapi::Zero, Call::Send(message))
     }
 
-    /// Which end sends the message.
+    /// The sender of the message.
     fn sender(&self) -> End
         ensures { role_of result ≡ sender self.now.number }
     {
@@ -166,7 +166,7 @@ impl Course {
         }
     }
 
-    /// The way of its pieces.
+    /// The way of its segments.
     fn way(&self) -> Way
         ensures { sender_of result ≡ sender self.now.number }
     {
@@ -209,9 +209,9 @@ fn octets(number: u32) -> [u8; 251]
     octets
 }
 
-/// The places that a turn turns over.
+/// The bits that a turn inverts.
 fn places(turn: u32) -> [u16; 3]
-    requires few { turn ≤ 30000 }
+    requires size { turn ≤ 30000 }
     requires fourth { turn % 8 ≡ 4 }
     ensures places { result ≡ places turn }
     ensures within { ArePlaces result }

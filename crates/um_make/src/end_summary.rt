@@ -1,23 +1,23 @@
-//! What one end of a link told.
+//! The counters of one side of a session.
 ghost use Rattle.std.specs.Prelude.{◌≡◌, ◌^◌, ◌≤◌, [], ◌∷◌, length, sum};
 
 use lapdm_window::Notice;
 
-/// What an end told of the link of SAPI 0.
+/// The counters of one side, for its link of SAPI 0.
 #[derive(Clone, Copy, Debug, PartialEq, Eq)]
 pub struct EndSummary {
-    /// How many messages it handed up.
+    /// How many messages it delivered.
     pub got: u64,
     /// How many octets these have.
     pub octets: u64,
     /// The sum of these octets.
     pub sum: u64,
-    /// How many messages were acknowledged to it.
+    /// How many of its own messages were acknowledged.
     pub acked: u64,
 }
 
 impl EndSummary {
-    ghost use Rattle.um_make.specs.Counting.{Tells, GrowsAtMost, IsEndBelow};
+    ghost use Rattle.um_make.specs.Counting.{CountsNotices, GrowsAtMost, IsEndBelow};
 
     pub(crate) fn new() -> EndSummary
         ensures { result ≡ record { got = 0; octets = 0; sum = 0; acked = 0 } }
@@ -31,9 +31,9 @@ impl EndSummary {
     }
 
     /// Counts a notice.
-    fn tell(&mut self, notice: &Notice)
+    fn count_notice(&mut self, notice: &Notice)
         requires { IsEndBelow (2 ^ 60) self.old }
-        ensures tells { Tells (notice.now ∷ []) self.old self.new }
+        ensures counts { CountsNotices (notice.now ∷ []) self.old self.new }
         ensures most { GrowsAtMost 64005 self.old self.new }
     {
         match notice {
@@ -49,14 +49,14 @@ impl EndSummary {
     }
 
     /// Counts notices.
-    pub(crate) fn tell_all(&mut self, notices: &[Notice])
+    pub(crate) fn count_notices(&mut self, notices: &[Notice])
         requires small { IsEndBelow (2 ^ 59) self.old }
-        requires few { length notices.now ≤ 3 }
-        ensures tells { Tells notices.now self.old self.new }
+        requires size { length notices.now ≤ 3 }
+        ensures counts { CountsNotices notices.now self.old self.new }
         ensures most { GrowsAtMost 192015 self.old self.new }
     {
         for notice in notices {
-            self.tell(notice);
+            self.count_notice(notice);
         }
     }
 }

@@ -1,9 +1,10 @@
-//! The generated run: a session that is made from a number alone, stepped over the air and summed up.
+//! The generated run: the events of a session made from a number, stepped over the channel and
+//! counted.
 #![tactic(auto)]
 
 ghost use Rattle.std.specs.Prelude.{ℕ, ◌≤◌};
-ghost use Rattle.um_air.specs.Sessions.{IsKind};
-ghost use Rattle.um_make.specs.Generated.{generated};
+ghost use Rattle.um_link.specs.um_air.Sessions.{IsBenign};
+ghost use Rattle.um_make.specs.Generated.{generated_events};
 ghost use Rattle.um_make.specs.Runs.{HasOneSummary};
 
 mod course;
@@ -19,12 +20,12 @@ pub use script::Script;
 pub use summary::Summary;
 pub use text::summary_lines;
 
-/// Law: of every generated run at most three bits of each block are turned over, and all messages are octets.
-pub fn law_generated_is_kind()
-    ensures { (n : ℕ) → IsKind (generated n) }
+/// A generated run inverts at most three bits of each block, and all of its messages are octets.
+pub fn law_generated_is_benign()
+    ensures { (n : ℕ) → IsBenign (generated_events n) }
 {}
 
-/// Law: a generated run has a summary, and no other.
+/// A generated run has exactly one summary.
 pub fn law_one_summary()
-    ensures { (n tsc : ℕ) → tsc ≤ 7 → HasOneSummary tsc (generated n) }
+    ensures { (n tsc : ℕ) → tsc ≤ 7 → HasOneSummary tsc (generated_events n) }
 {}

@@ -1,7 +1,7 @@
-//! The generated run: its events step a world, one after another.
+//! Steps a world through the generated events.
 ghost use Rattle.std.specs.Prelude.{◌≡◌, ◌≤◌, ◌+◌, IfOk, OnErr};
-ghost use Rattle.um_block.specs.Tallies.{raised_by};
-ghost use Rattle.um_make.specs.Generated.{generated};
+ghost use Rattle.um_block.specs.Tallies.{tally_after};
+ghost use Rattle.um_make.specs.Generated.{generated_events};
 ghost use Rattle.um_make.specs.Runs.{SumsUp, IsDelivered};
 
 use crate::script::Script;
@@ -12,16 +12,16 @@ use um_io::NoMemory;
 use um_link::{Step, World};
 use um_script::Room;
 
-/// Steps a new world through the generated run of so many messages, over SDCCH with a training sequence 0 to 7, and sums
-/// up what came of it. All memory is taken before the first step.
+/// Steps a new world through the generated run of `n` messages, over SDCCH with training sequence
+/// `tsc` (0 to 7), and counts what happens. Allocates all memory before the first step.
 pub fn make<R: Radio>(alloc: Global, n: u32, tsc: u8, radio: &mut R) -> Result<Summary, NoMemory>
     requires some { 1 ≤ n }
     requires most { n ≤ 1000 }
     requires tsc { tsc ≤ 7 }
-    ensures run { IfOk result (λ s. SumsUp tsc (generated n) s) }
+    ensures run { IfOk result (λ s. SumsUp tsc (generated_events n) s) }
     ensures delivered { IfOk result (λ s. IsDelivered s) }
-    ensures sent { IfOk result (λ s. R.sent radio.new ≡ raised_by s.sends (R.sent radio.old)) }
-    ensures heard { IfOk result (λ s. R.heard radio.new ≡ raised_by (s.takes + s.drops) (R.heard radio.old)) }
+    ensures sent { IfOk result (λ s. R.sent radio.new ≡ tally_after s.sends (R.sent radio.old)) }
+    ensures heard { IfOk result (λ s. R.heard radio.new ≡ tally_after (s.takes + s.drops) (R.heard radio.old)) }
     ensures silent { OnErr result (radio.new ≡ radio.old) }
 {
     let mut world = World::new(alloc, tsc)?;

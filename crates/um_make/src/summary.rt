@@ -1,10 +1,10 @@
-//! What a session comes to.
+//! The counters of a session.
 ghost use Rattle.std.specs.Prelude.{◌≡◌, ◌^◌, ◌+◌, ◌≤◌, if◌then◌else◌, [], length};
 ghost use Rattle.lapdm_window.specs.declared.Sapi.TheVariants as S;
 ghost use Rattle.lapdm_window.specs.Ends as R;
-ghost use Rattle.lapdm_link.specs.Claims.{is_sapi};
-ghost use Rattle.um_air.specs.Air as A;
-ghost use Rattle.um_link.specs.Naming.{event_of, answer_of, step_of, written};
+ghost use Rattle.um_link.specs.lapdm_link.Claims.{is_sapi};
+ghost use Rattle.um_link.specs.um_air.Air as A;
+ghost use Rattle.um_link.specs.Naming.{event_of, answer_of, step_of, step_result};
 ghost use Rattle.um_make.specs.Summaries.{is_loss};
 
 use crate::end_summary::EndSummary;
@@ -12,28 +12,29 @@ use lapdm_window::{Notice, Sapi};
 use um_block::Received;
 use um_link::{Air, Event, No, Step, Who};
 
-/// What a session comes to.
+/// The counters of a session.
 #[derive(Clone, Copy, Debug, PartialEq, Eq)]
 pub struct Summary {
     /// How many events there were.
     pub steps: u64,
     /// How many blocks were sent.
     pub sends: u64,
-    /// How many blocks arrived with their parity.
+    /// How many blocks were received with a good CRC.
     pub takes: u64,
-    /// How many arrived without it.
+    /// How many blocks were received with a bad CRC.
     pub drops: u64,
-    /// How many were to be lost.
+    /// How many events were to lose a block.
     pub lost: u64,
     pub mobile: EndSummary,
     pub network: EndSummary,
 }
 
 impl Summary {
-    ghost use Rattle.um_make.specs.Summaries.{IsSummary, has_parity, lacks_parity};
-    ghost use Rattle.um_make.specs.Counting.{Adds, Counts, RisesAtMost, IsBelow, IsEndBelow, Tells, GrowsAtMost, told_in, one_if};
+    ghost use Rattle.um_make.specs.Summaries.{IsSummary, crc_holds, crc_fails};
+    ghost use Rattle.um_make.specs.Counting.{CountsAnswer, Counts, RisesAtMost, IsBelow, IsEndBelow, CountsNotices, GrowsAtMost};
+    ghost use Rattle.um_make.specs.Counting.{notices_in, one_if};
 
-    /// Nothing has happened.
+    /// All counters are 0.
     pub(crate) fn new() -> Summary
         ensures counts { IsSummary [] [] result }
         ensures small { IsBelow 0 result }
@@ -49,10 +50,10 @@ impl Summary {
         }
     }
 
-    /// Counts an event and its answer, whose step was written into the caller's room.
+    /// Counts an event and its answer; the step is in a caller-supplied buffer.
     pub(crate) fn count(&mut self, event: &Event<'_>, done: &Result<(), No>, step: &Step)
         requires { IsBelow (2 ^ 58) self.old }
-        ensures counts { Counts (event_of event.now) (answer_of (written done.now step.now)) self.old self.new }
+        ensures counts { Counts (event_of event.now) (answer_of (step_result done.now step.now)) self.old self.new }
         ensures rises { RisesAtMost 192015 self.old self.new }
     {
         self.steps += 1;
@@ -64,23 +65,23 @@ impl Summary {
         }
     }
 
-    /// Counts what came of an event.
+    /// Counts what an event did.
     fn add(&mut self, step: &Step)
         requires { IsBelow (2 ^ 59) self.old }
-        ensures adds { Adds (A.Does (step_of step.now)) self.old self.new }
+        ensures adds { CountsAnswer (A.Does (step_of step.now)) self.old self.new }
         ensures rises { RisesAtMost 192015 self.old self.new }
     {
         self.sends += step.effects.frames.as_slice().len() as u64;
         self.arrive(&step.received);
-        self.tell(step);
+        self.count_notice(step);
     }
 
-    /// Counts the block that arrived, if one did.
+    /// Counts the block received, if any.
     fn arrive(&mut self, received: &Option<Received>)
         requires { IsBelow (2 ^ 60) self.old }
         ensures { self.new ≡ record self.old {
-          takes = self.old.takes + one_if (has_parity received.now);
-          drops = self.old.drops + one_if (lacks_parity received.now);
+          takes = self.old.takes + one_if (crc_holds received.now);
+          drops = self.old.drops + one_if (crc_fails received.now);
         } }
     {
         if let Some(report) = received {
@@ -92,29 +93,29 @@ impl Summary {
         }
     }
 
-    /// Counts what the ends told.
-    fn tell(&mut self, step: &Step)
+    /// Counts the notices of both sides.
+    fn count_notice(&mut self, step: &Step)
         requires mobile_small { IsEndBelow (2 ^ 59) self.old.mobile }
         requires network_small { IsEndBelow (2 ^ 59) self.old.network }
-        ensures mobile { Tells (told_in R.Mobile (A.Does (step_of step.now))) self.old.mobile self.new.mobile }
-        ensures network { Tells (told_in R.Network (A.Does (step_of step.now))) self.old.network self.new.network }
+        ensures mobile { CountsNotices (notices_in R.Mobile (A.Does (step_of step.now))) self.old.mobile self.new.mobile }
+        ensures network { CountsNotices (notices_in R.Network (A.Does (step_of step.now))) self.old.network self.new.network }
         ensures same { self.new ≡ record self.old { mobile = self.new.mobile; network = self.new.network } }
         ensures mobile_most { GrowsAtMost 192015 self.old.mobile self.new.mobile }
         ensures network_most { GrowsAtMost 192015 self.old.network self.new.network }
     {
         let notices = signalling_notices(step);
         match step.who {
-            Who::Mobile => self.mobile.tell_all(notices),
-            Who::Network => self.network.tell_all(notices),
+            Who::Mobile => self.mobile.count_notices(notices),
+            Who::Network => self.network.count_notices(notices),
             Who::Rival | Who::Nobody => {}
         }
     }
 }
 
-/// What was told of the link of SAPI 0.
+/// The notices of the link of SAPI 0.
 fn signalling_notices(step: &Step) -> &[Notice]
     ensures zero { result.now ≡ (if is_sapi S.Zero step.now.sapi then step.now.effects.notices else []) }
-    ensures few { length result.now ≤ 3 }
+    ensures size { length result.now ≤ 3 }
 {
     match step.sapi {
         Sapi::Zero => step.effects.notices.as_slice(),
@@ -122,7 +123,7 @@ fn signalling_notices(step: &Step) -> &[Notice]
     }
 }
 
-/// Whether a block is to be lost.
+/// Whether the event is to lose a block.
 fn is_loss(event: &Event<'_>) -> bool
     ensures { result ≡ is_loss (event_of event.now) }
 {

@@ -7,11 +7,11 @@ use crate::end_summary::EndSummary;
 use crate::summary::Summary;
 use um_lines::Text;
 
-/// Writes the four lines of a run of so many messages with a training sequence.
+/// Writes the four lines of a run of `n` messages with training sequence `tsc`.
 pub fn summary_lines(out: &mut Text, n: u32, tsc: u8, summary: &Summary)
     requires { out.old ≡ [] }
     ensures text { out.new ≡ summary_text n tsc summary.now }
-    ensures short { length out.new < 2000 }
+    ensures size { length out.new < 2000 }
 {
     push_words(out, n, tsc);
     push_steps(out, summary);
@@ -45,7 +45,7 @@ fn push_steps(out: &mut Text, summary: &Summary)
 }
 
 fn push_end(out: &mut Text, name: &[u8], summary: &EndSummary)
-    requires room { length out.old ≤ 1000 }
+    requires space { length out.old ≤ 1000 }
     requires name { length name.now ≤ 3 }
     ensures text { out.new ≡ out.old ++ end_line name.now summary.now }
     ensures length { length out.new ≤ length out.old + 200 }
@@ -59,7 +59,7 @@ fn push_end(out: &mut Text, name: &[u8], summary: &EndSummary)
 }
 
 fn push_number(out: &mut Text, name: &[u8], number: u64)
-    requires room { length out.old ≤ 2000 }
+    requires space { length out.old ≤ 2000 }
     requires name { length name.now ≤ 8 }
     ensures text { out.new ≡ out.old ++ name.now ++ decimal number }
     ensures length { length out.new ≤ length out.old + 48 }

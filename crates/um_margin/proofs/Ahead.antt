@@ -1,4 +1,5 @@
--- How far the most likely word of a comparison is ahead: not at all exactly at a tie, and far where sure values have few wrong places.
+-- The lead of the most likely word: 0 if and only if there is a tie; and large if hard bits have
+-- few errors, since two codewords differ in at least seven bits, and an error cancels two of them.
 use Rattle.std.proofs.Common.{◌≡◌, ◌≢◌, ℕ, ◌-◌, ◌*◌, ◌≤◌, inl, inr, ℤ, pos, ◌+ℤ◌, ◌-ℤ◌, List}
 use Rattle.std.proofs.Common.{length, sym, ◌∙◌, subst, arith}
 use Rattle.std.specs.Prelude.{◌≤ℤ◌, unsigned_abs}
@@ -7,16 +8,16 @@ use Rattle.std.proofs.Math.Logic.{◌↔◌}
 use Rattle.std.proofs.lemmas.Int.{ints}
 use Rattle.std.proofs.lemmas.List.Elements.{All-weaker}
 use Rattle.bit_blocks.specs.SoftValues.{likelihood, wrong_places}
-use Rattle.conv_code.specs.Code.{coded}
-use Rattle.conv_code.specs.Likelihood.{IsMostLikely}
-use Rattle.conv_code.proofs.Lemmas.{AllBits-coded, length-coded}
-use Rattle.weight_bound.specs.Distance.{distance}
-use Rattle.weight_bound.proofs.Lemmas.{Between, at_least_seven, all_places}
+use Rattle.trellis_decode.specs.conv_code.Code.{encoding}
+use Rattle.trellis_decode.specs.conv_code.Likelihood.{IsMostLikely}
+use Rattle.trellis_decode.proofs.conv_code.Lemmas.{AllBits-coded, length-coded}
+use Rattle.list_decode.specs.weight_bound.Distance.{distance}
+use Rattle.list_decode.proofs.weight_bound.Lemmas.{Between, at_least_seven, all_places}
 use Rattle.list_decode.specs.Ranking.{IsCandidate, IsMargin, IsTied}
 use Rattle.um_margin.specs.Compared.{Compared, IsCompared}
 
--- the most likely word is at least as likely as any other
-bounds : (s : List ℤ) (u v : List ℕ) → IsMostLikely s u → IsCandidate s v → v ≢ u → likelihood s (coded v) ≤ℤ likelihood s (coded u)
+-- no other word is more likely than the most likely one
+bounds : (s : List ℤ) (u v : List ℕ) → IsMostLikely s u → IsCandidate s v → v ≢ u → likelihood s (encoding v) ≤ℤ likelihood s (encoding u)
 bounds s u v best is ne =
     let count : length v ≡ length u = let a = best.count in let b = is.count in omega arith in
     elim (best.others v is.information count ne) [ inl less ↦ omega (arith, ints) | inr tie ↦ let e = tie.0 in omega (arith, ints) ]
@@ -35,18 +36,18 @@ ties soft c h = (tied h.margin, none h.margin)
         let above = bounds soft c.best m.nearest h.best m.candidate m.differs in
         omega (arith, ints)
 
--- seven places differ, and a wrong place takes back what two right ones give
+-- at least seven bits differ, and each wrong bit costs as much as two right ones give
 far : (s : List ℤ) (u v : List ℕ) (e : ℕ) → IsMostLikely s u → IsCandidate s v → v ≢ u → All (λ value. unsigned_abs value ≡ 127) s →
-    wrong_places s (coded u) ≡ e → e ≤ 3 → pos (254 * (7 - 2 * e)) ≤ℤ (likelihood s (coded u) -ℤ likelihood s (coded v))
+    wrong_places s (encoding u) ≡ e → e ≤ 3 → pos (254 * (7 - 2 * e)) ≤ℤ (likelihood s (encoding u) -ℤ likelihood s (encoding v))
 far s u v e best is ne hard wrong few =
     let count = best.count in
     let pairs = is.count in
     let same : length u ≡ length v = omega arith in
     let between = All-weaker (λ value. unsigned_abs value ≡ 127) (Between 127 127) (λ value h. (omega arith, omega arith)) s hard in
-    let sums = all_places s (coded u) (coded v) 127 127 (count ∙ sym (length-coded u)) (pairs ∙ sym (length-coded v))
+    let sums = all_places s (encoding u) (encoding v) 127 127 (count ∙ sym (length-coded u)) (pairs ∙ sym (length-coded v))
     (AllBits-coded u) (AllBits-coded v) between in
     let seven = at_least_seven u v best.information is.information same (λ h. ne (sym h)) in
-    weighed (likelihood s (coded u)) (likelihood s (coded v)) (distance (coded u) (coded v)) (wrong_places s (coded u)) e
+    weighed (likelihood s (encoding u)) (likelihood s (encoding v)) (distance (encoding u) (encoding v)) (wrong_places s (encoding u)) e
     sums seven wrong few
   where
     weighed : (a b : ℤ) (d w e : ℕ) → (b +ℤ pos (2 * (127 * d))) ≤ℤ (a +ℤ pos (2 * (254 * w))) → 7 ≤ d → w ≡ e → e ≤ 3 →
@@ -54,6 +55,6 @@ far s u v e best is ne hard wrong few =
     weighed a b d w e sums seven wrong few = omega (arith, ints)
 
 pub sure_ahead : (soft : List ℤ) (c : Compared) (e : ℕ) → IsCompared soft c → All (λ value. unsigned_abs value ≡ 127) soft →
-    wrong_places soft (coded c.best) ≡ e → e ≤ 3 → pos (254 * (7 - 2 * e)) ≤ℤ c.margin
+    wrong_places soft (encoding c.best) ≡ e → e ≤ 3 → pos (254 * (7 - 2 * e)) ≤ℤ c.margin
 sure_ahead soft c e h hard wrong few =
     subst (λ m. pos (254 * (7 - 2 * e)) ≤ℤ m) (sym h.ahead) (far soft c.best c.next e h.best h.next.candidate h.next.differs hard wrong few)

@@ -1,12 +1,12 @@
--- Soft values are compared in one way, and each can be.
+-- Soft values have exactly one comparison.
 use Rattle.std.proofs.Common.{◌≡◌, ℕ, ℤ, ◌-ℤ◌, List, length, map, refl, sym, ap, ap₂, ◌∙◌, subst}
 use Rattle.std.specs.List.{All}
 use Rattle.bit_blocks.specs.Bits.{AllBits}
 use Rattle.bit_blocks.specs.SoftValues.{likelihood}
-use Rattle.conv_code.specs.Code.{coded}
-use Rattle.conv_code.specs.Likelihood.{IsMostLikely}
-use Rattle.conv_code.proofs.Lemmas.{IsMostLikely-only}
-use Rattle.interleave.proofs.Lemmas.{same_coded}
+use Rattle.trellis_decode.specs.conv_code.Code.{encoding}
+use Rattle.trellis_decode.specs.conv_code.Likelihood.{IsMostLikely}
+use Rattle.trellis_decode.proofs.conv_code.Lemmas.{IsMostLikely-only}
+use Rattle.um_block.proofs.interleave.Lemmas.{same_coded}
 use Rattle.list_decode.specs.Ranking.{IsSecond, IsMargin}
 use Rattle.list_decode.proofs.Lemmas.{IsMargin-second, both_only, one_margin, some_second}
 use Rattle.um_block.specs.Received.{coded_places, access_places, sync_places, IsReceivedBlock, IsReceivedAccess, IsReceivedSync}
@@ -16,7 +16,7 @@ use Rattle.um_block.specs.declared.received.ReceivedSync.{ReceivedSync}
 use Rattle.um_block.proofs.Lemmas.{some_received_block, some_received_access, some_received_sync}
 use Rattle.um_margin.specs.Compared.{Compared, IsCompared, IsComparedBlock}
 
--- ---- in one way
+-- ---- at most one
 
 same_four : (c d : Compared) → c.best ≡ d.best → c.next ≡ d.next → c.margin ≡ d.margin → c.metric ≡ d.metric → c ≡ d
 same_four c d best next margin metric =
@@ -28,33 +28,34 @@ one_compared soft c d h g =
     let same = both_only soft d.best d.next c.best c.next g.best g.next h.best h.next in
     let there : IsMargin soft d.best c.margin = subst (λ u. IsMargin soft u c.margin) same.0 h.margin in
     same_four c d same.0 same.1 (one_margin soft d.best c.margin d.margin there g.margin)
-    (h.metric ∙ ap (λ u. likelihood soft (coded u)) same.0 ∙ sym g.metric)
+    (h.metric ∙ ap (λ u. likelihood soft (encoding u)) same.0 ∙ sym g.metric)
 
 pub one_compared_block : (bursts : List (List ℤ)) (c d : Compared) → IsComparedBlock bursts c → IsComparedBlock bursts d → c ≡ d
 one_compared_block bursts c d h g =
     let same : h.soft ≡ g.soft = same_coded h.soft g.soft (map coded_places bursts) h.gathered g.gathered in
     one_compared g.soft c d (subst (λ s. IsCompared s c) same h.compared) g.compared
 
--- the word of one call is that of the other
-pub is_compared : (soft : List ℤ) (a u v best next : List ℕ) (m n margin metric : ℤ) → IsMostLikely soft a → n ≡ likelihood soft (coded a) →
-    IsMostLikely soft u → IsSecond soft u v → IsMargin soft u m → m ≡ likelihood soft (coded u) -ℤ likelihood soft (coded v) →
+-- the comparison from the results of the two decoders, which find the same word
+pub is_compared : (soft : List ℤ) (a u v best next : List ℕ) (m n margin metric : ℤ) → IsMostLikely soft a →
+    n ≡ likelihood soft (encoding a) →
+    IsMostLikely soft u → IsSecond soft u v → IsMargin soft u m → m ≡ likelihood soft (encoding u) -ℤ likelihood soft (encoding v) →
     best ≡ u → next ≡ v → margin ≡ m → metric ≡ n →
     IsCompared soft (record { best = best; next = next; margin = margin; metric = metric })
 is_compared soft a u v best next m n margin metric likely value best_is next_is margin_is ahead is_u is_v is_m is_n = record {
   best = subst (IsMostLikely soft) (sym is_u) best_is;
   next = subst (λ w. IsSecond soft w next) (sym is_u) (subst (IsSecond soft u) (sym is_v) next_is);
   margin = subst (λ w. IsMargin soft w margin) (sym is_u) (subst (IsMargin soft u) (sym is_m) margin_is);
-  ahead = is_m ∙ ahead ∙ ap₂ (λ a b. likelihood soft (coded a) -ℤ likelihood soft (coded b)) (sym is_u) (sym is_v);
-  metric = is_n ∙ value ∙ ap (λ w. likelihood soft (coded w)) (IsMostLikely-only soft u a best_is likely ∙ sym is_u);
+  ahead = is_m ∙ ahead ∙ ap₂ (λ a b. likelihood soft (encoding a) -ℤ likelihood soft (encoding b)) (sym is_u) (sym is_v);
+  metric = is_n ∙ value ∙ ap (λ w. likelihood soft (encoding w)) (IsMostLikely-only soft u a best_is likely ∙ sym is_u);
 }
 
--- ---- as it is received
+-- ---- the same word as `replay`
 
-same_word : (soft : List ℤ) (u : List ℕ) (metric : ℤ) (c : Compared) → IsMostLikely soft u → metric ≡ likelihood soft (coded u) →
+same_word : (soft : List ℤ) (u : List ℕ) (metric : ℤ) (c : Compared) → IsMostLikely soft u → metric ≡ likelihood soft (encoding u) →
     IsCompared soft c → (c.best ≡ u) × (c.metric ≡ metric)
 same_word soft u metric c best is h =
     let same = IsMostLikely-only soft u c.best best h.best in
-    (same, h.metric ∙ ap (λ v. likelihood soft (coded v)) same ∙ sym is)
+    (same, h.metric ∙ ap (λ v. likelihood soft (encoding v)) same ∙ sym is)
 
 pub same_block_word : (bursts : List (List ℤ)) (r : Received) (c : Compared) → IsReceivedBlock bursts r → IsComparedBlock bursts c →
     (c.best ≡ r.u) × (c.metric ≡ r.metric)
@@ -70,7 +71,7 @@ pub same_sync_word : (burst : List ℤ) (r : ReceivedSync) (c : Compared) → Is
     IsCompared (sync_places burst) c → (c.best ≡ r.u) × (c.metric ≡ r.metric)
 same_sync_word burst r c received h = same_word (sync_places burst) r.u r.metric c received.best received.metric h
 
--- ---- each can be
+-- ---- at least one
 
 some_compared : (soft : List ℤ) (u : List ℕ) → IsMostLikely soft u → (c : Compared) × IsCompared soft c
 some_compared soft u best =
@@ -78,13 +79,13 @@ some_compared soft u best =
       record {
         best = u;
         next = next.0;
-        margin = likelihood soft (coded u) -ℤ likelihood soft (coded next.0);
-        metric = likelihood soft (coded u);
+        margin = likelihood soft (encoding u) -ℤ likelihood soft (encoding next.0);
+        metric = likelihood soft (encoding u);
       },
       record {
         best = best;
         next = next.1;
-        margin = IsMargin-second soft u next.0 (likelihood soft (coded u) -ℤ likelihood soft (coded next.0)) next.1 refl;
+        margin = IsMargin-second soft u next.0 (likelihood soft (encoding u) -ℤ likelihood soft (encoding next.0)) next.1 refl;
         ahead = refl;
         metric = refl;
       },

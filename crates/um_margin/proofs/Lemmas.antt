@@ -1,2 +1,2 @@
--- The lemmas of this crate for the crates above.
+-- The lemmas that other crates use.
 pub use Rattle.um_margin.proofs.MarginRules.{margin_is_determined, margin_has_one_output}

@@ -1,8 +1,8 @@
--- The command `margin` answers each good line in one way.
+-- The command `margin` has one output for every input, since bursts have exactly one comparison.
 use Rattle.std.proofs.Common.{[], refl, sym, ap, ◌∙◌}
 use Rattle.um_block.specs.Received.{access_places, sync_places}
-use Rattle.um_driver.specs.Rules.{IsDetermined}
-use Rattle.um_driver.specs.Laws.{HasOneOutput}
+use Rattle.um_bursts.specs.um_driver.Rules.{IsDetermined}
+use Rattle.um_bursts.specs.um_driver.Laws.{HasOneOutput}
 use Rattle.um_bursts.proofs.BurstRules.{HaveOneAnswer, HaveSomeAnswer, bursts_are_determined, bursts_have_one_output}
 use Rattle.um_margin.specs.Margins.{margin_answers, margin_rules}
 use Rattle.um_margin.specs.Texts.{block_text, access_text, sync_text}

@@ -2,5 +2,5 @@
 pub mod Compared
 pub mod Margins
 pub mod Texts
--- what the definitions of this crate stand on
-pub use Rattle.um_driver.specs.Rules
+-- the crates that the definitions of this crate use
+pub use Rattle.um_bursts.specs.um_driver.Rules

@@ -1,4 +1,4 @@
--- The lines that a comparison is written as (this project's own rule).
+-- The lines of a comparison (this project's own rule).
 use Rattle.std.specs.Prelude.{ℕ, ℤ, List, ◌++◌, take, drop, codes}
 use Rattle.std.specs.Fmt.{signed_decimal}
 use Rattle.hex.specs.Hex.{encode_lower}
@@ -10,11 +10,13 @@ use Rattle.um_margin.specs.Compared.{Compared}
 abbrev pub numbers_text : ℤ → ℤ → List ℕ
 numbers_text margin metric = codes " margin " ++ signed_decimal margin ++ codes " metric " ++ signed_decimal metric
 
--- the 184 data bits of a block's word and its 40 check bits as octets, with something between
+-- the 184 data bits and the 40 CRC bits of a block's word as hexadecimal octets, with `between`
+-- between them
 abbrev pub hex_word : List ℕ → List ℕ → List ℕ
 hex_word u between = encode_lower (octets_of (take 184 u)) ++ between ++ encode_lower (octets_of (take 40 (drop 184 u)))
 
--- so many data bits of a word and so many check bits as digits, with something between
+-- the first `many` data bits and the next `checks` CRC bits of a word as digits, with `between`
+-- between them
 abbrev pub digit_word : List ℕ → ℕ → ℕ → List ℕ → List ℕ
 digit_word u many checks between = bit_digits (take many u) ++ between ++ bit_digits (take checks (drop many u))
 

@@ -8,20 +8,20 @@ ghost use Rattle.um_margin.specs.Margins.{margin_answers};
 
 use crate::comparison::{Comparison, compare};
 use crate::lines::{access_line, block_line, sync_line};
-use bit_blocks::Bits;
-use burst_map::{AccessView, SyncView};
+use bit_blocks::{Bits, INFORMATION_BITS};
+use burst_map::{AccessView, BURST_BITS, SyncView};
 use um_block::{gather_block, join_halves};
 use um_bursts::Reports;
 use um_lines::Text;
 
-/// What the command `margin` answers to bursts: their most likely word beside the next.
+/// Answers bursts by their most likely word and the next one.
 #[derive(Drop)]
 pub struct Margins {}
 
 impl Reports for Margins {
     ghost answers = { margin_answers };
 
-    fn block(&self, out: &mut Text, bursts: &[[i8; 148]; 4]) {
+    fn block(&self, out: &mut Text, bursts: &[[i8; BURST_BITS]; 4]) {
         block_line(out, &compare_block(bursts));
     }
 
@@ -29,12 +29,12 @@ impl Reports for Margins {
         access_line(out, bsic, &compare_access(burst));
     }
 
-    fn sync(&self, out: &mut Text, burst: &[i8; 148]) {
+    fn sync(&self, out: &mut Text, burst: &[i8; BURST_BITS]) {
         sync_line(out, &compare_sync(burst));
     }
 }
 
-fn compare_block(bursts: &[[i8; 148]; 4]) -> Comparison<228>
+fn compare_block(bursts: &[[i8; BURST_BITS]; 4]) -> Comparison<INFORMATION_BITS>
     requires { All AllSoft bursts.now }
     ensures { IsComparedBlock bursts.now result }
 {
@@ -48,7 +48,7 @@ fn compare_access(burst: &[i8; 88]) -> Comparison<18>
     compare(AccessView::new(burst).body())
 }
 
-fn compare_sync(burst: &[i8; 148]) -> Comparison<39>
+fn compare_sync(burst: &[i8; BURST_BITS]) -> Comparison<39>
     requires { AllSoft burst.now }
     ensures { IsCompared (sync_places burst.now) result }
 {

@@ -1,15 +1,14 @@
-//! The most likely word of soft values beside the next one.
+//! The most likely word for soft values, and the next one.
 ghost use Rattle.std.specs.Prelude.{◌≡◌, ◌*◌, ◌≤◌, length};
 ghost use Rattle.bit_blocks.specs.SoftValues.{AllSoft};
 ghost use Rattle.um_margin.specs.Compared.{IsCompared};
 
-use bit_blocks::Bits;
+use bit_blocks::{Bits, INFORMATION_BITS};
 use list_decode::margin;
 use std::marker::Model;
 use trellis_decode::decode;
 
-/// The most likely word, the most likely of all others, how much likelier the one is than the other, and its own
-/// likelihood.
+/// The two most likely words, the difference of their likelihoods, and the likelihood of the first.
 #[derive(Drop, Debug)]
 pub(crate) struct Comparison<const N: usize> {
     pub(crate) best: Bits<N>,
@@ -18,7 +17,7 @@ pub(crate) struct Comparison<const N: usize> {
     pub(crate) metric: i32,
 }
 
-// Clauses see the four as one value, whatever N is.
+// Its model is one record, whatever `N` is.
 impl<const N: usize> Model for Comparison<N> {
     ghost use Rattle.um_margin.specs.Compared.{Compared};
 
@@ -27,11 +26,11 @@ impl<const N: usize> Model for Comparison<N> {
     ghost view = { λ c. record { best = c.best; next = c.next; margin = c.margin; metric = c.metric } };
 }
 
-/// Compares the two words that fit soft values best, of which a pair belongs to each bit.
+/// Finds the two most likely words for soft values, of which there are two for each bit.
 pub(crate) fn compare<const N: usize>(soft: &[i8]) -> Comparison<N>
     requires count { length soft.now ≡ 2 * N }
     requires at_least { 5 ≤ N }
-    requires at_most { N ≤ 228 }
+    requires at_most { N ≤ INFORMATION_BITS }
     requires soft { AllSoft soft.now }
     ensures { IsCompared soft.now result }
 {

@@ -1,4 +1,4 @@
-//! The command `margin`: how far the most likely word of what was received is ahead of the next.
+//! The command `margin`: the lead of the most likely word over the next one.
 #![tactic(auto)]
 
 mod command;

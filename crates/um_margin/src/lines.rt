@@ -1,16 +1,16 @@
-//! The lines that a comparison is written as.
+//! The lines of a comparison.
 ghost use Rattle.std.specs.Prelude.{◌≡◌, ◌+◌, ◌-◌, ◌<◌, ◌≤◌, [], ◌++◌, length};
 ghost use Rattle.um_margin.specs.Texts.{numbers_text, hex_word, digit_word, block_text, access_text, sync_text};
 
 use crate::comparison::Comparison;
-use bit_blocks::Bits;
+use bit_blocks::{BLOCK_BITS, BLOCK_OCTETS, Bits, INFORMATION_BITS};
 use um_lines::{Text, packed};
 
 /// Writes `block margin G metric M data HEX46 check HEX10 next HEX46 HEX10`.
-pub(crate) fn block_line(out: &mut Text, c: &Comparison<228>)
+pub(crate) fn block_line(out: &mut Text, c: &Comparison<INFORMATION_BITS>)
     requires { out.old ≡ [] }
     ensures line { out.new ≡ block_text c.now }
-    ensures few { length out.new < 2000 }
+    ensures size { length out.new < 2000 }
 {
     out.push(b"block");
     push_numbers(out, c.margin, c.metric);
@@ -25,7 +25,7 @@ pub(crate) fn block_line(out: &mut Text, c: &Comparison<228>)
 pub(crate) fn access_line(out: &mut Text, bsic: &Bits<6>, c: &Comparison<18>)
     requires { out.old ≡ [] }
     ensures line { out.new ≡ access_text bsic.now c.now }
-    ensures few { length out.new < 2000 }
+    ensures size { length out.new < 2000 }
 {
     out.push(b"access ");
     out.push_digits(bsic.as_slice());
@@ -41,7 +41,7 @@ pub(crate) fn access_line(out: &mut Text, bsic: &Bits<6>, c: &Comparison<18>)
 pub(crate) fn sync_line(out: &mut Text, c: &Comparison<39>)
     requires { out.old ≡ [] }
     ensures line { out.new ≡ sync_text c.now }
-    ensures few { length out.new < 2000 }
+    ensures size { length out.new < 2000 }
 {
     out.push(b"sync");
     push_numbers(out, c.margin, c.metric);
@@ -63,19 +63,19 @@ fn push_numbers(out: &mut Text, margin: i32, metric: i32)
     out.push(itoa::Buffer::new().format(metric).as_bytes());
 }
 
-// Data and check of a block's word, each bit at its place of its octet.
-fn push_hex_word(out: &mut Text, word: &Bits<228>, between: &[u8])
-    requires room { length out.old + 100 ≤ 4096 }
-    requires short { length between.now ≤ 10 }
+// Writes the data and the CRC of a block's word as hexadecimal octets.
+fn push_hex_word(out: &mut Text, word: &Bits<INFORMATION_BITS>, between: &[u8])
+    requires space { length out.old + 100 ≤ 4096 }
+    requires size { length between.now ≤ 10 }
     ensures text { out.new ≡ out.old ++ hex_word word.now between.now }
     ensures length { length out.new ≡ length out.old + 56 + length between.now }
 {
-    out.push_hex(&packed::<23, _>(word, 0));
+    out.push_hex(&packed::<BLOCK_OCTETS, _>(word, 0));
     out.push(between);
-    out.push_hex(&packed::<5, _>(word, 184));
+    out.push_hex(&packed::<5, _>(word, BLOCK_BITS));
 }
 
-// The data are the first bits of the word, up to this place, and the check those from there to the end.
+// Writes the bits of `word` as digits: the data up to index `place`, and the CRC up to `end`.
 fn push_digit_word<const N: usize>(
     out: &mut Text,
     word: &Bits<N>,
@@ -83,8 +83,8 @@ fn push_digit_word<const N: usize>(
     end: usize,
     between: &[u8],
 )
-    requires room { length out.old + end + 10 ≤ 4096 }
-    requires short { length between.now ≤ 10 }
+    requires space { length out.old + end + 10 ≤ 4096 }
+    requires size { length between.now ≤ 10 }
     requires order { place ≤ end }
     requires within { end ≤ N }
     ensures text { out.new ≡ out.old ++ digit_word word.now place (end - place) between.now }

@@ -1,4 +1,4 @@
--- Lines of `repair`: each means one thing or has a reason, and what it means is 224 bits.
+-- A line of `repair` has exactly one meaning or a reason, and a meaning has 224 bits.
 use Rattle.std.proofs.Common.{◌≡◌, ℕ, List, [], ◌++◌, length, length-append, drop, refl, ap, ◌∙◌, arith}
 use Rattle.std.proofs.lemmas.List.{append-nil, drop_all, drop_at, take_at}
 use borrow.Rule.Slice.PartMut.{put_mid}
@@ -18,7 +18,7 @@ pub one_meaning : (line : List ℕ) → HasOneMeaningUnless (repair_fault line) 
 one_meaning line =
     Laws.one_made repair_line (LineMeans repair_forms anywhere line) (repair_fault line) (Laws.one_meaning repair_forms anywhere line refl)
 
--- what can be repaired
+-- the line means 224 bits, or nothing
 abbrev pub AreWordBits : RepairLine → Type 0
 AreWordBits Skip = Unit {0}
 AreWordBits (Word w) = (length w ≡ 224) × AllBits w
@@ -37,7 +37,7 @@ are_word_bits line meaning means =
       tt,
     ) line meaning means
 
--- bits written over the first places, and then others over the rest
+-- writing the first 184 bits and then the others gives all of them
 pub written_word : (x y zeros : List ℕ) → length x ≡ 184 → length zeros ≡ 40 → put_mid 184 40 (x ++ zeros) y ≡ x ++ y
 written_word x y zeros ex ez =
     let rest : drop 40 (drop 184 (x ++ zeros)) ≡ [] = ap (drop 40) (drop_at x zeros 184 ex) ∙ drop_all 40 zeros (omega arith) in

@@ -1,4 +1,4 @@
--- The command `repair` answers each good line in one way.
+-- The command `repair` has one output for every input: a word has exactly one answer.
 use Rattle.std.proofs.Common.{◌≡◌, ℕ, List, [], refl, sym, ap, ◌∙◌}
 use Rattle.fire_repair.proofs.Lemmas.{one_answer, some_answer}
 use Rattle.um_driver.specs.Rules.{IsDetermined}
@@ -19,7 +19,7 @@ same_answer (Word w) y y' a a' = a.2 ∙ ap answer_text (one_answer w a.0 a'.0 a
 pub repair_is_determined : IsDetermined repair_rules
 repair_is_determined = stateless_is_determined repair_fault RepairMeans IsRepairAnswer one_meaning same_answer
 
--- what a line means can be answered
+-- every meaning of a line can be answered
 some_repair_answer : (line : List ℕ) (m : RepairLine) → RepairMeans line m → (answer : List ℕ) × IsRepairAnswer m answer
 some_repair_answer line Skip means = ([], refl)
 some_repair_answer line (Word w) means =

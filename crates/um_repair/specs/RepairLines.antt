@@ -5,24 +5,24 @@ use Rattle.um_lines.specs.declared.fault.LineFault.{LineFault}
 use Rattle.um_lines.specs.Fields.{Value, Several}
 use Rattle.um_lines.specs.Forms.{anywhere, line_fault}
 use Rattle.um_lines.specs.Reading.{LineIs, read_words}
-use Rattle.um_lines.specs.RepairForms.{RepairName, ParityWord, repair_forms}
+use Rattle.um_lines.specs.RepairForms.{RepairName, CrcWord, repair_forms}
 use Rattle.um_repair.specs.declared.parsing.RepairLine.{RepairLine}
 use Rattle.um_repair.specs.declared.parsing.RepairLine.TheVariants.{Skip, Word}
 
--- the word of data and check octets
+-- the bits of the data octets, then those of the CRC octets
 abbrev pub word_bits : List ℕ → List ℕ → List ℕ
 word_bits data_octets check = bits_of data_octets ++ bits_of check
 
--- the line of a form and of what its words say
+-- what a line with this form and these values means
 abbrev pub repair_of : RepairName → List Value → RepairLine
-repair_of ParityWord (Several octets ∷ Several check ∷ []) = Word (word_bits octets check)
+repair_of CrcWord (Several octets ∷ Several check ∷ []) = Word (word_bits octets check)
 repair_of name values = Skip
 
 abbrev pub repair_line : Option (RepairName × List Value) → RepairLine
 repair_line None = Skip
 repair_line (Some meaning) = repair_of meaning.0 meaning.1
 
--- the first reason of a line of `repair`, if it has one
+-- the first reason against a line, if any
 abbrev pub repair_fault : List ℕ → Option LineFault
 repair_fault line = line_fault repair_forms anywhere line
 
@@ -30,6 +30,6 @@ repair_fault line = line_fault repair_forms anywhere line
 abbrev pub RepairMeans : List ℕ → RepairLine → Type 0
 RepairMeans line = LineIs repair_forms anywhere repair_line line
 
--- what is read of words: only the reader's own body needs this
+-- what a reader returns for the words of a line (internal)
 abbrev pub read_repair : List (List ℕ) → Result RepairLine LineFault
 read_repair words = read_words repair_forms anywhere repair_line words

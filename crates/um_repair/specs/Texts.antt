@@ -1,4 +1,4 @@
--- The lines that a repair is written as (this project's own rule).
+-- The answer lines of `repair` (this project's own rule).
 use Rattle.std.specs.Prelude.{ℕ, List, ◌++◌, take, drop, codes}
 use Rattle.std.specs.Fmt.{decimal}
 use Rattle.hex.specs.Hex.{encode_lower}

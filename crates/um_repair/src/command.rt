@@ -1,4 +1,4 @@
-//! The command `repair`, over the driver of all commands that read lines.
+//! The command `repair`, for the driver of all commands.
 ghost use Rattle.std.specs.Prelude.{◌≡◌, ◌<◌, [], Some, None, length, MatchResult};
 ghost use Rattle.um_repair.specs.RepairLines.{repair_fault};
 ghost use Rattle.um_repair.specs.RepairRules.{AnswersRepair};
@@ -9,7 +9,7 @@ use fire_repair::repair;
 use um_driver::Answer;
 use um_lines::{LineFault, Text};
 
-/// What the command `repair` answers to a line.
+/// Answers a line of `repair`.
 #[derive(Clone, Copy, Debug)]
 pub struct Repair;
 
@@ -23,7 +23,7 @@ impl Answer for Repair {
         ensures answered { MatchResult result
             (λ _. (repair_fault line.now ≡ None) × AnswersRepair line.now out.new)
             (λ reason. (repair_fault line.now ≡ Some reason) × (out.new ≡ [])) }
-        ensures few { length out.new < 2000 }
+        ensures size { length out.new < 2000 }
     {
         match parse_repair(line)? {
             RepairLine::Skip => {}

@@ -1,4 +1,4 @@
-//! The command `repair`: short bursts of wrong bits in words of the control channels are put right.
+//! The command `repair`: corrects short bursts of wrong bits in words of the control channels.
 #![tactic(auto)]
 
 mod command;

@@ -1,8 +1,8 @@
-//! The lines that a repair is written as.
+//! The answer lines of `repair`.
 ghost use Rattle.std.specs.Prelude.{◌≡◌, ◌*◌, ◌<◌, [], length};
 ghost use Rattle.um_repair.specs.Texts.{answer_text, repaired_text};
 
-use bit_blocks::Bits;
+use bit_blocks::{BLOCK_BITS, BLOCK_OCTETS, Bits};
 use fire_repair::RepairAnswer;
 use um_lines::{Text, packed};
 
@@ -10,7 +10,7 @@ use um_lines::{Text, packed};
 pub(crate) fn answer_line(out: &mut Text, answer: &RepairAnswer)
     requires { out.old ≡ [] }
     ensures line { out.new ≡ answer_text answer.now }
-    ensures few { length out.new < 2000 }
+    ensures size { length out.new < 2000 }
 {
     match answer {
         RepairAnswer::Holds => out.push(b"holds\n"),
@@ -24,15 +24,15 @@ pub(crate) fn answer_line(out: &mut Text, answer: &RepairAnswer)
 fn repaired_line(out: &mut Text, word: &Bits<224>, first: u8, span: u8)
     requires { out.old ≡ [] }
     ensures line { out.new ≡ repaired_text word.now first span }
-    ensures few { length out.new < 2000 }
+    ensures size { length out.new < 2000 }
 {
     out.push(b"repaired first ");
     out.push_decimal(u64::from(first));
     out.push(b" span ");
     out.push_decimal(u64::from(span));
     out.push(b" data ");
-    out.push_hex(&packed::<23, _>(word, 0));
+    out.push_hex(&packed::<BLOCK_OCTETS, _>(word, 0));
     out.push(b" check ");
-    out.push_hex(&packed::<5, _>(word, 184));
+    out.push_hex(&packed::<5, _>(word, BLOCK_BITS));
     out.push(b"\n");
 }

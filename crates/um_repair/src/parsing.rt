@@ -6,23 +6,25 @@ ghost use Rattle.bit_blocks.specs.Octets.{bits_of};
 ghost use Rattle.um_lines.specs.Words.{words};
 ghost use Rattle.um_repair.specs.RepairLines.{repair_fault, RepairMeans, read_repair, word_bits};
 
-use bit_blocks::{Bits, from_octets};
+use bit_blocks::{BLOCK_BITS, BLOCK_OCTETS, Bits, from_octets};
 use um_lines::{
     LINE_LIMIT, LineFault, are_hex_digits, first_word, is_skipped, octets_of, two_words,
 };
 
-/// What a line of the command `repair` asks for.
+/// What a line of `repair` asks for.
 #[derive(Clone, Copy)]
 pub enum RepairLine {
-    /// Nothing: an empty line, or one that begins with `#`.
+    /// Nothing: the line is empty, or begins with `#`.
     Skip,
-    /// The repair of 184 bits and their parity.
+    /// The repair of 184 data bits and 40 CRC bits.
     Word(Bits<224>),
 }
 
-/// Reads a line of `repair`, given without its line feed: `word HEX46 HEX10`, the data and check of a block as `replay` writes them.
+/// Reads a line of `repair` without its line feed: `word HEX46 HEX10`, the data and check of a
+/// block as `replay` writes them.
 ///
-/// Its reasons are `Long`, `Word`, `Digits` and `Length`. Each is looked for in the whole line before the next.
+/// The first reason that applies to the whole line is returned: `Long`, `Word`, `Digits` or
+/// `Length`.
 pub fn parse_repair(line: &[u8]) -> Result<RepairLine, LineFault>
     ensures means { IfOk result (RepairMeans line.now) }
     ensures refused { result_err result ≡ repair_fault line.now }
@@ -61,12 +63,12 @@ fn parse_word(rest: &[u8]) -> Result<RepairLine, LineFault>
     Ok(RepairLine::Word(word_of(&octets_of(octets), &octets_of(check))))
 }
 
-/// The bits of the data and the check, one octet after the other.
-fn word_of(octets: &[u8; 23], check: &[u8; 5]) -> Bits<224>
+/// The bits of the data octets, then those of the CRC octets.
+fn word_of(octets: &[u8; BLOCK_OCTETS], check: &[u8; 5]) -> Bits<224>
     ensures { result ≡ word_bits octets.now check.now }
 {
     let mut bits = [0; 224];
-    from_octets(octets, &mut bits[..184]);
-    from_octets(check, &mut bits[184..]);
+    from_octets(octets, &mut bits[..BLOCK_BITS]);
+    from_octets(check, &mut bits[BLOCK_BITS..]);
     Bits::from_array(bits)
 }

@@ -1,4 +1,5 @@
--- Answers with different lines have different texts: what a text says is read back, line by line and word by word.
+-- Different answer lines have different texts: a text is split at its line feeds and spaces, which
+-- no word contains, and each line is read back from its words.
 use Rattle.std.proofs.Common.{◌≡◌, ◌≢◌, ℕ, suc, ◌-◌, ◌<◌, ◌≤◌, ◌^◌, ◌==◌, ℤ, pos, negsuc, nat_abs}
 use Rattle.std.proofs.Common.{nat_le, Bool, true, false, List, [], ◌∷◌, ◌++◌, length, length-append, map, take, drop, Option}
 use Rattle.std.proofs.Common.{Some, None, codes, if◌then◌else◌, refl, sym, ap, ◌∙◌, inl, inr, append_assoc, append-nil, arith}
@@ -21,43 +22,45 @@ use Rattle.lapdm_window.specs.declared.Notice.{Notice}
 use Rattle.lapdm_window.specs.declared.Notice.TheVariants as N
 use Rattle.lapdm_window.specs.declared.Refused.TheVariants as Q
 use Rattle.lapdm_window.specs.Ends.{Mobile, Network}
-use Rattle.lapdm_link.specs.Events as E
-use Rattle.um_air.specs.Air as A
-use Rattle.um_air.specs.Sessions.{AreOctets}
+use Rattle.um_link.specs.lapdm_link.Events as E
+use Rattle.um_link.specs.um_air.Air as A
+use Rattle.um_link.specs.um_air.Sessions.{AreOctets}
 use Rattle.um_lines.specs.Fields.{hex_octets}
 use Rattle.um_lines.specs.Words.{IsNoSpace, words}
 use Rattle.um_lines.proofs.SpelledLaws.{encoded}
 use Rattle.um_lines.proofs.WordLists.{words-join}
 use Rattle.um_lines.specs.Spelled.{octets_word}
 use Rattle.um_script.specs.AnswerWords.{who_word, link_word, refusal_word, closing_word}
-use Rattle.um_script.specs.AnswerLines.{Heard, Said, No, Takes, Drops, Tells, Sends, All, answer_lines, notice_words, heard_words}
-use Rattle.um_script.specs.AnswerLines.{spaced, said_words, said_text, lines_text, answer_text, FitsHeard, FitsNotice, FitsLine, FitLines}
+use Rattle.um_script.specs.AnswerLines.{Reception, AnswerLine, No, Takes, Drops, Reports, Sends, All, answer_lines, notice_words}
+use Rattle.um_script.specs.AnswerLines.{reception_words}
+use Rattle.um_script.specs.AnswerLines.{spaced_words, said_words, said_text, lines_text, answer_text, FitsReception, FitsNotice, FitsLine}
+use Rattle.um_script.specs.AnswerLines.{FitLines}
 
 -- ---- how lines are written
 
-pub lines_text_append : (ls ms : List Said) → lines_text (ls ++ ms) ≡ lines_text ls ++ lines_text ms
+pub lines_text_append : (ls ms : List AnswerLine) → lines_text (ls ++ ms) ≡ lines_text ls ++ lines_text ms
 lines_text_append [] ms = refl
 lines_text_append (l ∷ ls) ms = ap (λ t. said_text l ++ t) (lines_text_append ls ms)
     ∙ sym (append_assoc (said_text l) (lines_text ls) (lines_text ms))
 
--- a line is its first word, and the others with a space before each
-pub join-spaced : (w : List ℕ) (ws : List (List ℕ)) → join_with_byte 32 (w ∷ ws) ≡ w ++ spaced ws
+-- a line is its first word, and a space before each further word
+pub join-spaced : (w : List ℕ) (ws : List (List ℕ)) → join_with_byte 32 (w ∷ ws) ≡ w ++ spaced_words ws
 join-spaced w [] = sym (append-nil w)
 join-spaced w (v ∷ ws) = ap (λ t. w ++ 32 ∷ t) (join-spaced v ws)
 
-spaced-append : (ws vs : List (List ℕ)) → spaced (ws ++ vs) ≡ spaced ws ++ spaced vs
+spaced-append : (ws vs : List (List ℕ)) → spaced_words (ws ++ vs) ≡ spaced_words ws ++ spaced_words vs
 spaced-append [] vs = refl
-spaced-append (w ∷ ws) vs = ap (λ t. 32 ∷ w ++ t) (spaced-append ws vs) ∙ sym (append_assoc (32 ∷ w) (spaced ws) (spaced vs))
+spaced-append (w ∷ ws) vs = ap (λ t. 32 ∷ w ++ t) (spaced-append ws vs) ∙ sym (append_assoc (32 ∷ w) (spaced_words ws) (spaced_words vs))
 
-pub line_spaced : (w : List ℕ) (ws vs : List (List ℕ)) → (w ++ spaced ws) ++ spaced vs ≡ join_with_byte 32 (w ∷ ws ++ vs)
+pub line_spaced : (w : List ℕ) (ws vs : List (List ℕ)) → (w ++ spaced_words ws) ++ spaced_words vs ≡ join_with_byte 32 (w ∷ ws ++ vs)
 line_spaced w ws vs =
-    append_assoc w (spaced ws) (spaced vs) ∙ ap (λ t. w ++ t) (sym (spaced-append ws vs)) ∙ sym (join-spaced w (ws ++ vs))
+    append_assoc w (spaced_words ws) (spaced_words vs) ∙ ap (λ t. w ++ t) (sym (spaced-append ws vs)) ∙ sym (join-spaced w (ws ++ vs))
 
--- what is reported, behind what was written, and before the lines that are left
-pub told_line : (out : List ℕ) (who : E.Who) (sapi : Sapi) (notice : Notice) (rest : List ℕ) →
-    ((((out ++ who_word who) ++ link_word sapi) ++ spaced (notice_words notice)) ++ codes "\n") ++ rest
-    ≡ out ++ said_text (Tells who sapi notice) ++ rest
-told_line out who sapi notice rest =
+-- the line of a notice, after the text written so far and before the lines still to come
+pub report_line : (out : List ℕ) (who : E.Who) (sapi : Sapi) (notice : Notice) (rest : List ℕ) →
+    ((((out ++ who_word who) ++ link_word sapi) ++ spaced_words (notice_words notice)) ++ codes "\n") ++ rest
+    ≡ out ++ said_text (Reports who sapi notice) ++ rest
+report_line out who sapi notice rest =
     rw (join-spaced (who_word who ++ link_word sapi) (notice_words notice)) (simp append_assoc)
 
 -- ---- no word has a space or a line feed
@@ -105,16 +108,16 @@ signed_plain (pos n) fits = number_plain n (omega arith)
 signed_plain (negsuc n) fits = number_plain (suc n) (omega arith)
 
 who_plain : (who : E.Who) → is_plain (who_word who) ≡ true
-who_plain (E.End Mobile) = refl
-who_plain (E.End Network) = refl
+who_plain (E.BySide Mobile) = refl
+who_plain (E.BySide Network) = refl
 who_plain E.Other = refl
 who_plain E.Nobody = refl
 
 name_plain : (who : E.Who) (sapi : Sapi) → is_plain (who_word who ++ link_word sapi) ≡ true
-name_plain (E.End Mobile) Zero = refl
-name_plain (E.End Mobile) Three = refl
-name_plain (E.End Network) Zero = refl
-name_plain (E.End Network) Three = refl
+name_plain (E.BySide Mobile) Zero = refl
+name_plain (E.BySide Mobile) Three = refl
+name_plain (E.BySide Network) Zero = refl
+name_plain (E.BySide Network) Three = refl
 name_plain E.Other Zero = refl
 name_plain E.Other Three = refl
 name_plain E.Nobody Zero = refl
@@ -148,24 +151,25 @@ notice_plain (N.Acked n) fits = rw (number_plain n fits) refl
 notice_plain N.Oversize fits = refl
 notice_plain (N.Closed reason) fits = rw (closing_plain reason) refl
 
-heard_plain : (h : Heard) (rest : List (List ℕ)) → FitsHeard h → are_plain rest ≡ true → are_plain (heard_words h ++ rest) ≡ true
+reception_plain : (h : Reception) (rest : List (List ℕ)) → FitsReception h → are_plain rest ≡ true →
+    are_plain (reception_words h ++ rest) ≡ true
 unfolding are_plain
-heard_plain h rest fits plain =
+reception_plain h rest fits plain =
     rw (number_plain h.tsc fits.tsc, number_plain h.train fits.train, signed_plain h.metric fits.metric, plain) refl
 
-line_plain : (line : Said) → FitsLine line → are_plain (said_words line) ≡ true
+line_plain : (line : AnswerLine) → FitsLine line → are_plain (said_words line) ≡ true
 unfolding are_plain
 line_plain (No why) fits = rw (why_plain why) refl
-line_plain (Takes who octets h) fits = rw (who_plain who, octets_plain octets fits.0, heard_plain h [] fits.1 refl) refl
+line_plain (Takes who octets h) fits = rw (who_plain who, octets_plain octets fits.0, reception_plain h [] fits.1 refl) refl
 line_plain (Drops who h octets check) fits =
     let back : List (List ℕ) = codes "data" ∷ encode_lower octets ∷ codes "check" ∷ encode_lower check ∷ [] in
     let plain : are_plain back ≡ true = rw (octets_plain octets fits.1, octets_plain check fits.2) refl in
-    rw (who_plain who, heard_plain h back fits.0 plain) refl
-line_plain (Tells who sapi notice) fits = rw (name_plain who sapi, notice_plain notice fits) refl
+    rw (who_plain who, reception_plain h back fits.0 plain) refl
+line_plain (Reports who sapi notice) fits = rw (name_plain who sapi, notice_plain notice fits) refl
 line_plain (Sends who octets) fits = rw (who_plain who, octets_plain octets fits) refl
 line_plain All fits = refl
 
--- ---- lines are told apart by their texts
+-- ---- a text determines its lines
 
 plain_all : (word : List ℕ) (other : ℕ) → other < 33 → is_plain word ≡ true → L.All (λ octet. octet ≢ other) word
 plain_all [] other below plain = All-nil (λ octet. octet ≢ other)
@@ -181,7 +185,7 @@ spaceless (w ∷ ws) plain =
     let parts = and_parts (is_plain w) (are_plain ws) plain in
     All-cons (L.All IsNoSpace) w ws (plain_all w 32 (omega arith) parts.0) (spaceless ws parts.1)
 
--- so is each octet of words and of the spaces between them
+-- no line feed in words and the spaces between them
 abbrev Uncut : List ℕ → Type 0
 Uncut text = L.All (λ octet. (octet == 10) ≡ false) text
 
@@ -217,26 +221,26 @@ first_line t u r s h k e =
     let rest : slice_split (λ o. o == 10) r ≡ slice_split (λ o. o == 10) s = cc in
     (first, sym (join_with_byte-slice_split 10 r) ∙ ap (join_with_byte 10) rest ∙ join_with_byte-slice_split 10 s)
 
-some_words : (line : Said) → said_words line ≢ []
+some_words : (line : AnswerLine) → said_words line ≢ []
 some_words (No why) e = absurd cc
 some_words (Takes who octets h) e = absurd cc
 some_words (Drops who h octets check) e = absurd cc
-some_words (Tells who sapi notice) e = absurd cc
+some_words (Reports who sapi notice) e = absurd cc
 some_words (Sends who octets) e = absurd cc
 some_words All e = absurd cc
 
-same_words : (l m : Said) → FitsLine l → FitsLine m →
+same_words : (l m : AnswerLine) → FitsLine l → FitsLine m →
     join_with_byte 32 (said_words l) ≡ join_with_byte 32 (said_words m) → said_words l ≡ said_words m
 same_words l m h k e =
     sym (words-join (said_words l) (some_words l) (spaceless (said_words l) (line_plain l h))) ∙ ap words e
     ∙ words-join (said_words m) (some_words m) (spaceless (said_words m) (line_plain m k))
 
--- ---- and a line is read back from its words
+-- ---- a line is read back from its words
 
 who_read : List ℕ → E.Who
 who_read word =
-    if bytes_eq (take 3 word) (codes "mob") then E.End Mobile
-    else if bytes_eq (take 3 word) (codes "net") then E.End Network
+    if bytes_eq (take 3 word) (codes "mob") then E.BySide Mobile
+    else if bytes_eq (take 3 word) (codes "net") then E.BySide Network
     else if bytes_eq (take 3 word) (codes "riv") then E.Other
     else E.Nobody
 
@@ -247,8 +251,8 @@ signed_read : List ℕ → ℤ
 signed_read [] = pos 0
 signed_read (octet ∷ word) = if octet == 45 then negsuc (digits_value 10 word - 1) else pos (digits_value 10 (octet ∷ word))
 
-heard_read : List ℕ → List ℕ → List ℕ → Heard
-heard_read tsc train metric = record { tsc = digits_value 10 tsc; train = digits_value 10 train; metric = signed_read metric }
+reception_read : List ℕ → List ℕ → List ℕ → Reception
+reception_read tsc train metric = record { tsc = digits_value 10 tsc; train = digits_value 10 train; metric = signed_read metric }
 
 why_read : List ℕ → E.Why
 why_read word =
@@ -276,46 +280,46 @@ notice_read verb word =
     else if bytes_eq verb (codes "acked") then N.Acked (digits_value 10 word)
     else N.Closed (reason_read word)
 
-two_read : List ℕ → List ℕ → Said
-two_read name word = if bytes_eq name (codes "no") then No (why_read word) else Tells (who_read name) (sapi_read name) N.Oversize
+two_read : List ℕ → List ℕ → AnswerLine
+two_read name word = if bytes_eq name (codes "no") then No (why_read word) else Reports (who_read name) (sapi_read name) N.Oversize
 
-three_read : List ℕ → List ℕ → List ℕ → Said
+three_read : List ℕ → List ℕ → List ℕ → AnswerLine
 three_read name verb word =
     if bytes_eq verb (codes "sends") then Sends (who_read name) (hex_octets word)
-    else Tells (who_read name) (sapi_read name) (notice_read verb word)
+    else Reports (who_read name) (sapi_read name) (notice_read verb word)
 
-abbrev line_read : List (List ℕ) → Said
+abbrev line_read : List (List ℕ) → AnswerLine
 line_read (a ∷ b ∷ []) = two_read a b
 line_read (a ∷ b ∷ c ∷ []) = three_read a b c
-line_read (a ∷ b ∷ c ∷ d ∷ e ∷ f ∷ g ∷ h ∷ i ∷ []) = Takes (who_read a) (hex_octets c) (heard_read e g i)
-line_read (a ∷ b ∷ c ∷ d ∷ e ∷ f ∷ g ∷ h ∷ i ∷ j ∷ k ∷ l ∷ []) = Drops (who_read a) (heard_read d f h) (hex_octets j) (hex_octets l)
+line_read (a ∷ b ∷ c ∷ d ∷ e ∷ f ∷ g ∷ h ∷ i ∷ []) = Takes (who_read a) (hex_octets c) (reception_read e g i)
+line_read (a ∷ b ∷ c ∷ d ∷ e ∷ f ∷ g ∷ h ∷ i ∷ j ∷ k ∷ l ∷ []) = Drops (who_read a) (reception_read d f h) (hex_octets j) (hex_octets l)
 line_read ws = All
 
 who_back : (who : E.Who) → who_read (who_word who) ≡ who
 unfolding who_read
-who_back (E.End Mobile) = refl
-who_back (E.End Network) = refl
+who_back (E.BySide Mobile) = refl
+who_back (E.BySide Network) = refl
 who_back E.Other = refl
 who_back E.Nobody = refl
 
 name_back : (who : E.Who) (sapi : Sapi) →
     (who_read (who_word who ++ link_word sapi) ≡ who) × (sapi_read (who_word who ++ link_word sapi) ≡ sapi)
 unfolding who_read sapi_read
-name_back (E.End Mobile) Zero = (refl, refl)
-name_back (E.End Mobile) Three = (refl, refl)
-name_back (E.End Network) Zero = (refl, refl)
-name_back (E.End Network) Three = (refl, refl)
+name_back (E.BySide Mobile) Zero = (refl, refl)
+name_back (E.BySide Mobile) Three = (refl, refl)
+name_back (E.BySide Network) Zero = (refl, refl)
+name_back (E.BySide Network) Three = (refl, refl)
 name_back E.Other Zero = (refl, refl)
 name_back E.Other Three = (refl, refl)
 name_back E.Nobody Zero = (refl, refl)
 name_back E.Nobody Three = (refl, refl)
 
-oversize_back : (who : E.Who) (sapi : Sapi) → two_read (who_word who ++ link_word sapi) (codes "oversize") ≡ Tells who sapi N.Oversize
+oversize_back : (who : E.Who) (sapi : Sapi) → two_read (who_word who ++ link_word sapi) (codes "oversize") ≡ Reports who sapi N.Oversize
 unfolding two_read who_read sapi_read
-oversize_back (E.End Mobile) Zero = refl
-oversize_back (E.End Mobile) Three = refl
-oversize_back (E.End Network) Zero = refl
-oversize_back (E.End Network) Three = refl
+oversize_back (E.BySide Mobile) Zero = refl
+oversize_back (E.BySide Mobile) Three = refl
+oversize_back (E.BySide Network) Zero = refl
+oversize_back (E.BySide Network) Three = refl
 oversize_back E.Other Zero = refl
 oversize_back E.Other Three = refl
 oversize_back E.Nobody Zero = refl
@@ -361,16 +365,16 @@ signed_back (pos n) fits =
 signed_back (negsuc n) fits =
     let one : suc n - 1 ≡ n = omega arith in ap (λ k. negsuc (k - 1)) (digits_value-decimal own (suc n) (omega arith)) ∙ ap negsuc one
 
-heard_back : (h : Heard) → FitsHeard h → heard_read (decimal h.tsc) (decimal h.train) (signed_decimal h.metric) ≡ h
-unfolding heard_read
-heard_back h fits =
+reception_back : (h : Reception) → FitsReception h → reception_read (decimal h.tsc) (decimal h.train) (signed_decimal h.metric) ≡ h
+unfolding reception_read
+reception_back h fits =
     let tsc : digits_value 10 (decimal h.tsc) ≡ h.tsc = digits_value-decimal own h.tsc fits.tsc in
     let train : digits_value 10 (decimal h.train) ≡ h.train = digits_value-decimal own h.train fits.train in
     let metric : signed_read (signed_decimal h.metric) ≡ h.metric = signed_back h.metric fits.metric in
     rw (tsc, train, metric) refl
 
 notice_back : (who : E.Who) (sapi : Sapi) (notice : Notice) → FitsNotice notice →
-    line_read (said_words (Tells who sapi notice)) ≡ Tells who sapi notice
+    line_read (said_words (Reports who sapi notice)) ≡ Reports who sapi notice
 unfolding three_read notice_read
 notice_back who sapi (N.Opened m) fits = rw ((name_back who sapi).0, (name_back who sapi).1, message_back m fits) refl
 notice_back who sapi (N.Got m) fits = rw ((name_back who sapi).0, (name_back who sapi).1, message_back m fits) refl
@@ -379,18 +383,19 @@ notice_back who sapi (N.Acked n) fits = rw ((name_back who sapi).0, (name_back w
 notice_back who sapi N.Oversize fits = oversize_back who sapi
 notice_back who sapi (N.Closed reason) fits = rw ((name_back who sapi).0, (name_back who sapi).1, reason_back reason) refl
 
-line_back : (line : Said) → FitsLine line → line_read (said_words line) ≡ line
+line_back : (line : AnswerLine) → FitsLine line → line_read (said_words line) ≡ line
 unfolding three_read
 line_back (No why) fits = why_back why
-line_back (Takes who octets h) fits = rw (who_back who, octets_back octets fits.0, heard_back h fits.1) refl
-line_back (Drops who h octets check) fits = rw (who_back who, heard_back h fits.0, octets_back octets fits.1, octets_back check fits.2) refl
-line_back (Tells who sapi notice) fits = notice_back who sapi notice fits
+line_back (Takes who octets h) fits = rw (who_back who, octets_back octets fits.0, reception_back h fits.1) refl
+line_back (Drops who h octets check) fits =
+    rw (who_back who, reception_back h fits.0, octets_back octets fits.1, octets_back check fits.2) refl
+line_back (Reports who sapi notice) fits = notice_back who sapi notice fits
 line_back (Sends who octets) fits = rw (who_back who, octets_back octets fits) refl
 line_back All fits = refl
 
 -- ---- whole answers
 
-no_line : (l : Said) (ls : List Said) → lines_text (l ∷ ls) ≢ []
+no_line : (l : AnswerLine) (ls : List AnswerLine) → lines_text (l ∷ ls) ≢ []
 no_line l ls e =
     let none = ap length e in
     omega (
@@ -400,7 +405,7 @@ no_line l ls e =
       length-append (join_with_byte 32 (said_words l)) (10 ∷ []),
     )
 
-same_lines : (ls ms : List Said) → FitLines ls → FitLines ms → lines_text ls ≡ lines_text ms → ls ≡ ms
+same_lines : (ls ms : List AnswerLine) → FitLines ls → FitLines ms → lines_text ls ≡ lines_text ms → ls ≡ ms
 same_lines [] [] h k e = refl
 same_lines [] (m ∷ ms) h k e = absurd (no_line m ms (sym e))
 same_lines (l ∷ ls) [] h k e = absurd (no_line l ls e)

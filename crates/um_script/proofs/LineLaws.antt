@@ -1,4 +1,4 @@
--- What is read of words is read of their line.
+-- What a reader of words returns for the words of a line holds for the line.
 use Rattle.std.proofs.Common.{◌≡◌, ℕ, ◌≤◌, false, List, length, Some, IfOk, Result, Ok, Err, sym, ◌∙◌}
 use Rattle.std.specs.Result.{result_err}
 use Rattle.um_link.specs.declared.events.Event.{Event}
@@ -10,11 +10,11 @@ use Rattle.um_lines.specs.LinkForms.{link_forms}
 use Rattle.um_lines.proofs.FormLaws.{read_of_words}
 use Rattle.um_script.specs.ScriptLines.{ScriptMeans, event_said}
 use Rattle.um_script.specs.ScriptReading.{script_read}
-use Rattle.um_script.specs.Naming.{reading_of}
+use Rattle.um_script.specs.Naming.{parse_result}
 use Rattle.um_script.proofs.ReadingLaws.{read_by_parts}
 
 pub read_line : (line : List ℕ) (result : Result Event LineFault) → length line ≤ 4096 → is_skipped line ≡ false
-    → reading_of result ≡ script_read (words line)
+    → parse_result result ≡ script_read (words line)
     → IfOk result (λ event. ScriptMeans line (Some (event_of event))) × (result_err result ≡ line_fault link_forms anywhere line)
 read_line line (Ok event) short stays is =
     read_of_words link_forms anywhere event_said line (Ok (Some (event_of event))) short stays (is ∙ sym (read_by_parts (words line)))

@@ -1,8 +1,8 @@
--- The messages of a script's lines are octets.
+-- The messages of script lines are octets.
 use Rattle.std.proofs.Common.{ℕ, ◌<◌, ◌≤◌, List, [], ◌∷◌, Option, Some, None, sym, subst, arith}
 use Rattle.std.proofs.lemmas.List.Elements.{All-nil, All-weaker}
-use Rattle.um_air.specs.Air.{Event}
-use Rattle.um_air.specs.Sessions.{AreOctets, IsOctetEvent}
+use Rattle.um_link.specs.um_air.Air.{Event}
+use Rattle.um_link.specs.um_air.Sessions.{AreOctets, IsOctetEvent}
 use Rattle.um_lines.specs.Fields.{Field, Fixed, DigitTo, BitDigits, HexOctets, SoftOctets, AnyOctets, BlockPlace, Value}
 use Rattle.um_lines.specs.Forms.{Table, anywhere, fields_for}
 use Rattle.um_lines.specs.LinkForms as L
@@ -10,7 +10,7 @@ use Rattle.um_lines.specs.LinkForms.{link_forms}
 use Rattle.um_lines.proofs.KnownValues.{Fitting, Each, line_is}
 use Rattle.um_script.specs.ScriptLines.{octets_in, event_by, event_said, ScriptMeans}
 
--- of values that fit whatever fields
+-- the octets among values that fit fields
 fitting_octets : (fields : List Field) (values : List Value) → Fitting fields values → AreOctets (octets_in values)
 fitting_octets [] values f = subst (λ vs. AreOctets (octets_in vs)) (sym f) (All-nil (λ octet. octet < 256))
 fitting_octets (Fixed text ∷ fields) values f = fitting_octets fields values f
@@ -28,7 +28,7 @@ fitting_octets (AnyOctets least most ∷ fields) values (octets, rest, same, kno
 fitting_octets (BlockPlace ∷ fields) values (n, rest, same, known, fits) =
     subst (λ vs. AreOctets (octets_in vs)) (sym same) (fitting_octets fields rest fits)
 
--- an event says what its values say
+-- an event has the octets of its values
 named_octets : (name : L.LinkName) (values : List Value) → AreOctets (octets_in values) → IsOctetEvent (event_by name values)
 named_octets L.Open values small = small
 named_octets (L.OpenBare end) values small = tt

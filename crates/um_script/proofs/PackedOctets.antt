@@ -1,4 +1,4 @@
--- The octets of the bits of octets are these octets.
+-- Unpacking octets to bits and packing them again gives the same octets.
 use Rattle.std.proofs.Common.{◌≡◌, ℕ, suc, ◌+◌, ◌*◌, ◌/◌, ◌%◌, ◌<◌, List, [], ◌∷◌, get_or, Fits, w8}
 use Rattle.std.proofs.Common.{refl, arith}
 use Rattle.bit_blocks.specs.Octets.{bits_of, octets_of}

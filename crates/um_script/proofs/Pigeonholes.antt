@@ -1,4 +1,5 @@
--- No more numbers than there are below a bound: the pigeonhole principle, after the standard library's own proof.
+-- Distinct numbers below a bound are at most as many as the bound (the pigeonhole principle,
+-- adapted from the standard library's proof).
 use Rattle.std.proofs.Common.{◌≡◌, ℕ, zero, suc, ◌<◌, ◌≤◌, Bool, true, false, cond, eqb, inl, inr, ◌⊎◌, refl, sym}
 use Rattle.std.proofs.Common.{◌∙◌, arith}
 use Rattle.std.proofs.lemmas.Bool.{eqb-true, eqb-false}

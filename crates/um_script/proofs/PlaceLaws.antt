@@ -1,4 +1,5 @@
--- Words of places.
+-- Words that give bit indices of a block: their values, capped at 592, and repeated ones, found by
+-- marking each index that occurred.
 use Rattle.std.proofs.Common.{◌≡◌, ℕ, zero, suc, ◌+◌, ◌-◌, ◌*◌, ◌<◌, ◌≤◌, ◌==◌, min, nat_lt, Bool, true}
 use Rattle.std.proofs.Common.{false, not, ◌||◌, List, [], ◌∷◌, length, replicate, drop, get_or, add-one, inl, inr, IsTrue, Ok}
 use Rattle.std.proofs.Common.{refl, ap, sym, ◌∙◌, subst, arith}
@@ -20,12 +21,12 @@ use Rattle.um_script.specs.Held.{numbers_of, is_named_again}
 
 -- ---- the value of digits
 
--- digits make a number no less
+-- further digits never make a number smaller
 grows : (n : ℕ) (ds : List ℕ) → n ≤ digits_value_after 10 n ds
 grows n [] = omega arith
 grows n (d ∷ ds) = let rest = grows (n * 10 + digit_value d) ds in omega arith
 
--- a number that is cut off at 592 is cut off at 592 behind further digits
+-- capping a number at 592 before further digits does not change the capped result
 cut_off : (n : ℕ) (ds : List ℕ) → min (digits_value_after 10 (min n 592) ds) 592 ≡ min (digits_value_after 10 n ds) 592
 cut_off n ds =
     elim (cases_Bool (nat_lt 592 n)) [
@@ -49,7 +50,7 @@ pub record IsNextPlace (word : List ℕ) (i place new : ℕ) : Type 0 where
   pub digits : IsTrue (all_ascii_digits (drop (i + 1) word))
   pub same : min (digits_value_after 10 new (drop (i + 1) word)) 592 ≡ min (digits_value_after 10 place (drop i word)) 592
 
--- one digit further
+-- one more digit
 pub next_place : (word : List ℕ) (i place new : ℕ) → i < length word → IsTrue (all_ascii_digits (drop i word))
     → new ≡ min (10 * place + (get_or word i 0 - 48)) 592 → IsNextPlace word i place new
 next_place word i place new within digits is =
@@ -67,13 +68,13 @@ next_place word i place new within digits is =
           ∙ ap (λ ds. min (digits_value_after 10 place ds) 592) (sym cut);
     }
 
--- ---- places named twice
+-- ---- repeated indices
 
--- whether a number is among some
+-- whether n occurs in a list
 abbrev is_among : List ℕ → ℕ → Bool
 is_among before n = list_any (λ m. n == m) before
 
--- whether a number is named that is among some, or was named before
+-- whether a number occurs in `before` or twice in the second list
 abbrev names_among : List ℕ → List ℕ → Bool
 names_among before [] = false
 names_among before (n ∷ ns) = is_among before n || names_among (n ∷ before) ns
@@ -105,7 +106,7 @@ none_among : (ns : List ℕ) → list_any (is_among []) ns ≡ false
 none_among [] = refl
 none_among (n ∷ ns) = none_among ns
 
--- marks stand for the numbers that were named
+-- an index is marked if it occurred before
 record Marks (marks : List Bool) (before : List ℕ) : Type 0 where
   pub many : length marks ≡ 592
   pub each : (k : ℕ) → k < 592 → get_or marks k false ≡ is_among before k
@@ -140,13 +141,13 @@ again (w ∷ ws) marks before within m =
 unmarked : Marks (replicate 592 false) []
 unmarked = record { many = refl; each = λ k within. get_or-replicate 592 k false false within }
 
--- whether places are named twice is whether one is named that is marked, where none is at first
+-- starting without marks, an index is repeated if it is found marked
 pub named_twice : (ws : List (List ℕ)) → list_any is_above ws ≡ false
     → is_named_again (replicate 592 false) (numbers_of ws) ≡ is_repeated (numbers_of ws)
 named_twice ws within =
     again ws (replicate 592 false) [] within unmarked ∙ names_apart (numbers_of ws) [] ∙ rw (none_among (numbers_of ws)) refl
 
--- a place that is marked is named again
+-- an index that is found marked is repeated
 pub named_here : (marks : List Bool) (ws others : List (List ℕ)) (w : List ℕ) (n : ℕ) → ws ≡ w ∷ others → n ≡ min (digits_value 10 w) 592
     → list_any is_above ws ≡ false → get_or marks n false ≡ true → true ≡ is_named_again marks (numbers_of ws)
 named_here marks ws others w n is value within marked =
@@ -156,12 +157,12 @@ named_here marks ws others w n is value within marked =
     let here : get_or marks (digits_value 10 w) false ≡ true = subst (λ k. get_or marks k false ≡ true) same marked in
     rw is (rw here refl)
 
--- what is read of places that nothing is against
+-- what is read of words that are valid, distinct indices
 pub places_held : (ws : List (List ℕ)) (ns : List ℕ) → list_any (λ w. not (is_decimal w)) ws ≡ false → list_any is_above ws ≡ false
     → is_repeated (numbers_of ws) ≡ false → ns ≡ numbers_of ws → Ok ns ≡ places_read ws
 places_held ws ns decimal within once same = rw (decimal, within, once, same) refl
 
--- ---- no more places than a block has
+-- ---- at most 592 distinct indices
 
 not_found : (ns : List ℕ) (n j : ℕ) → list_any (λ m. m == n) ns ≡ false → j < length ns → get_or ns j 0 ≡ n → ⊥
 not_found [] n j none within same = omega arith

@@ -1,4 +1,5 @@
--- What is read part by part is what the forms say.
+-- The reader, which splits a line word by word, agrees with the line forms: by cases over the
+-- actor, the verb and the number of words.
 use Rattle.std.proofs.Common.{◌≡◌, ℕ, suc, ◌-◌, ◌<◌, eqb, Bool, true, false, ◌||◌, List, [], ◌∷◌, length, map}
 use Rattle.std.proofs.Common.{replicate, Some, None, Ok, Err, codes, if◌then◌else◌, refl, ap, sym, subst, inl, inr, arith}
 use Rattle.std.specs.Cmp.Lexicographic.{pointwise}
@@ -8,8 +9,8 @@ use Rattle.std.specs.Str.Parse.{digits_value}
 use Rattle.std.proofs.lemmas.Bool.{cases_Bool}
 use Rattle.std.proofs.lemmas.List.Splits.{length-slice_split}
 use Rattle.std.proofs.lemmas.Slice.Eq.{bytes_eq-Decides}
-use Rattle.lapdm_link.specs.Events as E
-use Rattle.um_air.specs.Air as A
+use Rattle.um_link.specs.lapdm_link.Events as E
+use Rattle.um_link.specs.um_air.Air as A
 use Rattle.um_lines.specs.declared.fault.LineFault.TheVariants.{Word, Digits, Place, Twice}
 use Rattle.um_lines.specs.Fields.{Field, Fixed, BlockPlace, are_octet_digits, are_octets, hex_octets, may_stand, has_wrong_digits}
 use Rattle.um_lines.specs.Fields.{has_wrong_length, has_wrong_soft, has_wrong_place}
@@ -22,7 +23,7 @@ use Rattle.um_script.specs.ScriptReading.{read_words, octets_read, is_above, pla
 use Rattle.um_script.specs.ScriptReading.{call_read, bare_air_read, flip_read, air_read, acted_read, script_read}
 use Rattle.um_script.specs.Names.{actor_said, request_said, act_said}
 
--- a word is one of some, or equal to none
+-- words found equal are equal
 same_word : (a b : List ℕ) → bytes_eq a b ≡ true → b ≡ a
 same_word a b e = sym ((bytes_eq-Decides a b).0 e)
 
@@ -58,7 +59,7 @@ octets_alone a w make =
       | inr other ↦ rw other refl
     ]
 
--- ---- calls of an end
+-- ---- calls of an endpoint
 
 record NoVerb (verb : List ℕ) : Type 0 where
   pub opens : bytes_eq verb (codes "open") ≡ false
@@ -121,7 +122,7 @@ octets_call L.Net3 verb w =
     refl refl refl
     (λ n. rw (n.opens, n.send, n.unit, n.close, n.tick, n.idle) refl)
 
--- no call has so many words
+-- a call with two or more further words fits no form
 IsNoCall : L.LinkEnd → List ℕ → List ℕ → List ℕ → List (List ℕ) → Type 0
 IsNoCall end verb w other ws = read_words (end_word end ∷ verb ∷ w ∷ other ∷ ws) ≡ octets_call_read end (request_said verb) (w ∷ other ∷ ws)
 
@@ -152,7 +153,7 @@ calls end (verb ∷ []) = bare_call end verb
 calls end (verb ∷ w ∷ []) = octets_call end verb w
 calls end (verb ∷ w ∷ other ∷ ws) = unfold IsNoCall in long_call end verb w other ws
 
--- ---- places
+-- ---- bit indices
 
 no_less : (n : ℕ) → suc (suc (suc n)) - 3 ≡ n
 no_less n = omega arith
@@ -198,7 +199,7 @@ places_given a b ws make =
     (by_reasons (list_any (has_wrong_digits BlockPlace) ws) (list_any is_above ws) (is_repeated (map (digits_value 10) ws))
     (map (digits_value 10) ws) make)
 
--- ---- the air
+-- ---- the channel
 
 record NoAir (verb : List ℕ) : Type 0 where
   pub deliver : bytes_eq verb (codes "deliver") ≡ false
@@ -264,7 +265,7 @@ record NoName (name : List ℕ) : Type 0 where
 no_name : (name : List ℕ) (ws : List (List ℕ)) → NoName name → read_words (name ∷ ws) ≡ acted_read (actor_said name) ws
 no_name name ws n = rw (n.mob, n.mob3, n.net, n.net3, n.up, n.down, n.rival) refl
 
--- what is read of words part by part is what the forms say of them
+-- reading words part by part gives what the line forms say
 pub read_by_parts : (ws : List (List ℕ)) → read_words ws ≡ script_read ws
 read_by_parts [] = refl
 read_by_parts (name ∷ ws) =
@@ -278,7 +279,7 @@ read_by_parts (name ∷ ws) =
     by_word P (codes "rival") name (rivals ws) (λ g.
     no_name name ws (record { mob = a; mob3 = b; net = c; net3 = d; up = e; down = f; rival = g }))))))))
 
--- ---- what is left behind a word
+-- ---- the text after a word
 
 some_call : (end : L.LinkEnd) (verb : List ℕ) (ws : List (List ℕ)) → 0 < length ws
     → octets_call_read end (request_said verb) ws ≡ call_read end (verb ∷ ws)

@@ -4,6 +4,5 @@ use Rattle.std.specs.List.{join_with_byte}
 use Rattle.std.proofs.lemmas.List.Splits.{join_with_byte-slice_split}
 use Rattle.um_lines.specs.Words.{words}
 
--- a text of one word is that word
 pub sole_word : (text w : List ℕ) → words text ≡ w ∷ [] → w ≡ text
 sole_word text w is = sym (ap (join_with_byte 32) is) ∙ join_with_byte-slice_split 32 text

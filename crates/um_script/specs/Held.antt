@@ -1,4 +1,4 @@
--- What was read into a room: only the reader's own bodies need this.
+-- What a reader of script lines stored in its buffers (internal).
 use Rattle.std.specs.Prelude.{ℕ, ◌≡◌, Bool, true, false, not, ◌||◌, List, [], ◌∷◌, Option, Some, None, Result, Ok, Err}
 use Rattle.std.specs.Prelude.{map, slice_index_or, slice_set}
 use Rattle.std.specs.Borrow.{Bor}
@@ -17,7 +17,7 @@ abbrev pub held_places : Result (Bor (List ℕ)) LineFault → Result (List ℕ)
 held_places (Ok places) = Ok places.now
 held_places (Err fault) = Err fault
 
--- whether a number is named that is marked already, or was named before
+-- whether a number is already marked or occurs twice
 abbrev pub is_named_again : List Bool → List ℕ → Bool
 is_named_again marks [] = false
 is_named_again marks (n ∷ ns) = slice_index_or marks n false || is_named_again (slice_set marks n true) ns
@@ -25,16 +25,16 @@ is_named_again marks (n ∷ ns) = slice_index_or marks n false || is_named_again
 abbrev pub numbers_of : List (List ℕ) → List ℕ
 numbers_of ws = map (digits_value 10) ws
 
--- the words of the text that is left, if there is one
+-- the words of the remaining text, if any
 abbrev pub words_after : Option (Bor (List ℕ)) → List (List ℕ)
 words_after None = []
 words_after (Some text) = words text.now
 
--- words are decimal numbers
+-- each word is a decimal number
 abbrev pub AreDecimals : List (List ℕ) → Type 0
 AreDecimals ws = list_any (λ w. not (is_decimal w)) ws ≡ false
 
--- words are places of a block
+-- each word is a bit index of a block
 pub record ArePlaceWords (ws : List (List ℕ)) : Type 0 where
   pub decimal : AreDecimals ws
   pub within : list_any is_above ws ≡ false

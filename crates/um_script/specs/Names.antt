@@ -1,4 +1,4 @@
--- The words that name who does something, and what: only the reader's own bodies need this.
+-- The words that name an actor and an action (internal).
 use Rattle.std.specs.Prelude.{ℕ, List, Option, Some, None, codes, if◌then◌else◌}
 use Rattle.std.specs.Str.{bytes_eq}
 use Rattle.lapdm_window.specs.declared.Sapi.{Sapi}

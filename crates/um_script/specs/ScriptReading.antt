@@ -1,12 +1,12 @@
--- What is read of the words of a line, part by part: only the reader's own bodies need this.
+-- What is read of the words of a script line, part by part (internal).
 use Rattle.std.specs.Prelude.{ℕ, nat_lt, Bool, true, false, not, List, [], ◌∷◌, map, Option, Some, None, Result, Ok, Err}
 use Rattle.std.specs.Prelude.{if◌then◌else◌}
 use Rattle.std.specs.List.{list_any}
 use Rattle.std.specs.Str.Parse.{digits_value}
 use Rattle.lapdm_window.specs.declared.Sapi.{Sapi}
 use Rattle.lapdm_window.specs.declared.Sapi.TheVariants.{Zero, Three}
-use Rattle.lapdm_link.specs.Events as E
-use Rattle.um_air.specs.Air as A
+use Rattle.um_link.specs.lapdm_link.Events as E
+use Rattle.um_link.specs.um_air.Air as A
 use Rattle.um_lines.specs.declared.fault.LineFault.{LineFault}
 use Rattle.um_lines.specs.declared.fault.LineFault.TheVariants.{Word, Digits, Length, Place, Twice}
 use Rattle.um_lines.specs.Fields.{are_octet_digits, are_octets, hex_octets, is_decimal}
@@ -22,7 +22,7 @@ use Rattle.um_script.specs.declared.names.Act.TheVariants as T
 use Rattle.um_script.specs.Names.{end_named, way_named, actor_said, request_said, act_said}
 use Rattle.um_script.specs.ScriptLines.{role_of, sapi_of, sender_of, asks, event_said}
 
--- an event, or the reason why there is none
+-- an event, nothing, or the reason for a refusal
 abbrev pub Reading : Type 0
 Reading = Result (Option A.Event) LineFault
 
@@ -30,7 +30,7 @@ Reading = Result (Option A.Event) LineFault
 abbrev pub read_words : List (List ℕ) → Reading
 read_words ws = unless (form_fault anywhere (form_of link_forms ws) ws) (event_said (entry_says (form_of link_forms ws) ws))
 
--- the octets of words of which there is to be one
+-- the octets of the words, of which there must be exactly one
 abbrev pub octets_read : List (List ℕ) → Result (List ℕ) LineFault
 octets_read [] = Err Word
 octets_read (w ∷ []) = if not (are_octet_digits w) then Err Digits else if not (are_octets 0 None w) then Err Length else Ok (hex_octets w)
@@ -39,7 +39,7 @@ octets_read (w ∷ other ∷ ws) = Err Word
 abbrev pub is_above : List ℕ → Bool
 is_above w = nat_lt 591 (digits_value 10 w)
 
--- the places of words
+-- the bit indices of words
 abbrev pub places_read : List (List ℕ) → Result (List ℕ) LineFault
 places_read ws =
     if list_any (λ w. not (is_decimal w)) ws then Err Digits
@@ -54,7 +54,7 @@ with_event make (Err fault) = Err fault
 abbrev pub reads : A.Event → Reading
 reads event = Ok (Some event)
 
--- ---- calls of an end
+-- ---- calls of an endpoint
 
 abbrev pub is_three : Sapi → Bool
 is_three Zero = false
@@ -64,7 +64,7 @@ is_three Three = true
 abbrev pub bare_call_read : L.LinkEnd → Option Request → Reading
 bare_call_read end (Some Q.Open) = if is_three (sapi_of end) then reads (E.OpenBare (role_of end)) else Err Word
 bare_call_read end (Some Q.Close) = reads (asks end E.Close)
-bare_call_read end (Some Q.Tick) = reads (asks end E.Tick)
+bare_call_read end (Some Q.Tick) = reads (asks end E.T200Expiry)
 bare_call_read end (Some Q.Idle) = if is_three (sapi_of end) then Err Word else reads (asks end E.Idle)
 bare_call_read end request = Err Word
 
@@ -84,7 +84,7 @@ call_read end [] = Err Word
 call_read end (verb ∷ []) = bare_call_read end (request_said verb)
 call_read end (verb ∷ w ∷ ws) = octets_call_read end (request_said verb) (w ∷ ws)
 
--- ---- the air
+-- ---- the channel
 
 abbrev pub bare_air_read : L.Way → Option Act → Reading
 bare_air_read way (Some T.Deliver) = reads (E.Deliver (sender_of way) [])

@@ -1,31 +1,34 @@
-//! The lines that answer a line of a script.
+//! The lines that answer a script line.
 ghost use Rattle.std.specs.Prelude.{◌≡◌, ◌+◌, ◌*◌, ◌-◌, ◌<◌, ◌≤◌, [], ◌∷◌, ◌++◌, length, map, take};
 ghost use Rattle.std.specs.Prelude.{drop, codes, IfOk, OnOk};
 ghost use Rattle.hex.specs.Hex.{encode_lower};
 ghost use Rattle.bit_blocks.specs.Octets.{bits_of, octets_of};
-ghost use Rattle.um_air.specs.Air as A;
-ghost use Rattle.um_air.specs.Sessions.{AreOctets};
+ghost use Rattle.um_link.specs.um_air.Air as A;
+ghost use Rattle.um_link.specs.um_air.Sessions.{AreOctets};
 ghost use Rattle.um_lines.specs.Spelled.{octets_word};
-ghost use Rattle.um_script.specs.AnswerLines.{No as Refusal, Tells, Sends, heard, heard_words, notice_words, block_line, arrival_lines};
-ghost use Rattle.um_script.specs.AnswerLines.{spaced, said_text, lines_text, answer_lines, answer_text};
-ghost use Rattle.um_script.specs.AnswerLines.{FitsHeard, FitsNotice, FitsLine, FitLines};
-ghost use Rattle.um_link.specs.Naming.{answer_of, step_of, who_of, why_of, written};
-ghost use Rattle.um_link.specs.Standing.{FitsWho};
+ghost use Rattle.um_script.specs.AnswerLines.{No as Refusal, Reports, Sends, reception, reception_words, notice_words, block_line};
+ghost use Rattle.um_script.specs.AnswerLines.{arrival_lines};
+ghost use Rattle.um_script.specs.AnswerLines.{spaced_words, said_text, lines_text, answer_lines, answer_text};
+ghost use Rattle.um_script.specs.AnswerLines.{FitsReception, FitsNotice, FitsLine, FitLines};
+ghost use Rattle.um_link.specs.Naming.{answer_of, step_of, who_of, why_of, step_result};
+ghost use Rattle.um_link.specs.Abstraction.{FitsWho};
 ghost use Rattle.um_script.specs.AnswerWords.{who_word, link_word, refusal_word, closing_word};
 
+use bit_blocks::{BLOCK_BITS, BLOCK_OCTETS};
 use lapdm_window::{Notice, Reason, Sapi};
 use um_block::Received;
 use um_lines::{Text, packed};
 use um_link::{No, Step, Who};
 
-/// Writes the lines that answer a line of a script: what arrived, what is reported and what is sent, or why nothing happened.
+/// Writes the lines of an answer: what was received, the notices and what is sent, or the reason
+/// for `no`.
 pub fn step_lines(out: &mut Text, answer: &Result<Step, No>)
     requires empty { out.old ≡ [] }
     requires fits { IfOk answer.now (λ step. FitsWho (step_of step)) }
     ensures text { out.new ≡ answer_text (answer_of answer.now) }
-    ensures short { length out.new < 2000 }
+    ensures size { length out.new < 2000 }
 
-    // Octets and numbers are such as `law_different_lines` asks.
+    // The octets and numbers are in range, as `law_different_lines` requires.
     ensures fit { FitLines (answer_lines (answer_of answer.now)) }
 {
     match answer {
@@ -34,13 +37,13 @@ pub fn step_lines(out: &mut Text, answer: &Result<Step, No>)
     }
 }
 
-/// The same for a step that was written into the caller's room.
+/// `step_lines` for a step in a caller-supplied buffer.
 pub fn written_lines(out: &mut Text, done: &Result<(), No>, step: &Step)
     requires empty { out.old ≡ [] }
     requires fits { OnOk done.now (FitsWho (step_of step.now)) }
-    ensures text { out.new ≡ answer_text (answer_of (written done.now step.now)) }
-    ensures short { length out.new < 2000 }
-    ensures fit { FitLines (answer_lines (answer_of (written done.now step.now))) }
+    ensures text { out.new ≡ answer_text (answer_of (step_result done.now step.now)) }
+    ensures size { length out.new < 2000 }
+    ensures fit { FitLines (answer_lines (answer_of (step_result done.now step.now))) }
 {
     match done {
         Ok(()) => push_step(out, step),
@@ -51,7 +54,7 @@ pub fn written_lines(out: &mut Text, done: &Result<(), No>, step: &Step)
 fn push_refusal(out: &mut Text, reason: No)
     requires { out.old ≡ [] }
     ensures text { out.new ≡ said_text (Refusal (why_of reason)) }
-    ensures short { length out.new ≤ 20 }
+    ensures size { length out.new ≤ 20 }
 {
     out.push(b"no ");
     out.push(refusal(reason));
@@ -60,7 +63,7 @@ fn push_refusal(out: &mut Text, reason: No)
 
 fn refusal(reason: No) -> &'static [u8]
     ensures word { result.now ≡ refusal_word (why_of reason) }
-    ensures short { length result.now ≤ 10 }
+    ensures size { length result.now ≤ 10 }
 {
     match reason {
         No::NotIdle => b"notidle",
@@ -78,7 +81,7 @@ fn refusal(reason: No) -> &'static [u8]
 fn push_step(out: &mut Text, step: &Step)
     requires { out.old ≡ [] }
     ensures text { out.new ≡ answer_text (answer_of (Ok step.now)) }
-    ensures short { length out.new < 2000 }
+    ensures size { length out.new < 2000 }
     ensures fit { FitLines (answer_lines (answer_of (Ok step.now))) }
 {
     push_arrival(out, step.who, &step.received);
@@ -90,7 +93,7 @@ fn push_step(out: &mut Text, step: &Step)
 fn push_arrival(out: &mut Text, who: Who, received: &Option<Received>)
     requires { out.old ≡ [] }
     ensures text { out.new ≡ lines_text (arrival_lines (who_of who) received.now) }
-    ensures short { length out.new ≤ 300 }
+    ensures size { length out.new ≤ 300 }
     ensures fit { FitLines (arrival_lines (who_of who) received.now) }
 {
     match received {
@@ -101,7 +104,7 @@ fn push_arrival(out: &mut Text, who: Who, received: &Option<Received>)
 
 fn name(who: Who) -> &'static [u8]
     ensures word { result.now ≡ who_word (who_of who) }
-    ensures short { length result.now ≤ 5 }
+    ensures size { length result.now ≤ 5 }
 {
     match who {
         Who::Mobile => b"mob",
@@ -115,18 +118,18 @@ fn name(who: Who) -> &'static [u8]
 fn push_block(out: &mut Text, who: Who, r: &Received)
     requires { out.old ≡ [] }
     ensures text { out.new ≡ said_text (block_line (who_of who) r.now.accepted r.now) }
-    ensures short { length out.new ≤ 300 }
+    ensures size { length out.new ≤ 300 }
     ensures fit { FitsLine (block_line (who_of who) r.now.accepted r.now) }
 {
     out.push(name(who));
     match &r.accepted {
         Some(octets) => {
             push_taken(out, octets);
-            push_heard(out, r);
+            push_reception(out, r);
         }
         None => {
             out.push(b" drops");
-            push_heard(out, r);
+            push_reception(out, r);
             push_dropped(out, r);
         }
     }
@@ -134,21 +137,21 @@ fn push_block(out: &mut Text, who: Who, r: &Received)
 }
 
 fn push_taken(out: &mut Text, octets: &[u8])
-    requires room { length out.old ≤ 5 }
-    requires count { length octets.now ≡ 23 }
-    ensures text { out.new ≡ out.old ++ spaced (codes "takes" ∷ encode_lower octets.now ∷ []) }
-    ensures short { length out.new ≡ length out.old + 53 }
+    requires space { length out.old ≤ 5 }
+    requires count { length octets.now ≡ BLOCK_OCTETS }
+    ensures text { out.new ≡ out.old ++ spaced_words (codes "takes" ∷ encode_lower octets.now ∷ []) }
+    ensures size { length out.new ≡ length out.old + 53 }
     ensures fit { AreOctets octets.now }
 {
     out.push(b" takes ");
     out.push_hex(octets);
 }
 
-fn push_heard(out: &mut Text, r: &Received)
+fn push_reception(out: &mut Text, r: &Received)
     requires { length out.old ≤ 60 }
-    ensures text { out.new ≡ out.old ++ spaced (heard_words (heard r.now)) }
-    ensures short { length out.new ≤ length out.old + 120 }
-    ensures fit { FitsHeard (heard r.now) }
+    ensures text { out.new ≡ out.old ++ spaced_words (reception_words (reception r.now)) }
+    ensures size { length out.new ≤ length out.old + 120 }
+    ensures fit { FitsReception (reception r.now) }
 {
     out.push(b" tsc ");
     out.push_decimal(u64::from(r.tsc));
@@ -160,23 +163,27 @@ fn push_heard(out: &mut Text, r: &Received)
 
 fn push_dropped(out: &mut Text, r: &Received)
     requires { length out.old ≤ 180 }
-    ensures text { out.new ≡ out.old ++ spaced (codes "data" ∷ encode_lower (octets_of (take 184 r.now.u))
-        ∷ codes "check" ∷ encode_lower (octets_of (take 40 (drop 184 r.now.u))) ∷ []) }
-    ensures short { length out.new ≡ length out.old + 69 }
-    ensures data { AreOctets (octets_of (take 184 r.now.u)) }
-    ensures check { AreOctets (octets_of (take 40 (drop 184 r.now.u))) }
+    ensures text { out.new ≡ out.old ++ spaced_words (codes "data" ∷ encode_lower (octets_of (take BLOCK_BITS r.now.u))
+        ∷ codes "check" ∷ encode_lower (octets_of (take 40 (drop BLOCK_BITS r.now.u))) ∷ []) }
+    ensures size { length out.new ≡ length out.old + 69 }
+    ensures data { AreOctets (octets_of (take BLOCK_BITS r.now.u)) }
+    ensures check { AreOctets (octets_of (take 40 (drop BLOCK_BITS r.now.u))) }
 {
-    push_parts(out, &packed::<23, _>(&r.u, 0), &packed::<5, _>(&r.u, 184));
+    push_parts(
+        out,
+        &packed::<BLOCK_OCTETS, _>(&r.u, 0),
+        &packed::<5, _>(&r.u, BLOCK_BITS),
+    );
 }
 
 fn push_parts(out: &mut Text, octets: &[u8], check: &[u8])
-    requires room { length out.old ≤ 180 }
-    requires many { length octets.now + length check.now ≡ 28 }
+    requires space { length out.old ≤ 180 }
+    requires size { length octets.now + length check.now ≡ 28 }
     ensures text { out.new ≡ out.old
-        ++ spaced (codes "data" ∷ encode_lower octets.now ∷ codes "check" ∷ encode_lower check.now ∷ []) }
-    ensures short { length out.new ≡ length out.old + 69 }
+        ++ spaced_words (codes "data" ∷ encode_lower octets.now ∷ codes "check" ∷ encode_lower check.now ∷ []) }
+    ensures size { length out.new ≡ length out.old + 69 }
 
-    // Both are octets, and so what their own bits give.
+    // Octets, unchanged by unpacking to bits and packing again.
     ensures fit { AreOctets octets.now × AreOctets check.now }
     ensures octets { octets_of (bits_of octets.now) ≡ octets.now }
     ensures check { octets_of (bits_of check.now) ≡ check.now }
@@ -187,13 +194,13 @@ fn push_parts(out: &mut Text, octets: &[u8], check: &[u8])
     out.push_hex(check);
 }
 
-#[tactic(auto, using(crate::proofs::AnswerLaws::told_line))]
+#[tactic(auto, using(crate::proofs::AnswerLaws::report_line))]
 fn push_notices(out: &mut Text, who: Who, sapi: Sapi, notices: &[Notice])
-    requires room { length out.old ≤ 300 }
-    requires few { length notices.now ≤ 3 }
-    ensures text { out.new ≡ out.old ++ lines_text (map (Tells (who_of who) sapi) notices.now) }
-    ensures short { length out.new ≤ length out.old + 520 * length notices.now }
-    ensures fit { FitLines (map (Tells (who_of who) sapi) notices.now) }
+    requires space { length out.old ≤ 300 }
+    requires size { length notices.now ≤ 3 }
+    ensures text { out.new ≡ out.old ++ lines_text (map (Reports (who_of who) sapi) notices.now) }
+    ensures size { length out.new ≤ length out.old + 520 * length notices.now }
+    ensures fit { FitLines (map (Reports (who_of who) sapi) notices.now) }
 {
     for notice in notices {
         out.push(name(who));
@@ -205,7 +212,7 @@ fn push_notices(out: &mut Text, who: Who, sapi: Sapi, notices: &[Notice])
 
 fn link(sapi: Sapi) -> &'static [u8]
     ensures word { result.now ≡ link_word sapi }
-    ensures short { length result.now ≤ 1 }
+    ensures size { length result.now ≤ 1 }
 {
     match sapi {
         Sapi::Zero => b"",
@@ -215,8 +222,8 @@ fn link(sapi: Sapi) -> &'static [u8]
 
 fn push_notice(out: &mut Text, notice: &Notice)
     requires { length out.old ≤ 1400 }
-    ensures text { out.new ≡ out.old ++ spaced (notice_words notice.now) }
-    ensures short { length out.new ≤ length out.old + 512 }
+    ensures text { out.new ≡ out.old ++ spaced_words (notice_words notice.now) }
+    ensures size { length out.new ≤ length out.old + 512 }
     ensures fit { FitsNotice notice.now }
 {
     match notice {
@@ -236,11 +243,11 @@ fn push_notice(out: &mut Text, notice: &Notice)
 }
 
 fn push_octets(out: &mut Text, word: &[u8], octets: &[u8])
-    requires room { length out.old ≤ 1400 }
+    requires space { length out.old ≤ 1400 }
     requires word { length word.now ≤ 8 }
     requires octets { length octets.now ≤ 251 }
     ensures text { out.new ≡ out.old ++ word.now ++ octets_word octets.now }
-    ensures short { length out.new ≤ length out.old + 510 }
+    ensures size { length out.new ≤ length out.old + 510 }
     ensures fit { AreOctets octets.now }
 {
     out.push(word);
@@ -253,7 +260,7 @@ fn push_octets(out: &mut Text, word: &[u8], octets: &[u8])
 
 fn closing(reason: Reason) -> &'static [u8]
     ensures word { result.now ≡ closing_word reason }
-    ensures short { length result.now ≤ 10 }
+    ensures size { length result.now ≤ 10 }
 {
     match reason {
         Reason::Contention => b"contention",
@@ -263,11 +270,11 @@ fn closing(reason: Reason) -> &'static [u8]
     }
 }
 
-fn push_frames(out: &mut Text, who: Who, frames: &[[u8; 23]])
-    requires room { length out.old ≤ 1870 }
-    requires few { length frames.now ≤ 2 }
+fn push_frames(out: &mut Text, who: Who, frames: &[[u8; BLOCK_OCTETS]])
+    requires space { length out.old ≤ 1870 }
+    requires size { length frames.now ≤ 2 }
     ensures text { out.new ≡ out.old ++ lines_text (map (Sends (who_of who)) frames.now) }
-    ensures short { length out.new ≤ length out.old + 60 * length frames.now }
+    ensures size { length out.new ≤ length out.old + 60 * length frames.now }
     ensures fit { FitLines (map (Sends (who_of who)) frames.now) }
 {
     for frame in frames {
@@ -277,10 +284,10 @@ fn push_frames(out: &mut Text, who: Who, frames: &[[u8; 23]])
 }
 
 fn push_sent(out: &mut Text, frame: &[u8])
-    requires room { length out.old ≤ 2000 }
-    requires count { length frame.now ≡ 23 }
+    requires space { length out.old ≤ 2000 }
+    requires count { length frame.now ≡ BLOCK_OCTETS }
     ensures text { out.new ≡ out.old ++ (codes " sends " ++ encode_lower frame.now ++ codes "\n") }
-    ensures short { length out.new ≡ length out.old + 54 }
+    ensures size { length out.new ≡ length out.old + 54 }
     ensures fit { AreOctets frame.now }
 {
     out.push(b" sends ");
@@ -288,8 +295,8 @@ fn push_sent(out: &mut Text, frame: &[u8])
     out.push(b"\n");
 }
 
-/// Law: the same lines have one text, and different lines have different texts, if their octets and numbers are those that the program
-/// has (`fit` of `step_lines`).
+/// Two lists of lines have the same text if and only if they are equal, provided their octets and
+/// numbers are in range (`fit` of `step_lines`).
 pub fn law_different_lines()
     ensures same { (x y : A.Answer) → answer_lines x ≡ answer_lines y → answer_text x ≡ answer_text y }
     ensures different { (x y : A.Answer) → FitLines (answer_lines x) → FitLines (answer_lines y) → answer_text x ≡ answer_text y →

@@ -1,5 +1,5 @@
-//! The lines of a script, which say what happens to both ends of a link and to the air between them, and the lines
-//! that answer them.
+//! The lines of a script of `link`, which say what happens at both sides of a link and on the
+//! channel between them, and the lines that answer them.
 #![tactic(auto)]
 
 mod answer;

@@ -1,4 +1,4 @@
-//! The words that name who does something, and what.
+//! The words that name an actor and an action.
 ghost use Rattle.std.specs.Prelude.{◌≡◌};
 ghost use Rattle.std.specs.Str.{bytes_eq};
 ghost use Rattle.um_script.specs.Names.{actor_said, request_said, act_said};
@@ -6,7 +6,7 @@ ghost use Rattle.um_script.specs.Names.{actor_said, request_said, act_said};
 use lapdm_window::Sapi;
 use um_link::{End, Way};
 
-/// Who a line speaks of.
+/// Which endpoint, way or rival a line is about.
 #[derive(Clone, Copy, PartialEq, Eq, Debug)]
 pub(crate) enum Actor {
     End(End, Sapi),
@@ -14,7 +14,7 @@ pub(crate) enum Actor {
     Rival,
 }
 
-/// What an end is asked.
+/// A call of an endpoint.
 #[derive(Clone, Copy, PartialEq, Eq, Debug)]
 pub(crate) enum Request {
     Open,
@@ -25,7 +25,7 @@ pub(crate) enum Request {
     Idle,
 }
 
-/// What the air does.
+/// What the channel does to a block.
 #[derive(Clone, Copy, PartialEq, Eq, Debug)]
 pub(crate) enum Act {
     Deliver,

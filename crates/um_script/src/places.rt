@@ -1,4 +1,4 @@
-//! Words of places.
+//! Words that give bit indices of a block.
 ghost use Rattle.std.specs.Prelude.{◌≡◌, ◌≤◌, ◌∷◌, ℕ, not, length, min, take, IsTrue};
 ghost use Rattle.std.specs.List.{list_any};
 ghost use Rattle.std.specs.Str.{all_ascii_digits};
@@ -11,10 +11,10 @@ ghost use Rattle.um_script.specs.Held.{words_after, numbers_of, AreDecimals, Are
 
 use um_lines::first_word;
 
-/// How many places a block has.
+/// The number of bits in a block.
 const PLACES: u16 = 592;
 
-/// The first word of a text, and the text of the others, if there are any.
+/// The first word of a text, and the text after it, if there are more words.
 fn split_word(text: &[u8]) -> (&[u8], Option<&[u8]>)
     ensures { words text.now ≡ result.0.now ∷ words_after result.1 }
 {
@@ -24,7 +24,7 @@ fn split_word(text: &[u8]) -> (&[u8], Option<&[u8]>)
     }
 }
 
-/// Whether a word is a decimal number without a zero at its front.
+/// Whether a word is a decimal number without leading zeros.
 fn is_decimal(word: &[u8]) -> bool
     ensures { result ≡ is_decimal word.now }
 {
@@ -61,7 +61,7 @@ pub(crate) fn are_decimals(text: &[u8]) -> bool
     true
 }
 
-/// The number of a word of digits, or 592 where it is greater. A word may have any number of digits.
+/// The number of a word of digits, of any length; 592 if it is greater.
 fn place_of(word: &[u8]) -> u16
     requires { IsTrue (all_ascii_digits word.now) }
     ensures { result ≡ min (digits_value 10 word.now) 592 }
@@ -73,7 +73,7 @@ fn place_of(word: &[u8]) -> u16
     place
 }
 
-/// Whether some word of a text is a number that is no place of a block.
+/// Whether some word of a text is a number above 591.
 pub(crate) fn is_some_above(text: &[u8]) -> bool
     requires { AreDecimals (words text.now) }
     ensures { result ≡ list_any is_above (words text.now) }
@@ -89,7 +89,7 @@ pub(crate) fn is_some_above(text: &[u8]) -> bool
     false
 }
 
-/// Whether some words of a text name the same place.
+/// Whether two words of a text give the same index.
 pub(crate) fn names_twice(text: &[u8]) -> bool
     requires { ArePlaceWords (words text.now) }
     ensures { result ≡ is_repeated (numbers_of (words text.now)) }
@@ -108,10 +108,10 @@ pub(crate) fn names_twice(text: &[u8]) -> bool
     false
 }
 
-/// Writes the places that the words of a text name, and says how many they are.
+/// Writes the indices that the words of a text give, and returns their number.
 pub(crate) fn hold_places(places: &mut [u16; 592], text: &[u8]) -> usize
     requires words { ArePlaceWords (words text.now) }
-    requires room { length (words text.now) ≤ 592 }
+    requires space { length (words text.now) ≤ 592 }
     ensures places { take result places.new ≡ numbers_of (words text.now) }
     ensures count { result ≡ length (words text.now) }
 {

@@ -1,17 +1,18 @@
-//! Room for what one line says.
+//! Buffers for the data of one script line.
 ghost use Rattle.std.specs.Prelude.{◌≡◌, ◌≤◌, ◌*◌, ◌%◌, length, IsTrue, IfOk};
 ghost use Rattle.std.specs.List.{list_all};
 ghost use Rattle.hex.specs.Hex.{is_hex_digit};
 ghost use Rattle.um_lines.specs.Words.{words};
 ghost use Rattle.um_lines.specs.Fields.{hex_octets};
 ghost use Rattle.um_script.specs.ScriptReading.{octets_read, places_read};
-ghost use Rattle.um_link.specs.Ways.{ArePlaces};
+ghost use Rattle.um_link.specs.Queues.{ArePlaces};
 ghost use Rattle.um_script.specs.Held.{held_octets, held_places};
 
 use crate::places::{are_decimals, hold_places, is_some_above, names_twice};
 use um_lines::{LineFault, are_octet_digits, are_octets, one_word, write_octets};
 
-/// The octets and places of one line, which lie in the value itself: a line has at most 2,047 octets, and a block 592 places.
+/// The octets and bit indices of one line, stored inline: a line has at most 2,047 octets of data,
+/// and a block 592 bits.
 #[derive(Drop)]
 pub struct Room {
     octets: [u8; 2048],
@@ -19,7 +20,7 @@ pub struct Room {
 }
 
 impl Room {
-    /// A room that holds nothing.
+    /// Empty buffers.
     pub fn new() -> Room {
         Room {
             octets: [0; 2048],
@@ -27,7 +28,7 @@ impl Room {
         }
     }
 
-    /// The room's own copy of some octets.
+    /// Copies octets into the buffer, and lends the copy.
     pub fn hold_octets(&mut self, octets: &[u8]) -> &[u8]
         requires { length octets.now ≤ 2048 }
         ensures { result.now ≡ octets.now }
@@ -37,7 +38,7 @@ impl Room {
         held
     }
 
-    /// The room's own copy of some places.
+    /// Copies bit indices into the buffer, and lends the copy.
     pub fn hold_places(&mut self, places: &[u16]) -> &[u16]
         requires { length places.now ≤ 592 }
         ensures { result.now ≡ places.now }
@@ -47,7 +48,7 @@ impl Room {
         held
     }
 
-    /// The octets of the one word of a text, or the first reason against it.
+    /// Reads the octets of a text of one word, or returns the first reason against it.
     pub(crate) fn read_octets(&mut self, text: &[u8]) -> Result<&[u8], LineFault>
         requires { length text.now ≤ 4096 }
         ensures { held_octets result ≡ octets_read (words text.now) }
@@ -65,11 +66,11 @@ impl Room {
         Ok(self.hold_digits(word))
     }
 
-    /// The octets of digits, two digits an octet.
+    /// Decodes digits, two an octet.
     fn hold_digits(&mut self, digits: &[u8]) -> &[u8]
         requires each { IsTrue (list_all is_hex_digit digits.now) }
         requires even { length digits.now % 2 ≡ 0 }
-        requires room { length digits.now ≤ 4096 }
+        requires space { length digits.now ≤ 4096 }
         ensures { result.now ≡ hex_octets digits.now }
     {
         let held = &mut self.octets[..digits.len() / 2];
@@ -77,7 +78,7 @@ impl Room {
         held
     }
 
-    /// The places of the words of a text, or the first reason against them.
+    /// Reads the bit indices of the words of a text, or returns the first reason against them.
     pub(crate) fn read_places(&mut self, text: &[u8]) -> Result<&[u16], LineFault>
         ensures read { held_places result ≡ places_read (words text.now) }
         ensures possible { IfOk result (λ places. ArePlaces places.now) }

@@ -1,8 +1,8 @@
 //! The lines of a script.
 ghost use Rattle.std.specs.Prelude.{◌≡◌, ◌≤◌, ℕ, List, length, Some, IfOk};
 ghost use Rattle.std.specs.Result.{result_err};
-ghost use Rattle.um_air.specs.Air as A;
-ghost use Rattle.um_air.specs.Sessions.{IsOctetEvent};
+ghost use Rattle.um_link.specs.um_air.Air as A;
+ghost use Rattle.um_link.specs.um_air.Sessions.{IsOctetEvent};
 ghost use Rattle.um_lines.specs.Words.{words};
 ghost use Rattle.um_lines.specs.Forms.{line_fault, anywhere};
 ghost use Rattle.um_lines.specs.LinkForms.{link_forms};
@@ -10,7 +10,7 @@ ghost use Rattle.um_lines.specs.Meanings.{HasOneMeaningUnless};
 ghost use Rattle.um_script.specs.ScriptLines.{ScriptMeans};
 ghost use Rattle.um_script.specs.ScriptReading.{call_read, bare_call_read, octets_call_read, air_read, bare_air_read, flip_read};
 ghost use Rattle.um_script.specs.ScriptReading.{script_read};
-ghost use Rattle.um_script.specs.Naming.{meaning_of, reading_of, IsPossibleLine};
+ghost use Rattle.um_script.specs.Naming.{meaning_of, parse_result, IsPossibleLine};
 ghost use Rattle.um_script.specs.Names.{end_named, way_named};
 ghost use Rattle.um_link.specs.Possible.{IsPossible};
 
@@ -20,21 +20,22 @@ use lapdm_window::Sapi;
 use um_lines::{LINE_LIMIT, LineFault, first_word, is_skipped};
 use um_link::{Air, Call, End, Event, Way};
 
-/// What a line of a script asks for.
+/// What a script line asks for.
 #[derive(Clone, Copy, Drop)]
 pub enum ScriptLine<'a> {
-    /// Nothing: an empty line, or one that begins with `#`.
+    /// Nothing: the line is empty, or begins with `#`.
     Skip,
     Step(Event<'a>),
 }
 
-/// Reads a line of a script, given without its line feed: `mob open HEX`, `X open`, `X send HEX`, `X unit HEX`, `X close`, `X tick`,
-/// `X idle`, `W deliver`, `W lose`, `W flip P ..` or `rival HEX`. The octets and places of its event lie in the room.
+/// Reads a script line without its line feed: `mob open HEX`, `X open`, `X send HEX`, `X unit HEX`,
+/// `X close`, `X tick`, `X idle`, `W deliver`, `W lose`, `W flip P ..` or `rival HEX`. The octets
+/// and bit indices of the event are stored in `room`.
 pub fn parse_script<'a>(line: &[u8], room: &'a mut Room) -> Result<ScriptLine<'a>, LineFault>
     ensures means { IfOk result (λ read. ScriptMeans line.now (meaning_of read)) }
     ensures refused { result_err result ≡ line_fault link_forms anywhere line.now }
 
-    // The world takes what was read.
+    // The world accepts the event.
     ensures possible { IfOk result (λ read. IsPossibleLine read) }
 {
     if line.len() > LINE_LIMIT {
@@ -51,7 +52,7 @@ pub fn parse_script<'a>(line: &[u8], room: &'a mut Room) -> Result<ScriptLine<'a
 
 fn parse_words<'a>(line: &[u8], room: &'a mut Room) -> Result<Event<'a>, LineFault>
     requires { length line.now ≤ 4096 }
-    ensures read { reading_of result ≡ script_read (words line.now) }
+    ensures read { parse_result result ≡ script_read (words line.now) }
     ensures possible { IfOk result (λ event. IsPossible event) }
 {
     let Some((name, rest)) = first_word(line) else {
@@ -72,7 +73,7 @@ fn parse_call<'a>(
     room: &'a mut Room,
 ) -> Result<Event<'a>, LineFault>
     requires { length rest.now ≤ 4096 }
-    ensures read { reading_of result ≡ call_read (end_named end sapi) (words rest.now) }
+    ensures read { parse_result result ≡ call_read (end_named end sapi) (words rest.now) }
     ensures possible { IfOk result (λ event. IsPossible event) }
 {
     match first_word(rest) {
@@ -82,7 +83,7 @@ fn parse_call<'a>(
 }
 
 fn bare_call<'a>(end: End, sapi: Sapi, asked: Option<Request>) -> Result<Event<'a>, LineFault>
-    ensures read { reading_of result ≡ bare_call_read (end_named end sapi) asked }
+    ensures read { parse_result result ≡ bare_call_read (end_named end sapi) asked }
     ensures possible { IfOk result (λ event. IsPossible event) }
 {
     match (asked, sapi) {
@@ -102,7 +103,7 @@ fn octets_call<'a>(
     room: &'a mut Room,
 ) -> Result<Event<'a>, LineFault>
     requires { length octets.now ≤ 4096 }
-    ensures read { reading_of result ≡ octets_call_read (end_named end sapi) asked (words octets.now) }
+    ensures read { parse_result result ≡ octets_call_read (end_named end sapi) asked (words octets.now) }
     ensures possible { IfOk result (λ event. IsPossible event) }
 {
     match (asked, end, sapi) {
@@ -120,7 +121,7 @@ fn octets_call<'a>(
 }
 
 fn parse_air<'a>(way: Way, rest: &[u8], room: &'a mut Room) -> Result<Event<'a>, LineFault>
-    ensures read { reading_of result ≡ air_read (way_named way) (words rest.now) }
+    ensures read { parse_result result ≡ air_read (way_named way) (words rest.now) }
     ensures possible { IfOk result (λ event. IsPossible event) }
 {
     match first_word(rest) {
@@ -130,7 +131,7 @@ fn parse_air<'a>(way: Way, rest: &[u8], room: &'a mut Room) -> Result<Event<'a>,
 }
 
 fn bare_air<'a>(way: Way, done: Option<Act>) -> Result<Event<'a>, LineFault>
-    ensures read { reading_of result ≡ bare_air_read (way_named way) done }
+    ensures read { parse_result result ≡ bare_air_read (way_named way) done }
     ensures possible { IfOk result (λ event. IsPossible event) }
 {
     match done {
@@ -146,7 +147,7 @@ fn flip<'a>(
     places: &[u8],
     room: &'a mut Room,
 ) -> Result<Event<'a>, LineFault>
-    ensures read { reading_of result ≡ flip_read (way_named way) done (words places.now) }
+    ensures read { parse_result result ≡ flip_read (way_named way) done (words places.now) }
     ensures possible { IfOk result (λ event. IsPossible event) }
 {
     match done {
@@ -155,12 +156,12 @@ fn flip<'a>(
     }
 }
 
-/// Each line of a script has one meaning and no other where it has no reason, and none where it has one.
+/// A script line has exactly one meaning, or is refused for a first reason and has none.
 pub fn law_script()
     ensures { (line : List ℕ) → HasOneMeaningUnless (line_fault link_forms anywhere line) (ScriptMeans line) }
 {}
 
-/// The messages of every line of a script are octets.
+/// The messages of every script line are octets.
 pub fn law_script_octets()
     ensures { (line : List ℕ) (event : A.Event) → ScriptMeans line (Some event) → IsOctetEvent event }
 {}

@@ -1,5 +1,5 @@
 use super::*;
-use bit_blocks::{Bits, from_octets};
+use bit_blocks::{BLOCK_OCTETS, Bits, INFORMATION_BITS, from_octets};
 use lapdm_window::{Effects, Frames, Message, Notice, Notices, Reason, Sapi};
 use std::test::Fail;
 use um_block::Received;
@@ -96,15 +96,19 @@ fn the_longest_lines_are_read(rt: HostRuntime) -> Result<(), Fail> {
 
 const FILL: &str = "2b2b2b2b2b2b2b2b2b2b2b2b2b2b2b2b2b2b2b";
 
-/// A block of these octets and fill.
-fn block(front: [u8; 4]) -> [u8; 23] {
-    let mut octets = [0x2b; 23];
+/// A block with these octets, then fill octets.
+fn block(front: [u8; 4]) -> [u8; BLOCK_OCTETS] {
+    let mut octets = [0x2b; BLOCK_OCTETS];
     octets[..4].copy_from_slice(&front);
     octets
 }
 
-/// A block as it was heard, whose parity holds where octets are accepted.
-fn heard(u: Bits<228>, tsc: u8, accepted: Option<[u8; 23]>) -> Option<Received> {
+/// A received block, whose CRC is good if `accepted` has octets.
+fn reception(
+    u: Bits<INFORMATION_BITS>,
+    tsc: u8,
+    accepted: Option<[u8; BLOCK_OCTETS]>,
+) -> Option<Received> {
     Some(Received {
         u,
         metric: 57912,
@@ -120,7 +124,7 @@ fn sends(front: [u8; 4]) -> Frames {
     frames
 }
 
-fn tells(notice: Notice) -> Notices {
+fn reports_of(notice: Notice) -> Notices {
     let mut notices = Notices::new();
     notices.push(notice);
     notices
@@ -152,14 +156,14 @@ fn an_end_takes_reports_and_sends(rt: HostRuntime) -> Result<(), Fail> {
     let mut out = Text::new();
     let effects = Effects {
         frames: sends([0x0d, 0x21, 1, 0x2b]),
-        notices: tells(Notice::Got(Message::new(&[0xaa]))),
+        notices: reports_of(Notice::Got(Message::new(&[0xaa]))),
     };
     step_lines(
         &mut out,
         &Ok(Step {
             who: Who::Network,
             sapi: Sapi::Three,
-            received: heard(Bits::zero(), 0, Some(block([0x0d, 0, 5, 0xaa]))),
+            received: reception(Bits::zero(), 0, Some(block([0x0d, 0, 5, 0xaa]))),
             effects,
         }),
     );
@@ -175,14 +179,14 @@ fn an_end_is_closed(rt: HostRuntime) -> Result<(), Fail> {
     let mut out = Text::new();
     let effects = Effects {
         frames: Frames::new(),
-        notices: tells(Notice::Closed(Reason::Contention)),
+        notices: reports_of(Notice::Closed(Reason::Contention)),
     };
     step_lines(
         &mut out,
         &Ok(Step {
             who: Who::Mobile,
             sapi: Sapi::Zero,
-            received: heard(Bits::zero(), 0, Some(block([1, 0x73, 5, 2]))),
+            received: reception(Bits::zero(), 0, Some(block([1, 0x73, 5, 2]))),
             effects,
         }),
     );
@@ -197,8 +201,8 @@ fn an_end_is_closed(rt: HostRuntime) -> Result<(), Fail> {
 fn a_block_without_parity_is_dropped(rt: HostRuntime) -> Result<(), Fail> {
     let mut octets = [0x2b; 28];
     octets[..3].copy_from_slice(&[2, 3, 1]);
-    octets[23..].copy_from_slice(&[0x2c, 0x4e, 0x54, 0x02, 0x33]);
-    let mut bits = [0; 228];
+    octets[BLOCK_OCTETS..].copy_from_slice(&[0x2c, 0x4e, 0x54, 0x02, 0x33]);
+    let mut bits = [0; INFORMATION_BITS];
     from_octets(&octets, &mut bits[..224]);
     let Some(u) = Bits::from_slice(&bits) else {
         return Err("no bits".into());
@@ -213,7 +217,7 @@ fn a_block_without_parity_is_dropped(rt: HostRuntime) -> Result<(), Fail> {
         &Ok(Step {
             who: Who::Mobile,
             sapi: Sapi::Zero,
-            received: heard(u, 7, None),
+            received: reception(u, 7, None),
             effects,
         }),
     );

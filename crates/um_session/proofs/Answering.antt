@@ -1,6 +1,6 @@
--- The command `link` answers each good line in one way.
+-- The command `link` has one output for every input: a step of the channel has exactly one answer.
 use Rattle.std.proofs.Common.{◌≡◌, ℕ, ◌≤◌, List, [], Option, None, Some, All, refl, sym, ap, ◌∙◌, subst}
-use Rattle.lapdm_frame.specs.declared.Channel.{Channel}
+use Rattle.um_link.specs.lapdm_frame.declared.Channel.{Channel}
 use Rattle.um_lines.specs.Forms.{line_fault, anywhere, LineMeans}
 use Rattle.um_lines.specs.LinkForms.{link_forms}
 use Rattle.um_lines.specs.Meanings.{HasOneMeaningUnless}
@@ -8,9 +8,9 @@ use Rattle.um_lines.proofs.FormLaws.{one_meaning, one_made}
 use Rattle.um_lines.proofs.OneMeaning.{good_meaning, same_meaning}
 use Rattle.um_script.specs.ScriptLines.{ScriptMeans, event_said}
 use Rattle.um_script.specs.AnswerLines.{answer_text}
-use Rattle.um_air.specs.Air.{Event, Answer, AirState, AirRun, start_on}
-use Rattle.um_air.specs.Sessions.{IsOctetEvent}
-use Rattle.um_air.proofs.Laws.{longer_run, one_answer, some_answer}
+use Rattle.um_link.specs.um_air.Air.{Event, Answer, AirState, AirRun, start_on}
+use Rattle.um_link.specs.um_air.Sessions.{IsOctetEvent}
+use Rattle.um_link.proofs.um_air.Laws.{longer_run, one_answer, some_answer}
 use Rattle.um_driver.specs.Rules.{IsDetermined, IsTotal, Runs}
 use Rattle.um_driver.specs.Laws.{HasOneOutput}
 use Rattle.um_driver.proofs.OutputExists.{has_one_output}
@@ -45,7 +45,7 @@ link_is_determined s line y y' b b' (m, means, answer) (m', means', answer') =
 
 -- ---- some answer
 
--- the events and answers of a session are a run of the air
+-- the events and answers of a session are a run of the channel
 abbrev pub IsSessionOn : ℕ → Channel → Session → Type 0
 IsSessionOn tsc channel s = AirRun (start_on tsc channel) s.events s.answers s.air
 

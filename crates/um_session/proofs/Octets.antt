@@ -1,15 +1,15 @@
--- The messages of a session are octets, so it is kind where few bits are turned over.
+-- The messages of a session are octets, so a session with few inverted bits satisfies `IsBenign`.
 use Rattle.std.proofs.Common.{ℕ, List, [], ◌∷◌, Some, None, sym, subst}
 use Rattle.std.specs.List.{All}
 use Rattle.std.proofs.lemmas.List.Elements.{All-nil, All-cons, All-head, All-tail, All-append}
-use Rattle.lapdm_frame.specs.declared.Channel.{Channel}
-use Rattle.um_air.specs.Air.{Event}
-use Rattle.um_air.specs.Sessions.{IsKindEvent, IsOctetEvent, IsKind}
+use Rattle.um_link.specs.lapdm_frame.declared.Channel.{Channel}
+use Rattle.um_link.specs.um_air.Air.{Event}
+use Rattle.um_link.specs.um_air.Sessions.{IsBenignEvent, IsOctetEvent, IsBenign}
 use Rattle.um_driver.specs.Rules.{Runs}
 use Rattle.um_driver.proofs.RunLemmas.{Runs-keep}
 use Rattle.um_script.proofs.OctetLaws.{octet_event}
 use Rattle.um_session.specs.Sessions.{Session, idle, AnswersScript, link_rules}
-use Rattle.um_session.specs.Promises.{AreFewTurned}
+use Rattle.um_session.specs.Promises.{AreBenignFlips}
 
 abbrev pub HasOctets : Session → Type 0
 HasOctets s = All IsOctetEvent s.events
@@ -26,10 +26,10 @@ pub octets_of_session : (tsc : ℕ) (channel : Channel) (lines answers : List (L
 octets_of_session tsc channel lines answers b runs =
     Runs-keep link_rules HasOctets octets_keep (idle tsc channel) b lines answers (All-nil IsOctetEvent) runs
 
-pub kind_events : (events : List Event) → AreFewTurned events → All IsOctetEvent events → IsKind events
-kind_events [] few octets = tt
-kind_events (event ∷ events) few octets = (
-  All-head IsKindEvent event events few,
+pub benign_events : (events : List Event) → AreBenignFlips events → All IsOctetEvent events → IsBenign events
+benign_events [] few octets = tt
+benign_events (event ∷ events) few octets = (
+  All-head IsBenignEvent event events few,
   All-head IsOctetEvent event events octets,
-  kind_events events (All-tail IsKindEvent event events few) (All-tail IsOctetEvent event events octets),
+  benign_events events (All-tail IsBenignEvent event events few) (All-tail IsOctetEvent event events octets),
 )

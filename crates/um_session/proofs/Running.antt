@@ -1,13 +1,14 @@
--- A run of the command with its radio is a run of `link`, and what is promised holds of it.
+-- A run of the command with its radio is a run of `link`, and the claims about sessions hold for
+-- it.
 use Rattle.std.proofs.Common.{◌≡◌, ℕ, ◌+◌, inl, inr, Bool, true, false, List, [], ◌∷◌, ◌++◌, Option, None, Some}
 use Rattle.std.proofs.Common.{refl, sym, ap, ◌∙◌, subst, arith, append_assoc, append-nil}
-use Rattle.lapdm_frame.specs.declared.Channel.{Channel}
-use Rattle.um_block.specs.Tallies.{raised_by}
-use Rattle.um_air.specs.Air.{Answer}
-use Rattle.um_air.proofs.Laws.{air_claims, air_order, kind_is_harmless}
+use Rattle.um_link.specs.lapdm_frame.declared.Channel.{Channel}
+use Rattle.um_block.specs.Tallies.{tally_after}
+use Rattle.um_link.specs.um_air.Air.{Answer}
+use Rattle.um_link.proofs.um_air.Laws.{air_claims, air_order, benign_is_harmless}
 use Rattle.um_lines.specs.declared.fault.LineFault.{LineFault}
 use Rattle.um_driver.specs.Rules.{Runs, IsBad, IsDetermined}
-use Rattle.um_driver.specs.Outputs.{Gives, IsOutput}
+use Rattle.um_driver.specs.Outputs.{Yields, IsOutput}
 use Rattle.um_driver.specs.Table.{IsRun, EndsAsDue}
 use Rattle.um_driver.specs.declared.status.Status.{Status}
 use Rattle.um_driver.specs.declared.status.Status.TheVariants.{NoMemory}
@@ -15,11 +16,11 @@ use Rattle.um_driver.proofs.Settling.{without_memory}
 use Rattle.um_driver.proofs.RunLemmas.{Runs-keep}
 use Rattle.um_driver.proofs.Weaker.{IsWeakerBy, weaker_run_by, weaker_run_state, runs_by}
 use Rattle.um_session.specs.Sessions.{Session, idle, AnswersScript, link_rules}
-use Rattle.um_session.specs.Courses.{Course, Tallies, course_rules, frames_sent, blocks_heard}
+use Rattle.um_session.specs.Courses.{Course, Tallies, course_rules, frames_sent, blocks_reception}
 use Rattle.um_session.specs.Promises.{IsDelivered, IsByRadio, IsLinkRun}
-use Rattle.um_session.proofs.Octets.{HasOctets, octets_of_session, kind_events}
+use Rattle.um_session.proofs.Octets.{HasOctets, octets_of_session, benign_events}
 use Rattle.um_session.proofs.Answering.{IsSessionOn, session_of, link_is_determined}
-use Rattle.um_session.proofs.Tallying.{frames_sent-append, blocks_heard-append}
+use Rattle.um_session.proofs.Tallying.{frames_sent-append, blocks_reception-append}
 
 abbrev session_in : Course → Session
 session_in c = c.session
@@ -31,15 +32,15 @@ pub delivered : (tsc : ℕ) (channel : Channel) (s : Session) → IsSessionOn ts
 delivered tsc channel s run octets = record {
   order = air_order tsc channel s.events s.answers s.air run;
   delivery = air_claims tsc channel s.events s.answers s.air run;
-  harmless = λ few. kind_is_harmless tsc channel s.events s.answers s.air run (kind_events s.events few octets);
+  harmless = λ few. benign_is_harmless tsc channel s.events s.answers s.air run (benign_events s.events few octets);
 }
 
--- the tallies before the first line stay what they were
+-- the counters before the first line stay the same
 same_before : (c b : Course) (lines answers : List (List ℕ)) → Runs course_rules c lines answers b → b.before ≡ c.before
 same_before c b lines answers runs =
     Runs-keep course_rules (λ x. x.before ≡ c.before) (λ x y line answer e step. step.1 ∙ e) c b lines answers refl runs
 
--- later sessions have all earlier answers
+-- later sessions contain all earlier answers
 record HasAll (xs : List Answer) (s : Session) : Type 0 where
   pub more : List Answer
   pub all : s.answers ≡ xs ++ more
@@ -59,40 +60,40 @@ has_all c b lines answers runs =
     (λ x y line answer h step. has_all_step c.session.answers x.session y.session line answer h step.0)
     c b lines answers (record { more = []; all = sym (append-nil c.session.answers) }) runs
 
--- what the command and its radio stand for after the last line
-abbrev pub Tells : Tallies → Course → Type 0
-Tells after c = (after.sent ≡ raised_by (frames_sent c.session.answers) c.before.sent)
-    × (after.heard ≡ raised_by (blocks_heard c.session.answers) c.before.heard)
+-- the radio's counters after the last line
+abbrev pub Reports : Tallies → Course → Type 0
+Reports after c = (after.sent ≡ tally_after (frames_sent c.session.answers) c.before.sent)
+    × (after.heard ≡ tally_after (blocks_reception c.session.answers) c.before.heard)
 
 by_radio : (before after : Tallies) (s : Session) (last : Course) → HasAll s.answers last.session → last.before ≡ before →
-    Tells after last → IsByRadio s.answers before after
+    Reports after last → IsByRadio s.answers before after
 by_radio before after s last h same tells = record {
   sends = frames_sent last.session.answers;
-  receives = blocks_heard last.session.answers;
+  receives = blocks_reception last.session.answers;
   enough_sent = let e = ap frames_sent h.all ∙ frames_sent-append s.answers h.more in omega (arith, e);
-  enough_heard = let e = ap blocks_heard h.all ∙ blocks_heard-append s.answers h.more in omega (arith, e);
-  sent = tells.0 ∙ ap (λ (b : Tallies). raised_by (frames_sent last.session.answers) b.sent) same;
-  heard = tells.1 ∙ ap (λ (b : Tallies). raised_by (blocks_heard last.session.answers) b.heard) same;
+  enough_reception = let e = ap blocks_reception h.all ∙ blocks_reception-append s.answers h.more in omega (arith, e);
+  sent = tells.0 ∙ ap (λ (b : Tallies). tally_after (frames_sent last.session.answers) b.sent) same;
+  heard = tells.1 ∙ ap (λ (b : Tallies). tally_after (blocks_reception last.session.answers) b.heard) same;
 }
 
-pub link_run : (tsc : ℕ) (channel : Channel) (before after : Tallies) (Stands : Course → Type 0) →
-    ((c : Course) → Stands c → Tells after c) → (status : Status) (left left' taken taken' : Option (List ℕ)) →
-    IsRun course_rules (record { session = idle tsc channel; before = before }) Stands status left left' taken taken' →
+pub link_run : (tsc : ℕ) (channel : Channel) (before after : Tallies) (Represents : Course → Type 0) →
+    ((c : Course) → Represents c → Reports after c) → (status : Status) (left left' taken taken' : Option (List ℕ)) →
+    IsRun course_rules (record { session = idle tsc channel; before = before }) Represents status left left' taken taken' →
     IsLinkRun tsc channel status left left' taken taken' before after
-link_run tsc channel before after Stands tells status left left' taken taken' h =
+link_run tsc channel before after Represents tells status left left' taken taken' h =
     let start : Course = record { session = idle tsc channel; before = before } in
-    let same : (weaker_run_by session_in course_rules link_rules without_radio start Stands (λ last. Unit {0})
-    (λ b stands. tt) status left left' taken taken' h).state ≡ h.state.session =
-    weaker_run_state session_in course_rules link_rules without_radio start Stands (λ last. Unit {0})
-    (λ b stands. tt) status left left' taken taken' h in
+    let same : (weaker_run_by session_in course_rules link_rules without_radio start Represents (λ last. Unit {0})
+    (λ b represents. tt) status left left' taken taken' h).state ≡ h.state.session =
+    weaker_run_state session_in course_rules link_rules without_radio start Represents (λ last. Unit {0})
+    (λ b represents. tt) status left left' taken taken' h in
     record {
-      run = weaker_run_by session_in course_rules link_rules without_radio start Stands (λ last. Unit {0})
-          (λ b stands. tt) status left left' taken taken' h;
+      run = weaker_run_by session_in course_rules link_rules without_radio start Represents (λ last. Unit {0})
+          (λ b represents. tt) status left left' taken taken' h;
       by_radio =
           subst (λ (s : Session). IsByRadio s.answers before after) (sym same)
           (by_radio before after h.state.session h.last (has_all h.state h.last h.further h.unwritten h.ahead)
           (same_before h.state h.last h.further h.unwritten h.ahead ∙ same_before start h.state h.lines h.answers h.runs)
-          (tells h.last h.stands));
+          (tells h.last h.represents));
       delivered =
           subst IsDelivered (sym same)
           (let runs : Runs link_rules (idle tsc channel) h.lines h.answers h.state.session =
@@ -101,16 +102,16 @@ link_run tsc channel before after Stands tells status left left' taken taken' h 
           (octets_of_session tsc channel h.lines h.answers h.state.session runs));
     }
 
--- ---- a run of the command ends as a run of `link` is to
+-- ---- a run of the command ends as due for `link`
 
--- an output of `link` is one of the command with its radio
+-- an output by the rules of `link` is one by the rules with the radio
 bad_too : (s : Session) (before : Tallies) (line : List ℕ) (fault : LineFault) → IsBad link_rules s line fault →
     IsBad course_rules (record { session = s; before = before }) line fault
 bad_too s before line fault (inl long) = inl long
 bad_too s before line fault (inr (short, e)) = inr (short, e)
 
 gives_too : (s : Session) (before : Tallies) (n : ℕ) (judged : List (List ℕ)) (ended : Bool) (status : Status) (z : List ℕ) →
-    Gives link_rules s n judged ended status z → Gives course_rules (record { session = s; before = before }) n judged ended status z
+    Yields link_rules s n judged ended status z → Yields course_rules (record { session = s; before = before }) n judged ended status z
 gives_too s before n [] true status z (inl h) = inl h
 gives_too s before n [] true status z (inr h) = inr (record { fault = h.fault; bad = h.bad; status_is = h.status_is; output = h.output })
 gives_too s before n [] false status z h = h
@@ -150,15 +151,15 @@ link_due s before status left taken taken' due = go left (due course_is_determin
     go None h = tt
     go (Some x) h = λ end z out. h end z (output_too s before x end z out)
 
--- without memory nothing happens
+-- a run that lacks memory
 pub unmade_run : (tsc : ℕ) (channel : Channel) (before : Tallies) (left taken : Option (List ℕ)) →
     IsLinkRun tsc channel NoMemory left left taken taken before before
 unmade_run tsc channel before left taken =
     let start : Course = record { session = idle tsc channel; before = before } in
-    link_run tsc channel before before (Tells before) (λ c stands. stands) NoMemory left left taken taken
-    (without_memory course_rules start (Tells before) left taken (refl, refl))
+    link_run tsc channel before before (Reports before) (λ c represents. represents) NoMemory left left taken taken
+    (without_memory course_rules start (Reports before) left taken (refl, refl))
 
--- the same run, said of equal things
+-- the same run for equal parameters
 pub same_run : (tsc tsc' : ℕ) (channel channel' : Channel) (before before' after after' : Tallies) (status : Status)
     (left left' taken taken' : Option (List ℕ)) → tsc ≡ tsc' → channel ≡ channel' → before ≡ before' → after ≡ after' →
     IsLinkRun tsc channel status left left' taken taken' before after →

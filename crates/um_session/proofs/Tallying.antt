@@ -1,32 +1,33 @@
--- Tallies that rise by one for each frame and each arrival.
+-- The radio's counters, which rise by one for each frame sent and each block received.
 use Rattle.std.proofs.Common.{◌≡◌, ℕ, zero, suc, ◌+◌, List, [], ◌∷◌, ◌++◌, ap, ◌∙◌, arith}
-use Rattle.um_block.specs.Tallies.{raised, raised_by}
-use Rattle.um_air.specs.Air.{Answer}
-use Rattle.um_session.specs.Courses.{frames_in, arrivals_in, frames_sent, blocks_heard}
+use Rattle.um_block.specs.Tallies.{next_tally, tally_after}
+use Rattle.um_link.specs.um_air.Air.{Answer}
+use Rattle.um_session.specs.Courses.{frames_in, arrivals_in, frames_sent, blocks_reception}
 
-pub raised_by-plus : (m n t : ℕ) → raised_by (m + n) t ≡ raised_by m (raised_by n t)
-raised_by-plus zero n t = let e : zero + n ≡ n = omega arith in ap (λ k. raised_by k t) e
+pub raised_by-plus : (m n t : ℕ) → tally_after (m + n) t ≡ tally_after m (tally_after n t)
+raised_by-plus zero n t = let e : zero + n ≡ n = omega arith in ap (λ k. tally_after k t) e
 raised_by-plus (suc m) n t =
     let e : suc m + n ≡ suc (m + n) = omega arith in
-    ap (λ k. raised_by k t) e ∙ ap raised (raised_by-plus m n t)
+    ap (λ k. tally_after k t) e ∙ ap next_tally (raised_by-plus m n t)
 
 pub frames_sent-append : (xs ys : List Answer) → frames_sent (xs ++ ys) ≡ frames_sent xs + frames_sent ys
 frames_sent-append [] ys = omega arith
 frames_sent-append (x ∷ xs) ys = let e = frames_sent-append xs ys in omega arith
 
-pub blocks_heard-append : (xs ys : List Answer) → blocks_heard (xs ++ ys) ≡ blocks_heard xs + blocks_heard ys
-blocks_heard-append [] ys = omega arith
-blocks_heard-append (x ∷ xs) ys = let e = blocks_heard-append xs ys in omega arith
+pub blocks_reception-append : (xs ys : List Answer) → blocks_reception (xs ++ ys) ≡ blocks_reception xs + blocks_reception ys
+blocks_reception-append [] ys = omega arith
+blocks_reception-append (x ∷ xs) ys = let e = blocks_reception-append xs ys in omega arith
 
--- one answer more
+-- one more answer
 pub sent_more : (xs : List Answer) (x : Answer) (t : ℕ) →
-    raised_by (frames_sent (xs ++ x ∷ [])) t ≡ raised_by (frames_in x) (raised_by (frames_sent xs) t)
+    tally_after (frames_sent (xs ++ x ∷ [])) t ≡ tally_after (frames_in x) (tally_after (frames_sent xs) t)
 sent_more xs x t =
     let e : frames_sent (xs ++ x ∷ []) ≡ frames_in x + frames_sent xs = let e = frames_sent-append xs (x ∷ []) in omega arith in
-    ap (λ n. raised_by n t) e ∙ raised_by-plus (frames_in x) (frames_sent xs) t
+    ap (λ n. tally_after n t) e ∙ raised_by-plus (frames_in x) (frames_sent xs) t
 
-pub heard_more : (xs : List Answer) (x : Answer) (t : ℕ) →
-    raised_by (blocks_heard (xs ++ x ∷ [])) t ≡ raised_by (arrivals_in x) (raised_by (blocks_heard xs) t)
-heard_more xs x t =
-    let e : blocks_heard (xs ++ x ∷ []) ≡ arrivals_in x + blocks_heard xs = let e = blocks_heard-append xs (x ∷ []) in omega arith in
-    ap (λ n. raised_by n t) e ∙ raised_by-plus (arrivals_in x) (blocks_heard xs) t
+pub reception_more : (xs : List Answer) (x : Answer) (t : ℕ) →
+    tally_after (blocks_reception (xs ++ x ∷ [])) t ≡ tally_after (arrivals_in x) (tally_after (blocks_reception xs) t)
+reception_more xs x t =
+    let e : blocks_reception (xs ++ x ∷ []) ≡ arrivals_in x + blocks_reception xs = let e = blocks_reception-append xs (x ∷ []) in
+    omega arith in
+    ap (λ n. tally_after n t) e ∙ raised_by-plus (arrivals_in x) (blocks_reception xs) t

@@ -1,11 +1,11 @@
--- A session and the tallies of the radio that codes and receives its blocks.
+-- A session, and the counters of the radio that codes and receives its blocks.
 use Rattle.std.specs.Prelude.{ℕ, ◌≡◌, ◌+◌, List, [], ◌∷◌, length, Option, Some, None}
 use Rattle.um_block.specs.declared.received.Received.{Received}
-use Rattle.um_air.specs.Air.{Answer, Refuses, Does}
+use Rattle.um_link.specs.um_air.Air.{Answer, Refuses, Does}
 use Rattle.um_driver.specs.Rules.{Rules}
 use Rattle.um_session.specs.Sessions.{Session, AnswersScript, link_rules}
 
--- how many frames an answer sends, and how many blocks arrived with it
+-- how many frames an answer sends, and how many blocks are received with it
 abbrev pub frames_in : Answer → ℕ
 frames_in (Refuses why) = 0
 frames_in (Does step) = length step.frames
@@ -18,16 +18,16 @@ abbrev pub arrivals_in : Answer → ℕ
 arrivals_in (Refuses why) = 0
 arrivals_in (Does step) = reports_in step.received
 
--- of all answers
+-- the sums over all answers
 abbrev pub frames_sent : List Answer → ℕ
 frames_sent [] = 0
 frames_sent (answer ∷ answers) = frames_in answer + frames_sent answers
 
-abbrev pub blocks_heard : List Answer → ℕ
-blocks_heard [] = 0
-blocks_heard (answer ∷ answers) = arrivals_in answer + blocks_heard answers
+abbrev pub blocks_reception : List Answer → ℕ
+blocks_reception [] = 0
+blocks_reception (answer ∷ answers) = arrivals_in answer + blocks_reception answers
 
--- what a radio had sent and received before
+-- the blocks that a radio has sent and received
 pub record Tallies : Type 0 where
   pub sent : ℕ
   pub heard : ℕ
@@ -36,7 +36,7 @@ pub record Course : Type 0 where
   pub session : Session
   pub before : Tallies
 
--- the lines of the command, where the radio had these tallies before the first
+-- the rules of `link`, with the radio's counters before the first line
 abbrev pub course_rules : Rules Course
 course_rules = record {
   fault = λ c line. link_rules.fault c.session line;

@@ -1,6 +1,6 @@
-//! The command `link`: a mobile and a network over an air, as a script says what happens to them.
+//! The command `link`: a mobile, a network and the channel between them, driven by a script.
 #![tactic(auto)]
 
 mod link;
 
-pub use link::Link;
+pub use link::LinkCommand;

@@ -1,10 +1,10 @@
-//! The command `link`, over the driver of all commands that read lines.
+//! The command `link`, for the driver of all commands.
 ghost use base.Fml.{GName};
 ghost use Rattle.std.specs.Prelude.{◌≡◌, None};
-ghost use Rattle.um_block.specs.Tallies.{raised_by};
-ghost use Rattle.um_link.specs.Standing.{Stands};
+ghost use Rattle.um_block.specs.Tallies.{tally_after};
+ghost use Rattle.um_link.specs.Abstraction.{Represents};
 ghost use Rattle.um_session.specs.Sessions.{idle};
-ghost use Rattle.um_session.specs.Courses.{Course, course_rules, frames_sent, blocks_heard};
+ghost use Rattle.um_session.specs.Courses.{Course, course_rules, frames_sent, blocks_reception};
 
 use um_block::Radio;
 use um_driver::Command;
@@ -12,24 +12,24 @@ use um_lines::{LineFault, Text};
 use um_link::{Step, World};
 use um_script::{Room, ScriptLine, parse_script, written_lines};
 
-/// The command `link`: both ends over the air, and the radio that codes and receives what goes over it.
+/// The command `link`: both sides, the channel, and the radio that codes and receives its blocks.
 #[derive(Drop)]
-pub struct Link<'a, R> {
+pub struct LinkCommand<'a, R> {
     pub world: &'a mut World,
     pub radio: &'a mut R,
     room: Room,
-    // What came of the last event that was not refused.
+    // The step of the last event that was not refused.
     step: Step,
 }
 
-impl<'a, R: Radio> Link<'a, R> {
-    /// The command over a world as it is.
-    pub fn new(world: &'a mut World, radio: &'a mut R) -> Link<'a, R>
+impl<'a, R: Radio> LinkCommand<'a, R> {
+    /// The command over a world in its present state.
+    pub fn new(world: &'a mut World, radio: &'a mut R) -> LinkCommand<'a, R>
         ensures world { result.world.now ≡ world.old }
         ensures radio { result.radio.now ≡ radio.old }
         ensures same_radio { result.radio.ghost_name ≡ radio.entry.ghost_name }
     {
-        Link {
+        LinkCommand {
             world,
             radio,
             room: Room::new(),
@@ -38,7 +38,7 @@ impl<'a, R: Radio> Link<'a, R> {
     }
 }
 
-impl<'a, R: Radio> Command for Link<'a, R> {
+impl<'a, R: Radio> Command for LinkCommand<'a, R> {
     ghost State = { Course };
 
     ghost rules = { course_rules };
@@ -48,9 +48,9 @@ impl<'a, R: Radio> Command for Link<'a, R> {
       before = record { sent = R.sent link.radio.now; heard = R.heard link.radio.now };
     } };
 
-    ghost stands = { λ link course. Stands link.world.now course.session.air
-        × (R.sent link.radio.now ≡ raised_by (frames_sent course.session.answers) course.before.sent)
-        × (R.heard link.radio.now ≡ raised_by (blocks_heard course.session.answers) course.before.heard) };
+    ghost represents = { λ link course. Represents link.world.now course.session.air
+        × (R.sent link.radio.now ≡ tally_after (frames_sent course.session.answers) course.before.sent)
+        × (R.heard link.radio.now ≡ tally_after (blocks_reception course.session.answers) course.before.heard) };
 
     ghost Kept = { GName };
 

@@ -1,26 +1,10 @@
-//! The lines that `um` reads and writes.
+//! The lines of all commands: what `um_formats` and `um_script` read and write.
 #![tactic(auto)]
 
-mod burst_lines;
-mod bursts;
-mod code;
-mod digits;
-mod frame_words;
-mod frames;
-mod held;
-mod hex_digits;
-mod reports;
-mod show;
-mod soft_digits;
-
-pub use burst_lines::{BurstLine, law_burst, law_written_bursts, parse_burst};
-pub use bursts::{access_line, block_lines, normal_line, push_block, sync_line};
-pub use code::{CodeLine, law_code, parse_code};
-pub use frames::{frame_line, octets_line};
-pub use held::{HeldBursts, NextBurst, read_burst_into};
-pub use reports::{access_report, block_report, sync_report};
-pub use show::{ShowLine, law_show, law_written_frames, parse_show};
-pub use um_lines::{LineFault, Text, law_words, refused_line};
-
-#[cfg(test)]
-mod tests;
+pub use um_formats::{
+    BurstLine, CodeLine, LineFault, ShowLine, Text, access_line, access_report, block_lines,
+    block_report, frame_line, law_burst, law_code, law_show, law_words, law_written_bursts,
+    law_written_frames, normal_line, octets_line, parse_burst, parse_code, parse_show,
+    refused_line, sync_line, sync_report,
+};
+pub use um_script::{Room, ScriptLine, law_different_lines, law_script, parse_script, step_lines};

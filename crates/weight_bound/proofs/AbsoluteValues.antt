@@ -1,4 +1,4 @@
--- The least and the greatest absolute value of a list, one value more at a time.
+-- The least and greatest absolute value of a list, extended by one value at a time.
 use Rattle.std.proofs.Common.{◌≡◌, ℕ, ◌+◌, ◌<◌, ◌≤◌, inl, inr, min, max, ℤ, pos, List, length, get_or, take, map}
 use Rattle.std.proofs.Common.{sym, subst, ◌∙◌, arith}
 use Rattle.std.specs.Prelude.{unsigned_abs, ◌⊎◌}
@@ -8,7 +8,7 @@ use Rattle.std.proofs.lemmas.Bool.{cases_lt}
 use Rattle.std.proofs.lemmas.List.Elements.{All-nil, All-more, All-weaker}
 use Rattle.weight_bound.specs.Restoring.{IsStrengths}
 
--- an absolute value between two bounds
+-- an absolute value within two bounds
 abbrev pub Between : ℕ → ℕ → ℤ → Type 0
 Between lo hi value = (lo ≤ unsigned_abs value) × (unsigned_abs value ≤ hi)
 
@@ -24,7 +24,7 @@ pub Contains-strength : (s : List ℤ) (k strength : ℕ) → k < length s → s
     Contains (map unsigned_abs s) strength
 Contains-strength s k strength within e = (k, rw length-map within, get_or-map unsigned_abs s k (pos 0) strength within ∙ sym e)
 
--- the least and the greatest of two members are members
+-- if c equals one of two members, it is a member
 either : (xs : List ℕ) (a b c : ℕ) → (c ≡ a) ⊎ (c ≡ b) → Contains xs a → Contains xs b → Contains xs c
 either xs a b c (inl e) in_a in_b = subst (Contains xs) (sym e) in_a
 either xs a b c (inr e) in_a in_b = subst (Contains xs) (sym e) in_b
@@ -41,7 +41,7 @@ Contains-min xs a b = either xs a b (min a b) (min_or a b)
 pub Contains-max : (xs : List ℕ) (a b : ℕ) → Contains xs a → Contains xs b → Contains xs (max a b)
 Contains-max xs a b = either xs a b (max a b) (max_or a b)
 
--- what a run over k values knows: they lie between, and both bounds occur somewhere
+-- after k values: each lies within the bounds, and both bounds occur in the list
 pub record IsSoFar (s : List ℤ) (k lo hi : ℕ) : Type 0 where
   pub between : All (Between lo hi) (take k s)
   pub least : Contains (map unsigned_abs s) lo

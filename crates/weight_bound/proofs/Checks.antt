@@ -1,11 +1,11 @@
--- The definitions at worked values.
+-- The definitions computed at worked examples.
 use Rattle.std.proofs.Common.{◌≡◌, pos, negsuc, [], ◌∷◌, replicate, refl, true, nat_le, arith}
 use Rattle.std.specs.Prelude.{unsigned_abs}
 use Rattle.std.specs.List.{list_all}
 use Rattle.std.proofs.lemmas.List.Sums.{AllPass-from_list_all}
 use Rattle.std.proofs.lemmas.Bool.{leb-true}
 use Rattle.bit_blocks.specs.SoftValues.{wrong_places}
-use Rattle.conv_code.specs.Code.{coded}
+use Rattle.conv_code.specs.Code.{encoding}
 use Rattle.weight_bound.specs.Distance.{distance}
 use Rattle.weight_bound.specs.Restoring.{IsStrengths}
 
@@ -15,8 +15,8 @@ distance-two = refl
 wrong_places-two : wrong_places (pos 0 ∷ pos 3 ∷ negsuc 2 ∷ []) (0 ∷ 0 ∷ 0 ∷ []) ≡ 2
 wrong_places-two = refl
 
--- a one alone, at the first of eighteen places
-distance-seven : distance (coded (1 ∷ replicate 17 0)) (coded (replicate 18 0)) ≡ 7
+-- a single one, first of eighteen bits
+distance-seven : distance (encoding (1 ∷ replicate 17 0)) (encoding (replicate 18 0)) ≡ 7
 distance-seven = refl
 
 are_within : list_all (λ value. nat_le (unsigned_abs value) 5) (negsuc 4 ∷ pos 4 ∷ pos 0 ∷ []) ≡ true

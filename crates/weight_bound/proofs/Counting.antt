@@ -1,4 +1,4 @@
--- Counts of places: one place more at the end, and one place more in front.
+-- Counts over an index range, extended at the end or at the front.
 use Rattle.std.proofs.Common.{◌≡◌, ℕ, zero, suc, ◌+◌, ◌≤◌, Bool, not, ◌==◌, cond, List, ◌∷◌, length, refl, ap}
 use Rattle.std.proofs.Common.{ap₂, ◌∙◌, sym, arith}
 use Rattle.std.specs.List.{count_by, range_with_len}
@@ -15,7 +15,7 @@ count_by_more p n =
 pub count_by-le : (p : ℕ → Bool) (n : ℕ) → count_by p (range_with_len 0 n) ≤ n
 count_by-le p n = omega (arith, count_by-le-length p (range_with_len 0 n), length-range_with_len 0 n)
 
--- the places after the first are those of the rest
+-- dropping the first index shifts the others by one
 count_by-rest : (p q : ℕ → Bool) (a n : ℕ) → ((k : ℕ) → p (suc k) ≡ q k) →
     count_by p (range_with_len (suc a) n) ≡ count_by q (range_with_len a n)
 count_by-rest p q a zero h = refl

@@ -1,4 +1,5 @@
--- The coded lists of two information lists differ in at least seven places, and some in no more.
+-- The free distance is seven. The code is linear, so a distance is the weight of the sum: its first one gives two ones and leads to
+-- state 1, whose potential is five. A list with a single one reaches seven.
 use Rattle.std.proofs.Common.{◌≡◌, ◌≢◌, ℕ, zero, suc, ◌+◌, ◌-◌, ◌*◌, ◌%◌, ◌≤◌, List, [], ◌∷◌}
 use Rattle.std.proofs.Common.{◌++◌, length, take, drop, replicate, not, ◌==◌, cond, refl, ap, ap₂, sym, ◌∙◌, arith}
 use Rattle.std.proofs.Common.{length-drop}
@@ -7,7 +8,7 @@ use Rattle.std.proofs.lemmas.List.Elements.{All-cons, All-head, All-tail, All-ta
 use Rattle.std.specs.List.{All}
 use Rattle.bit_blocks.specs.Bits.{IsBit, AllBits, add_bits}
 use Rattle.bit_blocks.proofs.Lemmas.{AllBits-add_bits, add_bits-append}
-use Rattle.conv_code.specs.Code.{coded, IsInformation}
+use Rattle.conv_code.specs.Code.{encoding, IsInformation}
 use Rattle.conv_code.specs.States.{coded_from}
 use Rattle.conv_code.proofs.Lemmas.{AllBits-coded, coded_from_start, length-coded}
 use Rattle.weight_bound.specs.Distance.{distance, AtLeastSeven, ReachesSeven}
@@ -15,7 +16,7 @@ use Rattle.weight_bound.proofs.Counting.{distance-cons}
 use Rattle.weight_bound.proofs.Linear.{coded-add_bits}
 use Rattle.weight_bound.proofs.Weights.{ones, tail_bits, ones_bound}
 
--- bits differ where their sum is 1
+-- two bits differ where their sum is 1
 distance-add_bits : (a b : List ℕ) → length a ≡ length b → AllBits a → AllBits b → distance a b ≡ ones (add_bits a b)
 distance-add_bits [] b e bits_a bits_b = refl
 distance-add_bits (x ∷ a) [] e bits_a bits_b = absurd (omega arith)
@@ -34,7 +35,7 @@ distance-add_bits (x ∷ a) (y ∷ b) e bits_a bits_b =
     one_place (suc zero) (suc (suc y)) hx hy = absurd (omega arith)
     one_place (suc (suc x)) y hx hy = absurd (omega arith)
 
--- the first place where two lists differ gives two ones, and leads to the state from which five more come
+-- the first difference gives two ones and leads to state 1, from which at least five more follow
 seven_ones : (u v : List ℕ) → AllBits u → AllBits v → length u ≡ length v → u ≢ v → 7 ≤ ones (coded_from 0 (add_bits u v ++ tail_bits))
 seven_ones [] [] bits_u bits_v e ne = absurd (ne refl)
 seven_ones [] (y ∷ v) bits_u bits_v e ne = absurd (omega arith)
@@ -60,7 +61,7 @@ seven_ones (x ∷ u) (suc (suc y) ∷ v) bits_u bits_v e ne =
     let bit : suc (suc y) ≤ 1 = All-head IsBit (suc (suc y)) v bits_v in
     absurd (omega arith)
 
--- four places that are all 0
+-- four zeros are the tail bits
 tail_bits-from_zeros : (t : List ℕ) → length t ≡ 4 → All (λ bit. bit ≡ 0) t → t ≡ tail_bits
 tail_bits-from_zeros [] e zeros = absurd (omega arith)
 tail_bits-from_zeros (a ∷ []) e zeros = absurd (omega arith)
@@ -73,7 +74,7 @@ tail_bits-from_zeros (a ∷ b ∷ c ∷ d ∷ []) e zeros =
     (ap₂ (λ x t. x ∷ t) (zeros 2 0 (omega arith))
     (ap (λ x. x ∷ []) (zeros 3 0 (omega arith)))))
 
--- what stands before the last four places
+-- all but the last four bits
 abbrev front : List ℕ → List ℕ
 front u = take (length u - 4) u
 
@@ -84,12 +85,12 @@ front-tail_bits u information =
     ap (λ tail. front u ++ tail) (sym (tail_bits-from_zeros (drop (length u - 4) u) four information.tail))
     ∙ take-append-drop (length u - 4) u
 
--- as many places differ as the coded list of the sum has ones
+-- the distance of two codewords is the weight of the codeword of the sum
 distance-coded : (u v : List ℕ) → length u ≡ length v → AllBits u → AllBits v →
-    distance (coded u) (coded v) ≡ ones (coded_from 0 (add_bits u v))
+    distance (encoding u) (encoding v) ≡ ones (coded_from 0 (add_bits u v))
 distance-coded u v same bits_u bits_v =
-    let count : length (coded u) ≡ length (coded v) = length-coded u ∙ ap (λ n. 2 * n) same ∙ sym (length-coded v) in
-    distance-add_bits (coded u) (coded v) count (AllBits-coded u) (AllBits-coded v)
+    let count : length (encoding u) ≡ length (encoding v) = length-coded u ∙ ap (λ n. 2 * n) same ∙ sym (length-coded v) in
+    distance-add_bits (encoding u) (encoding v) count (AllBits-coded u) (AllBits-coded v)
     ∙ ap ones (sym (coded-add_bits u v same) ∙ coded_from_start (add_bits u v) (AllBits-add_bits u v))
 
 pub at_least_seven : AtLeastSeven
@@ -100,7 +101,7 @@ at_least_seven u v information_u information_v same ne =
     let split : add_bits u v ≡ add_bits (front u) (front v) ++ tail_bits =
     ap₂ add_bits (sym (front-tail_bits u information_u)) (sym (front-tail_bits v information_v))
     ∙ add_bits-append (front u) (front v) tail_bits tail_bits fronts in
-    let whole : distance (coded u) (coded v) ≡ ones (coded_from 0 (add_bits (front u) (front v) ++ tail_bits)) =
+    let whole : distance (encoding u) (encoding v) ≡ ones (coded_from 0 (add_bits (front u) (front v) ++ tail_bits)) =
     distance-coded u v same bits_u bits_v ∙ ap (λ w. ones (coded_from 0 w)) split in
     let ne' : front u ≢ front v =
     λ e. ne (sym (front-tail_bits u information_u) ∙ ap (λ w. w ++ tail_bits) e ∙ front-tail_bits v information_v) in
@@ -123,7 +124,6 @@ IsInformation-zeros n count = record {
   tail = All-drop (λ bit. bit ≡ 0) (length (replicate n 0) - 4) (replicate n 0) (All-replicate (λ bit. bit ≡ 0) n 0 (refl {a = 0}));
 }
 
--- a one, and zeros after it
 abbrev one_first : ℕ → List ℕ
 one_first n = 1 ∷ replicate n 0
 
@@ -138,7 +138,7 @@ IsInformation-one_first n four =
     }
 
 distance-one_first : (m : ℕ) →
-    distance (coded (one_first (suc (suc (suc (suc m)))))) (coded (replicate (suc (suc (suc (suc (suc m))))) 0)) ≡ 7
+    distance (encoding (one_first (suc (suc (suc (suc m)))))) (encoding (replicate (suc (suc (suc (suc (suc m))))) 0)) ≡ 7
 distance-one_first m =
     let u = one_first (suc (suc (suc (suc m)))) in
     let v = replicate {A = ℕ} (suc (suc (suc (suc (suc m))))) 0 in
@@ -149,7 +149,7 @@ distance-one_first m =
     ∙ ap (λ w. ones (coded_from 0 (1 ∷ 0 ∷ 0 ∷ 0 ∷ 0 ∷ w))) (add_bits-zeros m)
     ∙ omega (arith, later)
 
--- a one at the first place alone, and the list of zeros
+-- the list that begins with its only one, against the list of zeros
 pub reaches_seven : (n : ℕ) → 5 ≤ n → ReachesSeven n
 reaches_seven zero h = absurd (omega arith)
 reaches_seven (suc zero) h = absurd (omega arith)

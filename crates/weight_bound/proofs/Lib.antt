@@ -1,3 +1,4 @@
+pub use Rattle.conv_code.proofs as conv_code
 mod Checks
 mod AbsoluteValues
 mod Counting

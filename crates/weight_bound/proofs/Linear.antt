@@ -1,13 +1,13 @@
--- The coded list of a sum is the sum of the coded lists.
+-- The code is linear: the coded bits of a sum are the sum of the coded bits.
 use Rattle.std.proofs.Common.{◌≡◌, ℕ, zero, suc, ◌+◌, ◌-◌, ◌%◌, ◌<◌, ◌≤◌, true, false, nat_lt}
 use Rattle.std.proofs.Common.{if◌then◌else◌, List, ◌∷◌, length, get_or, refl, ap, ap₂, ◌∙◌, arith}
 use Rattle.std.specs.List.{flat_map, range_with_len}
 use Rattle.bit_blocks.specs.Bits.{add_bits}
 use Rattle.bit_blocks.proofs.Lemmas.{length-add_bits, get_or-add_bits}
-use Rattle.conv_code.specs.Code.{delayed, first_sum, second_sum, coded_pair, coded}
+use Rattle.conv_code.specs.Code.{delayed_bit, first_sum, second_sum, coded_pair, encoding}
 
 module _ (u v : List ℕ) (same : length u ≡ length v) where
-  delayed-add_bits : (k d : ℕ) → k < length u → delayed (add_bits u v) k d ≡ (delayed u k d + delayed v k d) % 2
+  delayed-add_bits : (k d : ℕ) → k < length u → delayed_bit (add_bits u v) k d ≡ (delayed_bit u k d + delayed_bit v k d) % 2
   delayed-add_bits k d within =
       let before : k - d < length u = omega arith in
       elim (nat_lt k d) as
@@ -35,8 +35,8 @@ module _ (u v : List ℕ) (same : length u ≡ length v) where
       ap₂ (λ x rest. x ∷ rest) (first_sum-add_bits a here)
       (ap₂ (λ x rest. x ∷ rest) (second_sum-add_bits a here) (coded_places-add_bits (a + 1) n (omega arith)))
 
-  pub coded-add_bits : coded (add_bits u v) ≡ add_bits (coded u) (coded v)
+  pub coded-add_bits : encoding (add_bits u v) ≡ add_bits (encoding u) (encoding v)
   coded-add_bits =
       ap (λ n. flat_map (coded_pair (add_bits u v)) (range_with_len 0 n)) (length-add_bits u v same)
       ∙ coded_places-add_bits 0 (length u) (omega arith)
-      ∙ ap (λ n. add_bits (coded u) (flat_map (coded_pair v) (range_with_len 0 n))) same
+      ∙ ap (λ n. add_bits (encoding u) (flat_map (coded_pair v) (range_with_len 0 n))) same

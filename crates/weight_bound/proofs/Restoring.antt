@@ -1,4 +1,5 @@
--- Three wrong places do not make up for seven that differ, where all values are nearly as strong.
+-- Three wrong soft bits cannot make up for a distance of seven if all strengths are similar: the right list gains at least 2 lo at
+-- each of four or more differences and loses at most 2 hi at each of three.
 use Rattle.std.proofs.Common.{◌≡◌, ◌≢◌, ℕ, zero, suc, ◌+◌, ◌*◌, ◌<◌, ◌≤◌, not, ◌==◌, cond, true}
 use Rattle.std.proofs.Common.{false, inl, inr, ℤ, pos, negsuc, ◌+ℤ◌, ◌-ℤ◌, List, [], ◌∷◌, length, refl, sym, ap}
 use Rattle.std.proofs.Common.{◌∙◌, arith}
@@ -9,7 +10,7 @@ use Rattle.std.proofs.lemmas.Int.{ints}
 use Rattle.std.proofs.lemmas.List.Elements.{All-head, All-tail, All-weaker}
 use Rattle.bit_blocks.specs.Bits.{IsBit, AllBits}
 use Rattle.bit_blocks.specs.SoftValues.{wrong_places}
-use Rattle.conv_code.specs.Code.{coded, IsInformation}
+use Rattle.conv_code.specs.Code.{encoding, IsInformation}
 use Rattle.conv_code.specs.Likelihood.{agreement, likelihood, IsMostLikely}
 use Rattle.conv_code.proofs.Lemmas.{AllBits-coded, length-coded, IsMostLikely-only}
 use Rattle.weight_bound.specs.Distance.{distance}
@@ -24,31 +25,31 @@ agreement-zero p = omega (arith, ints)
 agreement-one : (p : ℤ) → agreement p 1 ≡ pos 0 -ℤ p
 agreement-one p = omega (arith, ints)
 
--- a place is right or wrong, by the test and as a fact
+-- a soft bit is right or wrong, as a test and as a fact
 right_or_wrong : (z : ℤ) → ((int_le z (pos 0) ≡ true) × (z ≤ℤ pos 0)) ⊎ ((int_le z (pos 0) ≡ false) × (pos 0 <ℤ z))
 right_or_wrong (pos zero) = inl (refl, omega (arith, ints))
 right_or_wrong (pos (suc n)) = inr (grind (arith, ints), omega (arith, ints))
 right_or_wrong (negsuc n) = inl (refl, omega (arith, ints))
 
--- what the right bit of a place counts, and what the other bit does: one of them the value, the other its negative
+-- what a soft bit adds for the right bit and for the other one: its value and its negative, in either order
 abbrev Opposite : ℤ → ℤ → ℤ → Type 0
 Opposite p a b = ((a ≡ p) × (b ≡ pos 0 -ℤ p)) ⊎ ((b ≡ p) × (a ≡ pos 0 -ℤ p))
 
--- where the values differ and the place is right, the sum gains twice the least absolute value
+-- where the lists differ and the soft bit is right, the right list gains at least 2 lo
 right_place : (p a b : ℤ) (lo hi : ℕ) → Between lo hi p → Opposite p a b → pos 0 <ℤ a → (b +ℤ pos (2 * lo)) ≤ℤ a
 right_place (pos n) a b lo hi between (inl e) right = omega (arith, ints)
 right_place (pos n) a b lo hi between (inr e) right = omega (arith, ints)
 right_place (negsuc n) a b lo hi between (inl e) right = omega (arith, ints)
 right_place (negsuc n) a b lo hi between (inr e) right = omega (arith, ints)
 
--- where it is wrong, the sum loses at most twice the greatest
+-- where they differ and the soft bit is wrong, it loses at most 2 hi
 wrong_place : (p a b : ℤ) (lo hi : ℕ) → Between lo hi p → Opposite p a b → a ≤ℤ pos 0 → b ≤ℤ (a +ℤ pos (2 * hi))
 wrong_place (pos n) a b lo hi between (inl e) wrong = omega (arith, ints)
 wrong_place (pos n) a b lo hi between (inr e) wrong = omega (arith, ints)
 wrong_place (negsuc n) a b lo hi between (inl e) wrong = omega (arith, ints)
 wrong_place (negsuc n) a b lo hi between (inr e) wrong = omega (arith, ints)
 
--- the other list is worth at least 2 lo less for each place that differs, but for 2 (lo + hi) at each wrong one
+-- the other path metric is smaller by 2 lo for each difference, less 2 (lo + hi) for each wrong soft bit
 abbrev IsOutweighed : ℤ → ℤ → ℕ → ℕ → ℕ → ℕ → Type 0
 IsOutweighed a b lo hi differ wrong = (b +ℤ pos (2 * (lo * differ))) ≤ℤ (a +ℤ pos (2 * ((lo + hi) * wrong)))
 
@@ -59,7 +60,7 @@ differing_place p a b lo hi between opposite =
       | inr right ↦ let bound = right_place p a b lo hi between opposite right.1 in rw right.0 (omega (arith, ints))
     ]
 
--- a place at which the bits agree cancels; at others the other list gains where the place is wrong
+-- one soft bit: equal bits cancel; where they differ, the bound depends on whether it is wrong
 one_place : (p : ℤ) (x y lo hi : ℕ) → Between lo hi p → x ≤ 1 → y ≤ 1 →
     IsOutweighed (agreement p x) (agreement p y) lo hi (cond (not (x == y)) 1 0) (cond (int_le (agreement p x) (pos 0)) 1 0)
 one_place p zero zero lo hi between hx hy = omega (arith, ints)
@@ -72,7 +73,6 @@ one_place p (suc (suc x)) y lo hi between hx hy = absurd (omega arith)
 one_place p zero (suc (suc y)) lo hi between hx hy = absurd (omega arith)
 one_place p (suc zero) (suc (suc y)) lo hi between hx hy = absurd (omega arith)
 
--- the same, summed over all places
 pub all_places : (s : List ℤ) (c d : List ℕ) (lo hi : ℕ) → length s ≡ length c → length s ≡ length d → AllBits c → AllBits d →
     All (Between lo hi) s → IsOutweighed (likelihood s c) (likelihood s d) lo hi (distance c d) (wrong_places s c)
 all_places [] [] [] lo hi ec ed bits_c bits_d between = omega (arith, ints)
@@ -94,18 +94,18 @@ all_places (p ∷ s) (x ∷ c) (y ∷ d) lo hi ec ed bits_c bits_d between =
         IsOutweighed (a +ℤ la) (b +ℤ lb) lo hi (d + ds) (w + ws)
     joined a b la lb lo hi d w ds ws here later = omega (arith, ints)
 
--- seven places at strength lo outweigh what three wrong ones take back
+-- seven differences of strength at least lo outweigh three wrong soft bits
 pub less_likely : (s : List ℤ) (u v : List ℕ) → IsInformation u → IsInformation v → length s ≡ 2 * length u → length v ≡ length u → v ≢ u →
-    IsLightlyDamaged s (coded u) → likelihood s (coded v) <ℤ likelihood s (coded u)
+    IsLightlyDamaged s (encoding u) → likelihood s (encoding v) <ℤ likelihood s (encoding u)
 less_likely s u v information_u information_v pairs same ne damage =
     let lo = damage.lo in
     let hi = damage.hi in
-    let count_u : length s ≡ length (coded u) = pairs ∙ sym (length-coded u) in
-    let count_v : length s ≡ length (coded v) = pairs ∙ ap (λ n. 2 * n) (sym same) ∙ sym (length-coded v) in
-    let sums = all_places s (coded u) (coded v) lo hi count_u count_v (AllBits-coded u) (AllBits-coded v) damage.strengths.between in
+    let count_u : length s ≡ length (encoding u) = pairs ∙ sym (length-coded u) in
+    let count_v : length s ≡ length (encoding v) = pairs ∙ ap (λ n. 2 * n) (sym same) ∙ sym (length-coded v) in
+    let sums = all_places s (encoding u) (encoding v) lo hi count_u count_v (AllBits-coded u) (AllBits-coded v) damage.strengths.between in
     let seven = at_least_seven u v information_u information_v (sym same) (λ e. ne (sym e)) in
-    weighed (likelihood s (coded u)) (likelihood s (coded v)) lo hi (distance (coded u) (coded v))
-    (wrong_places s (coded u)) sums seven damage.few damage.nearly_one_strength
+    weighed (likelihood s (encoding u)) (likelihood s (encoding v)) lo hi (distance (encoding u) (encoding v))
+    (wrong_places s (encoding u)) sums seven damage.few damage.nearly_one_strength
   where
     weighed : (a b : ℤ) (lo hi d w : ℕ) → IsOutweighed a b lo hi d w → 7 ≤ d → w ≤ 3 → 3 * hi < 4 * lo → b <ℤ a
     weighed a b lo hi d w sums seven few even =
@@ -113,7 +113,7 @@ less_likely s u v information_u information_v pairs same ne damage =
         let lost = mul-le-mul_left (lo + hi) few in
         omega (arith, ints, gained, lost)
 
--- the list that was sent is the most likely one, and no other is as likely
+-- the sent list is the most likely one, and no other ties with it
 pub restores : (soft : List ℤ) (u : List ℕ) → Restores soft u
 restores soft u information pairs damage = (
   record {
@@ -124,12 +124,12 @@ restores soft u information pairs damage = (
   (λ v other same ne. less_likely soft u v information other pairs same ne damage),
 )
 
--- so whatever is most likely is the list that was sent
-pub restored : (soft : List ℤ) (u v : List ℕ) → IsInformation u → length soft ≡ 2 * length u → IsLightlyDamaged soft (coded u) →
+-- so every most likely list is the sent one
+pub restored : (soft : List ℤ) (u v : List ℕ) → IsInformation u → length soft ≡ 2 * length u → IsLightlyDamaged soft (encoding u) →
     IsMostLikely soft v → v ≡ u
 restored soft u v information pairs damage most = IsMostLikely-only soft u v (restores soft u information pairs damage).0 most
 
--- values of one strength other than 0 are strong enough
+-- soft bits of one nonzero strength meet the condition on strengths
 pub IsLightlyDamaged-equal : (soft : List ℤ) (c : List ℕ) (strength : ℕ) → 0 < length soft → 0 < strength →
     All (λ value. unsigned_abs value ≡ strength) soft → wrong_places soft c ≤ 3 → IsLightlyDamaged soft c
 IsLightlyDamaged-equal soft c strength any more equal few =

@@ -1,4 +1,5 @@
--- How many ones a coded list has, by a potential of the coder's states.
+-- A lower bound for the weight of coded bits, by a potential on the encoder's states: no transition lowers the potential by more
+-- than the weight of its two coded bits. The sixteen states are checked by computation.
 use Rattle.std.proofs.Common.{◌≡◌, ℕ, zero, suc, ◌+◌, ◌<◌, ◌≤◌, Bool, ◌&&◌, true, nat_le, List, [], ◌∷◌}
 use Rattle.std.proofs.Common.{◌++◌, get_or, refl, subst, ◌∙◌, zero-add, arith}
 use Rattle.std.specs.List.{list_all, range_with_len}
@@ -9,20 +10,20 @@ use Rattle.std.proofs.lemmas.List.Sums.{AllPass-from_list_all}
 use Rattle.bit_blocks.specs.Bits.{IsBit, AllBits}
 use Rattle.conv_code.specs.States.{next, first_bit, second_bit, coded_from}
 
--- the number of ones of a list of bits
+-- the weight of a bit list
 abbrev pub ones : List ℕ → ℕ
 ones [] = 0
 ones (x ∷ c) = x + ones c
 
--- the four tail bits, which bring the coder back to rest
+-- the four tail bits, which return the encoder to state 0
 abbrev pub tail_bits : List ℕ
 tail_bits = 0 ∷ 0 ∷ 0 ∷ 0 ∷ []
 
--- the least number of ones that are still to come in a state
+-- a lower bound for the weight of the coded bits from a state to the end of the tail
 abbrev pub potential : ℕ → ℕ
 potential state = get_or (0 ∷ 5 ∷ 4 ∷ 4 ∷ 4 ∷ 5 ∷ 4 ∷ 3 ∷ 2 ∷ 5 ∷ 5 ∷ 4 ∷ 2 ∷ 5 ∷ 2 ∷ 3 ∷ []) state 0
 
--- no step takes more from the potential than it has ones, and neither do the last four
+-- a step lowers the potential by no more than the weight of its coded bits, and so do the tail bits
 abbrev is_paid : ℕ → ℕ → Bool
 is_paid state bit = nat_le (potential state) (first_bit state bit + second_bit state bit + potential (next state bit))
 
@@ -50,7 +51,7 @@ paid_step state (suc (suc bit)) h b = absurd (omega arith)
 paid_rest : (state : ℕ) → state < 16 → potential state ≤ ones (coded_from state tail_bits)
 paid_rest state h = leb-true _ _ (and_parts (is_paid state 0 && is_paid state 1) _ (paid_at state h)).1
 
--- from a state on, at least its potential comes
+-- a path from a state to the end of the tail has at least the weight of the state's potential
 pub ones_bound : (state : ℕ) (u : List ℕ) → state < 16 → AllBits u → potential state ≤ ones (coded_from state (u ++ tail_bits))
 ones_bound state [] h bits = paid_rest state h
 ones_bound state (x ∷ u) h bits =

@@ -1,2 +1,3 @@
+pub use Rattle.conv_code.specs as conv_code
 pub mod Distance
 pub mod Restoring

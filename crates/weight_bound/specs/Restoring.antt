@@ -1,8 +1,8 @@
--- How far soft values are damaged against a coded list, and what is restored all the same (this project's own rule).
+-- Damage that the most likely information list is certain to undo (this project's own rule).
 use Rattle.std.specs.Prelude.{ℕ, ◌≡◌, ◌≢◌, ◌<◌, ◌≤◌, ◌*◌, ℤ, ◌<ℤ◌, unsigned_abs, List, length, map}
 use Rattle.std.specs.List.{All, Contains}
 use Rattle.bit_blocks.specs.SoftValues.{wrong_places}
-use Rattle.conv_code.specs.Code.{coded, IsInformation}
+use Rattle.conv_code.specs.Code.{encoding, IsInformation}
 use Rattle.conv_code.specs.Likelihood.{likelihood, IsMostLikely}
 
 -- lo is the least and hi the greatest absolute value in s
@@ -11,8 +11,8 @@ pub record IsStrengths (s : List ℤ) (lo hi : ℕ) : Type 0 where
   pub least : Contains (map unsigned_abs s) lo
   pub greatest : Contains (map unsigned_abs s) hi
 
--- at most three places of s are wrong against c, and all values are nearly as strong: four times the least absolute value is
--- more than three times the greatest
+-- at most three soft bits of s are wrong for the coded bits c, and all are of similar strength: four times the least absolute
+-- value exceeds three times the greatest
 pub record IsLightlyDamaged (s : List ℤ) (c : List ℕ) : Type 0 where
   pub few : wrong_places s c ≤ 3
   pub lo : ℕ
@@ -20,12 +20,12 @@ pub record IsLightlyDamaged (s : List ℤ) (c : List ℕ) : Type 0 where
   pub strengths : IsStrengths s lo hi
   pub nearly_one_strength : 3 * hi < 4 * lo
 
--- every other information list of this length is less likely than u
+-- every other information list of the length of u has a smaller path metric than u
 abbrev pub OthersAreLessLikely : List ℤ → List ℕ → Type 0
 OthersAreLessLikely s u =
-    (v : List ℕ) → IsInformation v → length v ≡ length u → v ≢ u → likelihood s (coded v) <ℤ likelihood s (coded u)
+    (v : List ℕ) → IsInformation v → length v ≡ length u → v ≢ u → likelihood s (encoding v) <ℤ likelihood s (encoding u)
 
--- where s is lightly damaged against the coded list of u, u is the most likely information list, and no other is as likely
+-- if s is lightly damaged for the coded bits of u, then u is the most likely information list, and no other ties with it
 abbrev pub Restores : List ℤ → List ℕ → Type 0
 Restores s u =
-    IsInformation u → length s ≡ 2 * length u → IsLightlyDamaged s (coded u) → IsMostLikely s u × OthersAreLessLikely s u
+    IsInformation u → length s ≡ 2 * length u → IsLightlyDamaged s (encoding u) → IsMostLikely s u × OthersAreLessLikely s u

@@ -1,4 +1,4 @@
-//! The plain counts over lists.
+//! Distances, wrong bits and strengths.
 
 ghost use Rattle.std.specs.Prelude.{◌≡◌, ◌<◌, ◌≤◌, length};
 ghost use Rattle.bit_blocks.specs.Bits.{AllBits};
@@ -6,12 +6,12 @@ ghost use Rattle.bit_blocks.specs.SoftValues.{AllSoft, wrong_places};
 ghost use Rattle.weight_bound.specs.Distance.{distance};
 ghost use Rattle.weight_bound.specs.Restoring.{IsStrengths};
 
-use bit_blocks::wrong_places;
+use bit_blocks::{CODED_BITS, wrong_places};
 
-/// How many places two lists of bits differ in.
+/// The Hamming distance of two bit lists of equal length, at most 456.
 pub fn distance(a: &[u8], b: &[u8]) -> u32
     requires count { length a.now ≡ length b.now }
-    requires at_most { length a.now ≤ 456 }
+    requires at_most { length a.now ≤ CODED_BITS }
     requires bits_a { AllBits a.now }
     requires bits_b { AllBits b.now }
     ensures { result ≡ distance a.now b.now }
@@ -25,10 +25,10 @@ pub fn distance(a: &[u8], b: &[u8]) -> u32
     places
 }
 
-/// How many soft values are 0 or speak for the other bit.
+/// The number of soft bits that are 0 or have the sign of the other bit.
 pub fn wrong_bits(soft: &[i8], coded: &[u8]) -> u32
     requires count { length soft.now ≡ length coded.now }
-    requires at_most { length soft.now ≤ 456 }
+    requires at_most { length soft.now ≤ CODED_BITS }
     requires soft { AllSoft soft.now }
     requires bits { AllBits coded.now }
     ensures { result ≡ wrong_places soft.now coded.now }
@@ -36,7 +36,7 @@ pub fn wrong_bits(soft: &[i8], coded: &[u8]) -> u32
     wrong_places(soft, coded)
 }
 
-/// The least and the greatest absolute value.
+/// The least and the greatest absolute value of soft bits.
 pub fn strengths(soft: &[i8]) -> (u8, u8)
     requires any { 0 < length soft.now }
     requires soft { AllSoft soft.now }

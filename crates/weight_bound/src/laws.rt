@@ -1,34 +1,36 @@
-//! What holds of all coded lists. A law does nothing: it is called for its contract.
+//! Properties of the code as laws: functions with an empty body, called for their contracts.
 
 ghost use Rattle.std.specs.Prelude.{◌≡◌, ◌≢◌, ℕ, ◌*◌, ◌≤◌, length};
 ghost use Rattle.bit_blocks.specs.SoftValues.{AllSoft};
-ghost use Rattle.conv_code.specs.Code.{coded, IsInformation};
+ghost use Rattle.conv_code.specs.Code.{encoding, IsInformation};
 ghost use Rattle.conv_code.specs.Likelihood.{IsMostLikely};
 ghost use Rattle.weight_bound.specs.Distance.{distance, ReachesSeven};
 ghost use Rattle.weight_bound.specs.Restoring.{IsLightlyDamaged, OthersAreLessLikely};
 
-/// Law: the coded lists of two information lists of one length differ in at least seven places.
+use bit_blocks::INFORMATION_BITS;
+
+/// Law: the coded bits of two different information lists of equal length differ in at least seven positions.
 pub fn law_distance(u: &[u8], v: &[u8])
     requires first { IsInformation u.now }
     requires second { IsInformation v.now }
     requires count { length u.now ≡ length v.now }
     requires different { u.now ≢ v.now }
-    ensures { 7 ≤ distance (coded u.now) (coded v.now) }
+    ensures { 7 ≤ distance (encoding u.now) (encoding v.now) }
 {}
 
-/// Law: no more than seven places could be promised, at whatever length.
+/// Law: at every length from five on, the coded bits of some two information lists differ in exactly seven positions.
 pub fn law_least_distance()
     ensures { (n : ℕ) → 5 ≤ n → ReachesSeven n }
 {}
 
-/// Law: where at most three places are wrong and all values are nearly as strong, the list that was sent is the most
-/// likely one, and no other is as likely.
+/// Law: if at most three soft bits are wrong and all are of similar strength (`IsLightlyDamaged`), the sent information list is the
+/// most likely one, without a tie.
 pub fn law_restores(soft: &[i8], u: &[u8])
     requires information { IsInformation u.now }
-    requires at_most { length u.now ≤ 228 }
+    requires at_most { length u.now ≤ INFORMATION_BITS }
     requires count { length soft.now ≡ 2 * length u.now }
     requires soft { AllSoft soft.now }
-    requires damage { IsLightlyDamaged soft.now (coded u.now) }
+    requires damage { IsLightlyDamaged soft.now (encoding u.now) }
     ensures best { IsMostLikely soft.now u.now }
     ensures others { OthersAreLessLikely soft.now u.now }
 {}

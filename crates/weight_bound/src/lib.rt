@@ -1,5 +1,4 @@
-//! How many places two lists differ in, how far soft values are damaged, and how much damage the convolutional code
-//! undoes, whose free distance is seven.
+//! Distances of the convolutional code, whose free distance is seven, and the damage that decoding is certain to undo.
 #![tactic(auto)]
 
 mod counts;

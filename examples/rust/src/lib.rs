@@ -1,4 +1,4 @@
-//! A bad air for the examples: bits become soft bits with noise. The numbers are the same in every language's example.
+//! A noisy radio path for the examples: converts hard bits to noisy soft bits. Every language's example draws the same numbers.
 
 pub struct Air {
     state: u32,
@@ -19,7 +19,7 @@ impl Air {
         self.state
     }
 
-    /// A bit is sent as 64 or -64 and noise is added, whose standard deviation is `strength`: a sum of four numbers, nearly Gaussian.
+    /// Sends a bit as 64 or -64 and adds nearly Gaussian noise, a sum of four numbers, with standard deviation `strength`.
     pub fn soft(&mut self, bit: u8, strength: i32) -> i8 {
         let noise = (0..4).map(|_| (self.random() >> 24) as i32).sum::<i32>() - 510;
         let sent = if bit == 0 { 64 } else { -64 };

@@ -1,6 +1,6 @@
 use Rattle.std.proofs.Common.{◌+◌, ◌-◌, ◌*◌, ◌%◌, ◌<◌, length, get_or, ap, ap₂, sym, ◌∙◌, arith}
 use Rattle.std.proofs.lemmas.List.{length-set}
-use Rattle.conv_code.specs.Code.{delayed}
+use Rattle.conv_code.specs.Code.{delayed_bit}
 use Rattle.conv_code.proofs.Coding.{delayed-late, bit_at-most_1, first_by_xor, second_by_xor, coded_more}
 use Rattle.conv_code.proofs.encode_rest.Goals as goal
 
@@ -21,6 +21,6 @@ loop-k-preserved c =
       coded_more u c.loop-k.out k _ _ within c.loop-k.invariant.1
           (first_by_xor _ _ _ x three four ∙ sym (ap₂ (λ p q. (get_or u k 0 + p + q) % 2) late_3 late_4))
           (second_by_xor _ _ _ _ x one three four
-          ∙ sym (ap (λ r. (get_or u k 0 + r + delayed u k 3 + delayed u k 4) % 2) late_1
+          ∙ sym (ap (λ r. (get_or u k 0 + r + delayed_bit u k 3 + delayed_bit u k 4) % 2) late_1
           ∙ ap₂ (λ p q. (get_or u k 0 + get_or u (k - 1) 0 + p + q) % 2) late_3 late_4)),
     )

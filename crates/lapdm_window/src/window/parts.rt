@@ -1,49 +1,49 @@
-//! A window as plain values, and made from them again.
+//! Reads out the value of a window, and restores it.
 
 ghost use Rattle.std.specs.Prelude.{◌≡◌, ◌↔◌, ◌⊎◌, ◌+◌, ◌%◌, ◌^◌, ◌<◌, ◌≤◌, false, length, map};
 ghost use Rattle.std.specs.Prelude.{slice_index_or, [], All, IsTrue};
 ghost use Rattle.lapdm_frame.specs.Layout.{n201};
-ghost use Rattle.segmenting.specs.Pieces.{IsMessage, count_of, longest, most_pieces};
-ghost use Rattle.segmenting.specs.Rooms.{octets_in};
+ghost use Rattle.segmenting.specs.Segments.{IsMessage, count_of, longest, most_segments};
+ghost use Rattle.segmenting.specs.Buffers.{octets_in};
 ghost use Rattle.lapdm_window.specs.Ends.{EndState};
-ghost use Rattle.lapdm_window.specs.Parts.{values_of, said_by, StandFor, AreOfAWindow, AreHeld, AreInStep};
-ghost use Rattle.lapdm_window.specs.Standing.{Stands};
+ghost use Rattle.lapdm_window.specs.Parts.{values_of, said_by, ValuesRepresent, AreOfAWindow, AreHeld, AreConsistent};
+ghost use Rattle.lapdm_window.specs.Abstraction.{Represents};
 
 use super::Window;
 use lapdm_frame::Channel;
 use segmenting::{LONGEST, Part, PlainMessage};
 
-/// What a window holds. The messages and the octets are borrowed.
+/// The value of a window, with borrowed messages and octets.
 #[derive(Clone, Copy, Debug)]
 pub struct WindowParts<'a> {
     pub channel: Channel,
-    /// The messages that are not wholly acknowledged, in the order in which they were taken.
+    /// The messages not wholly acknowledged, in the order in which layer 3 sent them.
     pub held: &'a [PlainMessage],
-    /// The next piece, or the one that waits, as a place among the pieces of the first message.
+    /// The index, among the segments of the first message, of the outstanding segment or else the next one.
     pub place: usize,
     pub vs: u8,
     pub va: u8,
     pub vr: u8,
-    /// How many messages are wholly acknowledged.
+    /// The number of wholly acknowledged messages.
     pub done: u64,
-    /// Whether a REJ was sent, and no piece was accepted since.
+    /// The reject condition: a REJ was sent, and no segment was accepted since.
     pub rejecting: bool,
-    /// How often the piece that waits went out again.
+    /// How often the outstanding segment was repeated.
     pub retries: u8,
-    /// What came in, and what it is.
+    /// The octets of the reassembly, and what they are.
     pub joined: &'a [u8],
     pub part: Part,
 }
 
 impl WindowParts<'_> {
-    // Whether these go together in a window that stands for an end.
-    fn are_in_step(&self) -> bool
-        ensures together { IsTrue result ↔ AreInStep (said_by self.now) }
+    // Whether these values belong to a window that represents some endpoint.
+    fn are_consistent(&self) -> bool
+        ensures together { IsTrue result ↔ AreConsistent (said_by self.now) }
         ensures counted { self.now.done < 2 ^ 64 }
     {
-        // A number that is read is known to be in its range.
+        // Binding `done` tells the prover its range.
         let done = self.done;
-        if !are_held(self.held) || self.place >= first_pieces(self.held, self.channel) {
+        if !are_held(self.held) || self.place >= first_segments(self.held, self.channel) {
             return false;
         }
         if !is_window_of_one(self.vs, self.va, self.held) || self.joined.len() > LONGEST {
@@ -85,17 +85,17 @@ fn is_message(message: &PlainMessage) -> bool
     !octets.is_empty() && octets.len() <= LONGEST
 }
 
-// How many places there are among the pieces of the first message, and one where there is none.
-fn first_pieces(held: &[PlainMessage], channel: Channel) -> usize
+// The number of segments of the first message, or 1 if there is none.
+fn first_segments(held: &[PlainMessage], channel: Channel) -> usize
     ensures { result ≡ count_of (n201 channel) (slice_index_or (map octets_in held.now) 0 []) }
 {
     match held.first() {
-        Some(message) => pieces_in(message.octets(), channel),
+        Some(message) => segments_in(message.octets(), channel),
         None => 1,
     }
 }
 
-fn pieces_in(message: &[u8], channel: Channel) -> usize
+fn segments_in(message: &[u8], channel: Channel) -> usize
     ensures { result ≡ count_of (n201 channel) message.now }
 {
     if message.is_empty() {
@@ -107,8 +107,8 @@ fn pieces_in(message: &[u8], channel: Channel) -> usize
 impl Window {
     pub fn parts(&self) -> WindowParts<'_>
         ensures values { said_by result ≡ values_of self.now }
-        ensures few { length result.held.now ≤ 8 }
-        ensures place { result.place < most_pieces result.channel }
+        ensures size { length result.held.now ≤ 8 }
+        ensures place { result.place < most_segments result.channel }
         ensures most { length result.joined.now ≤ longest }
     {
         WindowParts {
@@ -126,15 +126,15 @@ impl Window {
         }
     }
 
-    /// Holds what these parts say, exactly where a window that stands for some end does. Else nothing changes.
+    /// Restores a window from its value. Returns false, and changes nothing, if that represents no endpoint.
     pub fn restore(&mut self, parts: &WindowParts<'_>) -> bool
         ensures same { IsTrue result → values_of self.new ≡ said_by parts.now }
-        ensures stands { IsTrue result → (e : EndState) → StandFor (said_by parts.now) e
-            → Stands self.new e }
+        ensures represents { IsTrue result → (e : EndState) → ValuesRepresent (said_by parts.now) e
+            → Represents self.new e }
         ensures known { IsTrue result ↔ AreOfAWindow (said_by parts.now) }
         ensures unknown { result ≡ false → self.new ≡ self.old }
     {
-        if !parts.are_in_step() || !self.joiner.restore(parts.joined, parts.part) {
+        if !parts.are_consistent() || !self.joiner.restore(parts.joined, parts.part) {
             return false;
         }
         self.held.restore(parts.held);

@@ -1,17 +1,17 @@
-//! Frames are read from blocks of SDCCH and of SACCH, where two octets of layer 1 come first: the ordered power level and timing advance.
+//! Decodes LAPDm frames from blocks of SDCCH and SACCH. On SACCH two layer 1 octets come first: power level and timing advance.
 //!
 //!     cargo run --bin frames
 use um::{Body, Channel, NoFrame};
 
-/// The first octets of each block; fill 2b follows.
+/// The first octets of each block; fill octets 2b follow.
 const BLOCKS: [(Channel, &str); 7] = [
     (Channel::Sdcch, "013f250524110333198105f4"),                       // a mobile asks for service
     (Channel::Sdcch, "0173250524110333198105f4"),                       // the network's answer
     (Channel::Sdcch, "03200d063501"),                                   // ciphering mode command
     (Channel::Sdcch, "032101"),                                         // its acknowledgement
     (Channel::Sacch, "0803030349061d0102030405060708090a0b0c0d0e0f10"), // system information 5
-    (Channel::Sdcch, "0803030349061d0102030405060708090a0b0c0d0e0f10"), // the same, taken as SDCCH: the address seems to go on
-    (Channel::Sdcch, "15062100012b"),                                   // paging on CCCH is no LAPDm frame, but may look like one
+    (Channel::Sdcch, "0803030349061d0102030405060708090a0b0c0d0e0f10"), // the same, read as SDCCH: the address field seems to continue
+    (Channel::Sdcch, "15062100012b"),                                   // paging on CCCH is not an LAPDm frame, but can look like one
 ];
 
 fn octets_of(digits: &str) -> [u8; 23] {
@@ -51,7 +51,7 @@ fn main() {
         };
         match line_of(&octets, channel) {
             Ok(line) => println!("{name}: {layer1}{line}"),
-            Err(reason) => println!("{name}: no frame ({})", format!("{reason:?}").to_lowercase()),
+            Err(reason) => println!("{name}: not a frame ({})", format!("{reason:?}").to_lowercase()),
         }
     }
 }

@@ -1,8 +1,8 @@
-//! A mobile and a network, an endpoint each, over an air that loses blocks: each block goes out as four bursts with noise and is
-//! received again. The mobile opens the link, both send messages, and the mobile closes it.
+//! A mobile and a network over a noisy path that loses blocks: each block is sent as four bursts, with noise, and decoded again. The
+//! mobile opens the link, both send messages, and the mobile releases the link.
 //!
-//! Time goes by in slots: each endpoint sends one block of SDCCH in 235 ms. T200 counts from when a block that awaits an answer goes on the
-//! air, and is longer than the way there and back with the blocks that may wait before it.
+//! Time advances in slots of 235 ms, in which each endpoint sends one SDCCH block. T200 counts from the time at which a block that awaits
+//! an answer goes on the air, and exceeds the round trip with the blocks queued before it.
 //!
 //!     cargo run --bin session
 use std::{collections::VecDeque, error::Error};
@@ -49,7 +49,7 @@ impl Side {
                 }
                 Notice::Acked(number) => {
                     self.acked += 1;
-                    self.say(&format!("knows that message {number} is there"));
+                    self.say(&format!("has message {number} acknowledged"));
                 }
                 Notice::Closed(reason) => {
                     self.closed += 1;
@@ -60,13 +60,13 @@ impl Side {
         }
     }
 
-    /// What an endpoint does in a slot: T200 may expire, and the first block that waits goes on the air.
+    /// Runs one slot of an endpoint: T200 may expire, and the first queued block goes on the air.
     fn slot(&mut self, air: &mut Air, other: &mut Side, now: u32) -> Result<(), Box<dyn Error>> {
         (self.now, other.now) = (now, now);
         self.timer = self.timer.map(|left| left - 1);
         if self.timer == Some(0) {
             self.timer = None;
-            // refused where no frame awaits an answer any more
+            // refused if no frame awaits an answer any more
             if let Ok(effects) = self.end.timer() {
                 self.say("T200 expires");
                 self.apply(&effects);
@@ -102,7 +102,7 @@ fn kind_of(sent: &[u8; 23]) -> Result<(&'static str, bool), um::NoFrame> {
     })
 }
 
-/// Sends a block through noise, of which one in four fades; `None` where it is lost.
+/// Sends a block over the noisy path; one in four fades. `None` if it is lost.
 fn received(air: &mut Air, sent: &[u8; 23]) -> Result<Option<[u8; 23]>, um::Invalid> {
     let strength = if air.random() >> 30 == 0 { 250 } else { 40 };
     let soft = air.soften(&um::send_block(sent, 7)?, strength);
@@ -145,6 +145,6 @@ fn main() -> Result<(), Box<dyn Error>> {
     if (mobile.closed, network.closed, mobile.got, network.got) != (1, 1, 1, 2) {
         return Err("something is missing".into());
     }
-    println!("each message came over once");
+    println!("each message arrived exactly once");
     Ok(())
 }

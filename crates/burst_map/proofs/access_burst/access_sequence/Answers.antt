@@ -1,5 +1,5 @@
 use Rattle.std.proofs.Common.{refl}
-use Rattle.bit_blocks.proofs.Lemmas.{AllBits-table}
+use Rattle.training_seq.proofs.bit_blocks.Lemmas.{AllBits-table}
 use Rattle.burst_map.specs.AccessBurst.{access_sequence}
 use Rattle.burst_map.proofs.access_burst.access_sequence.Goals as goal
 

@@ -1,4 +1,4 @@
--- `part_mut` makes the reference to the part, and lends it by `lends_part`.
+-- `part_mut` creates the reference to the slice and borrows it by `lends_part`.
 use mathlib.Core.Path.{refl}
 use Prim.Native.Nat.{ℕ, ◌+◌, ◌-◌, ◌^◌, ◌<◌, ◌≤◌}
 use native.Mathlib.Omega.{arith}

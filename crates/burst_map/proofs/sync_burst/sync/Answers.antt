@@ -1,7 +1,7 @@
 use Rattle.std.proofs.Common.{replicate, refl, arith}
 use Rattle.burst_map.specs.Tails.{tail_bits}
 use Rattle.burst_map.specs.SyncBurst.{sync_sequence}
-use Rattle.bit_blocks.proofs.Lemmas.{AllBits-table}
+use Rattle.training_seq.proofs.bit_blocks.Lemmas.{AllBits-table}
 use Rattle.burst_map.proofs.Filling.{IsFilled, filled_more, AllBits-filled}
 use Rattle.burst_map.proofs.sync_burst.sync.Goals as goal
 

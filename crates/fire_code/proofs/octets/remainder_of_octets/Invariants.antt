@@ -5,6 +5,6 @@ use Rattle.fire_code.specs.Registers.{register_bits}
 use Rattle.fire_code.specs.Words.{g40}
 use Rattle.fire_code.proofs.octets.remainder_of_octets.Given as goal
 
--- the register completes the octets so far
+-- the register is the remainder of the octets so far
 abbrev pub invariant-loop-octet : goal.invariant-loop-octet
 invariant-loop-octet l = HasQuotient (bits_of (take l.octet-index l.octets) ++ register_bits 40 l.register) g40 × (l.register < 2 ^ 40)

@@ -3,7 +3,6 @@ use Rattle.bit_blocks.specs.Bits.{AllBits}
 use Rattle.fire_code.specs.Registers.{register_bits}
 use Rattle.fire_code.proofs.registers.places.Given as goal
 
--- the places so far are those of the register
 abbrev pub invariant-loop-i : goal.invariant-loop-i
 invariant-loop-i g l =
     (length l.bits ≡ g.row.N) ×

@@ -1,6 +1,6 @@
 use Rattle.std.proofs.Common.{◌≡◌, length, arith, bit_xor}
 use Rattle.std.proofs.lemmas.Bool.Decides.{Decides-like, Decides-eqb}
-use Rattle.fire_code.proofs.ParityParts.{cut, bits_of_front, bits_of_back}
+use Rattle.fire_code.proofs.CrcParts.{cut, bits_of_front, bits_of_back}
 use Rattle.fire_code.proofs.XcchWords.{xcch_word_of, register_of_xcch_word}
 use Rattle.fire_code.proofs.xcch.xcch_holds.Goals as goal
 

@@ -2,7 +2,7 @@ use Rattle.std.proofs.Common.{◌≡◌, length, ap, sym, subst, ◌∙◌, arit
 use Rattle.std.specs.Int.Bits.{xor_self}
 use Rattle.std.proofs.lemmas.Nat.{xor_lt}
 use Rattle.bit_blocks.specs.Bits.{AllBits}
-use Rattle.fire_code.proofs.ParityParts.{cut, bits_of_front}
+use Rattle.fire_code.proofs.CrcParts.{cut, bits_of_front}
 use Rattle.fire_code.proofs.XcchWords.{syndrome_of, syndrome_completes, word_of_no_syndrome, register_of_xcch_word}
 use Rattle.fire_code.proofs.xcch.xcch_syndrome.Goals as goal
 

@@ -48,15 +48,15 @@ returns-in-Some c =
       within = e.within.1;
       outside = e.outside;
     } in
-    let due : IsAnswer w (Repaired c.turned.result (found.start + first) (last - first + 1)) = (
-      subst (λ v. IsRepair w v) (sym c.turned.ensures)
+    let due : IsAnswer w (Repaired c.flip_burst.result (found.start + first) (last - first + 1)) = (
+      subst (λ v. IsRepair w v) (sym c.flip_burst.ensures)
           (repair_of w s.ensures.count s.ensures.bits found.start found.shape says.start says.shape s.result
           (λ holds. c.if-syndrome-eq0.false (s.ensures.zero.1 holds)) says.leaves s.ensures.word),
-      subst (λ v. IsSpan w v (found.start + first) (last - first + 1)) (sym c.turned.ensures)
+      subst (λ v. IsSpan w v (found.start + first) (last - first + 1)) (sym c.flip_burst.ensures)
           (span_of w s.ensures.count s.ensures.bits found.start found.shape says.start says.shape first last edges),
     ) in
     record {
       answer = due;
       only = λ other due'.
-          one_answer w other (Repaired c.turned.result (found.start + first) (last - first + 1)) due' due;
+          one_answer w other (Repaired c.flip_burst.result (found.start + first) (last - first + 1)) due' due;
     }

@@ -1,3 +1,4 @@
+-- The 57 columns cover all coded bits: seven groups of eight, and column 56.
 use Rattle.std.proofs.Common.{◌≡◌, inl, inr, ℕ, zero, suc, ◌+◌, ◌-◌, ◌*◌, ◌/◌, ◌%◌, ◌<◌, List, []}
 use Rattle.std.proofs.Common.{◌∷◌, map, length, get_or, pos, ap, ap₂, sym, ◌∙◌, arith, w8}
 use Rattle.std.specs.Int.{cast_signed}
@@ -31,7 +32,6 @@ loop-group-preserved c =
           ],
     )
 
--- the octets of the four bursts
 octets : After-write_column → List (List ℕ)
 octets c = c.octets_of.result ∷ c.octets_of-2.result ∷ c.octets_of-3.result ∷ c.octets_of-4.result ∷ []
 
@@ -50,7 +50,6 @@ signed c (suc (suc zero)) h = c.octets_of-3.ensures.value
 signed c (suc (suc (suc zero))) h = c.octets_of-4.ensures.value
 signed c (suc (suc (suc (suc b)))) h = absurd (omega arith)
 
--- all 57 columns are written
 written : (c : After-write_column) (q r : ℕ) → q < 57 → r < 8 →
     get_or c.write_column.new.soft (column_bit q r) (pos 0) ≡ get_or (get_or c.args.parts.now (r % 4) []) (column_place q r) (pos 0)
 unfolding octets

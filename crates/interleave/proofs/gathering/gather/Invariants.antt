@@ -3,7 +3,6 @@ use Rattle.std.specs.Int.{cast_signed}
 use Rattle.interleave.specs.ColumnPlaces.{column_bit, column_place}
 use Rattle.interleave.proofs.gathering.gather.Given as goal
 
--- the columns so far have their values
 abbrev pub invariant-loop-group : goal.invariant-loop-group
 invariant-loop-group l =
     (length l.soft ≡ 456)

@@ -2,7 +2,7 @@ use Rattle.std.proofs.Common.{◌≡◌, ◌≢◌, ℕ, ◌+◌, ◌*◌, ◌<�
 use Rattle.interleave.specs.ColumnPlaces.{bit_at}
 use Rattle.interleave.proofs.gathering.gather_half.Given as goal
 
--- the coded bits of the places so far have their values, and all others what they had
+-- the coded bits at the positions so far are written, all others are unchanged
 abbrev pub invariant-loop-i : goal.invariant-loop-i
 invariant-loop-i l =
     (length l.soft ≡ 456)

@@ -2,7 +2,7 @@ use Rattle.std.proofs.Common.{◌≡◌, ◌⊎◌, ℕ, ◌+◌, ◌<◌, ◌�
 use Rattle.std.specs.Int.{cast_signed}
 use Rattle.interleave.proofs.gathering.write_column.Given as goal
 
--- the octets so far are written, and nothing outside their column
+-- the octets so far are written, all outside the column are unchanged
 abbrev pub invariant-loop-r : goal.invariant-loop-r
 invariant-loop-r l =
     (length l.soft ≡ 456)

@@ -22,9 +22,9 @@ loop-s-preserved c =
     let columns = c.args.columns.now in
     let soft = c.write_column.new.soft in
     let others = c.write_column.ensures.others in
-    let Stands : ℕ → Type 0 = λ i. (r : ℕ) → r < 8 →
+    let Represents : ℕ → Type 0 = λ i. (r : ℕ) → r < 8 →
     get_or soft (column_bit (8 * group + i) r) (pos 0) ≡ cast_signed w8 (get_or columns i 0 / 256 ^ r % 256) in
-    let all = below_more Stands s
+    let all = below_more Represents s
     (λ i hi r hr. others (8 * group + i) r (omega arith) (omega arith) hr ∙ c.loop-s.invariant.1 i r hi hr)
     (λ r hr.
     c.write_column.ensures.own r hr

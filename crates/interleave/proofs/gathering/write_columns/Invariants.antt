@@ -3,7 +3,7 @@ use Rattle.std.specs.Int.{cast_signed}
 use Rattle.interleave.specs.ColumnPlaces.{column_bit}
 use Rattle.interleave.proofs.gathering.write_columns.Given as goal
 
--- the columns so far are written, and none before the group
+-- the columns so far are written, those before the group are unchanged
 abbrev pub invariant-loop-s : goal.invariant-loop-s
 invariant-loop-s l =
     (length l.soft ≡ 456)

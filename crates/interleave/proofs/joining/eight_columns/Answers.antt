@@ -1,3 +1,4 @@
+-- Three rounds of joining transpose eight rows to eight columns: octet r of column s is the value of row r at its position.
 use Rattle.std.proofs.Common.{◌≡◌, ℕ, zero, suc, ◌+◌, ◌*◌, ◌/◌, ◌%◌, ◌^◌, ◌<◌, List, [], ◌∷◌}
 use Rattle.std.proofs.Common.{get_or, ap, ap₂, ◌∙◌, arith}
 use Rattle.interleave.specs.ColumnPlaces.{column_place}
@@ -18,7 +19,7 @@ unfolding octets
 octets-below c s r = below_at 256 (omega arith) (octets c s)
     (omega arith, (omega arith, (omega arith, (omega arith, (omega arith, (omega arith, (omega arith, (omega arith, tt)))))))) r
 
--- the number that they make
+-- the octets of column s as one number
 joined : After-join_fours-2 → ℕ → ℕ
 joined c s =
     let e : ℕ → ℕ = λ r. get_or (octets c s) r 0 in
@@ -62,7 +63,7 @@ column c (suc (suc (suc (suc (suc (suc zero)))))) h = last c 2 (omega arith)
 column c (suc (suc (suc (suc (suc (suc (suc zero))))))) h = last c 3 (omega arith)
 column c (suc (suc (suc (suc (suc (suc (suc (suc s)))))))) h = absurd (omega arith)
 
--- where they come from
+-- each octet is the burst's value at its position
 stands : (c : After-join_fours-2) (s r : ℕ) → s < 8 → r < 8 →
     get_or (octets c s) r 0 ≡ get_or (get_or c.args.parts.now (r % 4) []) (column_place (8 * c.args.group + s) r) 0
 unfolding octets column_place

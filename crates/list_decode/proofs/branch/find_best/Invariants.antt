@@ -1,12 +1,12 @@
 use Rattle.std.proofs.Common.{◌≡◌, ◌<◌, take}
 use Rattle.list_decode.specs.Branches.{between}
-use Rattle.list_decode.specs.Detours.{reached}
-use Rattle.list_decode.specs.FreePlaces.{IsBestFree}
+use Rattle.list_decode.specs.DeviatingLists.{state_after}
+use Rattle.list_decode.specs.FreePlaces.{IsSpot}
 use Rattle.list_decode.proofs.branch.find_best.Given as goal
 
 abbrev pub invariant-loop-k : goal.invariant-loop-k
 invariant-loop-k l = record {
   small : l.state < 16;
-  state : l.state ≡ reached 0 (take l.k l.list);
-  best : IsBestFree l.list l.losses (between l.span.from l.span.to) l.k l.best;
+  state : l.state ≡ state_after 0 (take l.k l.list);
+  best : IsSpot l.list l.losses (between l.span.from l.span.to) l.k l.best;
 }

@@ -1,16 +1,17 @@
-use Rattle.std.proofs.Common.{arith, ◌≡◌, ◌+◌, ◌++◌, ◌∷◌, [], get_or, map, take, length, sym, subst}
+use Rattle.std.proofs.Common.{arith, ◌≡◌, ◌+◌, ◌++◌, ◌∷◌, [], get_or, take, length, sym, subst}
 use Rattle.std.proofs.lemmas.List.{length-take, take_all, take_more}
 use Rattle.std.proofs.lemmas.List.Elements.{All-take}
 use Rattle.list_decode.specs.Branches.{IsBranchOf}
 use Rattle.list_decode.specs.Choices.{IsFirst}
-use Rattle.list_decode.proofs.Choices.{blank, first_kept, first_stray, not_some}
+use Rattle.list_decode.specs.Lists.{lists_of}
+use Rattle.list_decode.proofs.Choices.{blank, first_kept, first_deviation, not_some}
 use Rattle.list_decode.proofs.choice.first_branch.Goals as goal
 use Rattle.list_decode.proofs.choice.first_branch.Goals.{in-Some, in_default}
 
 pub loop-i-preserved : goal.loop-i-preserved
 loop-i-preserved c =
     let pass = c.args.pass.now in
-    let us = map (take pass.bits) c.args.lists.now in
+    let us = lists_of pass c.args.lists.now in
     let branches = c.args.branches.now in
     let i = c.loop-i.i in
     let branch = get_or branches i blank in
@@ -25,7 +26,7 @@ loop-i-preserved c =
     ]) in
     record {
       first = first;
-      stray = first_stray pass us (take (i + 1) branches) c.match-branch.first
+      deviation = first_deviation pass us (take (i + 1) branches) c.match-branch.first
           (All-take (IsBranchOf pass us) (i + 1) branches c.requires.branches) first;
     }
 
@@ -34,6 +35,6 @@ returns c =
     let branches = c.args.branches.now in
     let all : length branches ≡ c.loop-i.i = let end = c.loop-i-test.false in let i = c.loop-i.auto.i-end in omega arith in
     record {
-      first = subst (λ bs. IsFirst c.args.pass.now (map (take c.args.pass.now.bits) c.args.lists.now) bs c.loop-i.first)
+      first = subst (λ bs. IsFirst c.args.pass.now (lists_of c.args.pass.now c.args.lists.now) bs c.loop-i.first)
           (take_all c.loop-i.i branches (omega arith)) c.loop-i.invariant.first;
     }

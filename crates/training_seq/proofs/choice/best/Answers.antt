@@ -1,3 +1,4 @@
+-- Correlation is linear: correlating the sum of four midambles gives the sum of their correlations.
 use Rattle.std.proofs.Common.{◌≡◌, ℕ, ℤ, ◌≤◌, List, length, arith}
 use Rattle.std.proofs.lemmas.Int.{ints}
 use Rattle.training_seq.specs.Choice.{total_correlation}

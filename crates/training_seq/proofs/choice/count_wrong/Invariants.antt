@@ -4,7 +4,7 @@ use Rattle.training_seq.specs.Choice.{total_wrong_places}
 use Rattle.training_seq.specs.Sequences.{training_sequence}
 use Rattle.training_seq.proofs.choice.count_wrong.Given as goal
 
--- the places so far and those of the rest are those of all four parts
+-- the count so far plus that of the remaining soft bits is the count of all
 abbrev pub invariant-loop-i : goal.invariant-loop-i
 invariant-loop-i l =
     let bits = drop l.i (training_sequence l.tsc) in

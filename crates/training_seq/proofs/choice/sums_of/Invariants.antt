@@ -2,7 +2,6 @@ use Rattle.std.proofs.Common.{◌≡◌, ℕ, ◌<◌, length, get_or, pos, ◌+
 use Rattle.training_seq.specs.Ranges.{IsWithin}
 use Rattle.training_seq.proofs.choice.sums_of.Given as goal
 
--- the places so far are the sums of the four parts
 abbrev pub invariant-loop-i : goal.invariant-loop-i
 invariant-loop-i l =
     (length l.sums ≡ 26)

@@ -15,7 +15,7 @@ loop-i-preserved c =
     let bits = training_sequence c.args.tsc in
     let long : length bits ≡ 26 = length-training_sequence c.args.tsc c.requires.known in
     let total = to_z w16 c.loop-i.total-bits in
-    let turned = c.turned-total.result in
+    let times_sign = c.times_sign-total.result in
     let here : i < length sums = omega arith in
     let there : i < length bits = omega (arith, long) in
     let small : IsWithin 512 (get_or sums i (pos 0)) = c.requires.small i (pos 0) here in
@@ -26,16 +26,16 @@ loop-i-preserved c =
     rw c.signs-signs.ensures (sign_at bits i there) in
     let kept : to_z w16 (of_z w16 (get_or c.signs-signs.result.now i (pos 0))) ≡ get_or c.signs-signs.result.now i (pos 0) =
     omega (arith, ints) in
-    let agrees : turned ≡ agreement (get_or sums i (pos 0)) (get_or bits i 0) =
-    rw (value, kept, sign) at c.turned-total.ensures.value in
-    let next : to_z w16 (of_z w16 (total +ℤ to_z w16 (of_z w16 turned))) ≡ total +ℤ turned =
+    let agrees : times_sign ≡ agreement (get_or sums i (pos 0)) (get_or bits i 0) =
+    rw (value, kept, sign) at c.times_sign-total.ensures.value in
+    let next : to_z w16 (of_z w16 (total +ℤ to_z w16 (of_z w16 times_sign))) ≡ total +ℤ times_sign =
     omega (arith, ints) in (
       rw (next, agrees) (correlation_more sums bits i total _ here there c.loop-i.invariant.0),
       (omega (arith, ints), omega (arith, ints)),
     )
 
-pub turned-total-requires-clause-sign : goal.turned-total-requires-clause-sign
-turned-total-requires-clause-sign c =
+pub times_sign-total-requires-clause-sign : goal.times_sign-total-requires-clause-sign
+times_sign-total-requires-clause-sign c =
     let near : IsWithin 1 (get_or c.signs-signs.result.now c.loop-i.i (pos 0)) =
     rw c.signs-signs.ensures (small_sign c.args.tsc c.loop-i.i c.requires.known (omega arith)) in
     (omega (arith, ints), omega (arith, ints))

@@ -4,7 +4,7 @@ use Rattle.training_seq.specs.Ranges.{IsWithin}
 use Rattle.training_seq.specs.Sequences.{training_sequence}
 use Rattle.training_seq.proofs.correlation.correlate_sums.Given as goal
 
--- the total so far and the likelihood of the rest are that of all places
+-- the total so far plus the correlation of the rest is the correlation of all
 abbrev pub invariant-loop-i : goal.invariant-loop-i
 invariant-loop-i l =
     (l.total +ℤ likelihood (drop l.i l.sums) (drop l.i (training_sequence l.tsc)) ≡ likelihood l.sums (training_sequence l.tsc))

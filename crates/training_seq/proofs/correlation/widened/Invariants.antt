@@ -2,7 +2,6 @@ use Rattle.std.proofs.Common.{◌≡◌, ℕ, ◌<◌, length, get_or, pos, All}
 use Rattle.training_seq.specs.Ranges.{IsWithin}
 use Rattle.training_seq.proofs.correlation.widened.Given as goal
 
--- the places so far are those of the soft values
 abbrev pub invariant-loop-i : goal.invariant-loop-i
 invariant-loop-i l =
     (length l.wide ≡ 26)

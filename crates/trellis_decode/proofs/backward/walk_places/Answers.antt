@@ -3,23 +3,23 @@ use Rattle.std.proofs.Common.{◌∙◌, subst, arith}
 use Rattle.std.proofs.Math.Seq.{take-add}
 use Rattle.std.proofs.lemmas.Int.{ints}
 use Rattle.std.proofs.lemmas.List.{drop-drop}
-use Rattle.trellis_decode.specs.Turned.{AreNarrow, worth, worths}
+use Rattle.trellis_decode.specs.AcsLanes.{AreNarrow, path_metric, path_metrics}
 use Rattle.trellis_decode.specs.Walks.{AreWithin, IsWalk}
-use Rattle.trellis_decode.proofs.FourPairs.{AreOctets-pair, pair_at}
-use Rattle.trellis_decode.proofs.Walks.{HaveRoom-even, HaveRoom-odd}
+use Rattle.trellis_decode.proofs.FourPairs.{AreSignedOctets-pair, pair_at}
+use Rattle.trellis_decode.proofs.Walks.{HaveHeadroom-even, HaveHeadroom-odd}
 use Rattle.trellis_decode.proofs.backward.walk_places.Goals as goal
 
 pub loop-k-init : goal.loop-k-init
 loop-k-init c =
     let none : 0 ≡ 2 * (c.args.places - c.args.places) = omega arith in
-    let same = ap₂ worths c.new-walk.ensures.even c.new-walk.ensures.odd in
+    let same = ap₂ path_metrics c.new-walk.ensures.even c.new-walk.ensures.odd in
     record {
-      walk = subst (λ n. IsWalk (worth c.args.after)
-          (worth c.new-walk.result.values)
+      walk = subst (λ n. IsWalk (path_metric c.args.after)
+          (path_metric c.new-walk.result.values)
           c.new-walk.result.map (take n (drop (2 * c.args.places) c.args.soft.now))) none
-          (subst (λ values. IsWalk (worth c.args.after) values c.new-walk.result.map []) (sym same)
+          (subst (λ values. IsWalk (path_metric c.args.after) values c.new-walk.result.map []) (sym same)
           c.new-walk.ensures.walk);
-      within = subst (λ most. AreWithin most (worth c.new-walk.result.values)) (omega arith)
+      within = subst (λ most. AreWithin most (path_metric c.new-walk.result.values)) (omega arith)
           (subst (AreWithin 58368) (sym same) c.requires.within);
       even = subst AreNarrow (sym c.new-walk.ensures.even) c.requires.even;
       odd = subst AreNarrow (sym c.new-walk.ensures.odd) c.requires.odd;
@@ -27,11 +27,11 @@ loop-k-init c =
     }
 
 pub step-walk-requires-clause-even : goal.step-walk-requires-clause-even
-step-walk-requires-clause-even c = HaveRoom-even c.loop-k.walk.values.even.lanes c.loop-k.walk.values.odd.lanes
+step-walk-requires-clause-even c = HaveHeadroom-even c.loop-k.walk.values.even.lanes c.loop-k.walk.values.odd.lanes
     (58368 + 256 * (c.args.places - c.loop-k.k)) (omega arith) c.loop-k.invariant.within c.loop-k.invariant.even.count
 
 pub step-walk-requires-clause-odd : goal.step-walk-requires-clause-odd
-step-walk-requires-clause-odd c = HaveRoom-odd c.loop-k.walk.values.even.lanes c.loop-k.walk.values.odd.lanes
+step-walk-requires-clause-odd c = HaveHeadroom-odd c.loop-k.walk.values.even.lanes c.loop-k.walk.values.odd.lanes
     (58368 + 256 * (c.args.places - c.loop-k.k)) (omega arith) c.loop-k.invariant.within c.loop-k.invariant.odd.count
 
 pub loop-k-preserved : goal.loop-k-preserved
@@ -40,7 +40,7 @@ loop-k-preserved c =
     let k = c.loop-k.k in
     let pair = pair_at soft (2 * (k - 1)) in
     let within : k - 1 < 4 = omega arith in
-    let has = c.four_edges-edges.ensures.has (k - 1) _ within in
+    let has = c.four_branch_metrics-branch_metrics.ensures.has (k - 1) _ within in
     let left : 2 + 2 * (c.args.places - k) ≡ 2 * (c.args.places - (k - 1)) = omega arith in
     let next : 2 * (k - 1) + 2 ≡ 2 * k = omega arith in
     let rest = take (2 * (c.args.places - k)) (drop (2 * k) soft) in
@@ -48,11 +48,12 @@ loop-k-preserved c =
     ap (λ l. pair ++ take (2 * (c.args.places - k)) l) (sym (drop-drop 2 (2 * (k - 1)) soft ∙ ap (λ n. drop n soft) next))
     ∙ sym (take-add 2 (2 * (c.args.places - k)) (drop (2 * (k - 1)) soft)) ∙ ap (λ n. take n (drop (2 * (k - 1)) soft)) left in
     record {
-      walk = subst (IsWalk (worth c.args.after)
-          (worth c.step-walk.result.values) c.step-walk.result.map) whole
-          (c.step-walk.ensures.walk pair has (worth c.args.after) rest c.loop-k.invariant.walk);
-      within = subst (λ most. AreWithin most (worth c.step-walk.result.values)) (omega arith)
-          (c.step-walk.ensures.within pair has (AreOctets-pair soft (2 * (k - 1)) c.requires.octets) (58368 + 256 * (c.args.places - k))
+      walk = subst (IsWalk (path_metric c.args.after)
+          (path_metric c.step-walk.result.values) c.step-walk.result.map) whole
+          (c.step-walk.ensures.walk pair has (path_metric c.args.after) rest c.loop-k.invariant.walk);
+      within = subst (λ most. AreWithin most (path_metric c.step-walk.result.values)) (omega arith)
+          (c.step-walk.ensures.within pair has (AreSignedOctets-pair soft (2 * (k - 1)) c.requires.octets)
+          (58368 + 256 * (c.args.places - k))
           c.loop-k.invariant.within);
       even = c.step-walk.ensures.even;
       odd = c.step-walk.ensures.odd;
@@ -62,8 +63,8 @@ loop-k-preserved c =
 pub returns-clause-walk : goal.returns-clause-walk
 returns-clause-walk c =
     let none : c.loop-k.k ≡ 0 = omega arith in
-    let Walks : ℕ → ℕ → Type 0 = λ n k. IsWalk (worth c.args.after)
-    (worth c.loop-k.walk.values) c.loop-k.walk.map (take n (drop (2 * k) c.args.soft.now)) in
+    let Walks : ℕ → ℕ → Type 0 = λ n k. IsWalk (path_metric c.args.after)
+    (path_metric c.loop-k.walk.values) c.loop-k.walk.map (take n (drop (2 * k) c.args.soft.now)) in
     subst (Walks (2 * c.args.places)) none (subst (λ n. Walks n c.loop-k.k) (omega arith) c.loop-k.invariant.walk)
 
 pub returns-clause-within : goal.returns-clause-within

@@ -2,7 +2,6 @@ use Rattle.std.proofs.Common.{◌≡◌, ◌*◌, take, pos, ◌-ℤ◌, ◌≤�
 use Rattle.conv_code.specs.Likelihood.{likelihood}
 use Rattle.trellis_decode.proofs.exhaustive.agreements.Given as goal
 
--- the sum so far, which is small
 abbrev pub invariant-loop-k : goal.invariant-loop-k
 invariant-loop-k l = record {
   value : l.sum ≡ likelihood (take l.k l.soft) (take l.k l.coded);

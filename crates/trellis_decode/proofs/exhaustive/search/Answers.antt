@@ -1,7 +1,7 @@
 use Rattle.std.proofs.Common.{arith, rules, ◌≡◌, ◌≢◌, ◌*◌, ◌+◌, ◌^◌, ◌<◌, length, ap, sym, subst, ◌∙◌}
 use Rattle.std.proofs.Common.{ℕ, ◌<ℤ◌, ◌≤ℤ◌, FitsSigned, to_z, w32}
 use Rattle.std.proofs.lemmas.Int.{to_z-of_z}
-use Rattle.conv_code.specs.Code.{coded}
+use Rattle.conv_code.specs.Code.{encoding}
 use Rattle.conv_code.specs.Likelihood.{likelihood, FallsBehind, IsMostLikely}
 use Rattle.trellis_decode.specs.Words.{word}
 use Rattle.conv_code.proofs.Lemmas.{IsMostLikely-only}
@@ -18,19 +18,19 @@ loop-number-preserved c =
     let kept = c.loop-number.invariant in
     let same_length : n ≡ length c.write_list-in-loop-number.new.u = omega arith in
     let within : 16 * number < 2 ^ n = omega (arith, ap (λ n. 2 ^ n) c.loop-number.auto.u, ap (λ n. 2 ^ n) c.write_list.auto.u) in
-    let fits : FitsSigned w32 c.worth-value.result = search rules in
-    let value : c.worth-value.result ≡ likelihood soft (coded (word n (16 * number))) =
-    c.worth-value.ensures ∙ ap (λ u. likelihood soft (coded u)) c.write_list-in-loop-number.ensures.list in
-    let Best : ℕ → ℕ → Type 0 = λ n m. to_z w32 c.if-value-best.best-bits ≡ likelihood soft (coded (word n (16 * m))) in
+    let fits : FitsSigned w32 c.path_metric-value.result = search rules in
+    let value : c.path_metric-value.result ≡ likelihood soft (encoding (word n (16 * number))) =
+    c.path_metric-value.ensures ∙ ap (λ u. likelihood soft (encoding u)) c.write_list-in-loop-number.ensures.list in
+    let Best : ℕ → ℕ → Type 0 = λ n m. to_z w32 c.if-value-best.best-bits ≡ likelihood soft (encoding (word n (16 * m))) in
     let Leads : ℕ → ℕ → Type 0 = λ n leader. (m : ℕ) → m < number + 1 → m ≢ leader →
     FallsBehind soft (word n (16 * m)) (word n (16 * leader)) in
     elim c.if-value-best.branch [
       | then-value-best w ↦
           let is = w.chosen-is in
-          let best_is : to_z w32 c.if-value-best.best-bits ≡ likelihood soft (coded (word n (16 * number))) = w.best-is
-          ∙ to_z-of_z w32 c.worth-value.result fits ∙ value in
-          let more : likelihood soft (coded (word n (16 * chosen))) <ℤ likelihood soft (coded (word n (16 * number))) =
-          less_by_test _ _ _ _ kept.value (to_z-of_z w32 c.worth-value.result fits ∙ value) w.if-value-best.true in
+          let best_is : to_z w32 c.if-value-best.best-bits ≡ likelihood soft (encoding (word n (16 * number))) = w.best-is
+          ∙ to_z-of_z w32 c.path_metric-value.result fits ∙ value in
+          let more : likelihood soft (encoding (word n (16 * chosen))) <ℤ likelihood soft (encoding (word n (16 * number))) =
+          less_by_test _ _ _ _ kept.value (to_z-of_z w32 c.path_metric-value.result fits ∙ value) w.if-value-best.true in
           record {
             before = omega arith;
             value = subst (λ n. Best n c.if-value-best.chosen) same_length (subst (Best n) (sym is) best_is);
@@ -39,9 +39,9 @@ loop-number-preserved c =
           }
       | else-value-best w ↦
           let is = w.chosen-is in
-          let best_is : to_z w32 c.if-value-best.best-bits ≡ likelihood soft (coded (word n (16 * chosen))) = w.best-is ∙ kept.value in
-          let most : likelihood soft (coded (word n (16 * number))) ≤ℤ likelihood soft (coded (word n (16 * chosen))) =
-          most_by_test _ _ _ _ kept.value (to_z-of_z w32 c.worth-value.result fits ∙ value) w.if-value-best.false in
+          let best_is : to_z w32 c.if-value-best.best-bits ≡ likelihood soft (encoding (word n (16 * chosen))) = w.best-is ∙ kept.value in
+          let most : likelihood soft (encoding (word n (16 * number))) ≤ℤ likelihood soft (encoding (word n (16 * chosen))) =
+          most_by_test _ _ _ _ kept.value (to_z-of_z w32 c.path_metric-value.result fits ∙ value) w.if-value-best.false in
           record {
             before = omega arith;
             value = subst (λ n. Best n c.if-value-best.chosen) same_length (subst (Best n) (sym is) best_is);

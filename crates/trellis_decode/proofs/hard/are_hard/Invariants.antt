@@ -3,6 +3,6 @@ use Rattle.std.specs.List.{All}
 use Rattle.trellis_decode.specs.Hard.{IsHard}
 use Rattle.trellis_decode.proofs.hard.are_hard.Given as goal
 
--- the soft values so far
+-- the soft bits so far are hard, or `all` is false
 abbrev pub invariant-loop-value : goal.invariant-loop-value
 invariant-loop-value l = IsTrue l.all → All IsHard (take l.value-index l.soft)

@@ -1,6 +1,6 @@
 use Rattle.std.proofs.Common.{◌≡◌, take, subst, length, ap, sym, ◌∙◌, arith}
 use Rattle.std.proofs.lemmas.List.{take_all}
-use Rattle.trellis_decode.specs.Lanes.{lane, IsOctet}
+use Rattle.trellis_decode.specs.Lanes.{lane, IsSignedOctet}
 use Rattle.trellis_decode.specs.Hard.{sign}
 use Rattle.trellis_decode.proofs.FourPairs.{fits_octet}
 use Rattle.trellis_decode.proofs.HardLanes.{bit-signs}
@@ -12,6 +12,6 @@ returns c k lt =
     let whole : take 8 soft ≡ soft = take_all 8 soft (omega (arith, c.requires.count)) in
     let octets = c.requires.octets in
     bit-signs (take 8 soft) (ap length whole ∙ c.requires.count)
-    (λ k lt. fits_octet (lane (take 8 soft) k) (subst (λ s. IsOctet (lane s k)) (sym whole)
+    (λ k lt. fits_octet (lane (take 8 soft) k) (subst (λ s. IsSignedOctet (lane s k)) (sym whole)
     (octets k _ (omega (arith, c.requires.count))))) k lt
     ∙ ap (λ s. sign (lane s k)) whole

@@ -1,9 +1,9 @@
 use Rattle.std.proofs.Common.{◌≡◌, ◌+◌, ◌*◌, ◌-◌, ◌<◌, [], drop, refl, ap, sym, ◌∙◌, subst, arith}
 use Rattle.std.proofs.Math.Seq.{drop-length}
-use Rattle.trellis_decode.specs.Hard.{hard_worths}
+use Rattle.trellis_decode.specs.Hard.{hard_metrics}
 use Rattle.trellis_decode.specs.Walks.{AreWithin, IsWalk}
-use Rattle.trellis_decode.proofs.FourPairs.{AreOctets-pair, pair_at, pair_and_after}
-use Rattle.trellis_decode.proofs.HardSteps.{HasRoom-within, hard_octets}
+use Rattle.trellis_decode.proofs.FourPairs.{AreSignedOctets-pair, pair_at, pair_and_after}
+use Rattle.trellis_decode.proofs.HardSteps.{HasHeadroom-within, hard_octets}
 use Rattle.trellis_decode.proofs.Walks.{IsWalk-none}
 use Rattle.trellis_decode.proofs.hard.walk_hard.Goals as goal
 
@@ -12,16 +12,16 @@ loop-k-init c =
     let soft = c.args.soft.now in
     let none : [] ≡ drop (2 * 4) soft = sym (ap (λ n. drop n soft) (sym c.requires.count) ∙ drop-length soft) in
     record {
-      walk = subst (IsWalk (hard_worths c.args.after.lanes) (hard_worths c.args.after.lanes) _) none
-          (IsWalk-none (hard_worths c.args.after.lanes));
+      walk = subst (IsWalk (hard_metrics c.args.after.lanes) (hard_metrics c.args.after.lanes) _) none
+          (IsWalk-none (hard_metrics c.args.after.lanes));
       within = c.requires.within;
       lanes = c.requires.lanes;
       count = refl;
     }
 
-pub step-walk-requires-clause-room : goal.step-walk-requires-clause-room
-step-walk-requires-clause-room c =
-    HasRoom-within c.loop-k.walk.values.lanes (58368 + 256 * (4 - c.loop-k.k)) (omega arith) c.loop-k.invariant.lanes.count
+pub step-walk-requires-clause-headroom : goal.step-walk-requires-clause-headroom
+step-walk-requires-clause-headroom c =
+    HasHeadroom-within c.loop-k.walk.values.lanes (58368 + 256 * (4 - c.loop-k.k)) (omega arith) c.loop-k.invariant.lanes.count
     c.loop-k.invariant.within
 
 pub step-walk-requires-clause-count : goal.step-walk-requires-clause-count
@@ -33,14 +33,14 @@ loop-k-preserved c =
     let k = c.loop-k.k in
     let pair = pair_at soft (2 * (k - 1)) in
     let within : k - 1 < 4 = omega arith in
-    let has = c.hard_edges-edges.ensures.has (k - 1) _ within in
+    let has = c.hard_branch_metrics-branch_metrics.ensures.has (k - 1) _ within in
     let next : 2 * (k - 1) + 2 ≡ 2 * k = omega arith in
     record {
-      walk = subst (IsWalk (hard_worths c.args.after.lanes) (hard_worths c.step-walk.result.values.lanes) c.step-walk.result.map)
+      walk = subst (IsWalk (hard_metrics c.args.after.lanes) (hard_metrics c.step-walk.result.values.lanes) c.step-walk.result.map)
           (pair_and_after soft (2 * (k - 1)) (2 * k) next)
-          (c.step-walk.ensures.walk pair has (hard_worths c.args.after.lanes) (drop (2 * k) soft) c.loop-k.invariant.walk);
-      within = subst (λ most. AreWithin most (hard_worths c.step-walk.result.values.lanes)) (omega arith)
-          (c.step-walk.ensures.within pair has (AreOctets-pair soft (2 * (k - 1)) (hard_octets soft c.requires.hard))
+          (c.step-walk.ensures.walk pair has (hard_metrics c.args.after.lanes) (drop (2 * k) soft) c.loop-k.invariant.walk);
+      within = subst (λ most. AreWithin most (hard_metrics c.step-walk.result.values.lanes)) (omega arith)
+          (c.step-walk.ensures.within pair has (AreSignedOctets-pair soft (2 * (k - 1)) (hard_octets soft c.requires.hard))
           (58368 + 256 * (4 - k)) c.loop-k.invariant.within);
       lanes = c.step-walk.ensures.lanes;
       count = c.step-walk.ensures.count;
@@ -49,11 +49,11 @@ loop-k-preserved c =
 pub returns-clause-walk : goal.returns-clause-walk
 returns-clause-walk c =
     let none : c.loop-k.k ≡ 0 = omega arith in
-    subst (λ k. IsWalk (hard_worths c.args.after.lanes) (hard_worths c.loop-k.walk.values.lanes) c.loop-k.walk.map
+    subst (λ k. IsWalk (hard_metrics c.args.after.lanes) (hard_metrics c.loop-k.walk.values.lanes) c.loop-k.walk.map
     (drop (2 * k) c.args.soft.now))
     none c.loop-k.invariant.walk
 
 pub returns-clause-within : goal.returns-clause-within
 returns-clause-within c =
     let none : c.loop-k.k ≡ 0 = omega arith in
-    subst (λ k. AreWithin (58368 + 256 * (4 - k)) (hard_worths c.loop-k.walk.values.lanes)) none c.loop-k.invariant.within
+    subst (λ k. AreWithin (58368 + 256 * (4 - k)) (hard_metrics c.loop-k.walk.values.lanes)) none c.loop-k.invariant.within

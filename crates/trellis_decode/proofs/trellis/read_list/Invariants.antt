@@ -2,7 +2,7 @@ use Rattle.std.proofs.Common.{◌≡◌, ◌<◌, ◌++◌, take, drop}
 use Rattle.trellis_decode.specs.Trellis.{read_out}
 use Rattle.trellis_decode.proofs.trellis.read_list.Given as goal
 
--- the bits so far, and then what the rest of the rows gives, are what all rows give
+-- the bits so far, followed by the bits of the remaining rows, are the bits of all rows
 abbrev pub invariant-loop-k : goal.invariant-loop-k
 invariant-loop-k l = record {
   state : l.state < 16;

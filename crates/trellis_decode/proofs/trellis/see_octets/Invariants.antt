@@ -1,6 +1,6 @@
 use Rattle.std.proofs.Common.{take}
-use Rattle.trellis_decode.specs.Lanes.{AreOctets}
+use Rattle.trellis_decode.specs.Lanes.{AreSignedOctets}
 use Rattle.trellis_decode.proofs.trellis.see_octets.Given as goal
 
 abbrev pub invariant-loop-k : goal.invariant-loop-k
-invariant-loop-k l = AreOctets (take l.k l.soft)
+invariant-loop-k l = AreSignedOctets (take l.k l.soft)

@@ -8,7 +8,7 @@ use Rattle.um_among.proofs.search.first_to_hold.Goals as goal
 
 pub loop-tried-preserved : goal.loop-tried-preserved
 loop-tried-preserved c =
-    let Fails : List ℕ → Type 0 = λ v. ¬ Holds c.args.parity.now v in
+    let Fails : List ℕ → Type 0 = λ v. ¬ Holds c.args.crc.now v in
     let before = c.loop-tried.ranked.given in
     let u = c.next.new.u in
     let grew = c.in_ok-metric.ensures.given.0 in

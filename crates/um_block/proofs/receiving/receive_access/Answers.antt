@@ -2,7 +2,7 @@ use Rattle.std.proofs.Common.{◌≡◌, ℕ, ℤ, List, length, rules, ap, sym,
 use Rattle.bit_blocks.specs.SoftValues.{AllSoft}
 use Rattle.burst_map.specs.AccessBurst.{body}
 use Rattle.um_block.specs.Sent.{IsSentAccess}
-use Rattle.um_block.specs.Received.{softened, IsReceivedAccess}
+use Rattle.um_block.specs.Received.{soft_bits, IsReceivedAccess}
 use Rattle.um_block.specs.Restored.{IsCleanAccess}
 use Rattle.um_block.specs.declared.received.ReceivedAccess.{ReceivedAccess}
 use Rattle.um_block.proofs.ReceivedOnce.{one_received_access}
@@ -12,7 +12,7 @@ use Rattle.um_block.proofs.Restoring.{restored_access}
 use Rattle.um_block.proofs.receiving.receive_access.Goals as goal
 
 restored : (burst : List ℤ) (bsic : List ℕ) (r : ReceivedAccess) → IsReceivedAccess burst bsic r → (info sent : List ℕ) →
-    IsSentAccess info bsic sent → burst ≡ softened sent → IsCleanAccess info bsic r
+    IsSentAccess info bsic sent → burst ≡ soft_bits sent → IsCleanAccess info bsic r
 restored burst bsic r received info sent s same = clean_access info bsic sent r s (subst (λ x. IsReceivedAccess x bsic r) same received)
 
 pub decode-metric-requires-clause-soft : goal.decode-metric-requires-clause-soft

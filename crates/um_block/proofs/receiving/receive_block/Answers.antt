@@ -1,6 +1,6 @@
 use Rattle.std.proofs.Common.{◌≡◌, ℕ, ℤ, List, map, subst, rules}
 use Rattle.um_block.specs.Sent.{IsSentBlock}
-use Rattle.um_block.specs.Received.{softened, IsReceivedBlock}
+use Rattle.um_block.specs.Received.{soft_bits, IsReceivedBlock}
 use Rattle.um_block.specs.Restored.{IsCleanBlock}
 use Rattle.um_block.specs.declared.received.Received.{Received}
 use Rattle.um_block.proofs.ReceivedOnce.{one_received_block}
@@ -9,7 +9,7 @@ use Rattle.um_block.proofs.Restoring.{restored_block}
 use Rattle.um_block.proofs.receiving.receive_block.Goals as goal
 
 restored : (bursts : List (List ℤ)) (r : Received) → IsReceivedBlock bursts r → (octets : List ℕ) (tsc : ℕ) (sent : List (List ℕ)) →
-    IsSentBlock octets tsc sent → bursts ≡ map softened sent → IsCleanBlock octets tsc r
+    IsSentBlock octets tsc sent → bursts ≡ map soft_bits sent → IsCleanBlock octets tsc r
 restored bursts r received octets tsc sent s same =
     clean_block octets tsc sent r s (subst (λ b. IsReceivedBlock b r) same received)
 

@@ -3,7 +3,7 @@ use Rattle.std.proofs.lemmas.List.Elements.{All-append}
 use Rattle.bit_blocks.specs.SoftValues.{IsSoft, AllSoft}
 use Rattle.burst_map.specs.SyncBurst.{first_half, second_half}
 use Rattle.um_block.specs.Sent.{IsSentSync}
-use Rattle.um_block.specs.Received.{softened, IsReceivedSync}
+use Rattle.um_block.specs.Received.{soft_bits, IsReceivedSync}
 use Rattle.um_block.specs.Restored.{IsCleanSync}
 use Rattle.um_block.specs.declared.received.ReceivedSync.{ReceivedSync}
 use Rattle.um_block.proofs.ReceivedOnce.{one_received_sync}
@@ -13,7 +13,7 @@ use Rattle.um_block.proofs.Restoring.{restored_sync}
 use Rattle.um_block.proofs.receiving.receive_sync.Goals as goal
 
 restored : (burst : List ℤ) (r : ReceivedSync) → IsReceivedSync burst r → (info sent : List ℕ) → IsSentSync info sent →
-    burst ≡ softened sent → IsCleanSync info r
+    burst ≡ soft_bits sent → IsCleanSync info r
 restored burst r received info sent s same = clean_sync info sent r s (subst (λ x. IsReceivedSync x r) same received)
 
 pub decode-metric-requires-clause-soft : goal.decode-metric-requires-clause-soft

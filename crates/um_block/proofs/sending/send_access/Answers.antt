@@ -18,19 +18,19 @@ encode-requires-clause-information c =
 pub returns-clause-sent : goal.returns-clause-sent
 returns-clause-sent c =
     let d = c.args.info.now in
-    let p = c.xor-parity.result in
+    let p = c.xor-crc.result in
     let b = c.args.bsic.now in
     let word_is : c.add_tail.new.word ≡ with_tail (d ++ p) =
     c.add_tail.ensures ∙ ap₂ (λ x y. with_tail (x ++ y)) c.as_slice.ensures.value c.as_slice-2.ensures.value in
-    let under = c.rach_parity.ensures.under_code b c.xor-parity.ensures.counts.1 c.xor-parity.ensures.operands.1 in
+    let under = c.rach_parity.ensures.under_code b c.xor-crc.ensures.counts.1 c.xor-crc.ensures.operands.1 in
     record {
       coded_bits = c.encode.new.out;
       code = record {
         u = c.add_tail.new.word;
         count = sym (ap length c.as_slice.ensures.value) ∙ c.as_slice.ensures.count;
         information = record {
-          parity = p;
-          word = subst (λ parity. IsRachWord (d ++ parity) b) (sym c.xor-parity.ensures.value) under;
+          crc = p;
+          word = subst (λ crc. IsRachWord (d ++ crc) b) (sym c.xor-crc.ensures.value) under;
           list = word_is;
         };
         code = c.encode.ensures;

@@ -34,7 +34,7 @@ returns-clause-sent c =
       code = record {
         u = c.add_tail.new.word;
         count = sym (ap length c.as_slice.ensures.value) ∙ c.as_slice.ensures.count;
-        information = record { parity = p; word = c.sch_parity.ensures.word; list = word_is };
+        information = record { crc = p; word = c.sch_parity.ensures.word; list = word_is };
         code = c.encode.ensures;
       };
       burst = c.sync.ensures.value ∙ ap₂ sync_burst c.split_at.ensures.front c.split_at.ensures.back;

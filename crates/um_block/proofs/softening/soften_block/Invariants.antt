@@ -1,8 +1,7 @@
 use Rattle.std.proofs.Common.{◌≡◌, ℕ, ◌<◌, length, get_or, []}
-use Rattle.um_block.specs.Received.{softened}
+use Rattle.um_block.specs.Received.{soft_bits}
 use Rattle.um_block.proofs.softening.soften_block.Given as goal
 
--- the bursts so far are softened
 abbrev pub invariant-loop-b : goal.invariant-loop-b
 invariant-loop-b l =
-    (length l.soft ≡ 4) × ((k : ℕ) → k < l.b → get_or l.soft k [] ≡ softened (get_or l.block k []))
+    (length l.soft ≡ 4) × ((k : ℕ) → k < l.b → get_or l.soft k [] ≡ soft_bits (get_or l.block k []))

@@ -2,7 +2,7 @@ use Rattle.std.proofs.Common.{◌≡◌, ◌+◌, ◌-◌, ◌≤◌, length, ta
 use Rattle.std.proofs.lemmas.List.{length-map, length-take-le, length-drop, take_all}
 use borrow.Rule.Slice.PartMut.{put_mid}
 use Rattle.bit_blocks.specs.SoftValues.{AllSoft}
-use Rattle.um_block.specs.Received.{soft_value, softened}
+use Rattle.um_block.specs.Received.{soft_value, soft_bits}
 use Rattle.um_block.proofs.Softness.{AllSoft-softened, softened-more, softened-before, length-put}
 use Rattle.um_block.proofs.softening.soften_into.Goals as goal
 
@@ -11,7 +11,7 @@ loop-at-preserved c =
     let at = c.loop-at.at in
     let soft = c.loop-at.soft in
     let sixteen = c.copy_from_slice.new.self in
-    let more : sixteen ≡ softened (take 16 (drop at c.args.burst.now)) = c.copy_from_slice.ensures.after ∙ c.soften_sixteen.ensures in
+    let more : sixteen ≡ soft_bits (take 16 (drop at c.args.burst.now)) = c.copy_from_slice.ensures.after ∙ c.soften_sixteen.ensures in
     let few : length sixteen ≡ 16 = ap length more ∙ length-map (take 16 (drop at c.args.burst.now)) soft_value
     ∙ length-take-le 16 (drop at c.args.burst.now) (omega (arith, length-drop at c.args.burst.now, c.told-burst)) in
     let width : at + 16 - at ≡ 16 = omega arith in
@@ -29,7 +29,7 @@ returns-clause-value c =
     let burst = c.args.burst.now in
     let soft = c.loop-at.soft in
     let sixteen = c.copy_from_slice-2.new.self in
-    let more : sixteen ≡ softened (take 16 (drop 132 burst)) = c.copy_from_slice-2.ensures.after ∙ c.soften_sixteen-2.ensures in
+    let more : sixteen ≡ soft_bits (take 16 (drop 132 burst)) = c.copy_from_slice-2.ensures.after ∙ c.soften_sixteen-2.ensures in
     let few : length sixteen ≡ 16 = ap length more ∙ length-map (take 16 (drop 132 burst)) soft_value
     ∙ length-take-le 16 (drop 132 burst) (omega (arith, length-drop 132 burst, c.told-burst)) in
     let room : 148 ≤ length soft = omega (arith, c.loop-at.invariant.0) in
@@ -37,7 +37,7 @@ returns-clause-value c =
     let front = softened-before burst soft 132 c.loop-at.at (omega arith) c.loop-at.invariant.1 in
     sym (take_all 148 (put_mid 132 16 soft sixteen) long)
     ∙ softened-more burst 132 soft sixteen (omega (arith, c.told-burst)) room front more
-    ∙ ap softened (take_all 148 burst (omega (arith, c.told-burst)))
+    ∙ ap soft_bits (take_all 148 burst (omega (arith, c.told-burst)))
 
 pub returns-clause-soft : goal.returns-clause-soft
 returns-clause-soft c = subst AllSoft (sym (returns-clause-value c)) (AllSoft-softened c.args.burst.now)

@@ -2,7 +2,6 @@ use Rattle.std.proofs.Common.{◌≡◌, ℕ, ◌+◌, ◌<◌, length, get_or, 
 use Rattle.um_block.specs.Received.{soft_value}
 use Rattle.um_block.proofs.softening.soften_sixteen.Given as goal
 
--- the places so far are softened
 abbrev pub invariant-loop-i : goal.invariant-loop-i
 invariant-loop-i l =
     (length l.soft ≡ 16) × ((k : ℕ) → k < l.i → get_or l.soft k (pos 0) ≡ soft_value (get_or l.burst (l.at + k) 0))

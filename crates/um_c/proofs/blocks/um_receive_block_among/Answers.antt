@@ -1,28 +1,29 @@
 use Rattle.std.proofs.Common.{sym, ◌∙◌, ap, subst, rules, List, ℕ}
-use Rattle.conv_code.specs.Likelihood.{FallsBehind}
+use Rattle.um_block.specs.conv_code.Likelihood.{FallsBehind}
 use Rattle.um_among.specs.declared.reports.BlockAmong.{BlockAmong}
 use Rattle.um_among.proofs.Once.{one_block_among, block_best, block_none, block_information, block_first}
-use Rattle.um_c.specs.Reports.{TellsBlock}
+use Rattle.um_c.specs.Reports.{ReportsBlock}
 use Rattle.um_c.proofs.Accepting.{some_flagged, none_flagged}
-use Rattle.um_c.proofs.ToldOnce.{told_once}
+use Rattle.um_c.proofs.OutOnce.{output_once}
 use Rattle.um_c.proofs.blocks.um_receive_block_among.Goals as goal
 
-pub told_block-requires-clause-information : goal.told_block-requires-clause-information
-told_block-requires-clause-information c = block_information c.args.bursts.now c.args.most _ c.receive_gathered_among-among.ensures
+pub reported_block-requires-clause-information : goal.reported_block-requires-clause-information
+reported_block-requires-clause-information c = block_information c.args.bursts.now c.args.most _ c.receive_gathered_among-among.ensures
 
 pub returns-clause-best : goal.returns-clause-best
 returns-clause-best c = λ _ one soft v gathered candidate holds other.
-    let told = c.told_block.ensures in
+    let output = c.reported_block.ensures in
     let among = c.receive_gathered_among-among.result in
-    let some = some_flagged among.report.accepted c.told_block.result.accepted c.told_block.result.octets told.accepted one in
-    subst (λ (u : List ℕ). FallsBehind soft v u) (sym told.word)
+    let some = some_flagged among.report.accepted c.reported_block.result.accepted c.reported_block.result.octets output.accepted one in
+    subst (λ (u : List ℕ). FallsBehind soft v u) (sym output.word)
     (block_best c.args.bursts.now c.args.most among c.receive_gathered_among-among.ensures some soft v gathered candidate holds
-    (λ same. other (same ∙ sym told.word)))
+    (λ same. other (same ∙ sym output.word)))
 
 pub returns-clause-none : goal.returns-clause-none
 returns-clause-none c = λ _ soft gathered.
     let among = c.receive_gathered_among-among.result in
-    let flag = none_flagged among.report.accepted c.told_block.result.accepted c.told_block.result.octets c.told_block.ensures.accepted in
+    let flag = none_flagged among.report.accepted c.reported_block.result.accepted c.reported_block.result.octets
+    c.reported_block.ensures.accepted in
     let none = block_none c.args.bursts.now c.args.most among c.receive_gathered_among-among.ensures soft gathered in
     (λ zero. none.0 (flag.0 zero), λ fail. flag.1 (none.1 fail))
 
@@ -30,7 +31,7 @@ pub returns-clause-first : goal.returns-clause-first
 returns-clause-first c = λ _ r received some.
     let same = block_first c.args.bursts.now c.args.most c.receive_gathered_among-among.result (search rules)
     c.receive_gathered_among-among.ensures r received some in (
-      subst (λ (x : BlockAmong). TellsBlock c.args.bursts.now x.report c.told_block.result) same c.told_block.ensures,
+      subst (λ (x : BlockAmong). ReportsBlock c.args.bursts.now x.report c.reported_block.result) same c.reported_block.ensures,
       ap (λ (x : BlockAmong). x.rank) same,
     )
 
@@ -39,6 +40,6 @@ returns-clause-only c = λ _ place other h.
     let among = c.receive_gathered_among-among.result in
     let same = one_block_among c.args.bursts.now c.args.most h.received among h.is c.receive_gathered_among-among.ensures in (
       h.place ∙ ap (λ (x : BlockAmong). x.rank) same,
-      told_once c.args.bursts.now h.is.soft h.received.report among.report other _ h.is.gathered
-          (ap (λ (x : BlockAmong). x.report) same) h.told c.told_block.ensures,
+      output_once c.args.bursts.now h.is.soft h.received.report among.report other _ h.is.gathered
+          (ap (λ (x : BlockAmong). x.report) same) h.output c.reported_block.ensures,
     )

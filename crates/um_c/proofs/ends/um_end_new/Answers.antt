@@ -5,4 +5,4 @@ pub returns-clause-begun : goal.returns-clause-begun
 returns-clause-begun c =
     begun c.args.role c.args.sapi c.args.channel c.in-Some.role c.in-Some-sapi_of.sapi c.in-Some-channel_of.channel c.args.end.now
     c.write_end.new.plain c.new_on.result c.in-Some.ensures c.in-Some-sapi_of.ensures c.in-Some-channel_of.ensures c.write_end.ensures
-    c.new_on.ensures.stands
+    c.new_on.ensures.represents

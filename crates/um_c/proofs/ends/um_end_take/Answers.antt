@@ -7,8 +7,11 @@ pub returns-clause-given : goal.returns-clause-given
 returns-clause-given c =
     given_by c.args.octets.now c.channel.result (frame_of c.in-Ok.frame) c.args.end.now c.carry_out.new.end c.args.effects.now
     c.carry_out.new.effects c.read_end.new.end c.take_into.new.self c.carry_out.result c.take_into.new.effects
-    (record { stands = c.read_end.ensures.stands c.if-not-read_end.false; one = c.read_end.ensures.known.0 c.if-not-read_end.false })
-    c.channel.ensures.stands c.in-Ok.ensures.frame c.take_into.ensures.follows
+    (record {
+      represents = c.read_end.ensures.represents c.if-not-read_end.false;
+      one = c.read_end.ensures.known.0 c.if-not-read_end.false;
+    })
+    c.channel.ensures.represents c.in-Ok.ensures.frame c.take_into.ensures.refines
     (is_done c.take_into.new.effects c.take_into.new.self c.carry_out.result c.carry_out.new.end c.carry_out.new.effects
     c.carry_out.ensures.done)
 
@@ -18,5 +21,8 @@ returns-clause-plain c = λ zero. (values_of c.take_into.new.self, c.carry_out.e
 pub returns-in-Err-clause-given : goal.returns-in-Err-clause-given
 returns-in-Err-clause-given c =
     not_given c.args.octets.now c.channel.result _ c.args.end.now c.args.effects.now c.read_end.new.end
-    (record { stands = c.read_end.ensures.stands c.if-not-read_end.false; one = c.read_end.ensures.known.0 c.if-not-read_end.false })
-    c.channel.ensures.stands c.in-Err.ensures.refusal
+    (record {
+      represents = c.read_end.ensures.represents c.if-not-read_end.false;
+      one = c.read_end.ensures.known.0 c.if-not-read_end.false;
+    })
+    c.channel.ensures.represents c.in-Err.ensures.refusal

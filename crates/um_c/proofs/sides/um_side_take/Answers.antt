@@ -12,8 +12,11 @@ returns-then-is_of_sapi_3-clause-given c =
       zero = λ _ never. absurd (never is);
       no_side = λ never. absurd (never (c.is_side.ensures.0 c.if-not-is_side.false));
       unchanged = λ other.
-          let u = c.um_end_take-answer.ensures.given.unchanged other in
-          (ap (λ (e : PlainEnd). let s : PlainSide = record c.args.side.now { link3 = e } in s) u.0, c.write_sapi.ensures.kept other, u.1);
+          let u = c.um_end_take-answer.ensures.given.unchanged other in (
+            ap (λ (e : PlainEnd). let s : PlainSide = record c.args.side.now { link3 = e } in s) u.0,
+            c.write_sapi.ensures.unchanged other,
+            u.1,
+          );
     }
 
 pub returns-clause-given : goal.returns-clause-given
@@ -22,6 +25,9 @@ returns-clause-given c = record {
   zero = λ _ _. record { given = c.um_end_take-answer-2.ensures.given; kept = refl; named_is = c.write_sapi-2.ensures.written };
   no_side = λ never. absurd (never (c.is_side.ensures.0 c.if-not-is_side.false));
   unchanged = λ other.
-      let u = c.um_end_take-answer-2.ensures.given.unchanged other in
-      (ap (λ (e : PlainEnd). let s : PlainSide = record c.args.side.now { link0 = e } in s) u.0, c.write_sapi-2.ensures.kept other, u.1);
+      let u = c.um_end_take-answer-2.ensures.given.unchanged other in (
+        ap (λ (e : PlainEnd). let s : PlainSide = record c.args.side.now { link0 = e } in s) u.0,
+        c.write_sapi-2.ensures.unchanged other,
+        u.1,
+      );
 }

@@ -1,3 +1,5 @@
+-- By induction over the values: no test has failed if and only if all values so far are soft
+-- values.
 use Rattle.std.proofs.Common.{◌≡◌, ℕ, ◌+◌, ◌<◌, ◌∷◌, [], ℤ, pos, List, Bool, true, false, ◌&&◌, IsTrue, take}
 use Rattle.std.proofs.Common.{length, get_or, refl, subst, sym, ◌∙◌, w8, FitsSigned, rules, arith}
 use Rattle.std.specs.Prelude.{◌↔◌}
@@ -21,7 +23,7 @@ module _ (xs : List ℤ) (i : ℕ) (inside : i < length xs) where
   last soft =
       subst IsSoft (get_or-take (i + 1) xs i (pos 0) (omega arith)) (soft i (pos 0) (omega (arith, length-take (i + 1) xs)))
 
-  -- one value more
+  -- one more value
   more : (all one : Bool) → (IsTrue all ↔ AllSoft (take i xs)) → (IsTrue one ↔ IsSoft (get_or xs i (pos 0))) →
       (IsTrue (all && one) ↔ AllSoft (take (i + 1) xs))
   more true true before here = (

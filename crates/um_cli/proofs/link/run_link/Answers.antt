@@ -7,11 +7,11 @@ use Rattle.um_cli.proofs.link.run_link.Goals as goal
 pub returns-in-Ok-clause-session : goal.returns-in-Ok-clause-session
 returns-in-Ok-clause-session g c =
     let world_is = c.new-link.ensures.world in
-    let stands = c.in-Ok.ensures in
+    let represents = c.in-Ok.ensures in
     let left : c.radio-1.given.0 ≡ c.drive_link.new.link.radio.now =
     c.radio-1.given.1 (sym (c.drive_link.ensures.same_radio ∙ c.new-link.ensures.same_radio)) in
-    same_run _ c.args.tsc _ c.args.channel _ _ _ _ c.drive_link.result _ _ _ _ (ap (λ w. w.tsc) world_is ∙ stands.tsc)
-    (ap (λ w. w.channel) world_is ∙ stands.channel)
+    same_run _ c.args.tsc _ c.args.channel _ _ _ _ c.drive_link.result _ _ _ _ (ap (λ w. w.tsc) world_is ∙ represents.tsc)
+    (ap (λ w. w.channel) world_is ∙ represents.channel)
     (ap (λ r. let t : Tallies = record { sent = g.R.Radio.sent r; heard = g.R.Radio.heard r } in t) c.new-link.ensures.radio)
     (ap (λ r. let t : Tallies = record { sent = g.R.Radio.sent r; heard = g.R.Radio.heard r } in t) (sym left)) c.drive_link.ensures.session
 

@@ -1,11 +1,13 @@
+-- In each branch, the clauses of the command that is run are those of the shape that the words have
+-- (`Tops`).
 use Rattle.std.proofs.Common.{[], refl, ℕ, List, Option, subst}
 use Rattle.um_driver.specs.Table.{IsRun}
 use Rattle.um_driver.specs.declared.status.Status.{Status}
 use Rattle.um_cli.specs.Brought.{brought_rules}
 use Rattle.um_cli.specs.declared.words.Shape.{Shape}
-use Rattle.um_cli.specs.Replay.{replay_rules}
-use Rattle.um_cli.specs.Code.{code_rules}
-use Rattle.um_cli.specs.Show.{show_rules}
+use Rattle.um_bursts.specs.Replay.{replay_rules}
+use Rattle.um_code.specs.Code.{code_rules}
+use Rattle.um_show.specs.Show.{show_rules}
 use Rattle.um_cli.specs.Shapes.{shape_of}
 use Rattle.um_cli.specs.declared.words.Shape.TheVariants.{Code, Replay, Show, Margin, Repair, End}
 use Rattle.um_margin.specs.Margins.{margin_rules}
@@ -15,9 +17,9 @@ use Rattle.um_repair.proofs.Lemmas.{repair_is_determined}
 use Rattle.um_link.specs.Naming.{role_of}
 use Rattle.um_end.specs.EndRuns.{idle, end_rules}
 use Rattle.um_end.proofs.EndRules.{end_is_determined}
-use Rattle.um_cli.proofs.CodeRules.{code_is_determined}
-use Rattle.um_cli.proofs.ReplayRules.{replay_is_determined}
-use Rattle.um_cli.proofs.ShowRules.{show_is_determined}
+use Rattle.um_code.proofs.CodeRules.{code_is_determined}
+use Rattle.um_bursts.proofs.ReplayRules.{replay_is_determined}
+use Rattle.um_show.proofs.ShowRules.{show_is_determined}
 use Rattle.um_cli.proofs.Tops.{table_of, due_of, at_shape, restores, replay_headline}
 use Rattle.um_cli.proofs.Arriving.{best_brought}
 use Rattle.um_cli.proofs.top.run.Goals as goal

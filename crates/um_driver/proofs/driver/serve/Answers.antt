@@ -1,10 +1,12 @@
+-- Each turn keeps `IsUnderway` or ends the run. The loop ends, since each turn answers at least one
+-- octet, and at most `input_limit` octets are answered.
 use Rattle.std.proofs.Common.{arith, refl, ◌<◌, ◌∙◌}
 use Rattle.um_driver.proofs.Settling.{at_first, underway_gathers, underway_cut, run_ends}
 use Rattle.um_driver.proofs.driver.serve.Goals as goal
 
 pub loop-command-init : goal.loop-command-init
 loop-command-init g c = record {
-  underway = rw c.new-gathered.ensures (at_first c.requires.first c.requires.stands);
+  underway = rw c.new-gathered.ensures (at_first c.requires.first c.requires.represents);
   empty = c.new-out.ensures;
   source_kept = refl;
   sink_kept = refl;
@@ -16,7 +18,7 @@ returns-in-Err-clause-table g c = underway_cut c.loop-command.invariant.underway
 
 pub returns-in-Some-clause-table : goal.returns-in-Some-clause-table
 returns-in-Some-clause-table g c =
-    let way = underway_gathers c.loop-command.invariant.underway c.in-Ok.ensures.gathers c.make_way.ensures.kept in
+    let way = underway_gathers c.loop-command.invariant.underway c.in-Ok.ensures.gathers c.make_way.ensures.unchanged in
     run_ends _ _ _ c.ask.new.lines _ _ _ _ _ _ c.ask.new.out c.in-Some.status _
     (c.in-Some.ensures.comes _ _ _ _ _ way c.in-Ok.ensures.ready) c.conclude.ensures.concludes
 
@@ -27,13 +29,13 @@ returns-in-Some-clause-cause g c =
 
 pub returns-in-Err-add-clause-table : goal.returns-in-Err-add-clause-table
 returns-in-Err-add-clause-table g c =
-    let way = underway_gathers c.loop-command.invariant.underway c.in-Ok.ensures.gathers c.make_way.ensures.kept in
+    let way = underway_gathers c.loop-command.invariant.underway c.in-Ok.ensures.gathers c.make_way.ensures.unchanged in
     underway_cut (c.in-None.ensures.comes _ _ _ _ _ way c.in-Ok.ensures.ready)
     (rw c.octets.ensures.value at c.in-Err-add.ensures.gathers)
 
 pub loop-command-preserved : goal.loop-command-preserved
 loop-command-preserved g c =
-    let way = underway_gathers c.loop-command.invariant.underway c.in-Ok.ensures.gathers c.make_way.ensures.kept in
+    let way = underway_gathers c.loop-command.invariant.underway c.in-Ok.ensures.gathers c.make_way.ensures.unchanged in
     record {
       underway = underway_gathers (c.in-None.ensures.comes _ _ _ _ _ way c.in-Ok.ensures.ready)
           (rw c.octets.ensures.value at c.in-Ok-add.ensures.gathers) refl;
@@ -45,8 +47,8 @@ loop-command-preserved g c =
 
 pub loop-command-smaller : goal.loop-command-smaller
 loop-command-smaller g c =
-    let way = underway_gathers c.loop-command.invariant.underway c.in-Ok.ensures.gathers c.make_way.ensures.kept in
+    let way = underway_gathers c.loop-command.invariant.underway c.in-Ok.ensures.gathers c.make_way.ensures.unchanged in
     let limit = (c.in-None.ensures.comes _ _ _ _ _ way c.in-Ok.ensures.ready).valid.limit in
-    let kept = c.make_way.ensures.kept in
+    let kept = c.make_way.ensures.unchanged in
     let rises : c.loop-command.lines.answered < c.ask.new.lines.answered = rw kept at (c.in-None.ensures.goes_on refl) in
     omega (arith, rises, limit)

@@ -1,11 +1,11 @@
 use Rattle.std.proofs.Common.{◌≡◌, ◌-◌, []}
 use Rattle.um_io.specs.Reading.{input_limit}
-use Rattle.um_driver.specs.Course.{IsUnderway}
+use Rattle.um_driver.specs.Progress.{IsUnderway}
 use Rattle.um_driver.proofs.driver.serve.Given as goal
 
 abbrev pub invariant-loop-command : goal.invariant-loop-command
 invariant-loop-command g l = record {
-  underway : IsUnderway g.C.Command.rules (g.C.Command.start l.fn.command) (g.C.Command.stands l.command) l.lines
+  underway : IsUnderway g.C.Command.rules (g.C.Command.start l.fn.command) (g.C.Command.represents l.command) l.lines
       (g.S.Source.left l.fn.input) (g.S.Source.left l.input) (g.K.Sink.taken l.fn.output) (g.K.Sink.taken l.output) l.gathered;
   empty : l.out ≡ [];
   source_kept : g.S.Source.faults l.input ≡ g.S.Source.faults l.fn.input;

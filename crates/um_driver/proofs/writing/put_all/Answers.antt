@@ -5,7 +5,7 @@ use Rattle.um_driver.specs.Table.{TakesFront}
 use Rattle.um_io.proofs.KnownOctets.{Appends-front, Appends-keeps}
 use Rattle.um_driver.proofs.writing.put_all.Goals as goal
 
--- a front of the piece was taken
+-- a prefix of the octets was taken
 TakesFront-take : (a b : Option (List ℕ)) (n : ℕ) (piece : List ℕ) → Appends a b (take n piece) → TakesFront a b piece
 TakesFront-take a b n piece taken = (take n piece, (drop n piece, sym (take-append-drop n piece)), taken)
 
@@ -22,5 +22,5 @@ pub loop-written-preserved : goal.loop-written-preserved
 loop-written-preserved g c = record {
   bound = let n = c.in_ok-written.ensures.bound in omega (arith, simp (length-take, length-drop) at n);
   front = Appends-front _ _ _ _ _ _ c.loop-written.invariant.front c.in_ok-written.ensures.octets;
-  kept = c.in_ok-written.ensures.kept ∙ c.loop-written.invariant.kept;
+  kept = c.in_ok-written.ensures.unchanged ∙ c.loop-written.invariant.kept;
 }

@@ -7,15 +7,15 @@ use Rattle.um_end.proofs.lines.read_burst.Goals as goal
 pub returns-in-Ok-clause-means : goal.returns-in-Ok-clause-means
 returns-in-Ok-clause-means c =
     subst (EndMeans (role_of c.args.side) c.args.held c.args.line.now) (sym c.of_block.ensures)
-    (other_means (role_of c.args.side) c.args.held c.args.line.now c.requires.short c.requires.kept c.requires.other c.in-Ok.burst
+    (other_means (role_of c.args.side) c.args.held c.args.line.now c.requires.size c.requires.not_skipped c.requires.other c.in-Ok.burst
     c.in-Ok.ensures.means)
 
 pub returns-in-Ok-clause-refused : goal.returns-in-Ok-clause-refused
 returns-in-Ok-clause-refused c =
     ap without_singles c.in-Ok.ensures.refused
-    ∙ sym (other_fault (role_of c.args.side) c.args.held c.args.line.now c.requires.short c.requires.kept c.requires.other)
+    ∙ sym (other_fault (role_of c.args.side) c.args.held c.args.line.now c.requires.size c.requires.not_skipped c.requires.other)
 
 pub returns-in-Err-clause-refused : goal.returns-in-Err-clause-refused
 returns-in-Err-clause-refused c =
     c.without_form.ensures ∙ ap without_singles c.in-Err.ensures.refused
-    ∙ sym (other_fault (role_of c.args.side) c.args.held c.args.line.now c.requires.short c.requires.kept c.requires.other)
+    ∙ sym (other_fault (role_of c.args.side) c.args.held c.args.line.now c.requires.size c.requires.not_skipped c.requires.other)

@@ -16,23 +16,23 @@ pub returns-then-held-gt0-clause-refused : goal.returns-then-held-gt0-clause-ref
 returns-then-held-gt0-clause-refused c =
     c.inside_block.ensures
     ∙ ap inside (c.err.ensures.value ∙ c.parse_script-read.ensures.refused)
-    ∙ sym (inside_fault (role_of c.args.side) c.args.held c.args.line.now c.requires.short c.requires.kept c.requires.own
+    ∙ sym (inside_fault (role_of c.args.side) c.args.held c.args.line.now c.requires.size c.requires.not_skipped c.requires.own
     (some c.args.held c.if-held-gt0.true))
 
 pub returns-in-Ok-clause-means : goal.returns-in-Ok-clause-means
 returns-in-Ok-clause-means c =
     subst (EndMeans (role_of c.args.side) c.args.held c.args.line.now) (sym c.of_script.ensures)
-    (call_means (role_of c.args.side) c.args.held c.args.line.now c.requires.short c.requires.kept c.requires.own
+    (call_means (role_of c.args.side) c.args.held c.args.line.now c.requires.size c.requires.not_skipped c.requires.own
     (none c.args.held c.if-held-gt0.false) (meaning_of c.in-Ok.script) c.in-Ok.ensures.means)
 
 pub returns-in-Ok-clause-refused : goal.returns-in-Ok-clause-refused
 returns-in-Ok-clause-refused c =
     c.in-Ok.ensures.refused
-    ∙ sym (call_fault (role_of c.args.side) c.args.held c.args.line.now c.requires.short c.requires.kept c.requires.own
+    ∙ sym (call_fault (role_of c.args.side) c.args.held c.args.line.now c.requires.size c.requires.not_skipped c.requires.own
     (none c.args.held c.if-held-gt0.false))
 
 pub returns-in-Err-clause-refused : goal.returns-in-Err-clause-refused
 returns-in-Err-clause-refused c =
     c.in-Err.ensures.refused
-    ∙ sym (call_fault (role_of c.args.side) c.args.held c.args.line.now c.requires.short c.requires.kept c.requires.own
+    ∙ sym (call_fault (role_of c.args.side) c.args.held c.args.line.now c.requires.size c.requires.not_skipped c.requires.own
     (none c.args.held c.if-held-gt0.false))

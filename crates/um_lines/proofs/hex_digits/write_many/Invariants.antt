@@ -2,7 +2,7 @@ use Rattle.std.proofs.Common.{◌≡◌, ℕ, ◌+◌, ◌-◌, ◌<◌, ◌≤�
 use Rattle.um_lines.specs.HexPlaces.{octet_at}
 use Rattle.um_lines.proofs.hex_digits.write_many.Given as goal
 
--- the octets so far are those of the digits at their places
+-- the octets so far are decoded
 abbrev pub invariant-loop-at : goal.invariant-loop-at
 invariant-loop-at l =
     (length l.octets ≡ length l.initial.octets) × ((k : ℕ) → k < l.at → get_or l.octets k 0 ≡ octet_at l.digits k)

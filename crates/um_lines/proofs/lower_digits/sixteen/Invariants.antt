@@ -2,7 +2,7 @@ use Rattle.std.proofs.Common.{◌≡◌, ℕ, ◌+◌, ◌/◌, ◌%◌, ◌<◌
 use Rattle.hex.specs.Hex.{lower_digits}
 use Rattle.um_lines.proofs.lower_digits.sixteen.Given as goal
 
--- the digits so far are those of the octets from the place on
+-- the digits so far are those of the octets from index `at` on
 abbrev pub invariant-loop-i : goal.invariant-loop-i
 invariant-loop-i l =
     (length l.high ≡ 16) × (length l.low ≡ 16)

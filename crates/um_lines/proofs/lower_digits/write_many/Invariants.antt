@@ -2,7 +2,7 @@ use Rattle.std.proofs.Common.{◌≡◌, ℕ, ◌+◌, ◌-◌, ◌<◌, ◌≤�
 use Rattle.um_lines.specs.HexPlaces.{HasDigits}
 use Rattle.um_lines.proofs.lower_digits.write_many.Given as goal
 
--- the digits so far are those of the octets at their places
+-- the digits of the octets so far are written
 abbrev pub invariant-loop-at : goal.invariant-loop-at
 invariant-loop-at l = (length l.digits ≡ length l.initial.digits) × ((k : ℕ) → k < l.at → HasDigits l.octets l.digits k)
     × (l.at ≤ length l.octets) × (l.last + 16 ≡ length l.octets)

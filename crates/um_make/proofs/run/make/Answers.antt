@@ -1,10 +1,11 @@
+-- Each turn of the loop counts one more event and its answer, and the radio counts the same blocks.
 use Rattle.std.proofs.Common.{◌≡◌, ◌∙◌, ap, ℕ, ◌+◌}
 use Rattle.std.proofs.Common.{arith}
-use Rattle.um_block.specs.Tallies.{raised_by}
-use Rattle.um_link.specs.Naming.{written}
-use Rattle.um_link.specs.Standing.{frames_in, arrivals_in}
-use Rattle.um_make.specs.Generated.{generated}
-use Rattle.um_make.proofs.Going.{goes_on, small_enough, sums_up, delivered}
+use Rattle.um_block.specs.Tallies.{tally_after}
+use Rattle.um_link.specs.Naming.{step_result}
+use Rattle.um_link.specs.Abstraction.{frames_in, arrivals_in}
+use Rattle.um_make.specs.Generated.{generated_events}
+use Rattle.um_make.proofs.Going.{goes_on, small_enough, sums_up, is_delivered}
 use Rattle.um_make.proofs.Tallying.{raised_by-more, frames_are, arrivals_are}
 use Rattle.um_make.proofs.run.make.Goals as goal
 
@@ -15,7 +16,7 @@ count-requires g c =
 
 pub loop-event-preserved : goal.loop-event-preserved
 loop-event-preserved g c =
-    let answer = written c.step_into-done.result c.step_into-done.new.step in
+    let answer = step_result c.step_into-done.result c.step_into-done.new.step in
     let old = c.loop-event.summary in
     let new = c.count.new.self in
     let counts = c.count.ensures.counts in
@@ -23,22 +24,22 @@ loop-event-preserved g c =
     let heard : new.takes + new.drops ≡ (old.takes + old.drops) + arrivals_in answer =
     omega (arith, counts.takes, counts.drops, arrivals_are answer) in
     record {
-      underway = goes_on c.args.tsc (generated c.args.n) c.loop-event.script c.next.new.self c.loop-event.world
+      underway = goes_on c.args.tsc (generated_events c.args.n) c.loop-event.script c.next.new.self c.loop-event.world
           c.step_into-done.new.self old new _ answer c.loop-event.invariant.underway c.in-Some.ensures.event
           c.step_into-done.ensures.session counts c.count.ensures.rises;
-      sent = c.step_into-done.ensures.sent ∙ ap (raised_by (frames_in answer)) c.loop-event.invariant.sent
+      sent = c.step_into-done.ensures.sent ∙ ap (tally_after (frames_in answer)) c.loop-event.invariant.sent
           ∙ raised_by-more (frames_in answer) old.sends _ new.sends sent;
-      heard = c.step_into-done.ensures.heard ∙ ap (raised_by (arrivals_in answer)) c.loop-event.invariant.heard
+      heard = c.step_into-done.ensures.heard ∙ ap (tally_after (arrivals_in answer)) c.loop-event.invariant.heard
           ∙ raised_by-more (arrivals_in answer) (old.takes + old.drops) _ (new.takes + new.drops) heard;
     }
 
 pub returns-clause-run : goal.returns-clause-run
 returns-clause-run g c =
-    sums_up c.args.tsc (generated c.args.n) c.loop-event.script c.loop-event.world c.loop-event.summary c.in_default.ensures.event.0
+    sums_up c.args.tsc (generated_events c.args.n) c.loop-event.script c.loop-event.world c.loop-event.summary c.in_default.ensures.event.0
     c.loop-event.invariant.underway
 
 pub returns-clause-delivered : goal.returns-clause-delivered
 returns-clause-delivered g c =
-    delivered c.args.tsc c.args.n c.loop-event.summary
-    (sums_up c.args.tsc (generated c.args.n) c.loop-event.script c.loop-event.world c.loop-event.summary c.in_default.ensures.event.0
+    is_delivered c.args.tsc c.args.n c.loop-event.summary
+    (sums_up c.args.tsc (generated_events c.args.n) c.loop-event.script c.loop-event.world c.loop-event.summary c.in_default.ensures.event.0
     c.loop-event.invariant.underway)

@@ -3,7 +3,7 @@ use Rattle.um_link.specs.Naming.{who_of}
 use Rattle.um_script.specs.AnswerLines.{Sends, lines_text, FitLines}
 use Rattle.um_script.proofs.answer.push_frames.Given as goal
 
--- what was written, and the lines of the frames that are left, are all
+-- the text so far and the lines of the remaining frames are the whole text
 abbrev pub invariant-loop-frame : goal.invariant-loop-frame
 invariant-loop-frame l =
     record {

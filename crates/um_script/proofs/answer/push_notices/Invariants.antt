@@ -1,15 +1,15 @@
 use Rattle.std.proofs.Common.{◌≡◌, ◌+◌, ◌*◌, ◌≤◌, ◌++◌, length, map, drop}
 use Rattle.um_link.specs.Naming.{who_of}
-use Rattle.um_script.specs.AnswerLines.{Tells, lines_text, FitLines}
+use Rattle.um_script.specs.AnswerLines.{Reports, lines_text, FitLines}
 use Rattle.um_script.proofs.answer.push_notices.Given as goal
 
--- what was written, and the lines of the notices that are left, are all
+-- the text so far and the lines of the remaining notices are the whole text
 abbrev pub invariant-loop-notice : goal.invariant-loop-notice
 invariant-loop-notice l =
     record {
-      text : l.out ++ lines_text (map (Tells (who_of l.who) l.sapi) (drop l.notice-index l.notices))
-          ≡ l.fn.out ++ lines_text (map (Tells (who_of l.who) l.sapi) l.notices);
+      text : l.out ++ lines_text (map (Reports (who_of l.who) l.sapi) (drop l.notice-index l.notices))
+          ≡ l.fn.out ++ lines_text (map (Reports (who_of l.who) l.sapi) l.notices);
       short : length l.out ≤ length l.fn.out + 520 * l.notice-index;
-      fit : FitLines (map (Tells (who_of l.who) l.sapi) (drop l.notice-index l.notices)) →
-          FitLines (map (Tells (who_of l.who) l.sapi) l.notices);
+      fit : FitLines (map (Reports (who_of l.who) l.sapi) (drop l.notice-index l.notices)) →
+          FitLines (map (Reports (who_of l.who) l.sapi) l.notices);
     }

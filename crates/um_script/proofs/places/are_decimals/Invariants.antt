@@ -5,7 +5,7 @@ use Rattle.um_lines.specs.Fields.{is_decimal}
 use Rattle.um_script.specs.Held.{words_after}
 use Rattle.um_script.proofs.places.are_decimals.Given as goal
 
--- whether some word is none is whether one that is left is none
+-- some word is no decimal number if and only if some remaining word is none
 abbrev pub invariant-loop-rest : goal.invariant-loop-rest
 invariant-loop-rest l =
     list_any (λ w. not (is_decimal w)) (words l.fn.text) ≡ list_any (λ w. not (is_decimal w)) (words_after l.rest)

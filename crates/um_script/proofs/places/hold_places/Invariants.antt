@@ -3,7 +3,7 @@ use Rattle.um_lines.specs.Words.{words}
 use Rattle.um_script.specs.Held.{words_after, numbers_of, ArePlaceWords}
 use Rattle.um_script.proofs.places.hold_places.Given as goal
 
--- the places so far, and those that are left, are all
+-- the indices so far and those of the remaining words are all indices
 abbrev pub invariant-loop-rest : goal.invariant-loop-rest
 invariant-loop-rest l =
     record {

@@ -5,7 +5,7 @@ use Rattle.um_script.specs.ScriptReading.{is_above}
 use Rattle.um_script.specs.Held.{words_after, AreDecimals}
 use Rattle.um_script.proofs.places.is_some_above.Given as goal
 
--- whether some word is above is whether one that is left is
+-- some word is above 591 if and only if some remaining word is
 abbrev pub invariant-loop-rest : goal.invariant-loop-rest
 invariant-loop-rest l =
     record {

@@ -3,7 +3,7 @@ use Rattle.um_lines.specs.Words.{words}
 use Rattle.um_script.specs.Held.{words_after, numbers_of, is_named_again, ArePlaceWords}
 use Rattle.um_script.proofs.places.names_twice.Given as goal
 
--- whether a place is named twice is whether one that is left is marked or named twice
+-- an index is repeated if and only if a remaining one is marked or repeated
 abbrev pub invariant-loop-rest : goal.invariant-loop-rest
 invariant-loop-rest l =
     record {

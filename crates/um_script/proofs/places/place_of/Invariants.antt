@@ -3,7 +3,7 @@ use Rattle.std.specs.Str.{all_ascii_digits}
 use Rattle.std.specs.Str.Parse.{digits_value, digits_value_after}
 use Rattle.um_script.proofs.places.place_of.Given as goal
 
--- the digits that are left make of the place so far what all make of 0
+-- the remaining digits, appended to the value so far, give the value of the word
 abbrev pub invariant-loop-digit : goal.invariant-loop-digit
 invariant-loop-digit l =
     record {

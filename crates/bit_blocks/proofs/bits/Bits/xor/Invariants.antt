@@ -2,7 +2,6 @@ use Rattle.std.proofs.Common.{◌≡◌, ℕ, ◌<◌, length, get_or}
 use Rattle.bit_blocks.specs.Bits.{AllBits, add_bits}
 use Rattle.bit_blocks.proofs.bits.Bits.xor.Given as goal
 
--- the places so far are those of the sum
 abbrev pub invariant-loop-i : goal.invariant-loop-i
 invariant-loop-i g l =
     AllBits l.sum ×

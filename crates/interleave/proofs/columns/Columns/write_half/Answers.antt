@@ -5,7 +5,6 @@ use Rattle.interleave.proofs.ColumnBits.{half_place}
 use Rattle.interleave.proofs.HalfBursts.{half_of_bursts}
 use Rattle.interleave.proofs.columns.Columns.write_half.Goals as goal
 
--- both parts are written
 length-written : (front back : List ℕ) → length front ≡ 32 → length back ≡ 32 → length (put_mid 32 32 (front ++ replicate 32 0) back) ≡ 64
 length-written front back long long' =
     let full : length (front ++ replicate 32 0) ≡ 64 = omega (arith, length-append front (replicate 32 0)) in

@@ -2,21 +2,21 @@ use Rattle.std.proofs.Common.{refl}
 use Rattle.std.proofs.lemmas.Result.{on_ok_weaker}
 use Rattle.lapdm_window.specs.declared.Sapi.TheVariants.{Zero, Three}
 use Rattle.lapdm_window.specs.Calls.{call_of, after_call}
-use Rattle.lapdm_end.proofs.SideDeeds.{does_at, asks_at}
+use Rattle.lapdm_end.proofs.SideSteps.{does_at, asks_at}
 use Rattle.lapdm_end.proofs.sides.Side.call.Goals as goal
 
-pub returns-in-Zero-clause-follows : goal.returns-in-Zero-clause-follows
-returns-in-Zero-clause-follows c =
+pub returns-in-Zero-clause-refines : goal.returns-in-Zero-clause-refines
+returns-in-Zero-clause-refines c =
     let call = call_of c.args.call.now in
     on_ok_weaker c.call.result
     (λ f. asks_at c.args.sapi Zero call c.args.self.now _ c.call.new.effects c.in-Zero.is
     (does_at Zero c.args.self.now _ c.call.new.effects (after_call call) f refl refl))
-    c.call.ensures.follows
+    c.call.ensures.refines
 
-pub returns-in-Three-clause-follows : goal.returns-in-Three-clause-follows
-returns-in-Three-clause-follows c =
+pub returns-in-Three-clause-refines : goal.returns-in-Three-clause-refines
+returns-in-Three-clause-refines c =
     let call = call_of c.args.call.now in
     on_ok_weaker c.call-in-Three.result
     (λ f. asks_at c.args.sapi Three call c.args.self.now _ c.call-in-Three.new.effects c.in-Three.is
     (does_at Three c.args.self.now _ c.call-in-Three.new.effects (after_call call) f c.args.self.now.one_channel refl))
-    c.call-in-Three.ensures.follows
+    c.call-in-Three.ensures.refines

@@ -2,23 +2,23 @@ use Rattle.std.proofs.Common.{refl}
 use Rattle.lapdm_frame.specs.Content.{frame_of}
 use Rattle.lapdm_window.specs.declared.Sapi.TheVariants.{Zero, Three}
 use Rattle.lapdm_window.specs.Tables.{after_frame}
-use Rattle.lapdm_end.proofs.SideDeeds.{does_at, zero_takes, three_takes, none_takes}
+use Rattle.lapdm_end.proofs.SideSteps.{does_at, zero_takes, three_takes, none_takes}
 use Rattle.lapdm_end.proofs.sides.Side.take.Goals as goal
 
-pub returns-then-frame-eq0-clause-follows : goal.returns-then-frame-eq0-clause-follows
-returns-then-frame-eq0-clause-follows c =
+pub returns-then-frame-eq0-clause-refines : goal.returns-then-frame-eq0-clause-refines
+returns-then-frame-eq0-clause-refines c =
     let f = frame_of c.args.frame.now in
     zero_takes f c.args.self.now _ c.take_into.new.effects c.if-frame-eq0.true
-    (does_at Zero c.args.self.now _ c.take_into.new.effects (after_frame f) c.take_into.ensures.follows refl refl)
+    (does_at Zero c.args.self.now _ c.take_into.new.effects (after_frame f) c.take_into.ensures.refines refl refl)
 
-pub returns-then-frame-eq3-clause-follows : goal.returns-then-frame-eq3-clause-follows
-returns-then-frame-eq3-clause-follows c =
+pub returns-then-frame-eq3-clause-refines : goal.returns-then-frame-eq3-clause-refines
+returns-then-frame-eq3-clause-refines c =
     let f = frame_of c.args.frame.now in
     three_takes f c.args.self.now _ c.take_into-then-frame-eq3.new.effects c.if-frame-eq3.true
-    (does_at Three c.args.self.now _ c.take_into-then-frame-eq3.new.effects (after_frame f) c.take_into-then-frame-eq3.ensures.follows
+    (does_at Three c.args.self.now _ c.take_into-then-frame-eq3.new.effects (after_frame f) c.take_into-then-frame-eq3.ensures.refines
     c.args.self.now.one_channel refl)
 
-pub returns-clause-follows : goal.returns-clause-follows
-returns-clause-follows c =
+pub returns-clause-refines : goal.returns-clause-refines
+returns-clause-refines c =
     none_takes (frame_of c.args.frame.now) c.args.self.now c.clear.new.self c.if-frame-eq0.false c.if-frame-eq3.false
     c.clear.ensures.frames c.clear.ensures.notices

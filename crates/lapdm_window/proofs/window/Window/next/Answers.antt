@@ -1,7 +1,7 @@
 use Rattle.std.proofs.Common.{◌≡◌, sym, ◌∙◌, ap, arith, [], length, slice_index_or, slice_get}
 use Rattle.lapdm_frame.specs.Layout.{n201}
-use Rattle.segmenting.specs.Pieces.{pieces}
-use Rattle.segmenting.proofs.Lemmas.{length-pieces}
+use Rattle.segmenting.specs.Segments.{segments}
+use Rattle.segmenting.proofs.Lemmas.{length-segments}
 use Rattle.lapdm_window.proofs.window.Window.next.Goals as goal
 
 pub piece-requires : goal.piece-requires
@@ -12,8 +12,8 @@ piece-requires c =
     omega (
       arith,
       ap length c.new_on.ensures.pieces,
-      ap (λ m. length (pieces n m)) same,
-      length-pieces n (slice_index_or w.held.items 0 []),
+      ap (λ m. length (segments n m)) same,
+      length-segments n (slice_index_or w.held.items 0 []),
       w.within,
     )
 
@@ -22,4 +22,4 @@ returns c =
     let w = c.args.self.now in
     let n = n201 w.channel in
     let same : c.first.result.now ≡ slice_index_or w.held.items 0 [] = c.first.ensures in
-    ap (λ ps. slice_get ps w.place) (sym (c.new_on.ensures.pieces ∙ ap (pieces n) same)) ∙ c.piece.ensures.value
+    ap (λ ps. slice_get ps w.place) (sym (c.new_on.ensures.pieces ∙ ap (segments n) same)) ∙ c.piece.ensures.value

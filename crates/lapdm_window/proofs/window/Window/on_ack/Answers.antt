@@ -1,19 +1,21 @@
+-- Four cases: nothing is outstanding; the N(R) is another; the segment has M = 1; it
+-- is the last of its message, which leaves the window.
 use Rattle.std.proofs.Common.{◌≡◌, ◌≢◌, refl, sym, ◌∙◌, ap, subst, arith, ◌+◌, List, [], true, false, length, drop}
 use Rattle.std.proofs.Common.{slice_index_or, Some}
 use Rattle.std.proofs.lemmas.List.{length-drop}
 use Rattle.std.proofs.lemmas.List.Elements.{All-same, All-drop}
 use Rattle.lapdm_frame.specs.Layout.{n201}
-use Rattle.segmenting.specs.Pieces.{Message, Piece, IsMessage, pieces}
+use Rattle.segmenting.specs.Segments.{Message, Segment, IsMessage, segments}
 use Rattle.lapdm_window.specs.declared.Acked.TheVariants as V
-use Rattle.lapdm_window.specs.Ends.{next_piece, wholly_acked, vs, va, capped}
+use Rattle.lapdm_window.specs.Ends.{next_segment, wholly_acked, vs, va, capped_number}
 use Rattle.lapdm_window.specs.Rules.{with_acked, acked_number}
-use Rattle.lapdm_window.specs.Standing.{Holds}
+use Rattle.lapdm_window.specs.Abstraction.{HoldsUnacked}
 use Rattle.lapdm_window.proofs.Numbers.{one_sent, capped-more}
-use Rattle.lapdm_window.proofs.FirstPieces.{goes_on, ends}
+use Rattle.lapdm_window.proofs.FirstSegments.{goes_on, ends}
 use Rattle.lapdm_window.proofs.Counting.{wholly_acked-more, wholly_acked-last}
 use Rattle.lapdm_window.proofs.Moves.{IsFirst, IsNext, next_is, KeepsWindow-acked, Holds-more, Holds-last, acknowledges-not_waiting}
-use Rattle.lapdm_window.proofs.Moves.{acknowledges-other, acknowledges-waiting, counts-nothing, counts-something, acked_by-piece}
-use Rattle.lapdm_window.proofs.Moves.{acked_by-message, acked-waits, Stands-same}
+use Rattle.lapdm_window.proofs.Moves.{acknowledges-other, acknowledges-waiting, counts-nothing, counts-something, acked_by-segment}
+use Rattle.lapdm_window.proofs.Moves.{acked_by-message, acked-waits, Represents-same}
 use Rattle.lapdm_window.proofs.window.Window.on_ack.Goals as goal
 use Rattle.lapdm_window.proofs.window.Window.on_ack.Goals.{then-self-via-then-self, then-self-via-else-self+then-nr-self}
 
@@ -49,34 +51,34 @@ invariant_of-self-2 c =
 pub returns-then-self-clause-counted : goal.returns-then-self-clause-counted
 returns-then-self-clause-counted c e h =
     elim c.then-self.branch [
-      | then-self-via-then-self w ↦ Stands-same _ e _ (counts-nothing e c.args.nr
+      | then-self-via-then-self w ↦ Represents-same _ e _ (counts-nothing e c.args.nr
           (acknowledges-not_waiting e c.args.nr h.end (sym h.tracks.vs ∙ w.if-self.true ∙ h.tracks.va))) h
-      | then-self-via-else-self+then-nr-self w ↦ Stands-same _ e _
+      | then-self-via-else-self+then-nr-self w ↦ Represents-same _ e _
           (counts-nothing e c.args.nr (acknowledges-other e c.args.nr (λ same. w.if-nr-self.true (same ∙ sym h.tracks.vs)))) h
     ]
 
 pub returns-then-more-clause-answer : goal.returns-then-more-clause-answer
 returns-then-more-clause-answer c e h =
     let w = c.args.self.now in
-    let x : Piece = (c.next-more.result.octets.now, c.next-more.result.more) in
+    let x : Segment = (c.next-more.result.octets.now, c.next-more.result.more) in
     let differ : vs e ≢ va e = λ same. c.if-self.false (h.tracks.vs ∙ same ∙ sym h.tracks.va) in
     let first : IsFirst w.channel w.held.items w.place x = record
     { some = w.waiting c.if-self.false; within = w.within; piece = c.next-more.ensures } in
     let next : IsNext e x = next_is e w.channel w.held.items w.place x h.tracks.channel h.holds first in
     let acks = acknowledges-waiting e c.args.nr h.end differ (c.if-nr-self.false ∙ h.tracks.vs) in
-    sym (acked_by-piece e c.args.nr acks (ap (λ p. p.1) next.piece ∙ c.if-more.true))
+    sym (acked_by-segment e c.args.nr acks (ap (λ p. p.1) next.piece ∙ c.if-more.true))
 
 pub returns-then-more-clause-counted : goal.returns-then-more-clause-counted
 returns-then-more-clause-counted c e h =
     let w = c.args.self.now in
-    let x : Piece = (c.next-more.result.octets.now, c.next-more.result.more) in
+    let x : Segment = (c.next-more.result.octets.now, c.next-more.result.more) in
     let differ : vs e ≢ va e = λ same. c.if-self.false (h.tracks.vs ∙ same ∙ sym h.tracks.va) in
     let one = one_sent e h.end differ in
     let first : IsFirst w.channel w.held.items w.place x = record
     { some = w.waiting c.if-self.false; within = w.within; piece = c.next-more.ensures } in
     let next : IsNext e x = next_is e w.channel w.held.items w.place x h.tracks.channel h.holds first in
-    let more : (next_piece e).1 ≡ true = ap (λ p. p.1) next.piece ∙ c.if-more.true in
-    Stands-same _ (with_acked e) _ (counts-something e c.args.nr
+    let more : (next_segment e).1 ≡ true = ap (λ p. p.1) next.piece ∙ c.if-more.true in
+    Represents-same _ (with_acked e) _ (counts-something e c.args.nr
     (acknowledges-waiting e c.args.nr h.end differ (c.if-nr-self.false ∙ h.tracks.vs))) (record {
       end = KeepsWindow-acked e h.end;
       tracks = record {
@@ -84,7 +86,7 @@ returns-then-more-clause-counted c e h =
         vs = h.tracks.vs;
         va = h.tracks.vs;
         vr = h.tracks.vr;
-        done = h.tracks.done ∙ ap capped (sym (wholly_acked-more e one next.within more));
+        done = h.tracks.done ∙ ap capped_number (sym (wholly_acked-more e one next.within more));
         rejecting = h.tracks.rejecting;
         joined = h.tracks.joined;
       };
@@ -95,14 +97,14 @@ returns-then-more-clause-counted c e h =
 pub returns-clause-answer : goal.returns-clause-answer
 returns-clause-answer c e h =
     let w = c.args.self.now in
-    let x : Piece = (c.next-more.result.octets.now, c.next-more.result.more) in
+    let x : Segment = (c.next-more.result.octets.now, c.next-more.result.more) in
     let differ : vs e ≢ va e = λ same. c.if-self.false (h.tracks.vs ∙ same ∙ sym h.tracks.va) in
     let first : IsFirst w.channel w.held.items w.place x = record
     { some = w.waiting c.if-self.false; within = w.within; piece = c.next-more.ensures } in
     let next : IsNext e x = next_is e w.channel w.held.items w.place x h.tracks.channel h.holds first in
-    let last : (next_piece e).1 ≡ false = ap (λ p. p.1) next.piece ∙ c.if-more.false in
+    let last : (next_segment e).1 ≡ false = ap (λ p. p.1) next.piece ∙ c.if-more.false in
     let number : c.saturating_add-self.result ≡ acked_number e = c.saturating_add-self.ensures
-    ∙ capped-more (wholly_acked e) w.done h.tracks.done ∙ ap capped
+    ∙ capped-more (wholly_acked e) w.done h.tracks.done ∙ ap capped_number
     (sym (wholly_acked-last e (one_sent e h.end differ) next.within last)) in
     ap (λ n. V.Message n) number ∙ sym (acked_by-message e c.args.nr
     (acknowledges-waiting e c.args.nr h.end differ (c.if-nr-self.false ∙ h.tracks.vs)) last)
@@ -111,18 +113,18 @@ pub returns-clause-counted : goal.returns-clause-counted
 returns-clause-counted c e h =
     let w = c.args.self.now in
     let m = slice_index_or w.held.items 0 [] in
-    let x : Piece = (c.next-more.result.octets.now, c.next-more.result.more) in
+    let x : Segment = (c.next-more.result.octets.now, c.next-more.result.more) in
     let differ : vs e ≢ va e = λ same. c.if-self.false (h.tracks.vs ∙ same ∙ sym h.tracks.va) in
     let one = one_sent e h.end differ in
     let first : IsFirst w.channel w.held.items w.place x = record
     { some = w.waiting c.if-self.false; within = w.within; piece = c.next-more.ensures } in
     let next : IsNext e x = next_is e w.channel w.held.items w.place x h.tracks.channel h.holds first in
-    let last : (next_piece e).1 ≡ false = ap (λ p. p.1) next.piece ∙ c.if-more.false in
-    let at_the_end : w.place + 1 ≡ length (pieces (n201 e.channel) m) = ends (n201 w.channel) w.place m c.next-more.result.octets.now
+    let last : (next_segment e).1 ≡ false = ap (λ p. p.1) next.piece ∙ c.if-more.false in
+    let at_the_end : w.place + 1 ≡ length (segments (n201 e.channel) m) = ends (n201 w.channel) w.place m c.next-more.result.octets.now
     (c.next-more.ensures ∙ ap (λ b. Some (c.next-more.result.octets.now, b)) c.if-more.false) ∙ ap
-    (λ ch. length (pieces (n201 ch) m)) h.tracks.channel in
+    (λ ch. length (segments (n201 ch) m)) h.tracks.channel in
     let items : c.remove_first.new.self.items ≡ drop 1 w.held.items = c.remove_first.ensures.items in
-    Stands-same _ (with_acked e) _ (counts-something e c.args.nr
+    Represents-same _ (with_acked e) _ (counts-something e c.args.nr
     (acknowledges-waiting e c.args.nr h.end differ (c.if-nr-self.false ∙ h.tracks.vs))) (record {
       end = KeepsWindow-acked e h.end;
       tracks = record {
@@ -131,11 +133,11 @@ returns-clause-counted c e h =
         va = h.tracks.vs;
         vr = h.tracks.vr;
         done = c.saturating_add-self.ensures ∙ capped-more (wholly_acked e) w.done h.tracks.done
-            ∙ ap capped (sym (wholly_acked-last e one next.within last));
+            ∙ ap capped_number (sym (wholly_acked-last e one next.within last));
         rejecting = h.tracks.rejecting;
         joined = h.tracks.joined;
       };
-      holds = subst (λ (held : List Message). Holds held 0 (with_acked e)) (sym items)
+      holds = subst (λ (held : List Message). HoldsUnacked held 0 (with_acked e)) (sym items)
           (Holds-last e w.held.items w.place one h.holds next.within last (w.waiting c.if-self.false) at_the_end);
       retries = λ t. absurd (acked-waits e t);
     })

@@ -1,12 +1,12 @@
 use Rattle.std.proofs.Common.{refl, sym, ◌∙◌, ap, ◌%◌, [], ◌∷◌, length}
 use Rattle.std.proofs.lemmas.List.{length-append}
-use Rattle.segmenting.specs.Pieces.{Piece}
+use Rattle.segmenting.specs.Segments.{Segment}
 use Rattle.lapdm_window.proofs.Numbers.{next_number}
 use Rattle.lapdm_window.proofs.window.Window.on_info.Goals as goal
 
 pub returns-clause-taken : goal.returns-clause-taken
 returns-clause-taken c e h =
-    let p : Piece = (c.args.piece.now, c.args.more) in
+    let p : Segment = (c.args.piece.now, c.args.more) in
     record {
       end = record { messages = h.end.messages; sent = h.end.sent; behind = h.end.behind; window = h.end.window };
       tracks = record {

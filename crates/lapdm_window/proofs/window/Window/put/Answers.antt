@@ -3,11 +3,11 @@ use Rattle.std.proofs.Common.{slice_index_or, ◌<◌}
 use Rattle.std.proofs.lemmas.Bool.Decides.{nat_tests}
 use Rattle.lapdm_frame.specs.declared.Channel.{Channel}
 use Rattle.lapdm_frame.specs.Layout.{n201}
-use Rattle.segmenting.specs.Pieces.{Message, IsMessage, count_of}
+use Rattle.segmenting.specs.Segments.{Message, IsMessage, count_of}
 use Rattle.segmenting.proofs.Lemmas.{room_of}
-use Rattle.lapdm_window.specs.Ends.{capped}
+use Rattle.lapdm_window.specs.Ends.{capped_number}
 use Rattle.lapdm_window.specs.Calls.{with_taken}
-use Rattle.lapdm_window.specs.Standing.{Holds}
+use Rattle.lapdm_window.specs.Abstraction.{HoldsUnacked}
 use Rattle.lapdm_window.proofs.Counting.{wholly_acked-taken}
 use Rattle.lapdm_window.proofs.Moves.{KeepsWindow-taken, Holds-taken, within_held}
 use Rattle.lapdm_window.proofs.window.Window.put.Goals as goal
@@ -29,11 +29,11 @@ returns-clause-taken c e h =
         vs = h.tracks.vs;
         va = h.tracks.va;
         vr = h.tracks.vr;
-        done = h.tracks.done ∙ ap capped (sym (wholly_acked-taken e m h.end));
+        done = h.tracks.done ∙ ap capped_number (sym (wholly_acked-taken e m h.end));
         rejecting = h.tracks.rejecting;
         joined = h.tracks.joined;
       };
-      holds = subst (λ (held : List Message). Holds held w.place (with_taken m e)) (sym items)
+      holds = subst (λ (held : List Message). HoldsUnacked held w.place (with_taken m e)) (sym items)
           (Holds-taken e m w.held.items w.place h.end h.holds (within_held n w.place w.held.items (room_of e.channel).some within));
       retries = h.retries;
     }

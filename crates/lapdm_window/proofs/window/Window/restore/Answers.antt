@@ -1,17 +1,19 @@
+-- `restore` succeeds exactly if the values satisfy `AreConsistent`: `in_step` gives one
+-- direction, `represents_one` the other.
 use Rattle.std.proofs.Common.{◌≡◌, ◌≢◌, refl, sym, ◌∙◌, ap, subst, arith, ℕ, ◌+◌, ◌%◌, ◌≤◌, ◌⊎◌}
 use Rattle.std.proofs.Common.{inl, inr, length, map}
 use Rattle.std.proofs.lemmas.Bool.{false≢true}
 use Rattle.segmenting.specs.Parts.{JoinerValues}
-use Rattle.segmenting.specs.Rooms.{octets_in}
+use Rattle.segmenting.specs.Buffers.{octets_in}
 use Rattle.lapdm_window.specs.declared.window.Window.{Window}
-use Rattle.lapdm_window.specs.Parts.{WindowValues, values_of, said_by, AreOfAWindow, AreInStep}
-use Rattle.lapdm_window.proofs.Parts.{in_step, stands_for_one}
+use Rattle.lapdm_window.specs.Parts.{WindowValues, values_of, said_by, AreOfAWindow, AreConsistent}
+use Rattle.lapdm_window.proofs.Parts.{in_step, represents_one}
 use Rattle.lapdm_window.proofs.window.Window.restore.Goals as goal
-use Rattle.lapdm_window.proofs.window.Window.restore.Goals.{then-not-are_in_step-via-then-not-are_in_step}
-use Rattle.lapdm_window.proofs.window.Window.restore.Goals.{then-not-are_in_step-via-else-not-are_in_step+then-not-restore}
+use Rattle.lapdm_window.proofs.window.Window.restore.Goals.{then-not-are_consistent-via-then-not-are_consistent}
+use Rattle.lapdm_window.proofs.window.Window.restore.Goals.{then-not-are_consistent-via-else-not-are_consistent+then-not-restore}
 
-stepped : (x : WindowValues) → AreOfAWindow x → AreInStep x
-stepped x h = subst AreInStep h.1.values (in_step h.1.window h.0 h.1.stands)
+stepped : (x : WindowValues) → AreOfAWindow x → AreConsistent x
+stepped x h = subst AreConsistent h.1.values (in_step h.1.window h.0 h.1.represents)
 
 fits : (vs va : ℕ) (A : Type 0) → va ≤ 7 → (vs ≡ va) ⊎ ((vs ≡ (va + 1) % 8) × A) → vs ≤ 7
 fits vs va A few (inl same) = omega (arith, few, same)
@@ -21,13 +23,13 @@ some_held : (vs va : ℕ) (A : Type 0) → (vs ≡ va) ⊎ ((vs ≡ (va + 1) % 8
 some_held vs va A (inl same) other = absurd (other same)
 some_held vs va A (inr more) other = more.1
 
-pub returns-then-not-are_in_step-clause-known : goal.returns-then-not-are_in_step-clause-known
-returns-then-not-are_in_step-clause-known c = (
+pub returns-then-not-are_consistent-clause-known : goal.returns-then-not-are_consistent-clause-known
+returns-then-not-are_consistent-clause-known c = (
   λ s. absurd (false≢true s),
-  λ h. elim c.then-not-are_in_step.branch [
-    | then-not-are_in_step-via-then-not-are_in_step w ↦
-        absurd (false≢true (sym w.if-not-are_in_step.true ∙ c.are_in_step.ensures.together.1 (stepped (said_by c.args.parts.now) h)))
-    | then-not-are_in_step-via-else-not-are_in_step+then-not-restore w ↦
+  λ h. elim c.then-not-are_consistent.branch [
+    | then-not-are_consistent-via-then-not-are_consistent w ↦
+        absurd (false≢true (sym w.if-not-are_consistent.true ∙ c.are_consistent.ensures.together.1 (stepped (said_by c.args.parts.now) h)))
+    | then-not-are_consistent-via-else-not-are_consistent+then-not-restore w ↦
         absurd (false≢true (sym w.if-not-restore.true
         ∙ w.restore.ensures.known.1 (h.1.window.joiner, ap (λ (x : WindowValues). x.joiner) h.1.values)))
   ],
@@ -37,7 +39,7 @@ pub returns-clause-known : goal.returns-clause-known
 returns-clause-known c =
     let p = c.args.parts.now in
     let x = said_by p in
-    let h : AreInStep x = c.are_in_step.ensures.together.0 c.if-not-are_in_step.false in
+    let h : AreConsistent x = c.are_consistent.ensures.together.0 c.if-not-are_consistent.false in
     let w : Window = record {
       channel = p.channel;
       held = record { items = map octets_in p.held.now };
@@ -59,5 +61,5 @@ returns-clause-known c =
     } in
     let same : values_of w ≡ x = ap (λ (j : JoinerValues). let y : WindowValues = record x { joiner = j } in y)
     (c.restore.ensures.same c.if-not-restore.false) in
-    let found = stands_for_one w (subst AreInStep (sym same) h) c.are_in_step.ensures.counted in
-    (λ s. (found.0, record { window = w; values = same; stands = found.1 }), λ k. refl)
+    let found = represents_one w (subst AreConsistent (sym same) h) c.are_consistent.ensures.counted in
+    (λ s. (found.0, record { window = w; values = same; represents = found.1 }), λ k. refl)

@@ -1,14 +1,14 @@
 use Rattle.std.proofs.Common.{refl, sym, ◌∙◌, arith, ◌≤◌, length}
 use Rattle.std.proofs.lemmas.Bool.Decides.{nat_tests}
 use Rattle.lapdm_window.proofs.Numbers.{next_number}
-use Rattle.lapdm_window.proofs.Moves.{is_left, has_piece-left, KeepsWindow-next}
+use Rattle.lapdm_window.proofs.Moves.{is_left, has_segment-left, KeepsWindow-next}
 use Rattle.lapdm_window.proofs.window.Window.send_next.Goals as goal
 
 pub returns-clause-answer : goal.returns-clause-answer
 returns-clause-answer c e h =
     let w = c.args.self.now in
     let some_held : 1 ≤ length w.held.items = grind (arith, nat_tests) in
-    sym (has_piece-left e h.end (sym h.tracks.vs ∙ c.if-self.false ∙ h.tracks.va)
+    sym (has_segment-left e h.end (sym h.tracks.vs ∙ c.if-self.false ∙ h.tracks.va)
     (is_left e w.channel w.held.items w.place h.tracks.channel h.holds some_held w.within))
 
 pub returns-clause-sent : goal.returns-clause-sent

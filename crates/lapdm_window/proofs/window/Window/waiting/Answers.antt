@@ -1,16 +1,16 @@
 use Rattle.std.proofs.Common.{arith, sym, ◌∙◌, [], slice_index_or}
 use Rattle.lapdm_frame.specs.Layout.{n201}
-use Rattle.segmenting.specs.Pieces.{Piece}
-use Rattle.segmenting.proofs.Lemmas.{length-pieces, room_of}
+use Rattle.segmenting.specs.Segments.{Segment}
+use Rattle.segmenting.proofs.Lemmas.{length-segments, room_of}
 use Rattle.lapdm_window.proofs.Numbers.{one_sent, waits-one}
-use Rattle.lapdm_window.proofs.FirstPieces.{HasSize, size_of}
+use Rattle.lapdm_window.proofs.FirstSegments.{HasSize, size_of}
 use Rattle.lapdm_window.proofs.Moves.{IsFirst, next_is, waiting_is}
 use Rattle.lapdm_window.proofs.window.Window.waiting.Goals as goal
 
 pub returns-clause-piece : goal.returns-clause-piece
 returns-clause-piece c e h =
     let w = c.args.self.now in
-    let x : Piece = (c.next.result.octets.now, c.next.result.more) in
+    let x : Segment = (c.next.result.octets.now, c.next.result.more) in
     let first : IsFirst w.channel w.held.items w.place x = record
     { some = w.waiting c.if-self.false; within = w.within; piece = c.next.ensures } in
     let one = one_sent e h.end (λ same. c.if-self.false (h.tracks.vs ∙ same ∙ sym h.tracks.va)) in
@@ -20,7 +20,7 @@ pub returns-clause-size : goal.returns-clause-size
 returns-clause-size c =
     let w = c.args.self.now in
     let m = slice_index_or w.held.items 0 [] in
-    let within = length-pieces (n201 w.channel) m in
+    let within = length-segments (n201 w.channel) m in
     let size : HasSize (n201 w.channel) c.next.result.octets.now = size_of
     (n201 w.channel) w.place m c.next.result.octets.now c.next.result.more (room_of w.channel).some
     (w.messages 0 [] (w.waiting c.if-self.false)) (omega (arith, within, w.within)) c.next.ensures in

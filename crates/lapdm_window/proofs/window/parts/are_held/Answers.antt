@@ -2,28 +2,28 @@ use Rattle.std.proofs.Common.{arith, List, [], ◌∷◌, map, All}
 use Rattle.std.proofs.lemmas.Bool.{false≢true}
 use Rattle.std.proofs.lemmas.List.{length-map}
 use Rattle.std.proofs.lemmas.List.Elements.{All-map, All-nil, All-cons, All-head, All-tail}
-use Rattle.segmenting.specs.declared.rooms.PlainMessage.{PlainMessage}
-use Rattle.segmenting.specs.Pieces.{IsMessage}
-use Rattle.segmenting.specs.Rooms.{octets_in}
+use Rattle.segmenting.specs.declared.buffers.PlainMessage.{PlainMessage}
+use Rattle.segmenting.specs.Segments.{IsMessage}
+use Rattle.segmenting.specs.Buffers.{octets_in}
 use Rattle.lapdm_window.proofs.window.parts.are_held.Goals as goal
 
-each : (rooms : List PlainMessage) → All IsMessage (map octets_in rooms) → All (λ room. IsMessage (octets_in room)) rooms
+each : (buffers : List PlainMessage) → All IsMessage (map octets_in buffers) → All (λ room. IsMessage (octets_in room)) buffers
 each [] h = All-nil (λ room. IsMessage (octets_in room))
-each (room ∷ rooms) h =
-    All-cons (λ room. IsMessage (octets_in room)) room rooms (All-head IsMessage (octets_in room) (map octets_in rooms) h)
-    (each rooms (All-tail IsMessage (octets_in room) (map octets_in rooms) h))
+each (room ∷ buffers) h =
+    All-cons (λ room. IsMessage (octets_in room)) room buffers (All-head IsMessage (octets_in room) (map octets_in buffers) h)
+    (each buffers (All-tail IsMessage (octets_in room) (map octets_in buffers) h))
 
 pub returns-then-messages-gt8 : goal.returns-then-messages-gt8
 returns-then-messages-gt8 c =
-    let rooms = c.args.messages.now in
-    (λ s. absurd (false≢true s), λ h. absurd (omega (arith, h.few, length-map rooms octets_in, c.if-messages-gt8.true)))
+    let buffers = c.args.messages.now in
+    (λ s. absurd (false≢true s), λ h. absurd (omega (arith, h.few, length-map buffers octets_in, c.if-messages-gt8.true)))
 
 pub returns : goal.returns
 returns c =
-    let rooms = c.args.messages.now in (
+    let buffers = c.args.messages.now in (
       λ s. record {
-        few = omega (arith, length-map rooms octets_in, c.if-messages-gt8.false);
-        messages = All-map IsMessage octets_in rooms (c.are_messages.ensures.0 s);
+        few = omega (arith, length-map buffers octets_in, c.if-messages-gt8.false);
+        messages = All-map IsMessage octets_in buffers (c.are_messages.ensures.0 s);
       },
-      λ h. c.are_messages.ensures.1 (each rooms h.messages),
+      λ h. c.are_messages.ensures.1 (each buffers h.messages),
     )

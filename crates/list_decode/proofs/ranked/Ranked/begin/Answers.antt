@@ -1,4 +1,4 @@
-use Rattle.std.proofs.Common.{arith, rules, ◌≡◌, ◌+◌, length, refl, ap, ◌∙◌, w32, FitsSigned}
+use Rattle.std.proofs.Common.{arith, rules, ◌≡◌, ◌+◌, length, refl, ap, sym, ◌∙◌, w32, FitsSigned}
 use Rattle.std.proofs.lemmas.Int.{to_z-of_z}
 use Rattle.list_decode.specs.declared.branch.Span.{Span}
 use Rattle.list_decode.proofs.Given.{bits_is, first_given, first_span, reads_as, sound_first}
@@ -6,21 +6,21 @@ use Rattle.list_decode.proofs.ranked.Ranked.begin.Goals as goal
 
 pub new-requires-clause-span : goal.new-requires-clause-span
 new-requires-clause-span c =
-    let pass = c.self.invariant.pass in
+    let pass = c.run.ensures.pass in
     let fits : FitsSigned w32 c.decode-likelihood.result = search rules in
-    first_span c.self.inside.pass c.decode-likelihood.new.u _ pass c.decode-likelihood.ensures.best
+    first_span c.run.new.self c.decode-likelihood.new.u _ pass c.decode-likelihood.ensures.best
     (to_z-of_z w32 c.decode-likelihood.result fits ∙ c.decode-likelihood.ensures.value) refl (let five = pass.at_least in omega arith) refl
 
 pub invariant_of-self : goal.invariant_of-self
 invariant_of-self c =
-    let many : length c.self.inside.lists ≡ 64 = search rules in
     let room : length c.self.inside.branches ≡ 127 = search rules in
     let span = c.new.ensures.span in
-    let five = c.self.invariant.pass.at_least in
-    let bits = bits_is c.self.inside c.args.self.now c.self.view_is c.self.invariant.pass (length c.args.u.now) c.requires.count in
-    let reads = reads_as c.self.inside.pass.bits c.padded.result c.decode-likelihood.new.u c.padded.ensures
-    (c.decode-likelihood.auto.u ∙ bits) in
-    sound_first c.self.inside c.self.invariant many room c.decode-likelihood.new.u c.padded.result reads c.new.result
+    let five = c.run.ensures.pass.at_least in
+    let bits = bits_is c.self.inside c.args.self.now c.self.view_is c.self.invariant.ready (length c.args.u.now) c.requires.count in
+    let reads = reads_as c.run.new.self.bits c.padded-self-inside.result c.decode-likelihood.new.u c.padded-self-inside.ensures
+    (c.decode-likelihood.auto.u ∙ bits ∙ sym c.run.ensures.bits) in
+    sound_first c.run.new.self c.run.ensures.pass c.self.inside.lists.deviations c.self.inside.branches room
+    c.decode-likelihood.new.u c.padded-self-inside.result reads c.new.result
     c.decode-likelihood.ensures.best c.new.ensures.branch (ap (λ (s : Span). s.list) span) (ap (λ (s : Span). s.from) span)
     (ap (λ (s : Span). s.to + 4) span ∙ omega arith)
 
@@ -29,9 +29,9 @@ returns-clause-ranked c = (invariant_of-self c).ranked
 
 pub returns-clause-given : goal.returns-clause-given
 returns-clause-given c =
-    let many : length c.self.inside.lists ≡ 64 = search rules in
     let room : length c.self.inside.branches ≡ 127 = search rules in
-    let bits = bits_is c.self.inside c.args.self.now c.self.view_is c.self.invariant.pass (length c.args.u.now) c.requires.count in
-    let reads = reads_as c.self.inside.pass.bits c.padded.result c.decode-likelihood.new.u c.padded.ensures
-    (c.decode-likelihood.auto.u ∙ bits) in
-    first_given c.self.inside c.self.invariant many room c.decode-likelihood.new.u c.padded.result reads c.new.result
+    let bits = bits_is c.self.inside c.args.self.now c.self.view_is c.self.invariant.ready (length c.args.u.now) c.requires.count in
+    let reads = reads_as c.run.new.self.bits c.padded-self-inside.result c.decode-likelihood.new.u c.padded-self-inside.ensures
+    (c.decode-likelihood.auto.u ∙ bits ∙ sym c.run.ensures.bits) in
+    first_given c.run.new.self c.run.ensures.pass c.self.inside.lists.deviations c.self.inside.branches room
+    c.decode-likelihood.new.u c.padded-self-inside.result reads c.new.result

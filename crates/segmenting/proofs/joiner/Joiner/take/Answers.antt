@@ -15,13 +15,13 @@ returns-in_default-clause-after c taken h =
 pub returns-then-more-2-clause-after : goal.returns-then-more-2-clause-after
 returns-then-more-2-clause-after c taken h =
     let held = written c.in-Some.start c.args.piece.now taken c.args.self.now.octets c.copy_from_slice.new.self
-    (omega arith) c.in-Some.ensures.room c.copy_from_slice.ensures.after (c.in-Some.ensures.place taken h) in
+    (omega arith) c.in-Some.ensures.space c.copy_from_slice.ensures.after (c.in-Some.ensures.place taken h) in
     HasJoined-same P.Open P.Open _ taken _ true c.args.more refl (sym c.if-more-2.true)
     (goes_on taken c.args.piece.now _ held.same held.fits)
 
 pub returns-clause-after : goal.returns-clause-after
 returns-clause-after c taken h =
     let held = written c.in-Some.start c.args.piece.now taken c.args.self.now.octets c.copy_from_slice.new.self
-    (omega arith) c.in-Some.ensures.room c.copy_from_slice.ensures.after (c.in-Some.ensures.place taken h) in
+    (omega arith) c.in-Some.ensures.space c.copy_from_slice.ensures.after (c.in-Some.ensures.place taken h) in
     HasJoined-same P.Whole P.Whole _ taken _ false c.args.more refl (sym c.if-more-2.false)
     (completes taken c.args.piece.now _ held.same held.fits)

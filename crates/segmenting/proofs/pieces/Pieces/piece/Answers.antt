@@ -1,5 +1,5 @@
 use Rattle.std.proofs.Common.{arith}
-use Rattle.segmenting.proofs.Cutting.{begins_at, piece_at}
+use Rattle.segmenting.proofs.Cutting.{begins_at, segment_at}
 use Rattle.segmenting.proofs.pieces.Pieces.piece.Goals as goal
 
 pub overflow_mul-start : goal.overflow_mul-start
@@ -25,4 +25,4 @@ slice_bounds-result-end c =
 pub returns-clause-value : goal.returns-clause-value
 returns-clause-value c =
     let p = c.args.self.now in
-    piece_at p.channel _ c.args.i _ p.message.now c.n201-most.ensures c.min.ensures (record { some = p.some; most = p.most }) c.requires
+    segment_at p.channel _ c.args.i _ p.message.now c.n201-most.ensures c.min.ensures (record { some = p.some; most = p.most }) c.requires

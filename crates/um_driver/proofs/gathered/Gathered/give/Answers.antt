@@ -3,7 +3,7 @@ use Rattle.um_io.proofs.KnownOctets.{Appends-append}
 use Rattle.um_driver.specs.Taking.{TakesAll, Gathers}
 use Rattle.um_driver.proofs.gathered.Gathered.give.Goals as goal
 
--- a front of the text is written first, and then the rest
+-- a prefix of the text is written first, and then the rest
 then_rest : {T E : Type 0} (text rest : List ℕ) (taken mid taken' : Option (List ℕ)) (result : Result T E) →
     Gathers text rest taken mid → TakesAll mid taken' result rest → TakesAll taken taken' result text
 then_rest text rest taken mid taken' (Ok _) (w, text_is, written) then = rw text_is (Appends-append taken mid taken' w rest written then)

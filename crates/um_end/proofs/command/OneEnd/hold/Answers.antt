@@ -1,10 +1,10 @@
 use Rattle.std.proofs.Common.{◌≡◌, Bool, ℕ, ℤ, ◌<◌, List, [], ◌∷◌, ◌++◌, length, inl, inr, refl, sym, ap}
 use Rattle.std.proofs.Common.{◌∙◌, subst, rules, arith}
 use Rattle.lapdm_window.specs.Ends.{Role}
-use Rattle.um_text.specs.Held.{Holds}
-use Rattle.um_air.specs.Air.{Does}
+use Rattle.um_formats.specs.Held.{HoldsBurst}
+use Rattle.um_link.specs.um_air.Air.{Does}
 use Rattle.um_link.specs.Naming.{role_of, step_of}
-use Rattle.um_end.specs.Terminals.{Hears}
+use Rattle.um_end.specs.Terminals.{ReceivesBursts}
 use Rattle.um_end.specs.EndRuns.{IsAnswerText}
 use Rattle.um_end.proofs.AnswerSizes.{block_short}
 use Rattle.um_end.proofs.command.OneEnd.hold.Goals as goal
@@ -12,9 +12,9 @@ use Rattle.um_end.proofs.command.OneEnd.hold.Goals as goal
 pub returns-then-add : goal.returns-then-add
 returns-then-add c = record {
   answers = λ s st.
-      let f = c.receive_into.ensures.follows s.links st.links in
+      let f = c.receive_into.ensures.refines s.links st.links in
       let bursts : List (List ℤ) = s.held ++ c.args.burst ∷ [] in
-      let holds = subst (λ (whole : Bool). Holds c.args.self.now.held c.args.burst whole c.add.new.self) c.if-add.true c.add.ensures in
+      let holds = subst (λ (whole : Bool). HoldsBurst c.args.self.now.held c.args.burst whole c.add.new.self) c.if-add.true c.add.ensures in
       let whole : c.block.result.now ≡ bursts = c.block.ensures.bursts ∙ holds.0 ∙ ap (λ held. held ++ c.args.burst ∷ []) (sym st.held) in
       let step = step_of c.receive_into.new.step in
       let tsc : c.receive_into.new.self.tsc ≡ s.tsc = c.receive_into.ensures.same.tsc ∙ sym st.tsc in (
@@ -24,8 +24,8 @@ returns-then-add c = record {
           record {
             links = f.0;
             step = step;
-            heard = subst (λ (bs : List (List ℤ)). Hears s.role s.links bs f.0 step) whole
-                (subst (λ (r : Role). Hears r s.links c.block.result.now f.0 step) (sym st.role) f.2);
+            heard = subst (λ (bs : List (List ℤ)). ReceivesBursts s.role s.links bs f.0 step) whole
+                (subst (λ (r : Role). ReceivesBursts r s.links c.block.result.now f.0 step) (sym st.role) f.2);
             text_is = subst (λ (n : ℕ). IsAnswerText n (Does step) c.write_answer.new.out) tsc c.write_answer.ensures.text;
             after_is = refl;
           },
@@ -37,8 +37,8 @@ returns-then-add c = record {
           held = sym holds.2;
         },
       );
-  few = λ s st.
-      let f = c.receive_into.ensures.follows s.links st.links in
+  size = λ s st.
+      let f = c.receive_into.ensures.refines s.links st.links in
       let short = block_short _ s.links _ f.0 (step_of c.receive_into.new.step) _ _ f.2 c.receive_into.ensures.numbers
       c.write_answer.ensures.text c.write_answer.ensures.lines in
       omega (arith, short, c.write_answer.ensures.length);
@@ -48,11 +48,12 @@ pub returns-else-add : goal.returns-else-add
 returns-else-add c = record {
   answers = λ s st.
       let bursts : List (List ℤ) = s.held ++ c.args.burst ∷ [] in
-      let holds = subst (λ (whole : Bool). Holds c.args.self.now.held c.args.burst whole c.add.new.self) c.if-add.false c.add.ensures in
+      let holds = subst (λ (whole : Bool). HoldsBurst c.args.self.now.held c.args.burst whole c.add.new.self) c.if-add.false
+      c.add.ensures in
       let held : c.add.new.self.held ≡ bursts = holds.0 ∙ ap (λ held. held ++ c.args.burst ∷ []) (sym st.held) in (
         record s { held = bursts },
         inl (subst (λ (bs : List (List ℤ)). length bs < 4) held holds.1, c.requires.empty, refl),
         record { role = st.role; tsc = st.tsc; links = st.links; held = sym held },
       );
-  few = λ s st. let none = ap length c.requires.empty in omega (arith, none);
+  size = λ s st. let none = ap length c.requires.empty in omega (arith, none);
 }

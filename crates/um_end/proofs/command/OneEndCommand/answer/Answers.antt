@@ -1,9 +1,9 @@
 use Rattle.std.proofs.Common.{arith, ◌≡◌, ℕ, None, refl, sym, ap, ◌∙◌, subst}
 use Rattle.lapdm_window.specs.Ends.{Role}
-use Rattle.um_link.specs.Naming.{role_of, event_of, answer_of, written}
-use Rattle.um_air.specs.Air.{Answer}
+use Rattle.um_link.specs.Naming.{role_of, event_of, answer_of, step_result}
+use Rattle.um_link.specs.um_air.Air.{Answer}
 use Rattle.um_end.specs.Terminals.{Asks}
-use Rattle.um_end.specs.Standing.{side_of}
+use Rattle.um_end.specs.Abstraction.{side_of}
 use Rattle.um_end.specs.EndLines.{Brings, Calls, meaning_of, end_fault, EndMeans}
 use Rattle.um_end.specs.EndRuns.{IsAnswerText}
 use Rattle.um_end.specs.declared.lines.EndLine.{EndLine}
@@ -33,8 +33,8 @@ returns-in-Ask-clause-answered c s st =
     let line = c.args.line.now in
     let old = c.args.self.now in
     let event = event_of c.in-Ask.event in
-    let f = c.ask_into-done.ensures.follows s.links st.links in
-    let answer : Answer = answer_of (written c.ask_into-done.result c.ask_into-done.new.step) in
+    let f = c.ask_into-done.ensures.refines s.links st.links in
+    let answer : Answer = answer_of (step_result c.ask_into-done.result c.ask_into-done.new.step) in
     let tsc : c.ask_into-done.new.self.tsc ≡ s.tsc = c.ask_into-done.ensures.same.tsc ∙ sym st.tsc in (
       record s { links = f.0 },
       at_run (λ r n. end_fault r n line ≡ None) old s c.count.result st c.count.ensures.count (sym c.in_ok-parse_end.ensures.refused),
@@ -55,10 +55,10 @@ returns-in-Ask-clause-answered c s st =
       record { role = st.role ∙ ap role_of (sym c.ask_into-done.ensures.same.side); tsc = sym tsc; links = f.1; held = st.held },
     )
 
-pub returns-in-Ask-clause-few : goal.returns-in-Ask-clause-few
-returns-in-Ask-clause-few c s st =
-    let f = c.ask_into-done.ensures.follows s.links st.links in
-    let answer : Answer = answer_of (written c.ask_into-done.result c.ask_into-done.new.step) in
+pub returns-in-Ask-clause-size : goal.returns-in-Ask-clause-size
+returns-in-Ask-clause-size c s st =
+    let f = c.ask_into-done.ensures.refines s.links st.links in
+    let answer : Answer = answer_of (step_result c.ask_into-done.result c.ask_into-done.new.step) in
     let short = call_short _ s.links (event_of c.in-Ask.event) f.0 answer _ _ f.2 c.write_answer.ensures.text
     c.write_answer.ensures.lines in
     omega (arith, short, c.write_answer.ensures.length)

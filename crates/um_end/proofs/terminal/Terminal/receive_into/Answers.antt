@@ -1,17 +1,17 @@
 use Rattle.std.proofs.Common.{refl, ap, Some}
 use Rattle.um_link.specs.Naming.{role_of, step_of}
 use Rattle.um_end.specs.Terminals.{takes_read}
-use Rattle.um_end.specs.Standing.{side_of}
-use Rattle.um_end.proofs.Deeds.{done_step}
-use Rattle.um_end.proofs.Determined.{one_hearing}
+use Rattle.um_end.specs.Abstraction.{side_of}
+use Rattle.um_end.proofs.SideSteps.{done_step}
+use Rattle.um_end.proofs.Determined.{one_reception}
 use Rattle.um_end.proofs.terminal.Terminal.receive_into.Goals as goal
 
-pub returns-clause-follows : goal.returns-clause-follows
-returns-clause-follows c a st =
-    let h = c.hear-sapi.ensures.hears a st in
+pub returns-clause-refines : goal.returns-clause-refines
+returns-clause-refines c a st =
+    let h = c.take_block-sapi.ensures.takes a st in
     let d = takes_read h.read a in (
       d.after,
-      h.done.stands,
+      h.done.represents,
       record {
         report = c.receive_block-report.result;
         read = h.read;
@@ -20,11 +20,11 @@ returns-clause-follows c a st =
         after = refl;
         step_is = done_step (side_of c.args.self.now) _ (Some c.receive_block-report.result) d _ _ _
             (step_of c.sign.new.step) c.sign.ensures.step
-            (ap role_of c.hear-sapi.ensures.same.side) h.done;
+            (ap role_of c.take_block-sapi.ensures.same.side) h.done;
       },
     )
 
 pub returns-clause-only : goal.returns-clause-only
 returns-clause-only c a st b step h =
-    let f = returns-clause-follows c a st in
-    (one_hearing (side_of c.args.self.now) a c.args.bursts.now b f.0 step (step_of c.sign.new.step) h f.2).1
+    let f = returns-clause-refines c a st in
+    (one_reception (side_of c.args.self.now) a c.args.bursts.now b f.0 step (step_of c.sign.new.step) h f.2).1

@@ -9,17 +9,17 @@ use Rattle.um_io.proofs.buffer.Buffer.read.Goals as goal
 pub returns-clause-came : goal.returns-clause-came
 returns-clause-came g c =
     let b = c.move_to_front.new.self in
-    let told = c.in_ok-count.ensures in
+    let known = c.in_ok-count.ensures in
     let new = c.fill_from.new.octets in
     let n = c.in_ok-count.count in
     let came = slice_range new.items b.end (b.end + n) in
     let ordered : b.start ≤ b.end = omega (arith, b.begun, b.seen) in
-    let grown = slice_range-came b.octets.items new.items b.start b.end n ordered told.front in
-    let bound : b.end + n ≤ length new.items = omega (arith, told.bound, told.len, new.ok.0) in
+    let grown = slice_range-came b.octets.items new.items b.start b.end n ordered known.front in
+    let bound : b.end + n ≤ length new.items = omega (arith, known.bound, known.len, new.ok.0) in
     let size : length came ≡ n = omega (arith, length-between new.items b.end (b.end + n) bound) in
-    (came, grown ∙ ap (λ l. l ++ came) c.move_to_front.ensures.kept, size, told.came)
+    (came, grown ∙ ap (λ l. l ++ came) c.move_to_front.ensures.unchanged, size, known.came)
 
--- what was scanned stayed
+-- the scanned octets are unchanged
 scanned_stays : (b : Buffer) (octets : List ℕ) → take b.end octets ≡ take b.end b.octets.items
     → IsLine (slice_range octets b.start b.scanned)
 scanned_stays b octets same = subst IsLine (sym (slice_range-kept b.octets.items octets b.start b.scanned b.end b.seen same)) b.plain
@@ -37,10 +37,10 @@ invariant_of-self g c =
 pub invariant_of-self-2 : goal.invariant_of-self-2
 invariant_of-self-2 g c =
     let b = c.move_to_front.new.self in
-    let told = c.in_ok-count.ensures in record {
-      size = told.len ∙ b.size;
+    let known = c.in_ok-count.ensures in record {
+      size = known.len ∙ b.size;
       begun = b.begun;
       seen = omega (arith, b.seen);
-      within = omega (arith, told.bound, b.size);
-      plain = scanned_stays b c.fill_from.new.octets.items told.front;
+      within = omega (arith, known.bound, b.size);
+      plain = scanned_stays b c.fill_from.new.octets.items known.front;
     }

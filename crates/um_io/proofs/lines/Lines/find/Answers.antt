@@ -1,13 +1,29 @@
-use Rattle.std.proofs.Common.{◌<◌, ◌≡◌, sym, ap, subst, arith}
+use Rattle.std.proofs.Common.{rules, ◌<◌, ◌≡◌, sym, ap, subst, arith, refl}
+use Rattle.std.proofs.lemmas.Grind.{common_steps}
 use Rattle.um_io.specs.Reading.{NeedsMore}
+use Rattle.um_io.proofs.AskingLemmas.{so_far-none, asked-once}
 use Rattle.um_io.proofs.ReadingLemmas.{turns_left, turns_left-read}
 use Rattle.um_io.proofs.lines.Lines.find.Goals as goal
 
+pub loop-found-init : goal.loop-found-init
+loop-found-init g c =
+    (search rules, search rules, refl, so_far-none g.S.Source.took c.args.source.now c.args.self.now.ended)
+
+pub loop-found-preserved : goal.loop-found-preserved
+loop-found-preserved g c =
+    let once = c.in_ok-read.ensures.asked in (
+      grind (arith, common_steps),
+      grind (arith, common_steps),
+      search rules,
+      asked-once g.S.Source.took c.args.source.now c.loop-found.source c.read.new.source c.loop-found.self.ended c.read.new.self.ended
+          once.0 c.loop-found.invariant.3 c.in_default.ensures.found.ended once.1 once.2,
+    )
+
 pub loop-found-smaller : goal.loop-found-smaller
 loop-found-smaller g c =
-    let told = c.in_ok-read.ensures in
-    let more = subst NeedsMore (sym c.look.ensures.kept) c.in_default.ensures.found in
+    let known = c.in_ok-read.ensures in
+    let more = subst NeedsMore (sym c.look.ensures.unchanged) c.in_default.ensures.found in
     let fewer : turns_left c.read.new.self < turns_left c.look.new.self =
-    turns_left-read _ _ _ _ told.read.0 more told.read.1 told.read.2 told.valid in
-    let same : turns_left c.look.new.self ≡ turns_left c.loop-found.self = ap turns_left c.look.ensures.kept in
+    turns_left-read _ _ _ _ known.read.0 more known.read.1 known.read.2 known.valid in
+    let same : turns_left c.look.new.self ≡ turns_left c.loop-found.self = ap turns_left c.look.ensures.unchanged in
     omega arith

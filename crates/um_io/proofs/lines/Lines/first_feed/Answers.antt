@@ -1,6 +1,6 @@
 use Rattle.std.proofs.Common.{◌≡◌, ◌-◌, length, take, ap, arith}
 use Rattle.std.proofs.lemmas.List.Elements.{All-take}
-use Rattle.um_io.specs.Lines.{IsPlain}
+use Rattle.um_io.specs.Lines.{IsNoFeed}
 use Rattle.um_io.specs.Buffer.{octets_of}
 use Rattle.um_io.specs.Reading.{Reading, input_limit}
 use Rattle.um_io.proofs.FeedLemmas.{IsLine-before_feed, IsFirstFeed-front}
@@ -18,5 +18,5 @@ returns-clause-found c =
           (omega (arith, held, size, w.if-at-within.true)))
       | in_default-2 w ↦ rw w.result-is (IsLine-before_feed octets limit w.in-Some.at w.in-Some.ensures.found
           (omega (arith, held, size, w.if-at-within.false)))
-      | in_default w ↦ rw w.result-is (All-take IsPlain limit octets w.in_default.ensures.found)
+      | in_default w ↦ rw w.result-is (All-take IsNoFeed limit octets w.in_default.ensures.found)
     ])

@@ -1,18 +1,20 @@
-use Rattle.std.proofs.Common.{false, ◌≡◌, Ok, Err, sym, ap, ◌∙◌, refl}
+-- One case for each `Found` and for a failure, by the lemmas of `NextLemmas`.
+use Rattle.std.proofs.Common.{rules, subst, false, true, ◌≡◌, Ok, Err, sym, ap, ◌∙◌, refl}
 use Rattle.um_io.specs.Reading.{Reading, IsReading}
 use Rattle.um_io.specs.Buffer.{octets_of}
 use Rattle.um_io.specs.declared.lines.Found.TheVariants.{Line, Above, Past}
 use Rattle.um_io.specs.declared.lines.Lines.TheInside.{Inside}
 use Rattle.um_io.specs.contracts.lines.Lines.{the_view, the_invariant}
+use Rattle.um_io.proofs.AskingLemmas.{asked-none}
 use Rattle.um_io.proofs.ReadingLemmas.{IsReading-from}
 use Rattle.um_io.proofs.NextLemmas.{Finds-same, counts-after, IsNext-found, IsNext-above, IsNext-past, IsNext-failed, unasked}
 use Rattle.um_io.proofs.lines.Lines.next.Goals as goal
 
--- the fields are those of a reader
+-- the invariant makes the view a valid reader
 valid : (inside : Inside) → the_invariant inside → IsReading (the_view inside)
 valid inside holds = IsReading-from inside.buffer inside.answered inside.number inside.ended inside.over holds.0 holds.1
 
--- a reader whose fields these are is not over
+-- the field `over` is that of the view
 goes_on : (r : Reading) (inside : Inside) → the_view inside ≡ r → inside.over ≡ false → r.over ≡ false
 goes_on r inside view going = sym (ap (λ (s : Reading). s.over) view) ∙ going
 
@@ -20,9 +22,9 @@ pub invariant_of-self : goal.invariant_of-self
 invariant_of-self g c =
     let inside = c.self-2.inside in
     let arm = c.in-Ok-Line in
-    let told = rw arm.field-0-is at arm.ensures.found in
+    let known = rw arm.field-0-is at arm.ensures.found in
     let found = Finds-same c.args.self.now c.find.new.self (the_view inside) (g.S.Source.left c.args.source.now)
-    (g.S.Source.left c.find.new.source) (Ok (Line arm.length arm.whole)) c.self-2.view_is told in
+    (g.S.Source.left c.find.new.source) (Ok (Line arm.length arm.whole)) c.self-2.view_is known in
     counts-after (octets_of inside.buffer) inside.answered inside.number arm.length arm.whole inside.ended inside.over
     c.self-2.invariant.0 c.self-2.invariant.1 found.shows
 
@@ -30,9 +32,9 @@ pub returns-in-Ok-Line : goal.returns-in-Ok-Line
 returns-in-Ok-Line g c =
     let inside = c.self-2.inside in
     let arm = c.in-Ok-Line in
-    let told = rw arm.field-0-is at arm.ensures.found in
+    let known = rw arm.field-0-is at arm.ensures.found in
     let found = Finds-same c.args.self.now c.find.new.self (the_view inside) (g.S.Source.left c.args.source.now)
-    (g.S.Source.left c.find.new.source) (Ok (Line arm.length arm.whole)) c.self-2.view_is told in
+    (g.S.Source.left c.find.new.source) (Ok (Line arm.length arm.whole)) c.self-2.view_is known in
     let going = goes_on c.args.self.now c.self.inside c.self.view_is c.if-self.false in
     let answers = IsNext-found c.args.self.now inside.buffer c.skip-from.new.self inside.answered inside.number arm.whole inside.ended
     inside.over _ _ found.came c.skip-from.result arm.length c.part.result going found.has found.needed c.self-2.invariant.0
@@ -42,20 +44,22 @@ returns-in-Ok-Line g c =
         ends = tt;
         unasked = unasked c.args.self.now c.args.source.now c.find.new.source going
             c.find.ensures.unasked;
+        asked = c.find.ensures.asked;
         failed = arm.ensures.counted;
       },
     )
 
 pub returns-in-Ok-Above : goal.returns-in-Ok-Above
 returns-in-Ok-Above g c =
-    let told = rw c.in-Ok-Above.field-0-is at c.in-Ok-Above.ensures.found in
+    let known = rw c.in-Ok-Above.field-0-is at c.in-Ok-Above.ensures.found in
     let found = Finds-same c.args.self.now c.find.new.self (the_view c.self-2.inside) (g.S.Source.left c.args.source.now)
-    (g.S.Source.left c.find.new.source) (Ok Above) c.self-2.view_is told in
+    (g.S.Source.left c.find.new.source) (Ok Above) c.self-2.view_is known in
     let going = goes_on c.args.self.now c.self.inside c.self.view_is c.if-self.false in (
       (refl, λ _. tt, IsNext-above c.args.self.now (the_view c.self-2.inside) _ _ going (valid c.self-2.inside c.self-2.invariant) found),
       record {
         ends = tt;
         unasked = unasked c.args.self.now c.args.source.now c.find.new.source going c.find.ensures.unasked;
+        asked = c.find.ensures.asked;
         failed =
             c.in-Ok-Above.ensures.counted;
       },
@@ -63,14 +67,15 @@ returns-in-Ok-Above g c =
 
 pub returns-in-Ok-Past : goal.returns-in-Ok-Past
 returns-in-Ok-Past g c =
-    let told = rw c.in-Ok-Past.field-0-is at c.in-Ok-Past.ensures.found in
+    let known = rw c.in-Ok-Past.field-0-is at c.in-Ok-Past.ensures.found in
     let found = Finds-same c.args.self.now c.find.new.self (the_view c.self-2.inside) (g.S.Source.left c.args.source.now)
-    (g.S.Source.left c.find.new.source) (Ok Past) c.self-2.view_is told in
+    (g.S.Source.left c.find.new.source) (Ok Past) c.self-2.view_is known in
     let going = goes_on c.args.self.now c.self.inside c.self.view_is c.if-self.false in (
       (refl, λ _. tt, IsNext-past c.args.self.now (the_view c.self-2.inside) _ _ going (valid c.self-2.inside c.self-2.invariant) found),
       record {
         ends = tt;
         unasked = unasked c.args.self.now c.args.source.now c.find.new.source going c.find.ensures.unasked;
+        asked = c.find.ensures.asked;
         failed =
             c.in-Ok-Past.ensures.counted;
       },
@@ -78,9 +83,9 @@ returns-in-Ok-Past g c =
 
 pub returns-in-Err : goal.returns-in-Err
 returns-in-Err g c =
-    let told = c.in-Err.ensures in
+    let known = c.in-Err.ensures in
     let found = Finds-same c.args.self.now c.find.new.self (the_view c.self-2.inside) (g.S.Source.left c.args.source.now)
-    (g.S.Source.left c.find.new.source) (Err c.in-Err.field-0) c.self-2.view_is told.found in
+    (g.S.Source.left c.find.new.source) (Err c.in-Err.field-0) c.self-2.view_is known.found in
     let going = goes_on c.args.self.now c.self.inside c.self.view_is c.if-self.false in (
       (
         refl,
@@ -92,6 +97,28 @@ returns-in-Err g c =
         ends = tt;
         unasked =
             unasked c.args.self.now c.args.source.now c.find.new.source going c.find.ensures.unasked;
-        failed = (told.cause, told.later);
+        asked = c.find.ensures.asked;
+        failed = (known.cause, known.later);
+      },
+    )
+
+pub returns-then-self : goal.returns-then-self
+returns-then-self g c =
+    let over : c.args.self.now.over ≡ true = sym (ap (λ (s : Reading). s.over) c.self.view_is) ∙ c.if-self.true in
+    let reading = subst IsReading c.self.view_is (valid c.self.inside c.self.invariant) in (
+      (
+        refl,
+        λ _. tt,
+        record {
+          valid = reading;
+          done = λ _. (refl, tt, search rules);
+          goes_on = λ going. absurd (let e : true ≡ false = sym over ∙ going in cc e);
+        },
+      ),
+      record {
+        ends = tt;
+        unasked = λ _. refl {a = c.args.source.now};
+        asked = asked-none g.S.Source.took c.args.source.now;
+        failed = refl {a = g.S.Source.faults c.args.source.now};
       },
     )

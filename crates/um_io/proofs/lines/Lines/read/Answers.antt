@@ -12,4 +12,4 @@ read-requires g c =
     let held : length (take limit octets) ≡ length c.args.self.now.held = ap (λ (r : Reading). length r.held) c.self.view_is in
     let past : length (drop limit octets) ≡ length c.args.self.now.past = ap (λ (r : Reading). length r.past) c.self.view_is in
     let none : length c.args.self.now.past ≡ 0 = ap length c.requires.past in
-    record { room = omega (arith, c.requires.short) }
+    record { space = omega (arith, c.requires.short) }

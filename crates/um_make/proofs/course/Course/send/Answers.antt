@@ -1,7 +1,7 @@
 use Rattle.std.proofs.Common.{◌≡◌, ◌∙◌, sym, ap, ℕ, ◌+◌, ◌-◌, ◌/◌, ◌%◌, map, take}
 use Rattle.std.specs.List.{range_with_len}
 use Rattle.std.proofs.lemmas.List.FromFn.{take-map-range_with_len, length-map-range_with_len}
-use Rattle.um_make.specs.Generated.{size_of, message, pieces_of}
+use Rattle.um_make.specs.Generated.{size_of, message, segments_of}
 use Rattle.um_make.proofs.Courses.{sent}
 use Rattle.um_make.proofs.course.Course.send.Goals as goal
 
@@ -15,6 +15,6 @@ returns-clause-event c =
     let octets : c.hold_octets-message.result.now ≡ message i =
     c.hold_octets-message.ensures ∙ ap (take n) c.octets-octets.ensures ∙ take-map-range_with_len octet 0 251 n c.size-size.ensures.most
     ∙ ap (λ (k : ℕ). map octet (range_with_len 0 k)) size in
-    let count : (n - 1) / 20 + 1 ≡ pieces_of i =
+    let count : (n - 1) / 20 + 1 ≡ segments_of i =
     ap (λ (k : ℕ). (k - 1) / 20 + 1) (size ∙ sym (length-map-range_with_len octet 0 (size_of i))) in
     sent s.stage s.left s.number s.pieces s.turns _ _ _ c.requires.stage c.requires.none c.requires.some c.sender.ensures octets count

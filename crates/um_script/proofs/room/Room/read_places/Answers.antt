@@ -5,8 +5,8 @@ use Rattle.um_script.specs.Held.{AreDecimals}
 use Rattle.um_script.proofs.PlaceLaws.{few_places, are_places, places_held}
 use Rattle.um_script.proofs.room.Room.read_places.Goals as goal
 
-pub hold_places-count-requires-clause-room : goal.hold_places-count-requires-clause-room
-hold_places-count-requires-clause-room c =
+pub hold_places-count-requires-clause-space : goal.hold_places-count-requires-clause-space
+hold_places-count-requires-clause-space c =
     few_places (words c.args.text.now) (sym c.is_some_above.ensures ∙ c.if-is_some_above.false)
     (sym c.names_twice.ensures ∙ c.if-names_twice.false)
 

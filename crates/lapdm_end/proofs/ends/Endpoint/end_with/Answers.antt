@@ -1,0 +1,22 @@
+use Rattle.std.proofs.Common.{refl, sym}
+use Rattle.std.proofs.lemmas.List.{append-nil}
+use Rattle.lapdm_window.specs.declared.State.TheVariants.{Closed}
+use Rattle.lapdm_window.proofs.Lemmas.{IsEnd-moved}
+use Rattle.lapdm_end.proofs.Moves.{link_moved, Tracks-moved, Holds-moved, holds_in}
+use Rattle.lapdm_end.proofs.ends.Endpoint.end_with.Goals as goal
+
+pub returns-clause-refines : goal.returns-clause-refines
+returns-clause-refines c e h =
+    let m = c.args.self.now in
+    record {
+      represents = record {
+        end = IsEnd-moved e Closed e.kept e.retries h.end h.end.kept h.end.bare (λ u. absurd u);
+        link = link_moved Closed e.kept e.retries e h.link;
+        state = refl;
+        kept = h.kept;
+        tracks = Tracks-moved Closed e.kept e.retries e h.tracks;
+        now = Holds-moved m.window Closed e.kept e.retries e (holds_in m.window m.retries e m.state h.now);
+      };
+      frames = sym (append-nil c.args.effects.now.frames);
+      notices = c.push.ensures;
+    }

@@ -1,0 +1,64 @@
+-- `restore` succeeds exactly if it restores the window and the values satisfy
+-- `AreConsistent`: `in_step` gives one direction, `represents_one` the other.
+use Rattle.std.proofs.Common.{◌≡◌, refl, sym, ◌∙◌, ap, subst}
+use Rattle.std.proofs.lemmas.Bool.{false≢true}
+use Rattle.segmenting.specs.Segments.{Message}
+use Rattle.lapdm_window.specs.Parts.{WindowValues}
+use Rattle.lapdm_window.specs.Parts as W
+use Rattle.lapdm_window.proofs.Lemmas.{Represents-values}
+use Rattle.lapdm_end.specs.declared.ends.Endpoint.{Endpoint}
+use Rattle.lapdm_end.specs.Parts.{EndValues, values_of, said_by, AreOfAnEnd, AreConsistent}
+use Rattle.lapdm_end.proofs.PartsOfEnds.{Represents-same_values, in_step, window_of}
+use Rattle.lapdm_end.proofs.Pasts.{represents_one}
+use Rattle.lapdm_end.proofs.ends.Endpoint.restore.Goals as goal
+use Rattle.lapdm_end.proofs.ends.Endpoint.restore.Goals.{then-not-are_consistent-via-then-not-are_consistent}
+use Rattle.lapdm_end.proofs.ends.Endpoint.restore.Goals.{then-not-are_consistent-via-else-not-are_consistent+then-not-restore}
+
+stepped : (x : EndValues) → AreOfAnEnd x → AreConsistent x
+stepped x h = subst AreConsistent h.1.values (in_step h.1.end h.0 h.1.represents)
+
+of_a_window : (x : EndValues) → AreOfAnEnd x → W.AreOfAWindow x.window
+of_a_window x h =
+    let f = window_of h.1.end h.0 h.1.represents in
+    (f.0, record { window = h.1.end.window; values = ap (λ (y : EndValues). y.window) h.1.values; represents = f.1 })
+
+pub returns-then-not-are_consistent-clause-known : goal.returns-then-not-are_consistent-clause-known
+returns-then-not-are_consistent-clause-known c = (
+  λ s. absurd (false≢true s),
+  λ h. elim c.then-not-are_consistent.branch [
+    | then-not-are_consistent-via-then-not-are_consistent w ↦
+        absurd (false≢true (sym w.if-not-are_consistent.true ∙ c.are_consistent.ensures.1 (stepped (said_by c.args.parts.now) h)))
+    | then-not-are_consistent-via-else-not-are_consistent+then-not-restore w ↦
+        absurd (false≢true (sym w.if-not-restore.true ∙ w.restore.ensures.known.1 (of_a_window (said_by c.args.parts.now) h)))
+  ],
+)
+
+pub returns-clause-known : goal.returns-clause-known
+returns-clause-known c =
+    let p = c.args.parts.now in
+    let x = said_by p in
+    let step : AreConsistent x = c.are_consistent.ensures.0 c.if-not-are_consistent.false in
+    let window : W.values_of c.restore.new.self ≡ x.window = c.restore.ensures.same c.if-not-restore.false in
+    let m : Endpoint = record {
+      link = record { role = p.role; sapi = p.sapi; channel = p.window.channel };
+      window = c.restore.new.self;
+      state = p.state;
+      kept = p.kept.now;
+      retries = p.retries;
+      one_channel = ap (λ (w : WindowValues). w.channel) window;
+      kept_fits = step.kept;
+    } in
+    let same : values_of m ≡ x = ap (λ (w : WindowValues). let y : EndValues = record x { window = w } in y) window in
+    let known = c.restore.ensures.known.0 c.if-not-restore.false in
+    let found = represents_one m known.0 (subst AreConsistent (sym same) step)
+    (Represents-values (known.1.values ∙ sym window) known.1.represents) in
+    (λ s. (found.0, record { end = m; values = same; represents = found.1 }), λ h. refl)
+
+pub returns-clause-represents : goal.returns-clause-represents
+returns-clause-represents c = λ _ e h.
+    let p = c.args.parts.now in
+    let x = said_by p in
+    let window : W.values_of c.restore.new.self ≡ x.window = c.restore.ensures.same c.if-not-restore.false in
+    let same = ap (λ (k : Message). let y : EndValues = record x { kept = k; window = W.values_of c.restore.new.self } in y) c.write.ensures
+    ∙ ap (λ (w : WindowValues). let y : EndValues = record x { window = w } in y) window in
+    Represents-same_values h.end _ e (h.values ∙ sym same) h.represents

@@ -1,0 +1,51 @@
+-- Frames by their fields.
+use Rattle.std.proofs.Common.{◌≡◌, ℕ, ◌≤◌, Bool, List, length, refl, rules, arith}
+use Rattle.lapdm_frame.specs.declared.Channel.{Channel}
+use Rattle.lapdm_frame.specs.declared.Channel.TheVariants.{Sdcch, Sacch}
+use Rattle.lapdm_frame.specs.declared.Kind.{Kind}
+use Rattle.lapdm_frame.specs.declared.Kind.TheVariants as K
+use Rattle.lapdm_frame.specs.Layout.{n201}
+use Rattle.lapdm_frame.specs.Content.{Content, I, Fields, fields_of, content_with, content_from}
+use Rattle.lapdm_frame.specs.Frames.{NumbersFit, InformationFits}
+
+-- fields that a frame on a channel can have
+pub record FieldsFit (channel : Channel) (f : Fields) : Type 0 where
+  pub sent : f.ns ≤ 7
+  pub received : f.nr ≤ 7
+  pub some : f.kind ≡ K.I → 1 ≤ length f.info
+  pub most : length f.info ≤ n201 channel
+
+pub fields_fit : (channel : Channel) (content : Content) → NumbersFit content → InformationFits channel content
+    → FieldsFit channel (fields_of content)
+fields_fit channel (I ns nr p more info) numbers information = record {
+  sent = numbers.0;
+  received = numbers.1;
+  some = λ _. information.0;
+  most = information.1;
+}
+fields_fit channel other numbers information =
+    record { sent = omega arith; received = omega arith; some = λ is_i. absurd cc; most = omega arith }
+
+-- no frame has more than 20 octets of information
+pub few_octets : (channel : Channel) (content : Content) → InformationFits channel content → length (fields_of content).info ≤ 20
+few_octets Sdcch (I ns nr p more info) information = information.1
+few_octets Sacch (I ns nr p more info) information = omega (arith, information.1)
+few_octets Sdcch other information = omega (arith, information)
+few_octets Sacch other information = omega (arith, information)
+
+pub numbers_fit : (kind : Kind) (ns nr : ℕ) (pf more : Bool) (info : List ℕ) → ns ≤ 7 → nr ≤ 7
+    → NumbersFit (content_with kind ns nr pf more info)
+numbers_fit K.I ns nr pf more info sent received = (sent, received)
+numbers_fit other ns nr pf more info sent received = search rules
+
+information_fits : (channel : Channel) (kind : Kind) (ns nr : ℕ) (pf more : Bool) (info : List ℕ) → (kind ≡ K.I → 1 ≤ length info)
+    → length info ≤ n201 channel → InformationFits channel (content_with kind ns nr pf more info)
+information_fits channel K.I ns nr pf more info some most = (some refl, most)
+information_fits channel other ns nr pf more info some most = omega arith
+
+pub content_fits : (channel : Channel) (f : Fields) → FieldsFit channel f
+    → NumbersFit (content_from f) × InformationFits channel (content_from f)
+content_fits channel f fit = (
+  numbers_fit f.kind f.ns f.nr f.pf f.more f.info fit.sent fit.received,
+  information_fits channel f.kind f.ns f.nr f.pf f.more f.info fit.some fit.most,
+)

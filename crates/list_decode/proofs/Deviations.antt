@@ -1,0 +1,291 @@
+-- The best word that deviates from a returned one at a free position, where the returned word follows the survivors.
+use Rattle.std.proofs.Common.{◌≡◌, ◌≢◌, ◌⊎◌, ℕ, zero, suc, ◌+◌, ◌-◌, ◌*◌, ◌/◌, ◌%◌, ◌^◌}
+use Rattle.std.proofs.Common.{◌<◌, ◌≤◌, true, inl, inr, ℤ, ◌-ℤ◌, List, [], ◌∷◌, ◌++◌, length, get_or, take}
+use Rattle.std.proofs.Common.{drop, refl, ap, sym, ◌∙◌, subst, arith}
+use Rattle.std.specs.Prelude.{◌<ℤ◌}
+use Rattle.std.proofs.lemmas.Bool.{cases_lt}
+use Rattle.std.proofs.lemmas.Int.{ints, by_lt_z}
+use Rattle.weight_bound.specs.conv_code.Code.{encoding}
+use Rattle.weight_bound.specs.conv_code.Likelihood.{likelihood, IsBefore, FallsBehind}
+use Rattle.weight_bound.proofs.conv_code.Coding.{bit_at-most_1}
+use Rattle.trellis_decode.specs.Trellis.{next, gain, HasTail, IsNotAfter, read_out, AreDecisions}
+use Rattle.list_decode.specs.Classes.{DepartsAt, Class, IsInClass}
+use Rattle.list_decode.specs.DeviatingLists.{state_after, loss_at, deviation_from, FollowsRows, deviation, IsLeastFree}
+use Rattle.list_decode.specs.Ranking.{IsCandidate}
+use Rattle.weight_bound.proofs.conv_code.Lemmas.{same_number}
+use Rattle.trellis_decode.proofs.Lemmas.{HasTail-bits, HasTail-from_tail, IsBefore-not_after, IsInformation-ends, gain-start}
+use Rattle.trellis_decode.proofs.Lemmas.{length-read_out}
+use Rattle.list_decode.proofs.ClassSteps.{departs_once}
+use Rattle.list_decode.proofs.DeviatingLists.{gain-more, is_deviation_from, agree-cons, left}
+
+-- ---- ranking after is transitive
+
+IsBefore-trans : (u v w : List ℕ) → IsBefore u v → IsBefore v w → IsBefore u w
+IsBefore-trans u v w h g = elim (cases_lt h.place g.place) [
+  | inl early ↦ record {
+    place = h.place;
+    within = h.within;
+    same = (λ j lt. h.same j lt ∙ g.same j (omega arith));
+    zero = h.zero;
+    differs = (λ e. h.differs (g.same h.place early ∙ e));
+  }
+  | inr not_early ↦ elim (cases_lt g.place h.place) [
+    | inl late ↦ record {
+      place = g.place;
+      within = (let i = h.within in omega arith);
+      same = (λ j lt. h.same j (omega arith) ∙ g.same j lt);
+      zero = h.same g.place late ∙ g.zero;
+      differs = g.differs;
+    }
+    | inr not_late ↦
+        let at : g.place ≡ h.place = omega arith in
+        absurd (h.differs (subst (λ p. get_or v p 0 ≡ 0) at g.zero))
+  ]
+]
+
+pub FallsBehind-trans : (s : List ℤ) (w v u : List ℕ) → FallsBehind s w v → FallsBehind s v u → FallsBehind s w u
+FallsBehind-trans s w v u (inl less) (inl less') = inl (omega (arith, ints))
+FallsBehind-trans s w v u (inl less) (inr tie) = let e = tie.0 in inl (omega (arith, ints))
+FallsBehind-trans s w v u (inr tie) (inl less) = let e = tie.0 in inl (omega (arith, ints))
+FallsBehind-trans s w v u (inr tie) (inr tie') = inr (tie.0 ∙ tie'.0, IsBefore-trans u v w tie'.1 tie.1)
+
+-- ---- the word that deviates from another
+
+pub length-follows : (from : ℕ) (u rows : List ℕ) (state : ℕ) → FollowsRows from u rows state → length u ≡ length rows
+length-follows zero u rows state h = ap length h ∙ length-read_out rows state
+length-follows (suc from) [] rows state h = absurd h
+length-follows (suc from) (x ∷ u) [] state h = absurd h
+length-follows (suc from) (x ∷ u) (row ∷ rows) state h = ap suc (length-follows from u rows (next state x) h)
+
+deviation-deviation_from : (rows : List ℕ) (state place : ℕ) →
+    deviation (read_out rows state) rows state place ≡ deviation_from rows state place
+deviation-deviation_from [] state place = refl
+deviation-deviation_from (row ∷ rows) state zero = refl
+deviation-deviation_from (row ∷ rows) state (suc place) =
+    ap (λ rest. (row / 2 ^ state % 2) ∷ rest) (deviation-deviation_from rows (next state (row / 2 ^ state % 2)) place)
+
+pub record IsDeviation (u rows : List ℕ) (losses : List (List ℤ)) (soft : List ℤ) (state place : ℕ) : Type 0 where
+  pub gained : gain state (deviation u rows state place) soft ≡ gain state u soft -ℤ loss_at state u losses place
+  pub ends : HasTail (deviation u rows state place)
+  pub count : length (deviation u rows state place) ≡ length rows
+  pub departs : DepartsAt u (deviation u rows state place) place
+
+pub is_deviation : (from : ℕ) (u rows : List ℕ) (losses : List (List ℤ)) (soft : List ℤ) (state place : ℕ) → AreDecisions rows losses soft →
+    state < 16 → HasTail u → FollowsRows from u rows state → from ≤ place → place + 4 < length rows →
+    IsDeviation u rows losses soft state place
+is_deviation zero u rows losses soft state place kept lt ends follows le within =
+    let d = is_deviation_from rows losses soft state place kept lt within in
+    subst (λ u. IsDeviation u rows losses soft state place) (sym follows) (record {
+      gained = ap (λ w. gain state w soft) (deviation-deviation_from rows state place) ∙ d.gained;
+      ends = subst HasTail (sym (deviation-deviation_from rows state place)) d.ends;
+      count = ap length (deviation-deviation_from rows state place) ∙ d.count;
+      departs = subst (λ w. DepartsAt (read_out rows state) w place) (sym (deviation-deviation_from rows state place)) d.departs;
+    })
+is_deviation (suc from) [] rows losses soft state place kept lt ends follows le within = absurd follows
+is_deviation (suc from) (x ∷ u) [] losses soft state place kept lt ends follows le within = absurd follows
+is_deviation (suc from) (x ∷ u) (row ∷ rows) [] soft state place kept lt ends follows le within = absurd kept
+is_deviation (suc from) (x ∷ u) (row ∷ rows) (lost ∷ losses) soft state zero kept lt ends follows le within = absurd (omega arith)
+is_deviation (suc from) (x ∷ u) (row ∷ rows) (lost ∷ losses) soft state (suc place) kept lt ends follows le within =
+    let there : next state x < 16 = omega arith in
+    let rest = is_deviation from u rows losses (drop 2 soft) (next state x) place kept.2 there ends.2 follows (omega arith) (omega arith) in
+    let gu = gain-more state x u soft kept.0 in
+    let gv = gain-more state x (deviation u rows (next state x) place) soft kept.0 in
+    let is = rest.gained in
+    record {
+      gained = omega (arith, ints);
+      ends = (ends.0, (λ short. absurd (let c = rest.count in omega arith)), rest.ends);
+      count = ap suc rest.count;
+      departs = agree-cons x _ _ place rest.departs;
+    }
+
+-- a word that deviates from u where u follows the survivors loses at least the loss stored there
+pub record FallsShort (u rows : List ℕ) (losses : List (List ℤ)) (soft : List ℤ) (state place : ℕ) (w : List ℕ) : Type 0 where
+  pub within : place + 4 < length rows
+  pub short : (gain state w soft <ℤ (gain state u soft -ℤ loss_at state u losses place)) ⊎
+      ((gain state w soft ≡ (gain state u soft -ℤ loss_at state u losses place)) × IsNotAfter (deviation u rows state place) w)
+
+falls_short : (from : ℕ) (u rows : List ℕ) (losses : List (List ℤ)) (soft : List ℤ) (state place : ℕ) (w : List ℕ) →
+    AreDecisions rows losses soft → state < 16 → HasTail u → HasTail w → length w ≡ length rows → FollowsRows from u rows state →
+    from ≤ place →
+    DepartsAt u w place → FallsShort u rows losses soft state place w
+falls_short zero u rows losses soft state place w kept lt ends wends same follows le departs =
+    subst (λ u. FallsShort u rows losses soft state place w) (sym follows) (chosen (subst (λ u. DepartsAt u w place) follows departs))
+  where
+    chosen : DepartsAt (read_out rows state) w place → FallsShort (read_out rows state) rows losses soft state place w
+    chosen at =
+        let l = left rows losses soft state w kept lt wends same (λ e. at.differs (ap (λ v. get_or v place 0) e)) in
+        let here : l.place ≡ place = departs_once (read_out rows state) w l.place place l.departs at in
+        subst (λ place. FallsShort (read_out rows state) rows losses soft state place w) here (record {
+          within = l.within;
+          short = elim l.behind [
+            | inl less ↦ inl less
+            | inr tie ↦ inr (tie.0, subst (λ v. IsNotAfter v w) (sym (deviation-deviation_from rows state l.place)) tie.1)
+          ];
+        })
+falls_short (suc from) [] rows losses soft state place w kept lt ends wends same follows le departs = absurd follows
+falls_short (suc from) (x ∷ u) [] losses soft state place w kept lt ends wends same follows le departs = absurd follows
+falls_short (suc from) (x ∷ u) (row ∷ rows) [] soft state place w kept lt ends wends same follows le departs = absurd kept
+falls_short (suc from) (x ∷ u) (row ∷ rows) (lost ∷ losses) soft state zero w kept lt ends wends same follows le departs =
+    absurd (omega arith)
+falls_short (suc from) (x ∷ u) (row ∷ rows) (lost ∷ losses) soft state (suc place) [] kept lt ends wends same follows le departs =
+    absurd (omega arith)
+falls_short (suc from) (x ∷ u) (row ∷ rows) (lost ∷ losses) soft state (suc place) (y ∷ w) kept lt ends wends same follows le departs =
+    subst (λ y. FallsShort (x ∷ u) (row ∷ rows) (lost ∷ losses) soft state (suc place) (y ∷ w)) (departs.same 0 (omega arith))
+    (later (falls_short from u rows losses (drop 2 soft) (next state x) place w kept.2 (omega arith) ends.2 wends.2 (omega arith) follows
+    (omega arith) behind))
+  where
+    behind : DepartsAt u w place
+    behind = record {
+      within = (let i = departs.within in omega arith);
+      same = (λ j lt. departs.same (suc j) (omega arith));
+      differs = departs.differs;
+    }
+
+    later : FallsShort u rows losses (drop 2 soft) (next state x) place w →
+        FallsShort (x ∷ u) (row ∷ rows) (lost ∷ losses) soft state (suc place) (x ∷ w)
+    later rest =
+        let gu = gain-more state x u soft kept.0 in
+        let gw = gain-more state x w soft kept.0 in
+        record {
+          within = let i = rest.within in omega arith;
+          short = elim rest.short [
+            | inl less ↦ inl (omega (arith, ints))
+            | inr tie ↦ inr ((let e = tie.0 in omega (arith, ints)), inr (refl, tie.1))
+          ];
+        }
+
+-- a word follows the survivors after the position of its deviation
+pub follows_behind : (u rows : List ℕ) (state place : ℕ) → length u ≡ length rows → place < length rows →
+    FollowsRows (place + 1) (deviation u rows state place) rows state
+follows_behind [] [] state place same within = absurd (omega arith)
+follows_behind [] (row ∷ rows) state place same within = absurd (omega arith)
+follows_behind (x ∷ u) [] state place same within = absurd (omega arith)
+follows_behind (x ∷ u) (row ∷ rows) state zero same within = refl
+follows_behind (x ∷ u) (row ∷ rows) state (suc place) same within =
+    let more : suc place + 1 ≡ suc (place + 1) = omega arith in
+    subst (λ from. FollowsRows from (x ∷ deviation u rows (next state x) place) (row ∷ rows) state) (sym more)
+    (follows_behind u rows (next state x) place (omega arith) (omega arith))
+
+-- the word up to the position, the other bit, and then the survivors
+pub deviation_written : (u rows : List ℕ) (state place : ℕ) → place < length u → length rows ≡ length u →
+    take place u ++ (1 - get_or u place 0) ∷ read_out (drop (place + 1) rows)
+    (next (state_after state (take place u)) (1 - get_or u place 0))
+    ≡ deviation u rows state place
+deviation_written [] rows state place within same = absurd (omega arith)
+deviation_written (x ∷ u) [] state place within same = absurd (omega arith)
+deviation_written (x ∷ u) (row ∷ rows) state zero within same = refl
+deviation_written (x ∷ u) (row ∷ rows) state (suc place) within same =
+    let more : suc place + 1 ≡ suc (place + 1) = omega arith in
+    rw more (ap (λ rest. x ∷ rest) (deviation_written u rows (next state x) place (omega arith) (omega arith)))
+
+-- ---- the best of a class
+
+-- a class whose word is a candidate that follows the survivors from a position on, before which no position is free
+pub record IsFollowed (soft : List ℤ) (rows : List ℕ) (losses : List (List ℤ)) (c : Class) (from : ℕ) : Type 0 where
+  pub kept : AreDecisions rows losses soft
+  pub pairs : length soft ≡ 2 * length rows
+  pub candidate : IsCandidate soft c.list
+  pub follows : FollowsRows from c.list rows 0
+  pub later : (k : ℕ) → c.free k ≡ true → from ≤ k
+
+module _ (soft : List ℤ) (rows : List ℕ) (losses : List (List ℤ)) (c : Class) (from : ℕ)
+    (followed : IsFollowed soft rows losses c from) where
+  list_ends : HasTail c.list
+  list_ends = HasTail-from_tail c.list followed.candidate.information.bits followed.candidate.information.tail
+
+  same_length : length c.list ≡ length rows
+  same_length = length-follows from c.list rows 0 followed.follows
+
+  -- a word of the class deviates before the last four positions and loses at least the loss stored there
+  pub in_class_short : (w : List ℕ) → IsCandidate soft w → (at : IsInClass c w) → FallsShort c.list rows losses soft 0 at.place w
+  in_class_short w candidate at =
+      let count = candidate.count in
+      let pairs = followed.pairs in
+      falls_short from c.list rows losses soft 0 at.place w followed.kept (omega arith) list_ends
+      (HasTail-from_tail w candidate.information.bits candidate.information.tail) (omega arith) followed.follows
+      (followed.later at.place at.free) at.departs
+
+  -- if no such position is free, the class has no candidate
+  pub none_in_class : ((k : ℕ) → k + 4 < length rows → c.free k ≡ true → ⊥) → (w : List ℕ) → IsCandidate soft w → IsInClass c w → ⊥
+  none_in_class none w candidate at = none at.place (in_class_short w candidate at).within at.free
+
+  module _ (place : ℕ) (least : IsLeastFree c.list losses c.free (length c.list - 4) place) where
+    abbrev v : List ℕ
+    v = deviation c.list rows 0 place
+
+    inside : place + 4 < length rows
+    inside = let i = least.within in let n = same_length in let five = followed.candidate.information.count in omega arith
+
+    here : IsDeviation c.list rows losses soft 0 place
+    here = is_deviation from c.list rows losses soft 0 place followed.kept (omega arith) list_ends followed.follows
+        (followed.later place least.unlocked) inside
+
+    pub deviation_candidate : IsCandidate soft v
+    deviation_candidate = record {
+      information = IsInformation-ends v (let n = here.count in let i = inside in omega arith) here.ends;
+      count = followed.pairs ∙ ap (λ n. 2 * n) (sym here.count);
+    }
+
+    pub deviation_departs : DepartsAt c.list v place
+    deviation_departs = here.departs
+
+    pub deviation_value : likelihood soft (encoding v) ≡ likelihood soft (encoding c.list) -ℤ loss_at 0 c.list losses place
+    deviation_value =
+        let gv = gain-start soft v (HasTail-bits v here.ends) in
+        let gu = gain-start soft c.list (HasTail-bits c.list list_ends) in
+        let g = here.gained in
+        omega (arith, ints)
+
+    -- an equally likely word that deviates elsewhere comes later
+    before_at : (w : List ℕ) (k : ℕ) → k + 4 < length rows → DepartsAt c.list w k → c.free k ≡ true →
+        loss_at 0 c.list losses k ≡ loss_at 0 c.list losses place → k ≢ place → IsBefore v w
+    before_at w k within at free tie other = elim (cases_lt k place) [
+      | inl early ↦
+          let zero_bit = least.before k early free tie in
+          record {
+            place = k;
+            within = let n = here.count in omega arith;
+            same = (λ j lt. sym (here.departs.same j (omega arith)) ∙ at.same j lt);
+            zero = sym (here.departs.same k early) ∙ zero_bit;
+            differs = (λ e. at.differs (zero_bit ∙ sym e));
+          }
+      | inr not_early ↦
+          let late : place < k = elim (cases_lt place k) [ inl lt ↦ lt | inr not_late ↦ absurd (other (omega arith)) ] in
+          let one_bit = least.after k late (let n = same_length in omega arith) free tie in
+          record {
+            place = place;
+            within = let n = here.count in omega arith;
+            same = (λ j lt. sym (here.departs.same j lt) ∙ at.same j (omega arith));
+            zero = zero_of (get_or v place 0) (bit_at-most_1 v place (HasTail-bits v here.ends))
+                (λ e. here.departs.differs (one_bit ∙ sym e));
+            differs = (λ e. let s = at.same place late in omega arith);
+          }
+    ] where
+      zero_of : (x : ℕ) → x ≤ 1 → x ≢ 1 → x ≡ 0
+      zero_of zero le ne = refl
+      zero_of (suc x) le ne = absurd (ne (omega arith))
+
+    -- every other candidate of the class ranks after it
+    pub deviation_best : (w : List ℕ) → IsCandidate soft w → IsInClass c w → w ≢ v → FallsBehind soft w v
+    deviation_best w candidate at ne =
+        let short = in_class_short w candidate at in
+        let gu = gain-start soft c.list (HasTail-bits c.list list_ends) in
+        let gw = gain-start soft w candidate.information.bits in
+        let value = deviation_value in
+        let low = least.least at.place (let n = same_length in let i = short.within in omega arith) at.free in
+        let count : length w ≡ length v = let a = candidate.count in let b = followed.pairs in let n = here.count in omega arith in
+        elim short.short [
+          | inl less ↦ inl (omega (arith, ints))
+          | inr tie ↦ let e = tie.0 in by_lt_z (loss_at 0 c.list losses place) (loss_at 0 c.list losses at.place)
+              (λ more. inl (omega (arith, ints)))
+              (λ not_more.
+              let equal : loss_at 0 c.list losses at.place ≡ loss_at 0 c.list losses place = omega (arith, ints) in
+              inr (
+                omega (arith, ints),
+                elim (same_number at.place place) [
+                  | inl there ↦ IsBefore-not_after v w candidate.information.bits count
+                      (subst (λ k. IsNotAfter (deviation c.list rows 0 k) w) there tie.1) ne
+                  | inr elsewhere ↦ before_at w at.place short.within at.departs at.free equal elsewhere
+                ],
+              ))
+        ]

@@ -1,8 +1,0 @@
-use Rattle.trellis_decode.proofs.HardLanes.{lane-ones, AreSmall-ones}
-use Rattle.trellis_decode.proofs.hard.one_ways.Goals as goal
-
-pub returns-clause-each : goal.returns-clause-each
-returns-clause-each c = lane-ones c.args.after.lanes c.args.edges.lanes c.requires.room c.requires.edges
-
-pub returns-clause-lanes : goal.returns-clause-lanes
-returns-clause-lanes c = AreSmall-ones c.args.after.lanes c.args.edges.lanes c.requires.room c.requires.edges

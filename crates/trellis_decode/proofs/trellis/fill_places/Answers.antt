@@ -1,0 +1,80 @@
+use Rattle.std.proofs.Common.{◌≡◌, ℕ, ◌*◌, ◌+◌, ◌-◌, ◌<◌, ◌∷◌, drop, ap, sym, ◌∙◌, subst, arith}
+use Rattle.std.proofs.lemmas.List.{drop-set, length-drop}
+use Rattle.std.proofs.lemmas.List.Elements.{All-take, All-drop}
+use Rattle.trellis_decode.specs.Decisions.{HasDecisions}
+use Rattle.trellis_decode.specs.Lanes.{IsSignedOctet, lane}
+use Rattle.trellis_decode.specs.AcsLanes.{HasBranchMetrics, path_metric}
+use Rattle.trellis_decode.proofs.FourPairs.{AreSignedOctets-pair, pair_at, pair_of_part, pair_and_after}
+use Rattle.trellis_decode.proofs.Decisions.{HasDecisions-more, HasDecisions-same, HasDecisions-close, HasDecisions-even, HasDecisions-odd}
+use Rattle.trellis_decode.proofs.AcsVectors.{passed, passed-gaps}
+use Rattle.trellis_decode.proofs.trellis.fill_places.Goals as goal
+
+pub four_branch_metrics-branch_metrics-requires-clause-octets : goal.four_branch_metrics-branch_metrics-requires-clause-octets
+four_branch_metrics-branch_metrics-requires-clause-octets c = All-take IsSignedOctet _ (drop (2 * c.args.first) c.args.soft.now)
+    (All-drop IsSignedOctet (2 * c.args.first) c.args.soft.now c.requires.octets)
+
+pub new-step-requires-clause-even : goal.new-step-requires-clause-even
+new-step-requires-clause-even c =
+    let at = c.args.first + c.loop-k.k in
+    HasDecisions-even (drop at c.loop-k.rows) (drop at c.loop-k.losses) (drop (2 * at) c.args.soft.now) c.loop-k.values.even.lanes
+    c.loop-k.values.odd.lanes
+    c.loop-k.invariant.decided (let same = c.loop-k.auto.rows in omega (arith, length-drop at c.loop-k.rows))
+    c.loop-k.invariant.even.count
+
+pub new-step-requires-clause-odd : goal.new-step-requires-clause-odd
+new-step-requires-clause-odd c =
+    let at = c.args.first + c.loop-k.k in
+    HasDecisions-odd (drop at c.loop-k.rows) (drop at c.loop-k.losses) (drop (2 * at) c.args.soft.now) c.loop-k.values.even.lanes
+    c.loop-k.values.odd.lanes
+    c.loop-k.invariant.decided (let same = c.loop-k.auto.rows in omega (arith, length-drop at c.loop-k.rows))
+    c.loop-k.invariant.odd.count
+
+pub new-step-requires-clause-close : goal.new-step-requires-clause-close
+new-step-requires-clause-close c =
+    let at = c.args.first + c.loop-k.k in
+    HasDecisions-close (drop at c.loop-k.rows) (drop at c.loop-k.losses) (drop (2 * at) c.args.soft.now) c.loop-k.values.even.lanes
+    c.loop-k.values.odd.lanes
+    c.loop-k.invariant.decided
+
+pub loop-k-preserved : goal.loop-k-preserved
+loop-k-preserved c =
+    let soft = c.args.soft.now in
+    let rows = c.loop-k.rows in
+    let losses = c.loop-k.losses in
+    let k = c.loop-k.k in
+    let at = c.args.first + k in
+    let j = c.args.first + (k - 1) in
+    let pair = pair_at soft (2 * j) in
+    let next : j + 1 ≡ at = omega arith in
+    let next_pair : 2 * j + 2 ≡ 2 * at = omega arith in
+    let within : k - 1 < 4 = omega arith in
+    let has = subst (HasBranchMetrics _)
+    (pair_of_part soft (2 * c.args.first) (2 * c.args.first + 8 - 2 * c.args.first) (2 * (k - 1)) (2 * j)
+    (omega arith) (omega arith))
+    (c.four_branch_metrics-branch_metrics.ensures.has (k - 1) _ within) in
+    let lost = passed c.new-step.result.losses.lanes in
+    record {
+      decided = HasDecisions-same
+          (ap (λ k. c.new-step.result.row ∷ drop k rows) (sym next)
+          ∙ sym (drop-set rows j c.new-step.result.row (let same = c.loop-k.auto.rows in omega arith)))
+          (ap (λ k. lost ∷ drop k losses) (sym next)
+          ∙ sym (drop-set losses j lost (let same = c.loop-k.auto.losses in omega (arith, c.requires.same))))
+          (pair_and_after soft (2 * j) (2 * at) next_pair)
+          (HasDecisions-more (path_metric c.loop-k.values)
+          (path_metric c.new-step.result.values) lost pair (drop (2 * at) soft)
+          (drop at rows) (drop at losses) c.new-step.result.row has.count (AreSignedOctets-pair soft (2 * j) c.requires.octets)
+          (c.new-step.ensures.each pair has)
+          (λ s lt. ap (λ l. lane l s) (passed-gaps c.new-step.result.losses.lanes c.new-step.ensures.lanes)
+          ∙ c.new-step.ensures.losses pair has s lt)
+          c.loop-k.invariant.decided);
+      even = c.new-step.ensures.even;
+      odd = c.new-step.ensures.odd;
+    }
+
+pub returns-clause-decided : goal.returns-clause-decided
+returns-clause-decided c =
+    let none : c.args.first + c.loop-k.k ≡ c.args.first = omega arith in
+    let Holds : ℕ →
+    Type 0 = λ k. HasDecisions (drop k c.loop-k.rows) (drop k c.loop-k.losses) (drop (2 * k) c.args.soft.now)
+    (path_metric c.loop-k.values) in
+    subst Holds none c.loop-k.invariant.decided

@@ -1,8 +1,0 @@
-use Rattle.trellis_decode.proofs.TurnedVectors.{bit-signs, signs-fit}
-use Rattle.trellis_decode.proofs.turned_lanes.signs.Goals as goal
-
-pub overflow_cast-result : goal.overflow_cast-result
-overflow_cast-result c = record { fits = signs-fit c.args.a.lanes c.requires }
-
-pub returns : goal.returns
-returns c = bit-signs c.args.a.lanes c.requires

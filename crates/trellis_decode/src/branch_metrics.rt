@@ -1,0 +1,50 @@
+//! Branch metrics of four bits, from their eight soft values.
+
+ghost use Rattle.std.specs.Prelude.{◌≡◌, ℕ, ◌*◌, ◌<◌, length, slice_index_or, take, drop};
+ghost use Rattle.trellis_decode.specs.Lanes.{AreSignedOctets};
+ghost use Rattle.trellis_decode.specs.AcsLanes.{AreBranchMetrics, HasBranchMetrics};
+
+use crate::acs_lanes::Eight;
+use std::simd::prelude::*;
+
+/// The branch metrics of four bits, each from a pair of soft values: the metric of bit 0 in the states 0 to 7, in bit-reversed order.
+///
+/// Bit 1 has the negated metric, and so does bit 0 in the state 8 higher.
+#[inline]
+pub fn four_branch_metrics(soft: &[i8]) -> [Eight; 4]
+    requires count { length soft.now ≡ 8 }
+    requires octets { AreSignedOctets soft.now }
+    ensures has { (k : ℕ) (d : Eight) → k < 4 → HasBranchMetrics (slice_index_or result k d).lanes (take 2 (drop (2 * k) soft.now)) }
+    ensures branch_metrics { (k : ℕ) (d : Eight) → k < 4 → AreBranchMetrics (slice_index_or result k d).lanes }
+{
+    let values = widened(soft);
+    let firsts = values.swizzle::<8>([0, 0, 2, 2, 4, 4, 6, 6]);
+    let seconds = values.swizzle::<8>([1, 1, 3, 3, 5, 5, 7, 7]);
+    let plain = (firsts + seconds).shuffle::<8>(firsts - seconds, [0, 9, 2, 11, 4, 13, 6, 15]);
+    let bit_reversed = -plain;
+    let early = plain.shuffle::<8>(bit_reversed, [0, 8, 1, 9, 2, 10, 3, 11]);
+    let late = plain.shuffle::<8>(bit_reversed, [4, 12, 5, 13, 6, 14, 7, 15]);
+    [
+        Eight {
+            lanes: early.swizzle::<8>([0, 1, 0, 1, 2, 3, 2, 3]),
+        },
+        Eight {
+            lanes: early.swizzle::<8>([4, 5, 4, 5, 6, 7, 6, 7]),
+        },
+        Eight {
+            lanes: late.swizzle::<8>([0, 1, 0, 1, 2, 3, 2, 3]),
+        },
+        Eight {
+            lanes: late.swizzle::<8>([4, 5, 4, 5, 6, 7, 6, 7]),
+        },
+    ]
+}
+
+/// Widens eight soft values to 16 bits.
+fn widened(soft: &[i8]) -> i16x8
+    requires count { length soft.now ≡ 8 }
+    requires octets { AreSignedOctets soft.now }
+    ensures { result ≡ soft.now }
+{
+    i8x8::from_slice(soft).cast::<i16>()
+}

@@ -1,0 +1,20 @@
+-- What the command `replay` answers to a line (this project's own rule).
+use Rattle.std.specs.Prelude.{ℤ, ◌≡◌, List}
+use Rattle.um_block.specs.Received.{IsReceivedBlock, IsReceivedAccess, IsReceivedSync}
+use Rattle.um_block.specs.declared.received.Received.{Received}
+use Rattle.um_block.specs.declared.received.ReceivedAccess.{ReceivedAccess}
+use Rattle.um_block.specs.declared.received.ReceivedSync.{ReceivedSync}
+use Rattle.um_formats.specs.Reports.{IsBlockReport, access_report_text, sync_report_text}
+use Rattle.um_driver.specs.Rules.{Rules}
+use Rattle.um_bursts.specs.BurstRules.{Answers, burst_rules}
+
+-- bursts are answered by the report of what is received
+abbrev pub replay_answers : Answers
+replay_answers = record {
+  block = λ bursts answer. (r : Received) × IsReceivedBlock bursts r × IsBlockReport r answer;
+  access = λ bsic burst answer. (r : ReceivedAccess) × IsReceivedAccess burst bsic r × (answer ≡ access_report_text bsic r);
+  sync = λ burst answer. (r : ReceivedSync) × IsReceivedSync burst r × (answer ≡ sync_report_text r);
+}
+
+abbrev pub replay_rules : Rules (List (List ℤ))
+replay_rules = burst_rules replay_answers

@@ -1,0 +1,26 @@
+-- What the command `code` answers to a line (this project's own rule).
+use Rattle.std.specs.Prelude.{ℕ, ◌≡◌, List, []}
+use Rattle.um_block.specs.Sent.{IsSentBlock, IsSentAccess, IsSentSync}
+use Rattle.um_formats.specs.declared.code.CodeLine.{CodeLine}
+use Rattle.um_formats.specs.declared.code.CodeLine.TheVariants.{Skip, Block, Rach, Sch}
+use Rattle.um_formats.specs.CodeLines.{code_fault, CodeMeans}
+use Rattle.um_formats.specs.BurstTexts.{block_text, access_text, sync_text}
+use Rattle.um_driver.specs.Rules.{Rules, stateless}
+
+-- the lines of the bursts that carry what a line means
+abbrev pub IsCodeAnswer : CodeLine → List ℕ → Type 0
+IsCodeAnswer Skip answer = answer ≡ []
+IsCodeAnswer (Block tsc octets) answer =
+    (bursts : List (List ℕ)) × IsSentBlock octets tsc bursts × (answer ≡ block_text bursts)
+IsCodeAnswer (Rach info bsic) answer =
+    (burst : List ℕ) × IsSentAccess info bsic burst × (answer ≡ access_text bsic burst)
+IsCodeAnswer (Sch info) answer =
+    (burst : List ℕ) × IsSentSync info burst × (answer ≡ sync_text burst)
+
+-- a line and its answer
+abbrev pub AnswersCode : List ℕ → List ℕ → Type 0
+AnswersCode line answer = (meaning : CodeLine) × CodeMeans line meaning × IsCodeAnswer meaning answer
+
+-- the rules of `code`: it has no state, and an input may end after any line
+abbrev pub code_rules : Rules (Unit {0})
+code_rules = stateless code_fault AnswersCode

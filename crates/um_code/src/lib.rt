@@ -1,0 +1,6 @@
+//! The command `code`: the bursts of blocks, access bursts and synchronisation bursts.
+#![tactic(auto)]
+
+mod command;
+
+pub use command::Code;

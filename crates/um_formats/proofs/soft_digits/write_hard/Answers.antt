@@ -1,0 +1,12 @@
+use Rattle.std.proofs.Common.{take, sym, ◌∙◌, subst, arith}
+use Rattle.std.proofs.lemmas.List.{take_all}
+use Rattle.bit_blocks.specs.SoftValues.{AllSoft}
+use Rattle.um_formats.proofs.BurstLaws.{hard_values}
+use Rattle.um_formats.proofs.soft_digits.write_hard.Goals as goal
+
+pub returns-clause-soft : goal.returns-clause-soft
+returns-clause-soft g c =
+    let digits = take c.loop-i.i c.args.digits.now in
+    subst AllSoft (sym c.loop-i.invariant.0 ∙ take_all c.loop-i.i c.loop-i.values
+    (omega (arith, c.loop-i.invariant.1, c.loop-i-test.false)))
+    (hard_values digits)

@@ -1,0 +1,78 @@
+//! Writes bursts.
+ghost use Rattle.std.specs.Prelude.{◌≡◌, ◌+◌, ◌<◌, ◌≤◌, [], ◌++◌, length};
+ghost use Rattle.std.specs.List.{All};
+ghost use Rattle.bit_blocks.specs.Bits.{AllBits};
+ghost use Rattle.um_formats.specs.BurstTexts.{normal_text, access_text, sync_text, block_text};
+
+use bit_blocks::Bits;
+use burst_map::BURST_BITS;
+use um_lines::Text;
+
+/// Writes the line of a normal burst.
+pub fn normal_line(out: &mut Text, burst: &[u8; BURST_BITS])
+    requires empty { out.old ≡ [] }
+    requires bits { AllBits burst.now }
+    ensures line { out.new ≡ normal_text burst.now }
+    ensures size { length out.new < 2000 }
+{
+    push_normal(out, burst);
+}
+
+/// Writes the lines of the four normal bursts of a block.
+pub fn block_lines(out: &mut Text, bursts: &[[u8; BURST_BITS]; 4])
+    requires empty { out.old ≡ [] }
+    requires bits { All AllBits bursts.now }
+    ensures lines { out.new ≡ block_text bursts.now }
+    ensures size { length out.new < 2000 }
+{
+    push_block(out, bursts);
+}
+
+/// Appends the lines of the four normal bursts of a block.
+pub fn push_block(out: &mut Text, bursts: &[[u8; BURST_BITS]; 4])
+    requires space { length out.old + 604 ≤ 4096 }
+    requires bits { All AllBits bursts.now }
+    ensures lines { out.new ≡ out.old ++ block_text bursts.now }
+    ensures length { length out.new ≡ length out.old + 604 }
+{
+    for burst in bursts {
+        push_normal(out, burst);
+    }
+}
+
+/// Writes the line of an access burst, with the base station identity code of its cell.
+pub fn access_line(out: &mut Text, bsic: &Bits<6>, burst: &[u8; 88])
+    requires empty { out.old ≡ [] }
+    requires bits { AllBits burst.now }
+    ensures line { out.new ≡ access_text bsic.now burst.now }
+    ensures size { length out.new < 2000 }
+{
+    out.push(b"a ");
+    out.push_digits(bsic.as_slice());
+    out.push(b" ");
+    out.push_digits(burst);
+    out.push(b"\n");
+}
+
+/// Writes the line of a synchronisation burst.
+pub fn sync_line(out: &mut Text, burst: &[u8; BURST_BITS])
+    requires empty { out.old ≡ [] }
+    requires bits { AllBits burst.now }
+    ensures line { out.new ≡ sync_text burst.now }
+    ensures size { length out.new < 2000 }
+{
+    out.push(b"s ");
+    out.push_digits(burst);
+    out.push(b"\n");
+}
+
+fn push_normal(out: &mut Text, burst: &[u8; BURST_BITS])
+    requires space { length out.old + 151 ≤ 4096 }
+    requires bits { AllBits burst.now }
+    ensures text { out.new ≡ out.old ++ normal_text burst.now }
+    ensures length { length out.new ≡ length out.old + 151 }
+{
+    out.push(b"n ");
+    out.push_digits(burst);
+    out.push(b"\n");
+}

@@ -1,0 +1,117 @@
+//! Reports of received bursts.
+ghost use Rattle.std.specs.Prelude.{◌≡◌, ◌+◌, ◌-◌, ◌<◌, ◌≤◌, [], ◌++◌, length, take, drop};
+ghost use Rattle.bit_blocks.specs.Bits.{AllBits};
+ghost use Rattle.bit_blocks.specs.Octets.{bits_of, octets_of};
+ghost use Rattle.hex.specs.Hex.{encode_lower};
+ghost use Rattle.um_lines.specs.Fields.{bit_digits};
+ghost use Rattle.um_formats.specs.Reports.{crc_word, quality_text, data_text, block_line_text, IsBlockReport, access_report_text};
+ghost use Rattle.um_formats.specs.Reports.{sync_report_text};
+
+use crate::frames::push_frame;
+use bit_blocks::{BLOCK_BITS, BLOCK_OCTETS, Bits};
+use um_block::{Received, ReceivedAccess, ReceivedSync};
+use um_lines::{Text, packed};
+
+/// Writes the report of a block and, if its CRC holds, the line of its frame.
+pub fn block_report(out: &mut Text, r: &Received)
+    requires { out.old ≡ [] }
+    ensures report { IsBlockReport r.now out.new }
+    ensures size { length out.new < 2000 }
+{
+    push_block(out, r);
+    if let Some(octets) = &r.accepted {
+        push_frame(out, octets);
+    }
+}
+
+/// Writes the report of an access burst. `bsic` is the code that it was decoded with.
+pub fn access_report(out: &mut Text, bsic: &Bits<6>, r: &ReceivedAccess)
+    requires { out.old ≡ [] }
+    ensures report { out.new ≡ access_report_text bsic.now r.now }
+    ensures size { length out.new < 2000 }
+{
+    out.push(b"access ");
+    out.push_digits(bsic.as_slice());
+    push_quality(out, r.wrong_training, r.metric, r.accepted.is_some());
+    push_bits(out, &r.u, 8, 14);
+}
+
+/// Writes the report of a synchronisation burst.
+pub fn sync_report(out: &mut Text, r: &ReceivedSync)
+    requires { out.old ≡ [] }
+    ensures report { out.new ≡ sync_report_text r.now }
+    ensures size { length out.new < 2000 }
+{
+    out.push(b"sync");
+    push_quality(out, r.wrong_training, r.metric, r.accepted.is_some());
+    push_bits(out, &r.u, 25, 35);
+}
+
+fn push_block(out: &mut Text, r: &Received)
+    requires { out.old ≡ [] }
+    ensures text { out.new ≡ block_line_text r.now }
+    ensures length { length out.new ≤ 400 }
+{
+    out.push(b"block tsc ");
+    out.push_decimal(u64::from(r.tsc));
+    push_quality(out, r.wrong_training, r.metric, r.accepted.is_some());
+    push_octets(
+        out,
+        &packed::<BLOCK_OCTETS, _>(&r.u, 0),
+        &packed::<5, _>(&r.u, BLOCK_BITS),
+    );
+}
+
+fn push_quality(out: &mut Text, wrong: u32, metric: i32, holds: bool)
+    requires { length out.old + 120 ≤ 4096 }
+    ensures text { out.new ≡ out.old ++ quality_text wrong metric holds }
+    ensures length { length out.new ≤ length out.old + 120 }
+{
+    out.push(b" train ");
+    out.push_decimal(u64::from(wrong));
+    out.push(b" metric ");
+    out.push(itoa::Buffer::new().format(metric).as_bytes());
+    out.push(b" parity ");
+    out.push(parity(holds));
+}
+
+fn parity(holds: bool) -> &'static [u8]
+    ensures word { result.now ≡ crc_word holds }
+    ensures size { length result.now ≤ 3 }
+{
+    if holds { b"ok" } else { b"bad" }
+}
+
+// The data are the first `place` bits of the word. The CRC follows, up to `end`.
+fn push_bits<const N: usize>(out: &mut Text, word: &Bits<N>, place: usize, end: usize)
+    requires space { length out.old + end + 14 ≤ 4096 }
+    requires order { place ≤ end }
+    requires within { end ≤ N }
+    ensures text { out.new ≡ out.old ++ data_text (bit_digits (take place word.now))
+        (bit_digits (take (end - place) (drop place word.now))) }
+    ensures length { length out.new ≡ length out.old + end + 14 }
+{
+    let bits = word.as_slice();
+    out.push(b" data ");
+    out.push_digits(&bits[..place]);
+    out.push(b" check ");
+    out.push_digits(&bits[place..end]);
+    out.push(b"\n");
+}
+
+fn push_octets(out: &mut Text, octets: &[u8], check: &[u8])
+    requires space { length out.old + 70 ≤ 4096 }
+    requires size { length octets.now + length check.now ≡ 28 }
+    ensures text { out.new ≡ out.old ++ data_text (encode_lower octets.now) (encode_lower check.now) }
+    ensures length { length out.new ≡ length out.old + 70 }
+
+    // Each element of both is an octet.
+    ensures octets { octets_of (bits_of octets.now) ≡ octets.now }
+    ensures check { octets_of (bits_of check.now) ≡ check.now }
+{
+    out.push(b" data ");
+    out.push_hex(octets);
+    out.push(b" check ");
+    out.push_hex(check);
+    out.push(b"\n");
+}

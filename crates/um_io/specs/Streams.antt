@@ -1,0 +1,14 @@
+-- What sources and sinks count and take (this project's own rules).
+use Rattle.std.specs.Prelude.{ℕ, ◌≤◌, ◌<◌, ◌+◌, ◌-◌, ◌^◌, min, List, length, IfOk, Result}
+
+-- one more, but at most the greatest `u64`
+abbrev pub next_count : ℕ → ℕ
+next_count n = min (n + 1) (2 ^ 64 - 1)
+
+-- a count has risen, unless it was the greatest `u64` already
+abbrev pub Rose : ℕ → ℕ → Type 0
+Rose before now = next_count before ≤ now
+
+-- a successful call takes at least one octet, unless it was given none
+abbrev pub TakesSome : {E : Type 0} → Result ℕ E → List ℕ → Type 0
+TakesSome r piece = IfOk r (λ n. 0 < length piece → 0 < n)

@@ -1,0 +1,94 @@
+//! The contracts of sources and sinks of octets.
+ghost use Rattle.std.specs.Prelude.{◌≡◌, ℕ, ◌≤◌, List, Option, OnOk, OnErr};
+ghost use Rattle.std.specs.Io.{ReadsAtMost, WritesAtMost};
+ghost use Rattle.std.specs.Result.{result_ok};
+ghost use Rattle.std.specs.Io.KnownBytes.{ReadConsumes, WriteAppends};
+ghost use Rattle.um_io.specs.Streams.{next_count, Rose, TakesSome};
+
+use thiserror::Error;
+
+/// A reading or a writing failed.
+#[derive(Clone, Copy, Debug, PartialEq, Eq, Error)]
+#[error("the source or the sink failed")]
+pub struct Failed;
+
+/// Memory could not be allocated.
+#[derive(Clone, Copy, Debug, PartialEq, Eq, Error)]
+#[error("out of memory")]
+pub struct NoMemory;
+
+/// A source of octets.
+///
+/// `left` are the octets still to come, if the source knows them; `faults` counts failures and
+/// stays at the greatest `u64`.
+pub trait Source {
+    ghost left: { Self → Option (List ℕ) };
+
+    ghost faults: { Self → ℕ };
+
+    ghost took: { Self → Option ℕ → Self → Type 0 } = { λ _ _ _. Unit {0} };
+
+    /// Writes the next octets to the front of `into`, and returns how many. The rest of `into` may
+    /// hold anything afterwards.
+    fn take(&mut self, into: &mut [u8]) -> Result<usize, Failed>
+        ensures bound { ReadsAtMost result into.new }
+
+        // The octets given are the front of those left; 0 means the end of the input, and a failed
+        // call takes none.
+        ensures octets { ReadConsumes (left self.old) (left self.new) result into.new }
+        ensures step { took self.old (result_ok result) self.new }
+
+        // A successful call leaves the count as it is; a failed one raises it.
+        ensures unchanged { OnOk result (faults self.new ≡ faults self.old) }
+        ensures later { faults self.old ≤ faults self.new }
+        ensures cause { OnErr result (Rose (faults self.old) (faults self.new)) };
+}
+
+/// A sink of octets.
+///
+/// `taken` are the octets taken so far, if the sink knows them; `faults` counts failures and stays
+/// at the greatest `u64`.
+pub trait Sink {
+    ghost taken: { Self → Option (List ℕ) };
+
+    ghost faults: { Self → ℕ };
+
+    /// Takes octets from the front of `piece`, and returns how many.
+    fn put(&mut self, piece: &[u8]) -> Result<usize, Failed>
+        ensures bound { WritesAtMost result piece.now }
+
+        // If `piece` is not empty, at least one octet is taken.
+        ensures some { TakesSome result piece.now }
+
+        // The octets are appended to those taken before; a failed call takes none.
+        ensures octets { WriteAppends (taken self.old) (taken self.new) result piece.now }
+
+        // A successful call leaves the count as it is; a failed one raises it.
+        ensures unchanged { OnOk result (faults self.new ≡ faults self.old) }
+        ensures later { faults self.old ≤ faults self.new }
+        ensures cause { OnErr result (Rose (faults self.old) (faults self.new)) };
+}
+
+/// Counts a fault, and returns the error.
+pub(crate) fn fault(count: &mut u64) -> Failed
+    ensures raised { count.new ≡ next_count count.old }
+    ensures later { count.old ≤ count.new }
+{
+    *count = count.saturating_add(1);
+    Failed
+}
+
+#[cfg(test)]
+mod tests {
+    use super::*;
+    use std::test::Fail;
+
+    #[test]
+    fn each_error_has_its_text(rt: HostRuntime) -> Result<(), Fail> {
+        let failed = format!(in rt.alloc(); "{Failed}")?;
+        assert_eq!(rt; failed.as_str(), "the source or the sink failed");
+        let no_memory = format!(in rt.alloc(); "{NoMemory}")?;
+        assert_eq!(rt; no_memory.as_str(), "out of memory");
+        Ok(())
+    }
+}

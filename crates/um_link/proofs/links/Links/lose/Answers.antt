@@ -1,9 +1,0 @@
-use Rattle.std.proofs.Common.{sym, ◌∙◌}
-use Rattle.um_link.specs.Naming.{role_of}
-use Rattle.um_link.proofs.Stepping.{lost}
-use Rattle.um_link.proofs.links.Links.lose.Goals as goal
-
-pub returns-clause-follows : goal.returns-clause-follows
-returns-clause-follows c =
-    lost (role_of c.args.sender) c.args.self.now c.drop_first.new.self c.clear.new.self c.drop_first.ensures.loses
-    (sym c.has_none.ensures ∙ c.if-has_none.false) c.clear.ensures.frames c.clear.ensures.notices

@@ -1,0 +1,27 @@
+//! The command `show`: LAPDm frames from octets to text, and back.
+ghost use Rattle.std.specs.Prelude.{◌≡◌, Some, None, [], MatchResult};
+ghost use Rattle.um_formats.specs.ShowLines.{show_fault};
+ghost use Rattle.um_show.specs.Show.{AnswersShow};
+
+use um_driver::Answer;
+use um_formats::{ShowLine, frame_line, octets_line, parse_show};
+use um_lines::{LineFault, Text};
+
+/// Answers a line of `show`.
+#[derive(Clone, Copy, Debug)]
+pub struct Show;
+
+impl Answer for Show {
+    ghost fault = { show_fault };
+
+    ghost answers = { AnswersShow };
+
+    fn answer(&self, line: &[u8], out: &mut Text) -> Result<(), LineFault> {
+        match parse_show(line)? {
+            ShowLine::Skip => {}
+            ShowLine::Octets(octets) => frame_line(out, &octets),
+            ShowLine::Frame(octets) => octets_line(out, &octets),
+        }
+        Ok(())
+    }
+}

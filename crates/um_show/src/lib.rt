@@ -1,0 +1,6 @@
+//! The command `show`: LAPDm frames from octets to text, and back.
+#![tactic(auto)]
+
+mod command;
+
+pub use command::Show;

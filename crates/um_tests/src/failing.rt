@@ -1,0 +1,183 @@
+//! Runs with sources and sinks that fail.
+use crate::code::ACCESS_BURST;
+use crate::outside::{Outside, compare};
+use std::test::Fail;
+use um_block::PlainRadio;
+use um_cli::{Status, Words, run};
+use um_io::{MemorySink, PlainSource, Source};
+
+const ONE_LINE: &[u8] = b"rach 00000000 000000\n";
+
+const TWO_LINES: &[u8] = b"rach 00000000 000000\nrach 00000000 000000\n";
+
+const THREE_LINES: &[u8] = b"rach 00000000 000000\nrach 00000000 000000\nrach 00000000 000000\n";
+
+/// The first octets of the answers to three lines.
+fn answers(count: usize) -> Option<[u8; 294]> {
+    if count > 294 || ACCESS_BURST.len() != 98 {
+        return None;
+    }
+    let mut all = [0; 294];
+    all[..98].copy_from_slice(ACCESS_BURST);
+    all[98..196].copy_from_slice(ACCESS_BURST);
+    all[196..].copy_from_slice(ACCESS_BURST);
+    Some(all)
+}
+
+/// Gives one line a reading; each answer is then written alone, in 50 and 48 octets.
+fn one_line_a_reading(failing_puts: &[u64]) -> Outside<'_> {
+    Outside {
+        take_most: 21,
+        failing_takes: &[],
+        put_most: 50,
+        failing_puts,
+        room: 100_000,
+    }
+}
+
+#[test]
+fn a_reading_that_fails_leaves_the_answers_to_the_lines_before(rt: HostRuntime) {
+    let third = Outside::failing(8, &[3], &[]);
+    compare(&rt, &["code"], ONE_LINE, third, Status::ReadFault, b"");
+    let second = Outside::failing(21, &[2], &[]);
+    compare(
+        &rt,
+        &["code"],
+        TWO_LINES,
+        second,
+        Status::ReadFault,
+        ACCESS_BURST,
+    );
+}
+
+#[test]
+fn a_bad_line_that_was_read_wins_over_a_later_failure(rt: HostRuntime) -> Result<(), Fail> {
+    let mut output = ACCESS_BURST.to_vec(rt.alloc())?;
+    output.extend_from_slice(b"refused 2 word\n")?;
+    let second = Outside::failing(25, &[2], &[]);
+    let input = b"rach 00000000 000000\nfoo\n";
+    compare(
+        &rt,
+        &["code"],
+        input,
+        second,
+        Status::BadInput,
+        output.as_slice(),
+    );
+    Ok(())
+}
+
+#[test]
+fn a_long_line_after_a_good_one_is_refused_as_the_second(rt: HostRuntime) -> Result<(), Fail> {
+    let mut output = ACCESS_BURST.to_vec(rt.alloc())?;
+    output.extend_from_slice(b"refused 2 long\n")?;
+    let mut input = ONE_LINE.to_vec(rt.alloc())?;
+    for _ in 0..4097 {
+        input.push(b'#')?;
+    }
+    let ample = Outside::of_most(10_000);
+    compare(
+        &rt,
+        &["code"],
+        input.as_slice(),
+        ample,
+        Status::BadInput,
+        output.as_slice(),
+    );
+    Ok(())
+}
+
+#[test]
+fn a_writing_that_fails_ends_the_run(rt: HostRuntime) {
+    let first = Outside::failing(100, &[], &[1]);
+    compare(&rt, &["code"], ONE_LINE, first, Status::WriteFault, b"");
+    compare(
+        &rt,
+        &["code"],
+        ONE_LINE,
+        Outside::of_room(0),
+        Status::WriteFault,
+        b"",
+    );
+    compare(
+        &rt,
+        &["code"],
+        b"foo",
+        Outside::of_room(0),
+        Status::WriteFault,
+        b"",
+    );
+}
+
+#[test]
+fn each_reading_fails_in_turn(rt: HostRuntime) -> Result<(), Fail> {
+    let all = answers(294).ok_or("three answers")?;
+    let cases = [(1, 0), (2, 98), (3, 196), (4, 294)];
+    for (call, taken) in cases {
+        let calls = [call];
+        let outside = Outside::failing(21, &calls, &[]);
+        compare(
+            &rt,
+            &["code"],
+            THREE_LINES,
+            outside,
+            Status::ReadFault,
+            &all[..taken],
+        );
+    }
+    let fifth = Outside::failing(21, &[5], &[]);
+    compare(&rt, &["code"], THREE_LINES, fifth, Status::Done, &all);
+    Ok(())
+}
+
+#[test]
+fn each_writing_fails_in_turn(rt: HostRuntime) -> Result<(), Fail> {
+    let all = answers(294).ok_or("three answers")?;
+    let cases = [(1, 0), (2, 50), (3, 98), (4, 148), (5, 196), (6, 246)];
+    for (call, taken) in cases {
+        let calls = [call];
+        let outside = one_line_a_reading(&calls);
+        compare(
+            &rt,
+            &["code"],
+            THREE_LINES,
+            outside,
+            Status::WriteFault,
+            &all[..taken],
+        );
+    }
+    let seventh = one_line_a_reading(&[7]);
+    compare(&rt, &["code"], THREE_LINES, seventh, Status::Done, &all);
+    Ok(())
+}
+
+#[test]
+fn no_more_is_read_than_the_buffer_holds_before_a_line_is_answered(
+    rt: HostRuntime,
+) -> Result<(), Fail> {
+    let mut input = Vec::new(rt.alloc());
+    for _ in 0..300 {
+        input.extend_from_slice(ONE_LINE)?;
+    }
+    let mut words = Words::new();
+    words.add("code");
+    let mut source = PlainSource::new(input.as_slice(), 4097);
+    let mut sink = MemorySink::new(rt.alloc(), 100_000, 100_000, &[1])
+        .ok()
+        .ok_or("no memory")?;
+    assert_eq!(rt;
+        run(
+            rt.alloc(),
+            &words,
+            &mut source,
+            &mut sink,
+            &mut PlainRadio::new()
+        ),
+        Status::WriteFault
+    );
+    assert_eq!(rt; sink.octets(), b"".as_slice());
+    let mut rest = [0; 5000];
+    let given = source.take(&mut rest).ok().ok_or("no failure")?;
+    assert!(rt; given >= 2203, "{given} octets are left");
+    Ok(())
+}

@@ -1,0 +1,96 @@
+//! Runs of the command `make`. A separate script computed the numbers from the definition of the
+//! generated session.
+use crate::outside::{Outside, compare, compare_in_pieces};
+use std::test::Fail;
+use um_block::PlainRadio;
+use um_cli::{Status, Words, run};
+use um_io::{MemorySink, PlainSource, Source};
+
+/// Three messages of 38, 75 and 112 octets, in 2, 4 and 6 segments, take 13 turns. The eighth is
+/// lost.
+const THREE: &[u8] = b"make 3 5
+steps 32 sends 27 takes 26 drops 0 lost 1
+mob got 1 octets 75 sum 2925 acked 2
+net got 2 octets 150 sum 7293 acked 1
+";
+
+const THOUSAND: &[u8] = b"make 1000 7
+steps 16505 sends 14536 takes 13568 drops 0 lost 968
+mob got 500 octets 63073 sum 8091295 acked 500
+net got 500 octets 62896 sum 8070023 acked 500
+";
+
+/// Words that name no generated session.
+const OF_NO_SHAPE: [&[&str]; 11] = [
+    &["make"],
+    &["make", "3"],
+    &["make", "007", "1"],
+    &["make", "0", "1"],
+    &["make", "1001", "1"],
+    &["make", "+3", "1"],
+    &["make", "3x", "1"],
+    &["make", "", "1"],
+    &["make", "3", "8"],
+    &["make", "3", "sacch"],
+    &["make", "3", "5", "sacch"],
+];
+
+#[test]
+fn a_generated_session_is_summed_up_and_nothing_is_read(rt: HostRuntime) {
+    let words = ["make", "3", "5"];
+    compare_in_pieces(&rt, &words, b"foo\n", Status::Done, THREE);
+    let failing = Outside::failing(7, &[1], &[]);
+    compare(&rt, &words, b"foo\n", failing, Status::Done, THREE);
+}
+
+#[test]
+fn the_longest_session_is_the_same_twice(rt: HostRuntime) {
+    let words = ["make", "1000", "7"];
+    let ample = Outside::of_most(100);
+    compare(&rt, &words, b"", ample, Status::Done, THOUSAND);
+    compare(&rt, &words, b"", ample, Status::Done, THOUSAND);
+}
+
+#[test]
+fn a_sink_that_fails_has_a_front_of_the_summary(rt: HostRuntime) {
+    let words = ["make", "3", "5"];
+    let first = Outside::failing(50, &[], &[1]);
+    compare(&rt, &words, b"", first, Status::WriteFault, b"");
+    let third = Outside::failing(50, &[], &[3]);
+    compare(&rt, &words, b"", third, Status::WriteFault, &THREE[..100]);
+    compare(
+        &rt,
+        &words,
+        b"",
+        Outside::of_room(0),
+        Status::WriteFault,
+        b"",
+    );
+}
+
+#[test]
+fn the_radio_codes_and_receives_each_block_of_it(rt: HostRuntime) -> Result<(), Fail> {
+    let mut words = Words::new();
+    for word in ["make", "3", "5"] {
+        words.add(word);
+    }
+    let mut source = PlainSource::new(b"foo\n", 100);
+    let mut sink = MemorySink::new(rt.alloc(), 200, 200, &[])
+        .ok()
+        .ok_or("no memory")?;
+    let mut radio = PlainRadio::new();
+    let status = run(rt.alloc(), &words, &mut source, &mut sink, &mut radio);
+    assert_eq!(&rt; status, Status::Done);
+    assert_eq!(&rt; radio.sent(), 27);
+    assert_eq!(&rt; radio.heard(), 26);
+    assert_eq!(&rt; source.take(&mut [0; 100]), Ok(4));
+    Ok(())
+}
+
+#[test]
+fn other_words_ask_for_none(rt: HostRuntime) {
+    for words in OF_NO_SHAPE {
+        let ample = Outside::of_most(100);
+        compare(&rt, words, b"", ample, Status::BadWords, b"");
+    }
+}

@@ -1,0 +1,409 @@
+//! Runs of the command `replay` on worked values, and lines that are refused.
+ghost use Rattle.std.specs.Prelude.{◌≤◌};
+
+use crate::code::{ACCESS_BURST, ACCESS_BURST_OF_ZEROS, BLOCK_OF_ZEROS, SYNC_BURST};
+use crate::outside::{Outside, coded, compare, compare_in_pieces};
+use std::process::Abort;
+use std::test::Fail;
+use um_cli::Status;
+
+/// The bursts of a network's fill frame with training sequence 7, with the coded bits of
+/// libosmocoding.
+const FILL_FRAME: &[u8] =
+    b"n 00010000001000111010101000000001010000000011111110101000000111110111100010010111011110010100001000101110\
+10100000000101000010000010101010100000010000\n\
+n 00010101011111111110100000010101010111111111111010000000010011110111100010010111011110010101111111111110101010\
+00000001010101011011101010000001000000\n\
+n 00000000001111101010101000010000001000101011101010100001010011110111100010010111011110010010100011111010100010\
+00010000000000101110101010100000010000\n\
+n 00000010000101010101011110111010101000000001010111011111101011110111100010010111011110011000100000010101010110\
+11101010001000010001011101111010101000\n";
+
+/// The report on them.
+const FILL_FRAME_REPORT: &[u8] =
+    b"block tsc 7 train 0 metric 57912 parity ok data 0303012b2b2b2b2b2b2b2b2b2b2b2b2b2b2b2b2b2b2b2b check 2c4e540233\n\
+frame sapi 0 cr 1 ui p 0 info -\n";
+
+/// The same bursts, with bits 10, 20 and 30 of the second inverted.
+pub const THREE_WRONG: &[u8] =
+    b"n 00010000001000111010101000000001010000000011111110101000000111110111100010010111011110010100001000101110\
+10100000000101000010000010101010100000010000\n\
+n 00010101010111111110000000010111010111111111111010000000010011110111100010010111011110010101111111111110101010\
+00000001010101011011101010000001000000\n\
+n 00000000001111101010101000010000001000101011101010100001010011110111100010010111011110010010100011111010100010\
+00010000000000101110101010100000010000\n\
+n 00000010000101010101011110111010101000000001010111011111101011110111100010010111011110011000100000010101010110\
+11101010001000010001011101111010101000\n";
+
+/// The same bursts with seven coded bits inverted: those in which the coded list of a single 1 differs from all zeros.
+const SEVEN_WRONG: &[u8] =
+    b"n 00000000001000111010101000000001010000000011111110101000000111110111100010010111011110010100001000101110\
+10100000000101000010000010111010100000010000\n\
+n 00010101011111111110100000010101010111111111111010000000010011110111100010010111011110010101111111111110101010\
+00000101010101011010101010000001000000\n\
+n 00000000001111101010100000010000001000101011101010100001010011110111100010010111011110010010100011111010100010\
+00010000000000101110101010100000010000\n\
+n 00000000000101010101011110111010101000000001010111011111101011110111100010010111011110011000100001010101010110\
+11101010001000010001011101111010101000\n";
+
+const OTHER_CODE: &[u8] =
+    b"a 000000 0011101001001011011111111001100110101010001111000000000000000000000000000000000000000000\n";
+
+#[test]
+fn an_access_burst_holds_under_its_own_code_alone(rt: HostRuntime) {
+    compare_in_pieces(
+        &rt,
+        &["replay"],
+        ACCESS_BURST_OF_ZEROS,
+        Status::Done,
+        b"access 111111 train 0 metric 4572 parity ok data 00000000 check 000000\n",
+    );
+    compare_in_pieces(
+        &rt,
+        &["replay"],
+        OTHER_CODE,
+        Status::Done,
+        b"access 000000 train 0 metric 4572 parity bad data 00000000 check 000000\n",
+    );
+    compare_in_pieces(
+        &rt,
+        &["replay"],
+        ACCESS_BURST,
+        Status::Done,
+        b"access 000000 train 0 metric 4572 parity ok data 00000000 check 111111\n",
+    );
+}
+
+#[test]
+fn a_synchronisation_burst_is_reported_with_its_check(rt: HostRuntime) {
+    compare_in_pieces(
+        &rt,
+        &["replay"],
+        SYNC_BURST,
+        Status::Done,
+        b"sync train 0 metric 9906 parity ok data 0000000000000000000000000 check 1111111111\n",
+    );
+}
+
+#[test]
+fn a_block_of_zeros_is_no_frame(rt: HostRuntime) {
+    compare_in_pieces(
+        &rt,
+        &["replay"],
+        BLOCK_OF_ZEROS,
+        Status::Done,
+        b"block tsc 0 train 0 metric 57912 parity ok data 0000000000000000000000000000000000000000000000 check ffffffffff\nunread ea\n",
+    );
+}
+
+#[test]
+fn a_block_whose_last_bit_alone_is_one_has_this_check(rt: HostRuntime) -> Result<(), Fail> {
+    let bursts = coded(
+        &rt,
+        b"block 3 0000000000000000000000000000000000000000000080\n",
+    )?;
+    compare(
+        &rt,
+        &["replay"],
+        bursts.as_slice(),
+        Outside::of_most(100),
+        Status::Done,
+        b"block tsc 3 train 0 metric 57912 parity ok data 0000000000000000000000000000000000000000000080 check ffdfbeff6f\nunread ea\n",
+    );
+    Ok(())
+}
+
+#[test]
+fn a_fill_frame_is_reported_as_a_frame(rt: HostRuntime) {
+    compare_in_pieces(
+        &rt,
+        &["replay"],
+        FILL_FRAME,
+        Status::Done,
+        FILL_FRAME_REPORT,
+    );
+}
+
+#[test]
+fn four_lost_bursts_tie_and_the_first_codeword_is_reported(rt: HostRuntime) {
+    compare_in_pieces(
+        &rt,
+        &["replay"],
+        b"lost\nlost\n# comment\n\nlost\nlost",
+        Status::Done,
+        b"block tsc 0 train 104 metric 0 parity bad data 0000000000000000000000000000000000000000000000 check 0000000000\n",
+    );
+}
+
+#[test]
+fn a_block_with_a_lost_burst_is_restored(rt: HostRuntime) -> Result<(), Fail> {
+    let mut input = BLOCK_OF_ZEROS[..151].to_vec(rt.alloc())?;
+    input.extend_from_slice(b"lost\n")?;
+    input.extend_from_slice(&BLOCK_OF_ZEROS[302..])?;
+    compare_in_pieces(
+        &rt,
+        &["replay"],
+        input.as_slice(),
+        Status::Done,
+        b"block tsc 0 train 26 metric 43434 parity ok data 0000000000000000000000000000000000000000000000 check ffffffffff\nunread ea\n",
+    );
+    Ok(())
+}
+
+#[test]
+fn three_wrong_bits_are_restored_and_seven_make_the_neighbour(rt: HostRuntime) {
+    compare(
+        &rt,
+        &["replay"],
+        THREE_WRONG,
+        Outside::of_most(1000),
+        Status::Done,
+        b"block tsc 7 train 0 metric 57150 parity ok data 0303012b2b2b2b2b2b2b2b2b2b2b2b2b2b2b2b2b2b2b2b check 2c4e540233\n\
+frame sapi 0 cr 1 ui p 0 info -\n",
+    );
+    compare(
+        &rt,
+        &["replay"],
+        SEVEN_WRONG,
+        Outside::of_most(1000),
+        Status::Done,
+        b"block tsc 7 train 0 metric 57912 parity bad data 0203012b2b2b2b2b2b2b2b2b2b2b2b2b2b2b2b2b2b2b2b check 2c4e540233\n",
+    );
+}
+
+/// Access bursts of soft values, zeros but for the 36 coded ones, which follow 49 zeros: the BSIC
+/// of the line, the values of the coded bits, and the report after the BSIC.
+const SOFT_BURSTS: [(&str, &str, &str); 5] = [
+    (
+        "111111",
+        "fbfbfb040404040404040404040404040404040404040404040404040404040404040404",
+        "train 41 metric 117 parity ok data 00000000 check 000000",
+    ),
+    (
+        "111111",
+        "f90101010101010101010101010101010101010101010101010101010101010101010101",
+        "train 41 metric 30 parity bad data 10000000 check 000000",
+    ),
+    (
+        "111111",
+        "000000000000000000000000000000000000000000000000000000000000000000000000",
+        "train 41 metric 0 parity ok data 00000000 check 000000",
+    ),
+    (
+        "000000",
+        "000000000000000000000000000000000000000000000000000000000000000000000000",
+        "train 41 metric 0 parity bad data 00000000 check 000000",
+    ),
+    (
+        "111111",
+        "01010101010101010101010101010101010101010101010101010101010101010101ffff",
+        "train 41 metric 32 parity ok data 00000000 check 000000",
+    ),
+];
+
+#[test]
+fn soft_values_outweigh_signs_and_the_first_of_equals_is_reported(
+    rt: HostRuntime,
+) -> Result<(), Fail> {
+    let zeros =
+        "00000000000000000000000000000000000000000000000000000000000000000000000000000000000000000000000000";
+    for (code, values, report) in SOFT_BURSTS {
+        let line = format!(in rt.alloc(); "A {code} {zeros}{values}000000\n")?;
+        let output = format!(in rt.alloc(); "access {code} {report}\n")?;
+        compare(
+            &rt,
+            &["replay"],
+            line.as_bytes(),
+            Outside::of_most(7),
+            Status::Done,
+            output.as_bytes(),
+        );
+    }
+    Ok(())
+}
+
+#[test]
+fn an_input_that_ends_inside_a_block_is_refused_at_its_end(rt: HostRuntime) -> Result<(), Fail> {
+    compare_in_pieces(
+        &rt,
+        &["replay"],
+        &BLOCK_OF_ZEROS[..453],
+        Status::BadInput,
+        b"refused 4 order\n",
+    );
+    compare_in_pieces(
+        &rt,
+        &["replay"],
+        b"lost\n\n#",
+        Status::BadInput,
+        b"refused 4 order\n",
+    );
+    let mut input = b"lost\nlost\n".to_vec(rt.alloc())?;
+    input.extend_from_slice(ACCESS_BURST)?;
+    compare_in_pieces(
+        &rt,
+        &["replay"],
+        input.as_slice(),
+        Status::BadInput,
+        b"refused 3 order\n",
+    );
+    Ok(())
+}
+
+#[test]
+fn a_soft_value_of_minus_128_is_refused(rt: HostRuntime) -> Result<(), Fail> {
+    let mut line = b"S 80".to_vec(rt.alloc())?;
+    for _ in 0..147 {
+        line.extend_from_slice(b"00")?;
+    }
+    compare_in_pieces(
+        &rt,
+        &["replay"],
+        line.as_slice(),
+        Status::BadInput,
+        b"refused 1 soft\n",
+    );
+    Ok(())
+}
+
+#[test]
+fn replay_passes_over_what_is_skipped_and_nothing_else(rt: HostRuntime) -> Result<(), Fail> {
+    compare_in_pieces(&rt, &["replay"], b"", Status::Done, b"");
+    compare_in_pieces(
+        &rt,
+        &["replay"],
+        b"foo",
+        Status::BadInput,
+        b"refused 1 word\n",
+    );
+    compare_in_pieces(
+        &rt,
+        &["replay"],
+        b"\nlost\r\n",
+        Status::BadInput,
+        b"refused 2 word\n",
+    );
+    let mut line = vec![in rt.alloc(); b'#'; 4096]?;
+    compare_in_pieces(&rt, &["replay"], line.as_slice(), Status::Done, b"");
+    line.push(b'#')?;
+    compare_in_pieces(
+        &rt,
+        &["replay"],
+        line.as_slice(),
+        Status::BadInput,
+        b"refused 1 long\n",
+    );
+    Ok(())
+}
+
+/// The line and the reason of the refusal when the fill frame's bursts are cut after this many
+/// lines, and this many octets of the next.
+fn refused_cut(lines: usize, octets: usize) -> (usize, &'static str)
+    requires { lines ≤ 4 }
+{
+    match octets {
+        0 => (lines + 1, "order"),
+        1 => (lines + 1, "word"),
+        150 => (lines + 2, "order"),
+        _ => (lines + 1, "length"),
+    }
+}
+
+/// Runs `replay` over the fill frame's bursts cut there. Only none of them or all of them are good.
+fn replay_cut(rt: &(impl Abort + AllocGlobal), lines: usize, octets: usize) -> Result<(), Fail>
+    requires lines { lines ≤ 3 }
+    requires octets { octets ≤ 150 }
+{
+    let count = 151 * lines + octets;
+    let input = FILL_FRAME.get(..count).ok_or("604 octets")?;
+    let ample = Outside::of_most(100);
+    if count == 0 {
+        compare(rt, &["replay"], input, ample, Status::Done, b"");
+    } else if count == 603 {
+        compare(
+            rt,
+            &["replay"],
+            input,
+            ample,
+            Status::Done,
+            FILL_FRAME_REPORT,
+        );
+    } else {
+        let (line, reason) = refused_cut(lines, octets);
+        let output = format!(in rt.alloc(); "refused {line} {reason}\n")?;
+        compare(
+            rt,
+            &["replay"],
+            input,
+            ample,
+            Status::BadInput,
+            output.as_bytes(),
+        );
+    }
+    Ok(())
+}
+
+#[test]
+fn a_recording_cut_at_any_octet_is_refused_where_it_is_cut(rt: HostRuntime) -> Result<(), Fail> {
+    for lines in 0..4 {
+        for octets in 0..151 {
+            replay_cut(&rt, lines, octets)?;
+        }
+    }
+    Ok(())
+}
+
+#[test]
+fn a_failing_outside_leaves_a_front_of_the_report(rt: HostRuntime) {
+    let all = FILL_FRAME_REPORT;
+    for call in 1..8 {
+        let calls = [call];
+        let outside = Outside::failing(100, &calls, &[]);
+        compare(
+            &rt,
+            &["replay"],
+            FILL_FRAME,
+            outside,
+            Status::ReadFault,
+            b"",
+        );
+    }
+    let eighth = Outside::failing(100, &[8], &[]);
+    compare(&rt, &["replay"], FILL_FRAME, eighth, Status::ReadFault, all);
+    let ninth = Outside::failing(100, &[9], &[]);
+    compare(&rt, &["replay"], FILL_FRAME, ninth, Status::Done, all);
+    let full = Outside::of_room(0);
+    compare(&rt, &["replay"], FILL_FRAME, full, Status::WriteFault, b"");
+}
+
+/// A sink that takes at most 50 octets a call, and fails at the calls with these numbers.
+fn taking_fifty(failing_puts: &[u64]) -> Outside<'_> {
+    Outside {
+        take_most: 100,
+        failing_takes: &[],
+        put_most: 50,
+        failing_puts,
+        room: 1000,
+    }
+}
+
+#[test]
+fn each_writing_of_a_report_fails_in_turn(rt: HostRuntime) -> Result<(), Fail> {
+    for (call, taken) in [(1, 0), (2, 50), (3, 100)] {
+        let calls = [call];
+        let front = FILL_FRAME_REPORT.get(..taken).ok_or("144 octets")?;
+        let outside = taking_fifty(&calls);
+        compare(
+            &rt,
+            &["replay"],
+            FILL_FRAME,
+            outside,
+            Status::WriteFault,
+            front,
+        );
+    }
+    let fourth = taking_fifty(&[4]);
+    let all = FILL_FRAME_REPORT;
+    compare(&rt, &["replay"], FILL_FRAME, fourth, Status::Done, all);
+    Ok(())
+}

@@ -1,8 +1,0 @@
-use Rattle.std.proofs.Common.{◌≡◌, ◌+◌, ◌*◌, ◌++◌, length, take}
-use Rattle.um_text.specs.BurstTexts.{block_text}
-use Rattle.um_text.proofs.bursts.push_block.Given as goal
-
--- the lines of the bursts so far
-abbrev pub invariant-loop-burst : goal.invariant-loop-burst
-invariant-loop-burst l =
-    (l.out ≡ l.initial.out ++ block_text (take l.burst-index l.bursts)) × (length l.out ≡ length l.initial.out + 151 * l.burst-index)

@@ -1,8 +1,0 @@
-use Rattle.std.proofs.Common.{pos, replicate, arith}
-use Rattle.std.proofs.lemmas.List.Elements.{All-replicate}
-use Rattle.bit_blocks.specs.SoftValues.{AllSoft}
-use Rattle.um_text.proofs.BurstLaws.{lost}
-use Rattle.um_text.proofs.held.HeldBursts.new.Goals as goal
-
-pub invariant_of-result : goal.invariant_of-result
-invariant_of-result c = (omega arith, All-replicate AllSoft 4 (replicate 148 (pos 0)) lost.1)
