@@ -91,7 +91,7 @@ impl fmt::Display for Refused {
             Refused::NotOpen => "the link is not open",
             Refused::NotRunning => "no frame awaits an answer",
             Refused::Empty => "the message is empty",
-            Refused::TooLong => "the message is too long",
+            Refused::TooLong => "the message is too long: more than 251 octets, or more than N201 in one frame",
             Refused::Full => "eight messages are not completely acknowledged yet",
             Refused::NoCall => "this call cannot open the link of this endpoint",
             Refused::NoFrame => "the octets are not an LAPDm frame",
